@@ -1,15 +1,16 @@
 -- What stands behind the first place of a name, and the number that words begin with.
-use Rattle.std.proofs.Common.{◌≡◌, ℕ, ◌+◌, ◌<◌, ◌^◌, List, ◌++◌, length, take, drop, arith, sym, ap, subst, ◌∙◌, Some, None, Result, Ok, Err}
+use Rattle.std.proofs.Common.{◌≡◌, ℕ, ◌+◌, ◌<◌, ◌^◌, List, ◌++◌, length, take, drop, arith, sym, ap, subst, ◌∙◌, Option, Some, None, Result, Ok, Err}
 use Rattle.std.proofs.Math.Seq.{drop-append_seam, take-append_seam}
 use Rattle.std.proofs.lemmas.List.{append_cancel_left, take-append-drop, length-append}
-use Rattle.std.specs.Str.Pattern.{FindsText, HasTextAt, LacksTextAt, SplitsAroundMatch}
+use Rattle.std.specs.Str.Pattern.{FindsText, SplitsAroundMatch}
+use Rattle.std.specs.Io.KnownBytes.{Consumes}
 use Rattle.std.specs.Str.{trim_start}
 use Rattle.std.specs.Str.Parse.{ParsesUnsigned}
 use Rattle.std.specs.List.{before_first, position_or_len}
 use Rattle.std.specs.Option.{IfSome}
 use Rattle.std.specs.Prelude.{◌==◌}
 use Rattle.std.specs.Result.{result_ok}
-use Rattle.cob_file_limit.specs.Limits.{IsSize, SaysSize, StandsBehind}
+use Rattle.cob_file_limit.specs.Limits.{IsSize, SaysSize, StandsBehind, TellsLimit, TellsLimitInFront}
 
 -- a name that stands somewhere stands at the length of what stands before it
 stands_at : (name text front back : List ℕ) → text ≡ front ++ (name ++ back) → drop (length front) text ≡ name ++ back
@@ -37,9 +38,9 @@ neither_below m n one other = omega (arith, one, other)
 pub one_behind : (name text one other : List ℕ) → StandsBehind name text one → StandsBehind name text other → one ≡ other
 one_behind name text one other first second =
     let long : length first.before ≡ length second.before = neither_below (length first.before) (length second.before)
-        (λ less. second.first first.before one first.whole less) (λ less. first.first second.before other second.whole less) in
+    (λ less. second.first first.before one first.whole less) (λ less. first.first second.before other second.whole less) in
     append_cancel_left name one other
-        (sym (stands_at name text first.before one first.whole) ∙ (ap (λ n. drop n text) long ∙ stands_at name text second.before other second.whole))
+    (sym (stands_at name text first.before one first.whole) ∙ (ap (λ n. drop n text) long ∙ stands_at name text second.before other second.whole))
 
 -- a number that was read from the word behind white space, where a space stands behind it, is said there
 pub size_read : {E : Type 0} (words trimmed word : List ℕ) (parsed : Result ℕ E) → trimmed ≡ trim_start words → word ≡ before_first (λ byte. byte == 32) trimmed
@@ -51,3 +52,12 @@ size_read words trimmed word (Ok size) is_trimmed is_word space ((digits, fits),
       number = subst (λ t. IsSize (before_first (λ byte. byte == 32) t) size) is_trimmed (subst (λ w. IsSize w size) is_word read);
     }
 size_read words trimmed word (Err error) is_trimmed is_word space fails = tt
+
+-- what the bytes tell that a read took from the front of a text is told by a front of it
+pub front_tells : (old new : Option (List ℕ)) (bytes : List ℕ) (told : Option ℕ) → Consumes old new bytes → IfSome told (TellsLimit bytes)
+    → IfSome old (λ text. IfSome told (TellsLimitInFront text))
+front_tells None new bytes told takes tells = tt
+front_tells (Some text) None bytes told takes tells = absurd takes
+front_tells (Some text) (Some rest) bytes None takes tells = tt
+front_tells (Some text) (Some rest) bytes (Some size) takes tells =
+    (length bytes, subst (λ t. TellsLimit t size) (sym (ap (λ t. take (length bytes) t) takes ∙ take-append_seam bytes rest)) tells)

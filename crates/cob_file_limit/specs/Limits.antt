@@ -1,5 +1,5 @@
 -- The text in which the system tells a process its limits: a line for each, in which stand its name, the soft limit, the hard limit and the unit, apart by spaces.
-use Rattle.std.specs.Prelude.{◌≡◌, ℕ, ◌^◌, ◌<◌, ◌==◌, List, ◌++◌, length, codes}
+use Rattle.std.specs.Prelude.{◌≡◌, ℕ, ◌^◌, ◌<◌, ◌==◌, List, ◌++◌, length, take, codes}
 use Rattle.std.specs.List.{before_first, position_or_len}
 use Rattle.std.specs.Str.{trim_start}
 use Rattle.std.specs.Str.Parse.{IsNumeral, digits_value, without_leading_plus}
@@ -28,3 +28,7 @@ pub record SaysSize (words : List ℕ) (size : ℕ) : Type 0 where
 -- The text tells this soft limit on the size of a file: the number behind the first such name, in front of the hard limit.
 abbrev pub TellsLimit : List ℕ → ℕ → Type 0
 TellsLimit text size = (behind : List ℕ) × StandsBehind size_name text behind × SaysSize behind size
+
+-- a front of the text tells it
+abbrev pub TellsLimitInFront : List ℕ → ℕ → Type 0
+TellsLimitInFront text size = (count : ℕ) × TellsLimit (take count text) size

@@ -1,8 +1,10 @@
 //! A file that is never written past the limit on its size.
 
-ghost use Rattle.std.specs.Prelude.{◌≡◌, ◌<◌, ◌≤◌, length, IfOk, IsErrAnd, MatchResult};
-ghost use Rattle.std.specs.Io.{WritesAtMost};
-ghost use Rattle.std.specs.Io.KnownBytes.{WriteAppends};
+ghost use Rattle.std.specs.Prelude.{◌≡◌, ◌<◌, ◌≤◌, false, length, true, IfOk, IfSome, IsErrAnd, MatchResult, None, Some};
+ghost use Rattle.std.specs.Fs.{asks_append, asks_write};
+ghost use Rattle.std.specs.Io.{ReadsAtMost, WritesAtMost};
+ghost use Rattle.std.specs.Io.KnownBytes.{Keeps, ReadConsumes, WriteAppends};
+ghost use Rattle.std.specs.Io.Seek.{SeekMoves};
 ghost use Rattle.cob_file_limit.specs.Extents.{IsTooLarge};
 ghost use Rattle.cob_file_limit.specs.Files.{IsFull, extent_after, extent_at, front_within};
 
@@ -17,7 +19,12 @@ pub(crate) fn extent_of<F: OpenFile>(
     file: &F,
     how: &OpenOptions,
     limit: Option<u64>,
-) -> Option<Extent> {
+) -> Option<Extent>
+    ensures unlimited { limit ≡ None → result ≡ None }
+    ensures limit { IfSome result (λ extent. limit ≡ Some extent.limit) }
+    ensures unwritten { asks_write how.now ≡ false → asks_append how.now ≡ false → result ≡ None }
+    ensures front { asks_append how.now ≡ false → IfSome result (λ extent. extent.position ≡ 0) }
+{
     let limit = limit?;
     if !how.asks_write() && !how.asks_append() {
         return None;
@@ -82,7 +89,12 @@ impl<F> LimitedFile<F> {
 impl<F: Read> Read for LimitedFile<F> {
     ghost remaining = { λ limited. F.remaining limited.file };
 
-    fn read(&mut self, buf: &mut [u8]) -> io::Result<usize> {
+    fn read(&mut self, buf: &mut [u8]) -> io::Result<usize>
+        ensures bound { ReadsAtMost result buf.new }
+        ensures bytes { ReadConsumes (F.remaining self.old.file) (F.remaining self.new.file) result buf.new }
+        ensures moves { self.old.appends ≡ false → self.new.extent ≡ extent_after result self.old.extent }
+        ensures stays { self.old.appends ≡ true → self.new.extent ≡ self.old.extent }
+    {
         let answer = self.file.read(buf);
         if !self.appends {
             self.extent = extent_after(&answer, self.extent);
@@ -127,7 +139,17 @@ fn extent_at(answer: &io::Result<u64>, extent: Option<Extent>) -> Option<Extent>
 }
 
 impl<F: Seek> Seek for LimitedFile<F> {
-    fn seek(&mut self, to: SeekFrom) -> io::Result<u64> {
+    ghost stream_position = { λ limited. F.stream_position limited.file };
+
+    ghost stream_bytes = { λ limited. F.stream_bytes limited.file };
+
+    fn seek(&mut self, to: SeekFrom) -> io::Result<u64>
+        ensures position { SeekMoves (F.stream_position self.old.file) (F.stream_position self.new.file)
+            (F.stream_bytes self.old.file) to result }
+        ensures bytes { Keeps (F.stream_bytes self.old.file) (F.stream_bytes self.new.file) }
+        ensures moves { self.old.appends ≡ false → self.new.extent ≡ extent_at result self.old.extent }
+        ensures stays { self.old.appends ≡ true → self.new.extent ≡ self.old.extent }
+    {
         let answer = self.file.seek(to);
         if !self.appends {
             self.extent = extent_at(&answer, self.extent);

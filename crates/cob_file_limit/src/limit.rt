@@ -1,7 +1,7 @@
 //! The limit on the size of a file, as the system tells it.
 
 ghost use Rattle.std.specs.Prelude.{◌≡◌, ℕ, IfSome, IsSomeAnd, List, Some};
-ghost use Rattle.cob_file_limit.specs.Limits.{SaysSize, StandsBehind, TellsLimit, size_name};
+ghost use Rattle.cob_file_limit.specs.Limits.{SaysSize, StandsBehind, TellsLimit, TellsLimitInFront, size_name};
 
 use std::fs::File;
 use std::io::Read;
@@ -49,11 +49,25 @@ pub fn size_limit(limits: &str) -> Option<u64>
     }
 }
 
-/// The limit that a file tells whose text is that of a process's limits.
-fn limit_in<F: Read>(file: &mut F) -> Option<u64> {
+/// The limit that the front of such a text tells.
+fn size_in(front: &[u8]) -> Option<u64>
+    ensures { IfSome result (TellsLimit front.now) }
+{
+    match str::from_utf8(front) {
+        Ok(limits) => size_limit(limits),
+        Err(_) => None,
+    }
+}
+
+/// The limit that a file tells whose text is that of a process's limits, as far as one read gives it.
+fn limit_in<F: Read>(file: &mut F) -> Option<u64>
+    ensures { IfSome (F.remaining file.old) (λ text. IfSome result (TellsLimitInFront text)) }
+{
     let mut front = [0; FRONT];
-    let length = file.read(&mut front).ok()?;
-    size_limit(str::from_utf8(front.get(..length)?).ok()?)
+    match file.read(&mut front) {
+        Ok(length) => size_in(&front[..length]),
+        Err(_) => None,
+    }
 }
 
 /// The greatest size that this process may give a file, where the system tells one.

@@ -1,4 +1,3 @@
-use Rattle.std.proofs.Common.{refl}
 use Rattle.std.specs.IoError.{os_error_kind}
 use Rattle.cob_file_limit.proofs.extent.too_large.Goals as goal
 
