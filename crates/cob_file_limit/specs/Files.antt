@@ -1,7 +1,15 @@
 -- Files that have an extent, or none.
-use Rattle.std.specs.Prelude.{ℕ, List, Option, None, Some, Result, Ok, Err}
+use Rattle.std.specs.Prelude.{◌≡◌, ℕ, Bool, if◌then◌else◌, List, Option, None, Some, Result, Ok, Err}
+use Rattle.std.specs.Fs.{IsFile, file_type, metadata_len}
+use Rattle.std.specs.declared.fs.Metadata.{Metadata}
 use Rattle.cob_file_limit.specs.declared.extent.Extent.{Extent}
 use Rattle.cob_file_limit.specs.Extents.{AtLimit, front_of, moved_by}
+
+-- This is the extent of a file under a limit, of which the system says this. Only a regular file has one: it is written from its end on, or from its front.
+abbrev pub IsExtentOf : ℕ → Bool → Metadata → Option Extent → Type 0
+IsExtentOf limit at_end metadata None = IsFile (file_type metadata) → ⊥
+IsExtentOf limit at_end metadata (Some extent) =
+    IsFile (file_type metadata) × (extent.limit ≡ limit) × (extent.position ≡ (if at_end then metadata_len metadata else 0))
 
 -- a file that has a limit, and has room for no byte
 abbrev pub IsFull : Option Extent → Type 0

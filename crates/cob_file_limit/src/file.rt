@@ -6,12 +6,23 @@ ghost use Rattle.std.specs.Io.{ReadsAtMost, WritesAtMost};
 ghost use Rattle.std.specs.Io.KnownBytes.{Keeps, ReadConsumes, WriteAppends};
 ghost use Rattle.std.specs.Io.Seek.{SeekMoves};
 ghost use Rattle.cob_file_limit.specs.Extents.{IsTooLarge};
-ghost use Rattle.cob_file_limit.specs.Files.{IsFull, extent_after, extent_at, front_within};
+ghost use Rattle.cob_file_limit.specs.Files.{IsExtentOf, IsFull, extent_after, extent_at, front_within};
 
 use crate::extent::{Extent, too_large};
 use std::fs::{FileTimes, Metadata, OpenFile, OpenOptions, Permissions};
 use std::io;
 use std::io::{Read, Seek, SeekFrom, Write};
+
+/// Where a file is written and how far, where it is a regular one: from its end on, or from its front.
+pub(crate) fn extent_in(metadata: &Metadata, limit: u64, at_end: bool) -> Option<Extent>
+    ensures { IsExtentOf limit at_end metadata.now result }
+{
+    if !metadata.is_file() {
+        return None;
+    }
+    let position = if at_end { metadata.len() } else { 0 };
+    Some(Extent::new(limit, position))
+}
 
 /// Where a file that was opened is written and how far, where it is a regular file that is written and there is a limit. A file of which the system
 /// says nothing is taken for a regular one.
@@ -30,9 +41,8 @@ pub(crate) fn extent_of<F: OpenFile>(
         return None;
     }
     match file.metadata() {
-        Ok(metadata) if !metadata.is_file() => None,
-        Ok(metadata) if how.asks_append() => Some(Extent::new(limit, metadata.len())),
-        _ => Some(Extent::new(limit, 0)),
+        Ok(metadata) => extent_in(&metadata, limit, how.asks_append()),
+        Err(_) => Some(Extent::new(limit, 0)),
     }
 }
 

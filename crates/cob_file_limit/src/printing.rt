@@ -4,6 +4,7 @@ ghost use Rattle.std.specs.Prelude.{◌≡◌, ◌+◌, length, IfOk, IfSome, Is
 ghost use Rattle.cob_file_limit.specs.Prints.{FitsIn, counted};
 
 use crate::extent::Extent;
+use crate::file::extent_in;
 use std::fmt::{Display, Write};
 use std::rt::Files;
 use std::{fmt, io};
@@ -41,8 +42,8 @@ pub(crate) fn extent_behind<R: Files>(rt: &R, limit: Option<u64>, path: &str) ->
 {
     let limit = limit?;
     match rt.metadata(path) {
-        Ok(metadata) if metadata.is_file() => Some(Extent::new(limit, metadata.len())),
-        _ => None,
+        Ok(metadata) => extent_in(&metadata, limit, true),
+        Err(_) => None,
     }
 }
 
