@@ -3,6 +3,7 @@
 
 use cob_convert_commands::{answer, refuse};
 use cob_convert_line::LineFault;
+use cob_file_limit::Limited;
 use cob_standard_streams::take_closed;
 use cob_status::Status;
 use std::env;
@@ -18,11 +19,12 @@ fn words(rt: &HostRuntime) -> Result<Vec<String>, LineFault> {
     }
 }
 
-/// Does what the words ask for, and answers the status.
+/// Does what the words ask for, and answers the status. No file is written past the limit that the system has for its size.
 fn run(rt: &HostRuntime) -> u8 {
+    let limited = Limited::new(rt);
     match words(rt) {
-        Ok(words) => answer(rt, words.as_slice()),
-        Err(fault) => refuse(rt, &fault),
+        Ok(words) => answer(&limited, words.as_slice()),
+        Err(fault) => refuse(&limited, &fault),
     }
 }
 

@@ -1,0 +1,4 @@
+pub mod Extents
+pub mod Files
+pub mod Limits
+pub mod Prints
