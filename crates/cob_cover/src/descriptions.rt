@@ -1,10 +1,10 @@
 //! The single moves of bytes that may lose their description, as they are told.
 
-use crate::elements::{layout_of, write_described, write_element, write_sent};
+use crate::elements::{layout_of, write_element, write_sent};
 use crate::gathered::place_of;
 use crate::occurrences::occurrence_with;
-use cob_copybook_tree::{Item, Value};
-use cob_item_words::{ConstantText, ItemText, Named};
+use cob_copybook_tree::Value;
+use cob_item_words::{ConstantText, DescribedText, GotText, Named};
 use cob_lossless_words::{Sent, Single};
 use cob_move_descriptions::{Gets, Unkept};
 use cob_move_lossless::Layouts;
@@ -16,18 +16,6 @@ pub(crate) struct Undescribed<'a> {
     pub(crate) layouts: Layouts<'a>,
     pub(crate) single: Single<'a>,
     pub(crate) unkept: Unkept,
-}
-
-/// Writes whose bytes an item gets that get those of another one.
-fn write_bytes_of<W: fmt::Write>(
-    f: &mut fmt::Formatter<W>,
-    named: &Named<'_>,
-    item: &Item,
-) -> fmt::Result {
-    if item.picture.category().shows_number() {
-        return write!(f, "the bytes of {named}, {}", ItemText { item });
-    }
-    write!(f, "characters of {named}")
 }
 
 /// Writes what an item gets of a constant.
@@ -52,8 +40,9 @@ impl Undescribed<'_> {
         let at = u32::try_from(self.unkept.at).unwrap_or(u32::MAX);
         let byte = front.saturating_add(at);
         let occurrence = occurrence_with(output, self.unkept.item, byte);
-        write_described(f, &occurrence.named(output))?;
-        write!(f, ", at {}", occurrence.place.offset)
+        let named = occurrence.named(output);
+        let described = DescribedText { named: &named };
+        write!(f, "{described}, at {}", occurrence.place.offset)
     }
 
     /// Writes what the byte gets.
@@ -61,14 +50,11 @@ impl Undescribed<'_> {
         match (self.unkept.gets, self.single.sent) {
             (Gets::Item(number), Sent::Entry { side, .. }) => {
                 let named = Named::new(layout_of(&self.layouts, side).root(), number, &[]);
-                match named.item() {
-                    Some(item) => write_bytes_of(f, &named, item),
-                    None => write!(f, "bytes of {named}"),
-                }
+                write!(f, "{}", GotText { sent: Some(&named) })
             }
             (Gets::Character, Sent::Constant(value)) => write_characters_of(f, value),
             (_, Sent::Constant(_)) => write!(f, "spaces behind the literal's end"),
-            (_, Sent::Entry { .. }) => write!(f, "spaces behind the sender's end"),
+            (_, Sent::Entry { .. }) => write!(f, "{}", GotText { sent: None }),
         }
     }
 }

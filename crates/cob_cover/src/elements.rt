@@ -1,7 +1,7 @@
 //! What single moves send and receive, in words.
 
 use cob_copybook_tree::Value;
-use cob_item_words::{ConstantText, ItemText, Named, PictureText};
+use cob_item_words::{ConstantText, DescribedText, Named, PictureText};
 use cob_layout::Layout;
 use cob_layout_places::Side;
 use cob_lossless_words::{Element, Sent};
@@ -41,25 +41,14 @@ pub(crate) fn write_pictured<W: fmt::Write>(
     }
 }
 
-/// Writes the name of an occurrence with what it is, an item or a group.
-pub(crate) fn write_described<W: fmt::Write>(
-    f: &mut fmt::Formatter<W>,
-    named: &Named<'_>,
-) -> fmt::Result {
-    write!(f, "{named}")?;
-    match named.item() {
-        None => write!(f, ", group"),
-        Some(item) => write!(f, ", {}", ItemText { item }),
-    }
-}
-
 /// Writes an occurrence with what it is.
 pub(crate) fn write_element<W: fmt::Write>(
     f: &mut fmt::Formatter<W>,
     layout: &Layout,
     element: Element<'_>,
 ) -> fmt::Result {
-    write_described(f, &named_in(layout, element))
+    let named = named_in(layout, element);
+    write!(f, "{}", DescribedText { named: &named })
 }
 
 /// Writes a figurative constant by its word, and of a literal that it is one.

@@ -1,7 +1,8 @@
-//! What an item holds before the first move, in words.
+//! What items hold before the first move, in words.
 
 use cob_copybook_tree::{Kind, Node, Value};
 use cob_item_words::ConstantText;
+use std::alloc::{AllocError, Global};
 use std::fmt;
 
 /// What an item holds.
@@ -13,9 +14,11 @@ pub(crate) enum Held<'a> {
     Part(&'a Value),
     Zeros,
     Spaces,
+    /// Bytes of others, since it begins at another byte under other counts.
+    Shifted,
 }
 
-/// What an entry without a VALUE above it holds.
+/// What an entry holds beneath a group without a VALUE.
 fn own_held(entry: &Node) -> Held<'_> {
     match &entry.value {
         Some(value) => Held::Own(value),
@@ -26,20 +29,53 @@ fn own_held(entry: &Node) -> Held<'_> {
     }
 }
 
-/// What the entry with this number holds, where it is this one or one beneath it.
-pub(crate) fn held_by(entry: &Node, number: usize) -> Option<Held<'_>> {
-    if entry.number == number {
-        return Some(own_held(entry));
+/// What an entry holds, where this is the VALUE of a group above it.
+fn held_beneath<'a>(entry: &'a Node, above: Option<&'a Value>) -> Held<'a> {
+    match above {
+        Some(value) => Held::Part(value),
+        None => own_held(entry),
     }
+}
+
+/// The VALUE of a group above the entries beneath an entry.
+fn value_beneath<'a>(entry: &'a Node, above: Option<&'a Value>) -> Option<&'a Value> {
+    match above {
+        Some(value) => Some(value),
+        None => entry.value.as_ref(),
+    }
+}
+
+/// Adds what an entry and those beneath it hold, in their order.
+fn push_held<'a>(
+    entry: &'a Node,
+    above: Option<&'a Value>,
+    held: &mut Vec<Held<'a>>,
+) -> Result<(), AllocError> {
+    held.push(held_beneath(entry, above))?;
+    let value = value_beneath(entry, above);
     for child in entry.children.iter() {
-        if let Some(held) = held_by(child, number) {
-            return Some(match &entry.value {
-                Some(value) => Held::Part(value),
-                None => held,
-            });
-        }
+        push_held(child, value, held)?;
     }
-    None
+    Ok(())
+}
+
+/// What each entry of a record holds, by the numbers of the entries.
+///
+/// # Errors
+///
+/// Where no memory is left.
+pub(crate) fn held_in(alloc: Global, root: &Node) -> Result<Vec<Held<'_>>, AllocError> {
+    let mut held = Vec::new(alloc);
+    push_held(root, None, &mut held)?;
+    Ok(held)
+}
+
+/// What the entry with this number holds, of what each entry of a record holds.
+pub(crate) fn held_at<'a>(held: &[Held<'a>], number: usize) -> Held<'a> {
+    match held.get(number) {
+        Some(held) => *held,
+        None => Held::Spaces,
+    }
 }
 
 impl fmt::Display for Held<'_> {
@@ -49,6 +85,12 @@ impl fmt::Display for Held<'_> {
             Held::Part(value) => { write!(f, "its part of {}", ConstantText { value: *value }) }
             Held::Zeros => write!(f, "zeros"),
             Held::Spaces => write!(f, "spaces"),
+            Held::Shifted => {
+                write!(
+                    f,
+                    "what the greatest counts put there, behind a table that varies"
+                )
+            }
         }
     }
 }

@@ -11,6 +11,17 @@ pub(crate) struct Reference<'s, 'a> {
     pub(crate) subscripts: &'s [u32],
 }
 
+impl<'s, 'a> Reference<'s, 'a> {
+    /// A reference to an entry, or to all its elements, by its name and all its qualifiers.
+    pub(crate) fn whole(bearer: &'s DraftBearer<'a>) -> Reference<'s, 'a> {
+        Reference {
+            bearer,
+            qualifiers: bearer.above.len(),
+            subscripts: &[],
+        }
+    }
+}
+
 /// Writes the characters of a name.
 fn write_name<W: fmt::Write>(f: &mut fmt::Formatter<W>, name: &[u8]) -> fmt::Result {
     for character in name {

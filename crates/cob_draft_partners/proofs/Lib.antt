@@ -1,1 +1,3 @@
 pub mod NamingLemmas
+pub mod RecordLemmas
+pub mod SoughtLemmas

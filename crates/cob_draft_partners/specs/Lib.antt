@@ -1,4 +1,5 @@
 pub mod Entries
+pub mod Groups
 pub mod Partners
 pub mod Verdicts
 pub mod Naming

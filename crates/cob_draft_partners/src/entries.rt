@@ -2,7 +2,7 @@
 
 ghost use Rattle.std.specs.Prelude.{◌≡◌, ◌+◌, ◌≤◌, [], ◌∷◌, length, OnOk};
 ghost use Rattle.cob_copybook_tree.specs.Lengths.{greatest_number};
-ghost use Rattle.cob_copybook_tree.specs.Nodes.{resolved_entry, tree_of};
+ghost use Rattle.cob_copybook_tree.specs.Nodes.{node, resolved_entry, tree_of};
 ghost use Rattle.cob_copybook_tree.specs.declared.node.Node.TheViews.{out-Node};
 ghost use Rattle.cob_copybook_names.specs.Listed.{texts};
 ghost use Rattle.cob_copybook_lengths.specs.Areas.{is_varying};
@@ -13,17 +13,25 @@ ghost use Rattle.cob_move_references.specs.Candidates.{with_table};
 ghost use Rattle.cob_draft_partners.specs.Entries.{
   ListsBehind,
   draft_entries,
-  outside,
-  node_bearer,
-  seen_setting,
+  draft_entry,
+  entry_inside,
   inside,
+  is_count,
+  last_number,
+  latest_behind,
+  node_bearer,
+  outside,
+  record_entries,
+  redefined_at,
+  seen_setting,
+  seen_source,
 };
 
 use arrayvec::ArrayVec;
 use cob_copybook_names::{Bearer, name_of, names_beneath};
 use cob_copybook_tree::{Node, ResolvedOccurs};
 use cob_layout::{Layout, is_table, records_are_sound};
-use cob_layout_places::Side;
+use cob_layout_places::{Side, Table, tables};
 use cob_limits::MAX_SUBSCRIPTS;
 use std::alloc::{AllocError, Global};
 
@@ -35,16 +43,29 @@ pub type Tables = ArrayVec<u32, MAX_SUBSCRIPTS>;
 pub struct DraftEntry<'a> {
     pub side: Side,
     pub entry: &'a Node,
+    /// The number of the last entry beneath it, or its own where there is none.
+    pub last: usize,
     /// The tables that hold it or that it is.
     pub tables: Tables,
     /// Whether none of these varies.
     pub steady: bool,
     /// Whether it stands in no redefinition.
     pub own: bool,
+    /// The number of the entry that it redefines, or that the outermost redefinition redefines in which it stands.
+    pub redefined: Option<usize>,
+    /// Whether it is the count of a table of its record.
+    pub counts: bool,
 }
 
 /// An entry with its names.
 pub type DraftBearer<'a> = Bearer<'a, DraftEntry<'a>>;
+
+/// The record whose entries are listed, with its tables that vary.
+#[derive(Clone, Copy)]
+struct Source<'t> {
+    side: Side,
+    varying: &'t [Table],
+}
 
 /// Where an entry stands.
 #[derive(Drop)]
@@ -52,6 +73,9 @@ struct Setting {
     tables: Tables,
     steady: bool,
     own: bool,
+    redefined: Option<usize>,
+    /// The number of the last entry before it in its row that redefines nothing.
+    latest: Option<usize>,
 }
 
 /// Whether an entry that occurs so is a table that varies.
@@ -87,6 +111,28 @@ fn tables_with(entry: &Node, holding: &[u32]) -> Tables
     tables
 }
 
+/// Which entry an entry redefines, or the outermost redefinition in which it stands.
+fn redefined_at(outer: &Setting, entry: &Node) -> Option<usize>
+    ensures { result ≡ redefined_at outer.now.redefined (out-Node entry.now).redefines
+        outer.now.latest }
+{
+    match (outer.redefined, &entry.redefines) {
+        (Some(redefined), _) => Some(redefined),
+        (None, Some(_)) => outer.latest,
+        (None, None) => None,
+    }
+}
+
+/// The last entry of a row that redefines nothing, behind this one.
+fn latest_behind(latest: Option<usize>, entry: &Node) -> Option<usize>
+    ensures { result ≡ latest_behind latest (resolved_entry (out-Node entry.now)) }
+{
+    match entry.redefines {
+        Some(_) => latest,
+        None => Some(entry.number),
+    }
+}
+
 /// Where the entries beneath an entry stand.
 fn inside(outer: &Setting, entry: &Node) -> Setting
     requires nested { length outer.now.tables.items + own_dimension (out-Node entry.now).occurs
@@ -98,13 +144,53 @@ fn inside(outer: &Setting, entry: &Node) -> Setting
         tables: tables_with(entry, outer.tables.as_slice()),
         steady: outer.steady && !is_varying(entry.occurs),
         own: outer.own && entry.redefines.is_none(),
+        redefined: redefined_at(outer, entry),
+        latest: None,
+    }
+}
+
+/// Whether the entry with this number is the count of one of these tables.
+fn is_count(varying: &[Table], number: usize) -> bool
+    ensures { result ≡ is_count varying.now number }
+{
+    varying.iter().any(|table| table.count == number)
+}
+
+/// The number of the last entry beneath an entry, or its own where there is none.
+fn last_number(entry: &Node) -> usize
+    ensures { result ≡ last_number (node entry.now).top.number (node entry.now).beneath }
+{
+    let mut last = entry.number;
+    for child in entry.children.iter() {
+        last = last_number(child);
+    }
+    last
+}
+
+/// An entry that stands there.
+fn entry_inside<'a>(source: Source<'_>, outer: &Setting, entry: &'a Node) -> DraftEntry<'a>
+    requires nested { length outer.now.tables.items + own_dimension (out-Node entry.now).occurs
+        ≤ most_dimensions }
+    ensures { draft_entry result ≡ entry_inside (seen_source source.entry) (seen_setting outer.now)
+        (node entry.now) }
+{
+    let inner = inside(outer, entry);
+    DraftEntry {
+        side: source.side,
+        entry,
+        last: last_number(entry),
+        tables: inner.tables,
+        steady: inner.steady,
+        own: inner.own,
+        redefined: inner.redefined,
+        counts: is_count(source.varying, entry.number),
     }
 }
 
 /// Puts an entry behind those that are listed.
 fn list_entry<'a>(
     alloc: Global,
-    side: Side,
+    source: Source<'_>,
     above: &[&'a [u8]],
     outer: &Setting,
     entry: &'a Node,
@@ -113,21 +199,14 @@ fn list_entry<'a>(
     requires nested { length outer.now.tables.items + own_dimension (out-Node entry.now).occurs
         ≤ most_dimensions }
     ensures { OnOk result (ListsBehind listed.old.items listed.new.items
-        (node_bearer side above.now outer.now entry.now ∷ [])) }
+        (node_bearer source.entry above.now outer.now entry.now ∷ [])) }
 {
     let mut names = Vec::new(alloc);
     names.extend_from_slice(above)?;
-    let inner = inside(outer, entry);
     listed.push(Bearer {
         name: name_of(&entry.name),
         above: names,
-        entry: DraftEntry {
-            side,
-            entry,
-            tables: inner.tables,
-            steady: inner.steady,
-            own: inner.own,
-        },
+        entry: entry_inside(source, outer, entry),
     })?;
     Ok(())
 }
@@ -135,7 +214,7 @@ fn list_entry<'a>(
 /// Puts an entry, and then those beneath it, behind those that are listed. The names `above` are those of the groups that it stands in.
 fn list_tree<'a>(
     alloc: Global,
-    side: Side,
+    source: Source<'_>,
     above: &[&'a [u8]],
     outer: &Setting,
     entry: &'a Node,
@@ -143,16 +222,18 @@ fn list_tree<'a>(
 ) -> Result<(), AllocError>
     requires nested { AreNested (length outer.now.tables.items) (tree_of entry.now) }
     ensures { OnOk result (ListsBehind listed.old.items listed.new.items
-        (draft_entries side (texts above.now) (seen_setting outer.now) (tree_of entry.now))) }
+        (draft_entries (seen_source source.entry) (texts above.now) (seen_setting outer.now)
+        (tree_of entry.now))) }
 {
-    list_entry(alloc, side, above, outer, entry, listed)?;
+    list_entry(alloc, source, above, outer, entry, listed)?;
     if entry.children.is_empty() {
         return Ok(());
     }
     let beneath = names_beneath(alloc, &entry.name, above)?;
-    let inner = inside(outer, entry);
+    let mut inner = inside(outer, entry);
     for child in entry.children.iter() {
-        list_tree(alloc, side, beneath.as_slice(), &inner, child, listed)?;
+        list_tree(alloc, source, beneath.as_slice(), &inner, child, listed)?;
+        inner.latest = latest_behind(inner.latest, child);
     }
     Ok(())
 }
@@ -165,6 +246,8 @@ fn outside() -> Setting
         tables: ArrayVec::new(),
         steady: true,
         own: true,
+        redefined: None,
+        latest: None,
     }
 }
 
@@ -180,9 +263,14 @@ pub fn entries_of<'a>(
     listed: &mut Vec<DraftBearer<'a>>,
 ) -> Result<(), AllocError>
     ensures { OnOk result (ListsBehind listed.old.items listed.new.items
-        (draft_entries side [] outside layout.now)) }
+        (record_entries side layout.now)) }
 {
     // For what `list_tree` asks: a record description is sound.
     records_are_sound();
-    list_tree(alloc, side, &[], &outside(), layout.root(), listed)
+    let varying = tables(alloc, layout.root())?;
+    let source = Source {
+        side,
+        varying: varying.as_slice(),
+    };
+    list_tree(alloc, source, &[], &outside(), layout.root(), listed)
 }

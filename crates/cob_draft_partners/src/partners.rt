@@ -1,32 +1,36 @@
 //! Which entry of the input record an item of the output record receives.
 
-ghost use Rattle.std.specs.Prelude.{◌≡◌, ◌<◌, [], ◌∷◌, length, map, bytes_eq, IfNone, IfSome};
-ghost use Rattle.cob_copybook_names.specs.Listed.{name_text, texts};
-ghost use Rattle.cob_copybook_names.specs.Naming.{has_name};
+ghost use Rattle.std.specs.Prelude.{◌≡◌, IfOk};
+ghost use Rattle.cob_copybook_names.specs.Listed.{texts};
 ghost use Rattle.cob_move_pairs.specs.Pairs.{same_names};
-ghost use Rattle.cob_draft_partners.specs.Entries.{listed_bearer};
+ghost use Rattle.cob_draft_partners.specs.Entries.{draft_entry, listed_bearer};
+ghost use Rattle.cob_draft_partners.specs.declared.partners.Agreement.TheVariants.{Shared};
+ghost use Rattle.cob_draft_partners.specs.Groups.{below_record, shared_above};
 ghost use Rattle.cob_draft_partners.specs.Partners.{
   IsOnly,
-  agree,
-  below_record,
+  are_alike,
   candidates_for,
-  may_be_partner,
+  candidates_within,
   fitting,
   input_bearers,
-  is_below,
-  describes_group,
-  is_group_named,
+  is_beneath,
   is_input,
-  names_group,
-  names_found,
-  names_there,
+  is_item_beneath,
+  is_namesake,
+  is_number,
+  is_sought,
+  items_beneath,
   output_bearers,
-  share_name,
+  those_sought,
 };
 
-use crate::entries::DraftBearer;
+use crate::entries::{DraftBearer, DraftEntry};
+use crate::groups::{is_below, names_there};
+use crate::names::{below_record, same_names, share_name};
+use crate::records::BothRecords;
 use cob_copybook_tree::Kind;
 use cob_layout_places::Side;
+use std::alloc::{AllocError, Global};
 
 /// How the qualifiers of two entries are to agree.
 #[derive(Clone, Copy, PartialEq, Eq)]
@@ -37,11 +41,17 @@ pub enum Agreement {
     Shared,
 }
 
-/// The entries of both records.
+/// Which entries of the input record are sought for an item of the output record.
 #[derive(Clone, Copy)]
-pub struct BothRecords<'s, 'a> {
-    pub inputs: &'s [DraftBearer<'a>],
-    pub outputs: &'s [DraftBearer<'a>],
+enum Sought<'t> {
+    /// Those whose qualifiers are the same.
+    Whole,
+    /// Those whose qualifiers are the same as far as they are there; the item has these of its own.
+    Shared(&'t [&'t [u8]]),
+    /// Those in redefinitions of this entry.
+    Within(&'t DraftEntry<'t>),
+    /// Items beneath this entry.
+    Beneath(&'t DraftEntry<'t>),
 }
 
 /// What there is of the input record for an item of the output record.
@@ -55,132 +65,6 @@ pub enum Partner<'s, 'a> {
     Several,
 }
 
-/// Whether two texts are one.
-fn is_same(one: &[u8], other: &[u8]) -> bool
-    ensures { result ≡ bytes_eq one.now other.now }
-{
-    one == other
-}
-
-/// Whether two entries have names that are one.
-fn share_name(one: Option<&[u8]>, other: Option<&[u8]>) -> bool
-    ensures { result ≡ share_name (name_text one.entry) (name_text other.entry) }
-{
-    match (one, other) {
-        (Some(one), Some(other)) => is_same(one, other),
-        _ => false,
-    }
-}
-
-/// Whether an entry bears a name.
-fn has_name(name: &[u8], own: Option<&[u8]>) -> bool
-    ensures { result ≡ has_name name.now (name_text own.entry) }
-{
-    match own {
-        Some(own) => is_same(own, name),
-        None => false,
-    }
-}
-
-/// Whether an entry is a group.
-fn describes_group(kind: &Kind) -> bool
-    ensures { result ≡ describes_group kind.now }
-{
-    matches!(kind, Kind::Group)
-}
-
-/// Whether an entry stands below a record.
-fn is_below(above: &[&[u8]]) -> bool
-    ensures { result ≡ is_below (texts above.now) }
-{
-    !above.is_empty()
-}
-
-/// Whether an entry is a group below a record, and has this name.
-fn is_group_named(bearer: &DraftBearer<'_>, name: &[u8]) -> bool
-    ensures { result ≡ is_group_named name.now (listed_bearer bearer.now) }
-{
-    describes_group(&bearer.entry.entry.kind)
-        && is_below(bearer.above.as_slice())
-        && has_name(name, bearer.name)
-}
-
-/// Whether some group below a record has this name.
-fn names_group(entries: &[DraftBearer<'_>], name: &[u8]) -> bool
-    ensures { result ≡ names_group (map listed_bearer entries.now) name.now }
-{
-    for entry in entries {
-        if is_group_named(entry, name) {
-            return true;
-        }
-    }
-    false
-}
-
-/// Whether two lists of names are the same.
-fn same_names(one: &[&[u8]], other: &[&[u8]]) -> bool
-    ensures { result ≡ same_names (texts one.now) (texts other.now) }
-{
-    let Some((first, more)) = one.split_first() else {
-        return other.is_empty();
-    };
-    let Some((second, others)) = other.split_first() else {
-        return false;
-    };
-    is_same(first, second) && same_names(more, others)
-}
-
-/// The first of these names that a group of the record has, and those behind it.
-fn next_there<'s, 'a>(
-    entries: &[DraftBearer<'_>],
-    names: &'s [&'a [u8]],
-) -> Option<(&'a [u8], &'s [&'a [u8]])>
-    ensures some { IfSome result (λ r. names_found entries.now names.now
-        ≡ r.0.now ∷ names_found entries.now r.1.now) }
-    ensures none { IfNone result (names_found entries.now names.now ≡ []) }
-    ensures fewer { IfSome result (λ r. length r.1.now < length names.now) }
-{
-    let (first, more) = names.split_first()?;
-    if names_group(entries, first) {
-        return Some((*first, more));
-    }
-    next_there(entries, more)
-}
-
-/// Whether two lists of names are the same, those left out that no group of the other one's record has.
-fn same_names_there(records: &BothRecords<'_, '_>, to: &[&[u8]], from: &[&[u8]]) -> bool
-    ensures { result ≡ same_names (names_there (input_bearers records.now) (texts to.now))
-        (names_there (output_bearers records.now) (texts from.now)) }
-{
-    match (
-        next_there(records.inputs, to),
-        next_there(records.outputs, from),
-    ) {
-        (None, None) => true,
-        (Some((first, more)), Some((second, others))) => {
-            is_same(first, second) && same_names_there(records, more, others)
-        }
-        _ => false,
-    }
-}
-
-/// Whether the qualifiers of an item of the output record and of an entry of the input record agree.
-fn agree(how: Agreement, records: &BothRecords<'_, '_>, to: &[&[u8]], from: &[&[u8]]) -> bool
-    ensures { result ≡ agree how records.now (texts to.now) (texts from.now) }
-{
-    match how {
-        Agreement::Whole => same_names(to, from),
-        Agreement::Shared => same_names_there(records, to, from),
-    }
-}
-
-/// The names of the groups above an entry but for its record's.
-fn below_record<'s, 'a>(above: &'s [&'a [u8]]) -> &'s [&'a [u8]]
-    ensures { texts result.now ≡ below_record (texts above.now) }
-{
-    &above[..above.len().saturating_sub(1)]
-}
-
 /// Whether an entry is of the input record.
 fn is_input(side: Side) -> bool
     ensures { result ≡ is_input side }
@@ -188,38 +72,99 @@ fn is_input(side: Side) -> bool
     matches!(side, Side::In)
 }
 
-/// Whether an entry may be the partner of an item.
-fn may_be_partner(
-    how: Agreement,
-    records: &BothRecords<'_, '_>,
-    to: &DraftBearer<'_>,
-    from: &DraftBearer<'_>,
-) -> bool
-    ensures { result ≡ may_be_partner how records.now (listed_bearer to.now) (listed_bearer from.now) }
+/// Whether an entry may be the partner of an item, as far as it is seen without its qualifiers.
+fn is_namesake(to: &DraftBearer<'_>, from: &DraftBearer<'_>) -> bool
+    ensures { result ≡ is_namesake (listed_bearer to.now) (listed_bearer from.now) }
 {
     is_input(from.entry.side)
         && from.entry.own
         && is_below(from.above.as_slice())
         && share_name(to.name, from.name)
-        && agree(
-            how,
-            records,
-            below_record(to.above.as_slice()),
-            below_record(from.above.as_slice()),
-        )
 }
 
-/// The only entry that may be the partner of an item.
-fn only_fitting<'s, 'a>(
-    how: Agreement,
-    records: &BothRecords<'s, 'a>,
+/// Whether an entry stands in a redefinition of another one.
+fn is_within(sender: &DraftEntry<'_>, entry: &DraftEntry<'_>) -> bool
+    ensures { result ≡ is_number (draft_entry sender.now).number entry.now.redefined }
+{
+    match entry.redefined {
+        Some(number) => number == sender.entry.number,
+        None => false,
+    }
+}
+
+/// Whether an entry stands beneath another one.
+fn is_beneath(group: &DraftEntry<'_>, entry: &DraftEntry<'_>) -> bool
+    ensures { result ≡ is_beneath (draft_entry group.now) (draft_entry entry.now) }
+{
+    group.entry.number < entry.entry.number && entry.entry.number <= group.last
+}
+
+/// Whether both entries are numbers, or both have characters.
+fn are_alike(one: &Kind, other: &Kind) -> bool
+    ensures { result ≡ are_alike one.now other.now }
+{
+    match (one, other) {
+        (Kind::Item(one), Kind::Item(other)) => {
+            one.picture.category().shows_number() == other.picture.category().shows_number()
+        }
+        _ => false,
+    }
+}
+
+/// Whether an item with a name stands beneath a group and in no redefinition, and is a number where another one is.
+fn is_item_beneath(group: &DraftEntry<'_>, to: &DraftBearer<'_>, from: &DraftBearer<'_>) -> bool
+    ensures { result ≡ is_item_beneath (draft_entry group.now) (listed_bearer to.now) (listed_bearer from.now) }
+{
+    from.entry.own
+        && from.name.is_some()
+        && is_beneath(group, &from.entry)
+        && are_alike(&from.entry.entry.kind, &to.entry.entry.kind)
+}
+
+/// Whether the qualifiers of an item and of an entry are the same.
+fn has_same_groups(to: &DraftBearer<'_>, from: &DraftBearer<'_>) -> bool
+    ensures { result ≡ same_names (below_record (listed_bearer to.now).above)
+        (below_record (listed_bearer from.now).above) }
+{
+    same_names(
+        below_record(to.above.as_slice()),
+        below_record(from.above.as_slice()),
+    )
+}
+
+/// Whether an entry of the input record is sought, which has these of the names of groups above it that groups of the output record have.
+fn is_sought(
+    sought: &Sought<'_>,
+    to: &DraftBearer<'_>,
+    from: &DraftBearer<'_>,
+    shared: &[&[u8]],
+) -> bool
+    ensures { (records : BothRecords)
+        → texts shared.now ≡ shared_above (output_bearers records) (listed_bearer from.now)
+        → result ≡ is_sought sought.now records (listed_bearer to.now) (listed_bearer from.now) }
+{
+    match sought {
+        Sought::Whole => is_namesake(to, from) && has_same_groups(to, from),
+        Sought::Shared(names) => is_namesake(to, from) && same_names(names, shared),
+        Sought::Within(sender) => {
+            is_within(sender, &from.entry) && share_name(to.name, from.name)
+        }
+        Sought::Beneath(group) => is_item_beneath(group, to, from),
+    }
+}
+
+/// The only entry of the input record that is sought.
+fn only_sought<'s, 'a>(
+    sought: &Sought<'_>,
+    records: &'s BothRecords<'a>,
     to: &DraftBearer<'_>,
 ) -> Partner<'s, 'a>
-    ensures { IsOnly result (fitting how records.now (listed_bearer to.now) (input_bearers records.now)) }
+    ensures { IsOnly result (those_sought sought.now records.now (listed_bearer to.now)
+        (input_bearers records.now)) }
 {
     let mut found = None;
-    for from in records.inputs {
-        if may_be_partner(how, records, to, from) {
+    for (place, from) in records.inputs().iter().enumerate() {
+        if is_sought(sought, to, from, records.shared_above(place)) {
             if found.is_some() {
                 return Partner::Several;
             }
@@ -232,14 +177,69 @@ fn only_fitting<'s, 'a>(
     }
 }
 
+/// The only entry of the input record that has the qualifiers of an item as far as they are there.
+fn only_sharing<'s, 'a>(
+    alloc: Global,
+    records: &'s BothRecords<'a>,
+    to: &DraftBearer<'_>,
+) -> Result<Partner<'s, 'a>, AllocError>
+    ensures { IfOk result (λ partner. IsOnly partner
+        (fitting Shared records.now (listed_bearer to.now) (input_bearers records.now))) }
+{
+    let names = names_there(alloc, &records.groups, below_record(to.above.as_slice()))?;
+    Ok(only_sought(&Sought::Shared(names.as_slice()), records, to))
+}
+
 /// The partner of an item of the output record: the only entry of the input record of its name whose groups have the same names; where there is none,
 /// the only one whose groups have the same names, those left out that the other record doesn't have.
-pub fn partner_of<'s, 'a>(records: &BothRecords<'s, 'a>, to: &DraftBearer<'_>) -> Partner<'s, 'a>
-    ensures { IsOnly result (candidates_for records.now (listed_bearer to.now)) }
+///
+/// # Errors
+///
+/// Where no memory is left.
+pub fn partner_of<'s, 'a>(
+    alloc: Global,
+    records: &'s BothRecords<'a>,
+    to: &DraftBearer<'_>,
+) -> Result<Partner<'s, 'a>, AllocError>
+    ensures { IfOk result (λ partner. IsOnly partner
+        (candidates_for records.now (listed_bearer to.now))) }
 {
-    match only_fitting(Agreement::Whole, records, to) {
-        Partner::Missing => only_fitting(Agreement::Shared, records, to),
-        Partner::One(from) => Partner::One(from),
-        Partner::Several => Partner::Several,
+    match only_sought(&Sought::Whole, records, to) {
+        Partner::Missing => only_sharing(alloc, records, to),
+        Partner::One(from) => Ok(Partner::One(from)),
+        Partner::Several => Ok(Partner::Several),
     }
+}
+
+/// The partner of an item of the output record that stands beneath what receives an entry, the sender: the only entry of its name in redefinitions of the
+/// sender; where there is none, as [`partner_of`] answers.
+///
+/// # Errors
+///
+/// Where no memory is left.
+pub fn partner_within<'s, 'a>(
+    alloc: Global,
+    records: &'s BothRecords<'a>,
+    sender: &DraftEntry<'_>,
+    to: &DraftBearer<'_>,
+) -> Result<Partner<'s, 'a>, AllocError>
+    ensures { IfOk result (λ partner. IsOnly partner (candidates_within records.now (draft_entry sender.now) (listed_bearer to.now))) }
+{
+    match only_sought(&Sought::Within(sender), records, to) {
+        Partner::Missing => partner_of(alloc, records, to),
+        Partner::One(from) => Ok(Partner::One(from)),
+        Partner::Several => Ok(Partner::Several),
+    }
+}
+
+/// The only item with a name beneath a group of the input record, in no redefinition, that is a number where the item of the output record is one, and has
+/// characters where that has characters.
+pub fn only_item_beneath<'s, 'a>(
+    records: &'s BothRecords<'a>,
+    group: &DraftEntry<'_>,
+    to: &DraftBearer<'_>,
+) -> Partner<'s, 'a>
+    ensures { IsOnly result (items_beneath records.now (draft_entry group.now) (listed_bearer to.now)) }
+{
+    only_sought(&Sought::Beneath(group), records, to)
 }

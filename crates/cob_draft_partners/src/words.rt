@@ -9,12 +9,14 @@ impl fmt::Display for Objection {
         match self {
             Objection::Tables => write!(f, "They stand in tables that are not as many"),
             Objection::Varies => write!(f, "A table that varies holds one of them"),
+            Objection::Counts => write!(f, "The table that it counts is not filled"),
             Objection::Refused(Refusal::NotAllowed) => write!(f, "There is no such move"),
             Objection::Refused(Refusal::Literal) => write!(f, "The literal is not as asked"),
             Objection::Refused(Refusal::TooLong) => {
                 write!(f, "The sender has more than 31 characters")
             }
             Objection::Loses(losses) => write!(f, "It may lose {losses}"),
+            Objection::Description(_) => write!(f, "It moves bytes, and may lose the description"),
         }
     }
 }

@@ -1,18 +1,30 @@
-use Rattle.std.proofs.Common.{map}
+use Rattle.std.proofs.Common.{◌≡◌, ◌++◌, [], ap, refl, subst, sym, map, ◌∙◌, List, Bor, ◌≤◌, ℕ, arith}
+use Rattle.std.proofs.lemmas.List.{length-map}
 use Rattle.cob_copybook_names.specs.Listed.{texts}
-use Rattle.cob_draft_partners.specs.Entries.{listed_bearer}
-use Rattle.cob_draft_partners.specs.Naming.{NamesOne}
-use Rattle.cob_draft_partners.proofs.NamingLemmas.{named_with, named_with_none, none_up_to}
+use Rattle.cob_copybook_names.specs.Naming.{Bearer}
+use Rattle.cob_draft_partners.specs.Entries.{DraftEntry, listed_bearer}
+use Rattle.cob_draft_partners.specs.Naming.{Spreads}
+use Rattle.cob_draft_partners.specs.Partners.{all_bearers}
+use Rattle.cob_draft_partners.proofs.NamingLemmas.{needed, not_needed, spread_none}
 use Rattle.cob_draft_partners.proofs.naming.qualifiers_needed.Goals as goal
+use Rattle.cob_draft_partners.proofs.naming.qualifiers_needed.Goals.{After-spread_over-all}
 
-pub returns-then-names_one-clause-some : goal.returns-then-names_one-clause-some
-returns-then-names_one-clause-some c =
-    record {
-      names = named_with c.args.name.now c.args.above.now c.loop-count.count (map listed_bearer c.args.directory.now.bearers.items) c.names_one.result c.names_one.ensures c.if-names_one.true;
-      fewer = c.loop-count.invariant;
-    }
+spread_all : (c : After-spread_over-all) → Spreads c.spread_over-all.result c.args.name.now (texts c.args.above.now) (all_bearers c.args.records.now)
+spread_all c =
+    let name = c.args.name.now in
+    let above = texts c.args.above.now in
+    let r = c.args.records.now in
+    let inputs = map listed_bearer c.inputs.result.now in
+    let outputs = map listed_bearer c.outputs.result.now in
+    let both : inputs ++ outputs ≡ all_bearers r = ap (λ xs. map listed_bearer xs ++ outputs) c.inputs.ensures ∙ ap (λ xs. map listed_bearer r.inputs.items ++ map listed_bearer xs) c.outputs.ensures in
+    let first = c.spread_over-inputs.ensures [] (spread_none _ name above refl refl) in
+    subst (λ (all : List (Bearer DraftEntry)). Spreads c.spread_over-all.result name above all) both (c.spread_over-all.ensures inputs first)
 
-pub loop-count-preserved : goal.loop-count-preserved
-loop-count-preserved c =
-    none_up_to (λ k. NamesOne c.args.name.now (texts c.args.above.now) k (map listed_bearer c.args.directory.now.bearers.items)) c.loop-count.count c.loop-count.invariant
-    (named_with_none c.args.name.now c.args.above.now c.loop-count.count (map listed_bearer c.args.directory.now.bearers.items) c.names_one.result c.names_one.ensures c.if-names_one.false)
+pub returns-then-all-clause-some : goal.returns-then-all-clause-some
+returns-then-all-clause-some c =
+    needed c.spread_over-all.result c.args.name.now (texts c.args.above.now) (all_bearers c.args.records.now) (spread_all (goal.at.returns-then-all-clause-some c).After-spread_over-all) c.if-all.true
+
+pub returns-clause-none : goal.returns-clause-none
+returns-clause-none c = λ k le.
+    not_needed c.spread_over-all.result c.args.name.now (texts c.args.above.now) (all_bearers c.args.records.now) (spread_all (goal.at.returns-clause-none c).After-spread_over-all) (λ less. absurd (omega (arith, less, c.if-all.false)))
+    k (subst (λ (n : ℕ). k ≤ n) (sym (length-map c.args.above.now (λ (t : Bor (List ℕ)). t.now))) le)
