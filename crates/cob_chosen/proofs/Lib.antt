@@ -1,5 +1,10 @@
 pub mod Beginning
 pub mod Behind
+pub mod Fieldless
+pub mod FirstBlocked
+pub mod FirstLaw
+pub mod Foretelling
+pub mod GivenLaw
 pub mod Giving
 pub mod InFront
 pub mod RestLaw

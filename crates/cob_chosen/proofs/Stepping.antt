@@ -1,5 +1,5 @@
 -- One more record of a stream, of which some are chosen.
-use Rattle.std.proofs.Common.{◌≡◌, ◌∙◌, ℕ, zero, suc, ◌+◌, ◌<◌, ◌≤◌, List, [], ◌∷◌, ◌++◌, length, take, drop, refl, sym, ap, subst, append_assoc, append-nil, arith, None, Some, Option, Ok, Err}
+use Rattle.std.proofs.Common.{◌≡◌, ◌∙◌, ℕ, ◌+◌, ◌<◌, ◌≤◌, List, [], ◌∷◌, ◌++◌, length, take, drop, refl, sym, ap, subst, append_assoc, append-nil, arith, None, Some, Option, Ok, Err}
 use Rattle.std.proofs.Math.ListN.{length-append}
 use Rattle.std.proofs.lemmas.Grind.{common_steps}
 use Rattle.std.proofs.lemmas.List.{drop-append-le}
@@ -7,7 +7,7 @@ use Rattle.std.specs.List.{AllByRecursion}
 use Rattle.cob_records.specs.Alone.{framed_alone}
 use Rattle.cob_records.specs.Device.{Told}
 use Rattle.cob_records.specs.Forms.{Come, ComesFirst, ReadsInForm}
-use Rattle.cob_records.specs.Frame.{IsLength, IsRecord}
+use Rattle.cob_records.specs.Frame.{IsRecord}
 use Rattle.cob_records.specs.declared.records.Form.{Form}
 use Rattle.cob_records.specs.declared.records.Form.TheVariants.{Fixed, Variable, Blocked}
 use Rattle.cob_chosen.specs.declared.choice.Stopped.{Stopped}
@@ -70,7 +70,7 @@ read_one Variable greatest left slice count after bytes rest ((within, is, frame
 read_one (Blocked most) greatest left slice count after bytes rest (within, is, comes) = (is, comes)
 
 -- at the end of the bytes nothing was read
-at_end : (form : Form) (greatest left : ℕ) (slice : List ℕ) (after : ℕ) (bytes rest : List ℕ) → ReadsInForm form greatest left slice (Ok None) after bytes rest
+pub at_end : (form : Form) (greatest left : ℕ) (slice : List ℕ) (after : ℕ) (bytes rest : List ℕ) → ReadsInForm form greatest left slice (Ok None) after bytes rest
     → (after ≡ left) × (rest ≡ bytes) × (rest ≡ [])
 at_end Fixed greatest left slice after bytes rest ((none, end), same) = (same, end ∙ sym none, end)
 at_end Variable greatest left slice after bytes rest ((none, end), same) = (same, end ∙ sym none, end)

@@ -1,9 +1,12 @@
 pub mod Aheads
 pub mod Choices
+pub mod Comings
+pub mod Firsts
 pub mod Fronts
 pub mod Gives
 pub mod Helds
 pub mod Incomings
 pub mod Parts
 pub mod Rests
+pub mod StillGiven
 pub mod Walks

@@ -1,14 +1,17 @@
 //! A source that gives the chosen records of another.
 
-ghost use Rattle.std.specs.Prelude.{◌≡◌, ◌<◌, ◌≤◌, [], None, false, true, length, take, IfErr, IfOk, IfSome, OnErr, OnOk, is_err};
+ghost use Rattle.std.specs.Prelude.{◌≡◌, ◌<◌, ◌≤◌, ℕ, List, Option, [], None, false, true, length, take, option_map, IfErr, IfOk, IfSome, OnErr, OnOk, is_err};
+ghost use Rattle.std.specs.Io.KnownBytes.{IsAtEnd, prepend_known};
 ghost use Rattle.cob_limits.specs.Limits.{longest_record};
 ghost use Rattle.cob_records.specs.Device.{counted};
 ghost use Rattle.cob_records.specs.Forms.{HasBlockSize};
 ghost use Rattle.cob_records.specs.Frame.{is_write_fault};
 ghost use Rattle.cob_chosen.specs.Choices.{stops_reading};
+ghost use Rattle.cob_chosen.specs.StillGiven.{failures_at, left_at};
 
 use crate::ahead::{Ahead, ahead_of};
 use crate::choice::{Choice, ChoiceFault, Stopped};
+use crate::foretold::{Foretold, foretell};
 use crate::held::Held;
 use crate::refill::{pass_over, refill};
 use crate::rest::Rest;
@@ -16,8 +19,8 @@ use crate::walk::Walk;
 use cob_records::{DeviceFault, Form, Source};
 use std::alloc::Global;
 
-/// A source round another that gives just the records that are chosen of it, each as it stands by itself in a stream of the same form. It does
-/// not tell its bytes: what it gives is said by what has come of the source inside.
+/// A source round another that gives just the records that are chosen of it, each as it stands by itself in a stream of the same form. Where the source
+/// inside tells its bytes, it tells what is given of them; and where a frame can't be read, a mark stands for it, which is never given.
 #[derive(Drop)]
 pub struct Chosen<R> {
     inner: R,
@@ -25,13 +28,18 @@ pub struct Chosen<R> {
     held: Held,
     stopped: Option<Stopped>,
     failures: u64,
+    told: Foretold,
     ghost room: { length held.body.items ≡ walk.greatest },
     ghost kind: { stops_reading stopped ≡ true },
+    ghost marks: { left_at stopped told.bytes ≡ told.bytes },
+    ghost quiet: { failures_at stopped failures ≡ failures },
 }
 
 impl<R: Source + Drop> Chosen<R> {
     ghost use Rattle.cob_chosen.specs.Choices.{last_chosen};
+    ghost use Rattle.cob_chosen.specs.Comings.{chosen_coming};
     ghost use Rattle.cob_chosen.specs.Gives.{HasGiven, IfStopped, IsPassedTo, StopsPassing, chosen_failures, chosen_inner, chosen_stop, chosen_walk};
+    ghost use Rattle.cob_chosen.specs.StillGiven.{given_of};
 
     /// A source that gives the records of this choice of another, which stand in this form and have at most this length: 1 to 32,752. Those before
     /// the chosen ones are passed over at once, as far as there are so many.
@@ -59,6 +67,9 @@ impl<R: Source + Drop> Chosen<R> {
         ensures runs { IfOk result (λ source. chosen_stop source ≡ None) }
         ensures failures { IfOk result (λ source. chosen_failures source ≡ 0) }
         ensures reads { IfOk result (λ source. R.failures (chosen_inner source) ≡ R.failures inner) }
+        // What comes of it is what is given of all that was to come.
+        ensures coming { IfOk result (λ source. chosen_coming R.coming source
+            ≡ option_map (given_of form greatest choice.skip (last_chosen choice) 0) (R.coming inner)) }
         ensures stops { IfErr result (StopsPassing form greatest choice.skip (R.coming inner)) }
         ensures kind { IfErr result (λ fault. IfStopped fault (λ stop. is_write_fault stop.fault ≡ false)) }
     {
@@ -73,6 +84,7 @@ impl<R: Source + Drop> Chosen<R> {
             number: 0,
             left: 0,
         };
+        let told = foretell(&inner);
         match pass_over(&mut inner, &mut walk, &mut held.body) {
             Ok(_) => Ok(Chosen {
                 inner,
@@ -80,6 +92,7 @@ impl<R: Source + Drop> Chosen<R> {
                 held,
                 stopped: None,
                 failures: 0,
+                told,
             }),
             Err(stop) => Err(ChoiceFault::Stopped(stop)),
         }
@@ -87,8 +100,10 @@ impl<R: Source + Drop> Chosen<R> {
 }
 
 impl<R> Chosen<R> {
-    ghost use Rattle.cob_chosen.specs.Gives.{chosen_stop};
+    ghost use Rattle.cob_chosen.specs.Comings.{coming_of};
+    ghost use Rattle.cob_chosen.specs.Gives.{chosen_failures, chosen_stop};
     ghost use Rattle.cob_chosen.specs.Rests.{chosen_ahead};
+    ghost use Rattle.cob_chosen.specs.StillGiven.{IsLeftAt};
 
     // How much of what is left of the source inside is still given, where it did not stop and holds no part of a record.
     fn ahead(&self) -> Ahead
@@ -104,6 +119,9 @@ impl<R> Chosen<R> {
     pub fn stopped(&self) -> Option<Stopped>
         ensures stop { result ≡ chosen_stop self.now }
         ensures kind { IfSome result (λ stop. is_write_fault stop.fault ≡ false) }
+        // Behind a fault that is no failed read just its mark is left; and where it did not stop, none of its reads has failed.
+        ensures left { (now : Option (List ℕ)) → IsLeftAt result (coming_of now self.now) }
+        ensures none { result ≡ None → chosen_failures self.now ≡ 0 }
     {
         self.stopped
     }
@@ -135,7 +153,9 @@ impl<R: Drop> Chosen<R> {
 }
 
 impl<R: Source> Chosen<R> {
+    ghost use Rattle.cob_chosen.specs.Comings.{chosen_coming};
     ghost use Rattle.cob_chosen.specs.Gives.{CountsInnerReads, GivesBehind, IsRefilled, StopsGiving, chosen_failures, chosen_stop, chosen_walk};
+    ghost use Rattle.cob_chosen.specs.Helds.{held_bytes};
     ghost use Rattle.cob_chosen.specs.Walks.{IsSameChoice};
 
     // Holds the next record that is chosen, where none is held and there is one.
@@ -148,10 +168,14 @@ impl<R: Source> Chosen<R> {
         ensures runs { OnOk result (chosen_stop self.new ≡ None) }
         ensures stops { OnErr result (StopsGiving R.coming self.old self.new) }
         ensures reads { CountsInnerReads R.failures self.old self.new }
+        ensures coming { chosen_coming R.coming self.new ≡ chosen_coming R.coming self.old }
+        ensures end { OnOk result (length (held_bytes self.new.held) ≡ 0 → IsAtEnd (chosen_coming R.coming self.new)) }
     {
         if !self.held.is_empty() {
             return Ok(());
         }
+        let told = foretell(&*self);
+        self.told = told;
         match refill(&mut self.inner, &mut self.walk, &mut self.held) {
             Ok(()) => Ok(()),
             Err(stop) => {
@@ -164,16 +188,22 @@ impl<R: Source> Chosen<R> {
 }
 
 impl<R: Source> Source for Chosen<R> {
+    ghost use Rattle.cob_chosen.specs.Comings.{chosen_coming};
     ghost use Rattle.cob_chosen.specs.Gives.{CountsInnerReads, GivesBehind, IsDrained, StopsGiving, chosen_failures, chosen_stop, chosen_walk};
     ghost use Rattle.cob_chosen.specs.Walks.{IsSameChoice};
 
-    ghost coming = { λ _. None };
+    ghost coming = { λ source. chosen_coming R.coming source };
 
     ghost failures = { λ source. chosen_failures source };
 
     /// Gives what is held, or of the next record that is chosen. Behind a record whose frame can't be read it fails.
     fn read(&mut self, piece: &mut [u8]) -> Result<usize, DeviceFault>
         ensures count { IfOk result (λ n. n ≤ length piece.new) }
+        ensures bytes { IfOk result (λ n. chosen_coming R.coming self.old
+            ≡ prepend_known (take n piece.new) (chosen_coming R.coming self.new)) }
+        ensures end { IfOk result (λ n. n ≡ 0 → 0 < length piece.new
+            → IsAtEnd (chosen_coming R.coming self.old)) }
+        ensures kept { OnErr result (chosen_coming R.coming self.new ≡ chosen_coming R.coming self.old) }
         ensures cause { chosen_failures self.new ≡ counted (is_err result) (chosen_failures self.old) }
         // The same records are chosen, and what it gave stands behind what it had given; where it gave nothing, it is over.
         ensures same { IsSameChoice (chosen_walk self.old) (chosen_walk self.new) }

@@ -1,6 +1,7 @@
-//! A law of chosen records, proved as the contract of a function that does nothing.
+//! Laws of chosen records, each proved as the contract of a function that does nothing.
 
 ghost use Rattle.cob_chosen.specs.Rests.{RestIsBehind};
+ghost use Rattle.cob_chosen.specs.StillGiven.{GivenAreChosen};
 
 use crate::chosen::Chosen;
 use cob_records::Source;
@@ -9,4 +10,10 @@ use cob_records::Source;
 #[tactic(auto, using(crate::proofs::RestLaw::rest_is_behind))]
 pub fn rest_is_behind<R: Source>(_source: &Chosen<R>)
     ensures { RestIsBehind R.coming _source.now }
+{}
+
+/// What is given of a stream is what is chosen of the records that come of it, and what is given behind these; and the mark of a frame that can't be read.
+#[tactic(auto, using(crate::proofs::GivenLaw::given_are_chosen))]
+pub fn given_are_chosen()
+    ensures { GivenAreChosen }
 {}

@@ -19,6 +19,7 @@
 mod ahead;
 mod choice;
 mod chosen;
+mod foretold;
 mod held;
 mod incoming;
 mod laws;
@@ -32,6 +33,6 @@ mod whole;
 pub use choice::{Choice, ChoiceFault, Stopped};
 pub use chosen::Chosen;
 pub use incoming::{Incoming, choose};
-pub use laws::rest_is_behind;
+pub use laws::{given_are_chosen, rest_is_behind};
 pub use part::Part;
 pub use rest::Rest;

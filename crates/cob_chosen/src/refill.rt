@@ -4,6 +4,7 @@ ghost use Rattle.std.specs.Prelude.{◌≡◌, ◌⊎◌, ◌+◌, ◌<◌, ◌�
 ghost use Rattle.cob_records.specs.Device.{counted};
 ghost use Rattle.cob_records.specs.Frame.{is_write_fault};
 ghost use Rattle.cob_chosen.specs.Choices.{stops_by_read};
+ghost use Rattle.cob_chosen.specs.StillGiven.{Gives, GivesMark, GivesNone};
 ghost use Rattle.cob_chosen.specs.Helds.{IsSpent, held_bytes};
 ghost use Rattle.cob_chosen.specs.Walks.{EndsAt, IsSameChoice, IsThrough, PassesOver, ReachesFirst, StopsWalkAt, TakesChosen};
 
@@ -35,6 +36,12 @@ pub(crate) fn pass_over<R: Source>(
         → EndsAt walk.old walk.new (R.coming source.old) (R.coming source.new)) }
     ensures stops { IfErr result (λ stop. StopsWalkAt stop walk.old
         (R.coming source.old) (R.coming source.new)) }
+    ensures gives { IfOk result (λ _.
+        Gives [] walk.old walk.new (R.coming source.old) (R.coming source.new)) }
+    ensures none { IfOk result (λ all. IsFalse all
+        → GivesNone walk.old (R.coming source.old) (R.coming source.new)) }
+    ensures marks { IfErr result (λ stop. GivesMark stop walk.old
+        (R.coming source.old) (R.coming source.new)) }
     ensures kind { IfErr result (λ stop. is_write_fault stop.fault ≡ false) }
     ensures cause { R.failures source.new ≡ counted (stops_by_read result) (R.failures source.old) }
 {
@@ -64,6 +71,12 @@ fn take_next<R: Source>(source: &mut R, walk: &mut Walk, held: &mut Held) -> Res
     ensures over { OnOk result (length (held_bytes held.new) ≡ 0
         → IsThrough walk.old walk.new (R.coming source.old) (R.coming source.new)) }
     ensures stops { IfErr result (λ stop. StopsWalkAt stop walk.old
+        (R.coming source.old) (R.coming source.new)) }
+    ensures gives { OnOk result (Gives (held_bytes held.new) walk.old walk.new
+        (R.coming source.old) (R.coming source.new)) }
+    ensures last { OnOk result (length (held_bytes held.new) ≡ 0
+        → GivesNone walk.old (R.coming source.old) (R.coming source.new)) }
+    ensures marks { IfErr result (λ stop. GivesMark stop walk.old
         (R.coming source.old) (R.coming source.new)) }
     ensures kind { IfErr result (λ stop. is_write_fault stop.fault ≡ false) }
     ensures cause { R.failures source.new ≡ counted (stops_by_read result) (R.failures source.old) }
@@ -100,6 +113,12 @@ pub(crate) fn refill<R: Source>(
     ensures over { OnOk result (length (held_bytes held.new) ≡ 0
         → IsThrough walk.old walk.new (R.coming source.old) (R.coming source.new)) }
     ensures stops { IfErr result (λ stop. StopsWalkAt stop walk.old
+        (R.coming source.old) (R.coming source.new)) }
+    ensures gives { OnOk result (Gives (held_bytes held.new) walk.old walk.new
+        (R.coming source.old) (R.coming source.new)) }
+    ensures last { OnOk result (length (held_bytes held.new) ≡ 0
+        → GivesNone walk.old (R.coming source.old) (R.coming source.new)) }
+    ensures marks { IfErr result (λ stop. GivesMark stop walk.old
         (R.coming source.old) (R.coming source.new)) }
     ensures kind { IfErr result (λ stop. is_write_fault stop.fault ≡ false) }
     ensures cause { R.failures source.new ≡ counted (stops_by_read result) (R.failures source.old) }

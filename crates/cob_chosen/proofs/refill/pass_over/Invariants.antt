@@ -1,4 +1,5 @@
-use Rattle.std.proofs.Common.{◌≡◌, ◌≤◌, ◌-◌, length}
+use Rattle.std.proofs.Common.{◌≡◌, ◌-◌, [], length}
+use Rattle.cob_chosen.specs.StillGiven.{Gives}
 use Rattle.cob_chosen.specs.Walks.{IsSameChoice, PassesOver}
 use Rattle.cob_chosen.proofs.refill.pass_over.Given as goal
 
@@ -6,6 +7,7 @@ abbrev pub invariant-loop-walk : goal.invariant-loop-walk
 invariant-loop-walk g l = record {
   room : length l.body ≡ length l.initial.body;
   same : IsSameChoice l.initial.walk l.walk;
+  gives : Gives [] l.initial.walk l.walk (g.R.Source.coming l.initial.source) (g.R.Source.coming l.source);
   passes : PassesOver l.initial.walk l.walk (g.R.Source.coming l.initial.source) (g.R.Source.coming l.source);
   cause : g.R.Source.failures l.source ≡ g.R.Source.failures l.initial.source;
 }

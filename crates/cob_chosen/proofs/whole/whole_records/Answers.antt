@@ -1,4 +1,4 @@
-use Rattle.std.proofs.Common.{◌≡◌, ◌≤◌, ◌*◌, rules}
+use Rattle.std.proofs.Common.{◌≤◌, ◌*◌, rules}
 use Rattle.cob_chosen.proofs.InFront.{whole_in_front}
 use Rattle.cob_chosen.proofs.whole.whole_records.Goals as goal
 

@@ -1,4 +1,4 @@
-use Rattle.std.proofs.Common.{rules, arith}
+use Rattle.std.proofs.Common.{rules}
 use Rattle.cob_chosen.proofs.Giving.{from_body, from_front}
 use Rattle.cob_chosen.proofs.held.Held.give.Goals as goal
 
