@@ -9,10 +9,9 @@ use Rattle.cob_copybook_names.specs.Naming.{Bearer}
 use Rattle.cob_move_pairs.specs.Pairs.{same_names}
 use Rattle.cob_draft_partners.specs.Entries.{DraftEntry, listed_bearer}
 use Rattle.cob_draft_partners.specs.Groups.{AreGroups, below_record, has_group, names_group, names_there}
-use Rattle.cob_draft_partners.specs.Partners.{fitting, found_bearer, input_bearers, is_namesake, is_sought, output_bearers, those_sought}
+use Rattle.cob_draft_partners.specs.Partners.{Shared as SharedNames, fitting, found_bearer, input_bearers, is_namesake, is_sought, output_bearers, those_sought}
 use Rattle.cob_draft_partners.specs.declared.entries.DraftEntry.{DraftEntry as ListedEntry}
 use Rattle.cob_draft_partners.specs.declared.groups.GroupNames.{GroupNames}
-use Rattle.cob_draft_partners.specs.declared.partners.Agreement.TheVariants.{Shared as SharedNames}
 use Rattle.cob_draft_partners.specs.declared.partners.Sought.{Sought}
 use Rattle.cob_draft_partners.specs.declared.partners.Sought.TheVariants as sought
 use Rattle.cob_draft_partners.specs.declared.records.BothRecords.{BothRecords}

@@ -36,8 +36,8 @@ pub record DraftEntry : Type 0 where
   pub redefined : Option ℕ
   pub counts : Bool
 
--- where an entry stands: within these tables, none of which varies, in no redefinition or in one of this entry, and behind this entry as the last one in its
--- row that redefines nothing
+-- Where an entry stands: within these tables, whether none of them varies, whether in no redefinition, the entry that is redefined by the outermost
+-- redefinition around it, and the last entry before it in its row that redefines nothing.
 pub record Setting : Type 0 where
   pub tables : List ℕ
   pub steady : Bool

@@ -13,8 +13,6 @@ use Rattle.cob_picture.specs.Positions.{shows_number}
 use Rattle.cob_draft_partners.specs.Entries.{DraftEntry, draft_entry, listed_bearer}
 use Rattle.cob_draft_partners.specs.Groups.{below_record, is_below, names_there}
 use Rattle.cob_draft_partners.specs.declared.entries.DraftEntry.{DraftEntry as ListedEntry}
-use Rattle.cob_draft_partners.specs.declared.partners.Agreement.{Agreement}
-use Rattle.cob_draft_partners.specs.declared.partners.Agreement.TheVariants.{Whole, Shared}
 use Rattle.cob_draft_partners.specs.declared.partners.Partner.{Partner}
 use Rattle.cob_draft_partners.specs.declared.partners.Partner.TheVariants as partner
 use Rattle.cob_draft_partners.specs.declared.partners.Sought.{Sought}
@@ -43,6 +41,11 @@ output_bearers r = map listed_bearer r.outputs.items
 -- and those of both
 abbrev pub all_bearers : BothRecords → List (Bearer DraftEntry)
 all_bearers r = input_bearers r ++ output_bearers r
+
+-- how qualifiers are to agree: whole, or as far as both records have groups of their names
+pub data Agreement : Type 0 where
+  Whole : Agreement
+  Shared : Agreement
 
 -- The qualifiers of an item of the output record and of an entry of the input record agree: they are the same; or they are the same as far as they are
 -- there, those left out that no group of the other record has as its name.

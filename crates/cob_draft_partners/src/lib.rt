@@ -37,5 +37,5 @@ mod words;
 pub use entries::{DraftBearer, DraftEntry, Tables, entries_of};
 pub use judge::{Objection, objection_to};
 pub use naming::qualifiers_needed;
-pub use partners::{Agreement, Partner, only_item_beneath, partner_of, partner_within};
+pub use partners::{Partner, only_item_beneath, partner_of, partner_within};
 pub use records::BothRecords;

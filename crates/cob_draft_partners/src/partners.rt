@@ -4,10 +4,10 @@ ghost use Rattle.std.specs.Prelude.{◌≡◌, IfOk};
 ghost use Rattle.cob_copybook_names.specs.Listed.{texts};
 ghost use Rattle.cob_move_pairs.specs.Pairs.{same_names};
 ghost use Rattle.cob_draft_partners.specs.Entries.{draft_entry, listed_bearer};
-ghost use Rattle.cob_draft_partners.specs.declared.partners.Agreement.TheVariants.{Shared};
 ghost use Rattle.cob_draft_partners.specs.Groups.{below_record, shared_above};
 ghost use Rattle.cob_draft_partners.specs.Partners.{
   IsOnly,
+  Shared,
   are_alike,
   candidates_for,
   candidates_within,
@@ -31,15 +31,6 @@ use crate::records::BothRecords;
 use cob_copybook_tree::Kind;
 use cob_layout_places::Side;
 use std::alloc::{AllocError, Global};
-
-/// How the qualifiers of two entries are to agree.
-#[derive(Clone, Copy, PartialEq, Eq)]
-pub enum Agreement {
-    /// They are the same.
-    Whole,
-    /// They are the same as far as they are there: those left out that no group of the other record has as its name.
-    Shared,
-}
 
 /// Which entries of the input record are sought for an item of the output record.
 #[derive(Clone, Copy)]
