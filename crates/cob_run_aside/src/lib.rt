@@ -6,8 +6,8 @@
 //!
 //! What is promised:
 //!
-//! - that the converter was run so over all records that came, or over the chosen ones where these are all that is left of their source, or its first
-//!   bytes (`ran`: `RanAsideOver` of specs/Ran.antt), and that nothing is held back of an output that was handed over;
+//! - that the converter was run so over all records that came, or over the chosen ones, whether these are all that is left of their source, its first
+//!   bytes, or records that are given apart (`ran`: `RanAsideOver` of specs/Ran.antt), and that nothing is held back of an output that was handed over;
 //! - that a fault line which was not printed is never forgotten (`printed` of `note`);
 //! - what is told of a run one of whose outputs could not be handed to the device whole, or not put in its place (`finished_aside`, `placed_aside` of
 //!   specs/Finished.antt), and that it is a stop of the run (`StopsRunAside`, `LacksOutputs` of specs/Ends.antt): of the output the last record that was

@@ -9,7 +9,7 @@ ghost use Rattle.cob_chosen.specs.Rests.{rest_of};
 ghost use Rattle.cob_convert.specs.Aside.{CountsUnlessSink, is_aside_fault, is_sink_fault};
 ghost use Rattle.cob_run_aside.specs.Ends.{LacksOutputs, StopsRunAside};
 ghost use Rattle.cob_run_aside.specs.Finished.{aside_cause, fails_output, finished_aside, lacking, lacking_aside, lacking_output, placed_aside, placed_run, records_before};
-ghost use Rattle.cob_run_aside.specs.Ran.{RanAsideFrom, RanAsideOver, RanAsideOverRest, untold};
+ghost use Rattle.cob_run_aside.specs.Ran.{RanAsideApart, RanAsideFrom, RanAsideOver, RanAsideOverRest, untold};
 
 use crate::marks::Marks;
 use crate::places::{Names, put_both_in_place};
@@ -235,6 +235,9 @@ fn answer_apart<T: Eprint + Clock, S: Source + Drop, K: Sink, A: Sink, N: Notes>
     notes: &mut N,
 ) -> Result<Tally, AsideFault>
     requires { HasBlockSize how.form }
+    ensures ran { RanAsideApart S.coming converter.old how.most result chosen
+        (record { sink = K.taken sink.old; aside = A.taken aside.old; notes = N.told notes.old })
+        (record { sink = K.taken sink.new; aside = A.taken aside.new; notes = N.told notes.new }) }
 {
     match answer_of(rt, how, converter, &mut chosen, sink, aside, notes) {
         Ok(tally) => Ok(tally),

@@ -5,8 +5,8 @@
 //!
 //! What is promised:
 //!
-//! - that the converter was run so over all records that came, or over the chosen ones where these are all that is left of their source, or its first
-//!   bytes (`ran`: `RanOver` of specs/Ran.antt), and that nothing is held back of an output that was handed over;
+//! - that the converter was run so over all records that came, or over the chosen ones, whether these are all that is left of their source, its first
+//!   bytes, or records that are given apart (`ran`: `RanOver` of specs/Ran.antt), and that nothing is held back of an output that was handed over;
 //! - what is told of a run whose output could not be handed to the device whole, or not put in its place (`finished_run`, `placed_run` of
 //!   specs/Finished.antt), and that it is a stop of the run, or an output that is not in its place (`StopsRun`, `LacksPlace` of specs/Ends.antt).
 //!

@@ -9,7 +9,7 @@ ghost use Rattle.cob_chosen.specs.Rests.{rest_of};
 ghost use Rattle.cob_stream.specs.Reasons.{is_write_cause};
 ghost use Rattle.cob_command_input.specs.cob_convert.Run.{is_write_stop};
 ghost use Rattle.cob_run_to_end.specs.Ends.{LacksPlace, StopsRun};
-ghost use Rattle.cob_run_to_end.specs.Ran.{RanFrom, RanOver, RanOverRest};
+ghost use Rattle.cob_run_to_end.specs.Ran.{RanApart, RanFrom, RanOver, RanOverRest};
 ghost use Rattle.cob_run_to_end.specs.Finished.{finished_run, placed_run, unflushed_fault};
 
 use cob_chosen::{Chosen, Incoming};
@@ -110,6 +110,7 @@ fn answer_apart<T: Eprint + Clock, S: Source + Drop, K: Sink>(
     sink: &mut K,
 ) -> Result<u64, RunFault>
     requires { HasBlockSize form }
+    ensures ran { RanApart S.coming converter.old result chosen (K.taken sink.old) (K.taken sink.new) }
 {
     match answer_of(rt, form, telling, converter, &mut chosen, sink) {
         Ok(done) => Ok(done),
