@@ -8,16 +8,19 @@
 //!
 //! - the limit is the number that the text of `/proc/self/limits` tells as the soft limit, and there is none where it tells no number ([`size_limit`],
 //!   `TellsLimit` of specs/Limits.antt);
-//! - what a file takes of the bytes that are written to it ends at the limit at the latest, and a write is refused just where it would begin there
-//!   ([`LimitedFile`], [`Extent::front_of`], specs/Extents.antt);
-//! - what is printed on a standard stream is refused as a whole where it does not fit ([`Extent::fits`]).
+//! - what a file takes of a write ends at the limit at the latest, and a write is refused just where it would begin there ([`LimitedFile`],
+//!   [`Extent::front_of`], specs/Extents.antt and specs/Files.antt);
+//! - a value that is printed under a limit, and whose text is known, fits (`FitsIn` of specs/Prints.antt): it is printed as a whole or refused.
 //!
-//! Where the system tells no limit, each call is that of the runtime inside. Which files the limit holds for, and where their next byte is written, is
-//! what the system says of them, and no part of any proof: regular files alone, not pipes, terminals or other devices. A file that is opened for
-//! writing is written from its front on, and one that is opened for appending behind its end. A standard stream that is a regular file is taken to be written
-//! at that file's end, as it is behind `>` and `>>` of a shell: its size is asked for before each write, so that it does not matter who else writes to it.
-//! Whoever hands the program a standard output that stands elsewhere, as behind `1<>`, may have it refused before the limit, or, where it stands behind the
-//! file's end, have the signal come.
+//! Where the system tells no limit, each call is that of the runtime inside. What the system says of a file is no part of any proof: that it is a regular
+//! one, since no limit holds for pipes, terminals and other devices, and how large it is. A file that is opened for writing is written from its front on,
+//! and one that is opened for appending from its end on.
+//!
+//! A standard stream that is a regular file is taken to be written at that file's end, as it is behind `>` and `>>` of a shell. Its size is asked for before
+//! each write, so that it does not matter who else writes to it. Where such a stream stands before the end, as behind `1<>`, a write may be refused too
+//! early; where it stands behind the end, the signal may come.
+//!
+//! Calls that a runtime may leave out, as those on links, are left out.
 //!
 //! It stands on nothing but the standard library.
 #![tactic(auto)]
