@@ -8,6 +8,8 @@
 //!   are passed over, of those that came whole; and where it says that nothing is left, the last one that is chosen has come, or the source inside is
 //!   at its end. A frame that can't be read, of a record that is passed over or taken, is a read that fails; [`Chosen::stopped`] tells then the number
 //!   of the record among all and why, as a reader of the whole stream would (`HasStopped`). A read of the source inside failed exactly where that is why.
+//! - Where the source inside tells its bytes, what it tells to come itself is a function of these (`given_of` of specs/StillGiven.antt): the chosen records,
+//!   each by itself, and behind them, where a frame can't be read, a mark of the fault, which is never given ([`given_are_chosen`]).
 //! - [`Chosen::into_rest`] gives, where the chosen records are all that is left of the source inside, or its first bytes, just that ([`Rest`]), with nothing
 //!   between: in form f always, in form v where no number of records is asked for. These are the bytes behind the records that are passed over
 //!   ([`rest_is_behind`]).

@@ -31,7 +31,7 @@ Lists form tree answer coming left before now = Told coming left (Shows form tre
 abbrev pub ListsFrom : Form → Forest Resolved → Result ℕ ShowFault → (coming before now : Option (List ℕ)) → Type 0
 ListsFrom form tree answer coming before now = (left : Option (List ℕ)) × Lists form tree answer coming left before now
 
--- All records that come of a source were listed, or those that are chosen, whose source tells no bytes.
+-- All records that come of a source were listed. Of a listing of those that are chosen nothing is said.
 abbrev pub ListsOver : {S : Type 0} → (S → Option (List ℕ)) → Form → Forest Resolved → Result ℕ ShowFault → Incoming S → (before now : Option (List ℕ)) → Type 0
 ListsOver coming form tree answer (incoming.All source) before now = ListsFrom form tree answer (coming source) before now
 ListsOver coming form tree answer (incoming.Some chosen) before now = ⊤
