@@ -1,4 +1,4 @@
--- The text in which the system tells a process its limits: a line for each, in which stand its name, the soft limit, the hard limit and the unit, apart by spaces.
+-- The text in which the system tells a process its limits: a line for each, with its name, the soft limit, the hard limit and the unit, apart by spaces.
 use Rattle.std.specs.Prelude.{◌≡◌, ℕ, ◌^◌, ◌<◌, ◌==◌, List, ◌++◌, length, take, codes}
 use Rattle.std.specs.List.{before_first, position_or_len}
 use Rattle.std.specs.Str.{trim_start}

@@ -7,7 +7,8 @@ returns-in-Some-clause-found c = found_behind size_name c.args.limits.now _ c.in
 
 pub returns-in-Some-clause-only : goal.returns-in-Some-clause-only
 returns-in-Some-clause-only c behind stands =
-    one_behind size_name c.args.limits.now c.in-Some.behind.now behind (found_behind size_name c.args.limits.now _ c.in-Some.behind.now c.in-Some.ensures.cases) stands
+    let found = found_behind size_name c.args.limits.now _ c.in-Some.behind.now c.in-Some.ensures.cases in
+    one_behind size_name c.args.limits.now c.in-Some.behind.now behind found stands
 
 pub returns-in-None-clause-only : goal.returns-in-None-clause-only
 returns-in-None-clause-only c behind stands = none_behind size_name c.args.limits.now behind c.in-None.ensures.cases stands
