@@ -5,11 +5,15 @@ use Rattle.std.specs.declared.fs.Metadata.{Metadata}
 use Rattle.cob_file_limit.specs.declared.extent.Extent.{Extent}
 use Rattle.cob_file_limit.specs.Extents.{AtLimit, front_of, moved_by}
 
+-- how many bytes stand before the next one that is written to a file, of which the system says this: all that it has, or none
+abbrev pub first_position : Metadata → Bool → ℕ
+first_position metadata at_end = if at_end then metadata_len metadata else 0
+
 -- This is the extent of a file under a limit, of which the system says this. Only a regular file has one: it is written from its end on, or from its front.
-abbrev pub IsExtentOf : ℕ → Bool → Metadata → Option Extent → Type 0
-IsExtentOf limit at_end metadata None = IsFile (file_type metadata) → ⊥
-IsExtentOf limit at_end metadata (Some extent) =
-    IsFile (file_type metadata) × (extent.limit ≡ limit) × (extent.position ≡ (if at_end then metadata_len metadata else 0))
+pub record IsExtentOf (limit : ℕ) (at_end : Bool) (metadata : Metadata) (extent : Extent) : Type 0 where
+  pub regular : IsFile (file_type metadata)
+  pub limit_same : extent.limit ≡ limit
+  pub from : extent.position ≡ first_position metadata at_end
 
 -- a file that has a limit, and has room for no byte
 abbrev pub IsFull : Option Extent → Type 0

@@ -1,27 +1,35 @@
 //! A file that is never written past the limit on its size.
 
-ghost use Rattle.std.specs.Prelude.{◌≡◌, ◌<◌, ◌≤◌, false, length, true, IfOk, IfSome, IsErrAnd, MatchResult, None, Some};
-ghost use Rattle.std.specs.Fs.{asks_append, asks_write};
+ghost use Rattle.std.specs.Prelude.{◌≡◌, ◌<◌, ◌≤◌, false, length, true, IfNone, IfOk, IfSome, IsErrAnd, MatchResult, None, Some};
+ghost use Rattle.std.specs.Fs.{IsFile, asks_append, asks_write, file_type};
 ghost use Rattle.std.specs.Io.{ReadsAtMost, WritesAtMost};
 ghost use Rattle.std.specs.Io.KnownBytes.{Keeps, ReadConsumes, WriteAppends};
 ghost use Rattle.std.specs.Io.Seek.{SeekMoves};
 ghost use Rattle.cob_file_limit.specs.Extents.{IsTooLarge};
-ghost use Rattle.cob_file_limit.specs.Files.{IsExtentOf, IsFull, extent_after, extent_at, front_within};
+ghost use Rattle.cob_file_limit.specs.Files.{IsExtentOf, IsFull, extent_after, extent_at, first_position, front_within};
 
 use crate::extent::{Extent, too_large};
 use std::fs::{FileTimes, Metadata, OpenFile, OpenOptions, Permissions};
 use std::io;
 use std::io::{Read, Seek, SeekFrom, Write};
 
+/// How many bytes stand before the next one that is written to a file: all that it has, or none.
+fn first_position(metadata: &Metadata, at_end: bool) -> u64
+    ensures { result ≡ first_position metadata.now at_end }
+{
+    if at_end { metadata.len() } else { 0 }
+}
+
 /// Where a file is written and how far, where it is a regular one: from its end on, or from its front.
 pub(crate) fn extent_in(metadata: &Metadata, limit: u64, at_end: bool) -> Option<Extent>
-    ensures { IsExtentOf limit at_end metadata.now result }
+    ensures found { IfSome result (IsExtentOf limit at_end metadata.now) }
+    ensures none { IfNone result (IsFile (file_type metadata.now) → ⊥) }
 {
-    if !metadata.is_file() {
-        return None;
+    if metadata.is_file() {
+        Some(Extent::new(limit, first_position(metadata, at_end)))
+    } else {
+        None
     }
-    let position = if at_end { metadata.len() } else { 0 };
-    Some(Extent::new(limit, position))
 }
 
 /// Where a file that was opened is written and how far, where it is a regular file that is written and there is a limit. A file of which the system
