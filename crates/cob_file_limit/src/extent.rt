@@ -1,6 +1,6 @@
 //! How far a file may be written.
 
-ghost use Rattle.std.specs.Prelude.{◌≡◌, ◌<◌, ◌≤◌, ◌↔◌, length, IsTrue, MatchResult};
+ghost use Rattle.std.specs.Prelude.{◌≡◌, ◌<◌, ◌≤◌, ◌↔◌, length, IfErr, IfOk, IsTrue, MatchResult, OnErr};
 ghost use Rattle.cob_file_limit.specs.Extents.{AtLimit, IsTooLarge, front_of, room_of, moved_by};
 
 use std::io;
@@ -70,9 +70,9 @@ impl Extent {
     ///
     /// Where there is not.
     pub fn fits(&self, bytes: u64) -> io::Result<()>
-        ensures { MatchResult result
-            (λ _. bytes ≤ room_of self.now)
-            (λ error. IsTooLarge error × (room_of self.now < bytes)) }
+        ensures room { IfOk result (λ _. bytes ≤ room_of self.now) }
+        ensures full { OnErr result (room_of self.now < bytes) }
+        ensures error { IfErr result IsTooLarge }
     {
         if bytes <= self.room() {
             Ok(())
