@@ -2,14 +2,14 @@
 
 A job's random numbers are the states of a linear congruential generator of 64 bits: the first state is the job's number, the next one is
 6364136223846793005 times the state before plus 1442695040888963407, modulo 2 to the 64, and a number below n is the state that comes next
-without its 33 lowest bits, modulo n. The items that can be drawn stand in the tables of crates/cob_jobs/data/sweep, a row each: the clauses of
+without its 33 lowest bits, modulo n. The items that can be drawn stand in the tables of crates/cob_test_jobs/data/sweep, a row each: the clauses of
 the sender, the half bytes of its value, and the clauses of its receivers.
 """
 
 import os
 from collections import namedtuple
 
-DATA = os.path.join(os.path.dirname(os.path.realpath(__file__)), "../../crates/cob_jobs/data/sweep")
+DATA = os.path.join(os.path.dirname(os.path.realpath(__file__)), "../../crates/cob_test_jobs/data/sweep")
 # How many levels may stand below the record, and by how much they can rise.
 MOST_DEPTH, STEPS = 4, (1, 2, 5, 12)
 PREFIXES = ("E", "ITEM-", "THE-NAME-OF-AN-ENTRY-NUMBER")

@@ -9,7 +9,7 @@ from .faults import Refused
 from .layouts import whole
 from .paragraphs import Paragraph
 
-DATA = os.path.join(os.path.dirname(os.path.realpath(__file__)), "..", "..", "crates", "cob_jobs", "data", "moves")
+DATA = os.path.join(os.path.dirname(os.path.realpath(__file__)), "..", "..", "crates", "cob_test_jobs", "data", "moves")
 ESCAPED = re.compile(r"\\x([0-9A-F]{2})|\\(.)")
 CONTROLS = {"n": "\n", "r": "\r", "t": "\t", "\\": "\\"}
 

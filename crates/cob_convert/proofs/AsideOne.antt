@@ -8,9 +8,9 @@ use Rattle.cob_records.specs.Forms.{Come, ComesFirst, NextIsOne, written_of}
 use Rattle.cob_records.specs.Frame.{IsRecord}
 use Rattle.cob_convert_record.specs.Laws.{ConversionsAreDecided}
 use Rattle.cob_convert_record.specs.Conversion.{Conversion, in_length}
-use Rattle.cob_stream.specs.declared.fault.Reason.{Reason}
-use Rattle.cob_stream.specs.declared.fault.RunFault.{RunFault}
-use Rattle.cob_stream.specs.Reasons.{frame_reason, is_read_cause, is_write_cause, misfit_reason}
+use Rattle.cob_convert_stream.specs.declared.fault.Reason.{Reason}
+use Rattle.cob_convert_stream.specs.declared.fault.RunFault.{RunFault}
+use Rattle.cob_convert_stream.specs.Reasons.{frame_reason, is_read_cause, is_write_cause, misfit_reason}
 use Rattle.cob_convert.specs.declared.aside.AsideFault.{AsideFault}
 use Rattle.cob_convert.specs.declared.aside.Ending.{Ending}
 use Rattle.cob_convert.specs.declared.aside.Ending.TheVariants as ending

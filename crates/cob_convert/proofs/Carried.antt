@@ -11,12 +11,12 @@ use Rattle.cob_records.specs.declared.records.RecordFault.{RecordFault}
 use Rattle.cob_records.specs.declared.records.RecordFault.TheVariants.{WriteFailed, TookNothing}
 use Rattle.cob_records.specs.declared.outlet.Outlet.{Outlet}
 use Rattle.cob_convert_record.specs.Conversion.{Conversion, in_length, out_length}
-use Rattle.cob_stream.specs.declared.fault.Reason.{Reason}
-use Rattle.cob_stream.specs.declared.fault.RunFault.{RunFault}
-use Rattle.cob_stream.specs.Input.{Remains, records_in}
-use Rattle.cob_stream.specs.Output.{PutsCounted}
-use Rattle.cob_stream.specs.Reasons.{is_write_cause, reason_of, write_reason}
-use Rattle.cob_stream.specs.Whole.{IsWholeRecord, ReadsWhole}
+use Rattle.cob_convert_stream.specs.declared.fault.Reason.{Reason}
+use Rattle.cob_convert_stream.specs.declared.fault.RunFault.{RunFault}
+use Rattle.cob_convert_stream.specs.Input.{Remains, records_in}
+use Rattle.cob_convert_stream.specs.Output.{PutsCounted}
+use Rattle.cob_convert_stream.specs.Reasons.{is_write_cause, reason_of, write_reason}
+use Rattle.cob_convert_stream.specs.Whole.{IsWholeRecord, ReadsWhole}
 use Rattle.cob_convert.specs.Outcomes.{IsRejected}
 use Rattle.cob_convert.specs.Run.{ByEnd, ByRecord, Closes, CountsReads, InRead, IsConverted, IsOver, Ran, is_read_end, is_write_stop, limit_reason, most_records, outlet_behind, records_out}
 use Rattle.cob_convert.proofs.Outlets.{at_end, come_one, comes_of, emptied_behind, fits_behind, held_more, holds_none, none_pending, records_in_more, records_out_more, with_one_more, written_more}

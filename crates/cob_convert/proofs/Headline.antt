@@ -5,15 +5,15 @@ use Rattle.cob_records.specs.declared.records.Form.{Form}
 use Rattle.cob_records.specs.Device.{Told, counted}
 use Rattle.cob_records.specs.Forms.{written_of}
 use Rattle.cob_convert_record.specs.Conversion.{Conversion}
-use Rattle.cob_stream.specs.declared.fault.Reason.{Reason}
-use Rattle.cob_stream.specs.declared.fault.RunFault.{RunFault}
+use Rattle.cob_convert_stream.specs.declared.fault.Reason.{Reason}
+use Rattle.cob_convert_stream.specs.declared.fault.RunFault.{RunFault}
 use Rattle.cob_records.specs.declared.records.RecordFault.{RecordFault}
 use Rattle.cob_records.specs.declared.records.RecordFault.TheVariants.{WriteFailed, TookNothing}
 use Rattle.cob_records.specs.Frame.{is_read_failure, is_write_fault}
-use Rattle.cob_stream.specs.declared.fault.Cause.{Cause}
-use Rattle.cob_stream.specs.declared.fault.Cause.TheVariants.{Record}
-use Rattle.cob_stream.specs.Reasons.{is_read_cause, is_write_cause, reason_of}
-use Rattle.cob_stream.specs.Input.{Remains}
+use Rattle.cob_convert_stream.specs.declared.fault.Cause.{Cause}
+use Rattle.cob_convert_stream.specs.declared.fault.Cause.TheVariants.{Record}
+use Rattle.cob_convert_stream.specs.Reasons.{is_read_cause, is_write_cause, reason_of}
+use Rattle.cob_convert_stream.specs.Input.{Remains}
 use Rattle.cob_convert.specs.Run.{CountsReads, Ends, Ran, WriteStops, is_read_stop, is_write_stop, records_out}
 use Rattle.cob_convert.specs.Converted.{Writes}
 use Rattle.cob_convert.proofs.Carried.{put_kind}

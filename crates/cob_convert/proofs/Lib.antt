@@ -7,3 +7,4 @@ pub mod Sifted
 pub mod Rejections
 pub mod AsideOne
 pub mod AsideRun
+pub mod Join

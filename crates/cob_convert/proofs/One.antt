@@ -9,15 +9,15 @@ use Rattle.cob_records.specs.declared.records.RecordFault.{RecordFault}
 use Rattle.cob_records.specs.Forms.{Come, ComesFirst, HasBlockSize, NextIsOne, ReadsInForm, written_of}
 use Rattle.cob_records.specs.Frame.{IsRecord, is_read_failure}
 use Rattle.cob_convert_record.specs.Laws.{ConversionsAreDecided}
-use Rattle.cob_convert_record.specs.cob_move_apply.declared.stop.Stop.{Stop}
+use Rattle.cob_move_apply.specs.declared.stop.Stop.{Stop}
 use Rattle.cob_convert_record.specs.Conversion.{Conversion, in_length}
-use Rattle.cob_stream.specs.declared.misfit.MeasureFault.{MeasureFault}
-use Rattle.cob_stream.specs.declared.fault.Reason.{Reason}
-use Rattle.cob_stream.specs.declared.fault.RunFault.{RunFault}
-use Rattle.cob_stream.specs.Reasons.{frame_reason, is_read_cause, misfit_reason, reason_of}
-use Rattle.cob_stream.specs.Sizes.{IsSized, IsMeasureFault}
+use Rattle.cob_convert_stream.specs.declared.misfit.MeasureFault.{MeasureFault}
+use Rattle.cob_convert_stream.specs.declared.fault.Reason.{Reason}
+use Rattle.cob_convert_stream.specs.declared.fault.RunFault.{RunFault}
+use Rattle.cob_convert_stream.specs.Reasons.{frame_reason, is_read_cause, misfit_reason, reason_of}
+use Rattle.cob_convert_stream.specs.Sizes.{IsSized, IsMeasureFault}
 use Rattle.cob_convert_record.specs.Becoming.{Becomes, StopsAt}
-use Rattle.cob_stream.specs.Input.{Remains, records_in}
+use Rattle.cob_convert_stream.specs.Input.{Remains, records_in}
 use Rattle.cob_convert.specs.Run.{Came, Ends, InConversion, InLayout, InRead, InputEnds, IsConverted, IsOver, RecordStops, is_read_end, is_read_stop, is_write_stop, most_records, records_out, stop_reason}
 use Rattle.cob_convert.specs.Unique.{HasBytes, ConversionIsOne}
 use Rattle.cob_convert.proofs.Carried.{remains}

@@ -7,7 +7,7 @@ use Rattle.cob_records.specs.declared.records.Form.{Form}
 use Rattle.cob_records.specs.declared.records.Form.TheVariants.{Fixed, Variable, Blocked}
 use Rattle.cob_records.specs.declared.outlet.Outlet.{Outlet}
 use Rattle.cob_records.specs.declared.outlet.Outlet.TheVariants.{UnblockedFixed, UnblockedVariable, Blocks}
-use Rattle.cob_stream.specs.Input.{records_in}
+use Rattle.cob_convert_stream.specs.Input.{records_in}
 use Rattle.cob_convert.specs.Run.{records_out}
 
 -- ---- one more pair

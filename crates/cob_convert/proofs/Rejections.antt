@@ -1,13 +1,13 @@
 -- Why records are rejected: none is a fault of a device, and each stops a run that sets none aside.
 use Rattle.std.proofs.Common.{◌≡◌, ℕ, List, false, refl, ap, ◌∙◌}
 use Rattle.cob_convert_record.specs.Conversion.{Conversion}
-use Rattle.cob_convert_record.specs.cob_move_apply.declared.stop.StopCause.{StopCause}
-use Rattle.cob_convert_record.specs.cob_move_apply.declared.stop.StopCause.TheVariants.{NoValue, Count, Subscript}
-use Rattle.cob_stream.specs.declared.fault.Reason.{Reason}
-use Rattle.cob_stream.specs.declared.misfit.MeasureFault.{MeasureFault}
-use Rattle.cob_stream.specs.declared.misfit.MeasureFault.TheVariants.{Count as Uncounted, Length as Unfitting}
-use Rattle.cob_stream.specs.Input.{Remains}
-use Rattle.cob_stream.specs.Reasons.{is_read_cause, is_write_cause, refusal_from}
+use Rattle.cob_move_apply.specs.declared.stop.StopCause.{StopCause}
+use Rattle.cob_move_apply.specs.declared.stop.StopCause.TheVariants.{NoValue, Count, Subscript}
+use Rattle.cob_convert_stream.specs.declared.fault.Reason.{Reason}
+use Rattle.cob_convert_stream.specs.declared.misfit.MeasureFault.{MeasureFault}
+use Rattle.cob_convert_stream.specs.declared.misfit.MeasureFault.TheVariants.{Count as Uncounted, Length as Unfitting}
+use Rattle.cob_convert_stream.specs.Input.{Remains}
+use Rattle.cob_convert_stream.specs.Reasons.{is_read_cause, is_write_cause, refusal_from}
 use Rattle.cob_convert.specs.Run.{Came, InConversion, InLayout, RecordStops, cause_from}
 use Rattle.cob_convert.specs.Outcomes.{ByConversion, ByLayout, IsRejected}
 

@@ -16,11 +16,11 @@ use Rattle.cob_records.specs.declared.records.RecordFault.{RecordFault}
 use Rattle.cob_records.specs.declared.outlet.Outlet.{Outlet}
 use Rattle.cob_records.specs.declared.outlet.Outlet.TheVariants.{UnblockedFixed, UnblockedVariable, Blocks}
 use Rattle.cob_convert_record.specs.Conversion.{Conversion, in_length, out_length}
-use Rattle.cob_stream.specs.declared.fault.Reason.{Reason}
-use Rattle.cob_stream.specs.declared.fault.RunFault.{RunFault}
-use Rattle.cob_stream.specs.Output.{PutsCounted}
-use Rattle.cob_stream.specs.Reasons.{write_reason}
-use Rattle.cob_stream.specs.Whole.{IsWholeRecord, ReadsWhole}
+use Rattle.cob_convert_stream.specs.declared.fault.Reason.{Reason}
+use Rattle.cob_convert_stream.specs.declared.fault.RunFault.{RunFault}
+use Rattle.cob_convert_stream.specs.Output.{PutsCounted}
+use Rattle.cob_convert_stream.specs.Reasons.{write_reason}
+use Rattle.cob_convert_stream.specs.Whole.{IsWholeRecord, ReadsWhole}
 use Rattle.cob_convert.specs.declared.aside.AsideFault.{AsideFault}
 use Rattle.cob_convert.specs.declared.aside.AsideFault.TheVariants as fault
 use Rattle.cob_convert.specs.declared.aside.Ending.{Ending}

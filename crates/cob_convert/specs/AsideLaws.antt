@@ -5,8 +5,8 @@ use Rattle.cob_records.specs.Alone.{HasRoomAlone, framed_alone}
 use Rattle.cob_records.specs.Forms.{HasBlockSize}
 use Rattle.cob_records.specs.Frame.{IsRecord}
 use Rattle.cob_convert_record.specs.Conversion.{Conversion, in_length}
-use Rattle.cob_stream.specs.declared.fault.Reason.{Reason}
-use Rattle.cob_stream.specs.declared.fault.RunFault.{RunFault}
+use Rattle.cob_convert_stream.specs.declared.fault.Reason.{Reason}
+use Rattle.cob_convert_stream.specs.declared.fault.RunFault.{RunFault}
 use Rattle.cob_convert.specs.declared.aside.AsideFault.{AsideFault}
 use Rattle.cob_convert.specs.declared.aside.AsideFault.TheVariants as fault
 use Rattle.cob_convert.specs.declared.aside.Tally.{Tally}

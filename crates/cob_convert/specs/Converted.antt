@@ -4,8 +4,8 @@ use Rattle.std.specs.List.{AllByRecursion}
 use Rattle.cob_records.specs.Device.{Took}
 use Rattle.cob_records.specs.Forms.{Come, written_of}
 use Rattle.cob_convert_record.specs.Conversion.{Conversion}
-use Rattle.cob_stream.specs.declared.fault.RunFault.{RunFault}
-use Rattle.cob_stream.specs.Input.{records_in}
+use Rattle.cob_convert_stream.specs.declared.fault.RunFault.{RunFault}
+use Rattle.cob_convert_stream.specs.Input.{records_in}
 use Rattle.cob_convert.specs.Run.{IsConverted, Ends, is_read_stop, is_write_stop, records_out}
 
 -- These bytes are the frames of records, one after another, in form b within their blocks, up to a clean end, a stop or the limit, where the

@@ -6,7 +6,7 @@ use Rattle.cob_copybook_tree.specs.Nodes.{Resolved}
 use Rattle.cob_copybook.specs.declared.role.Role.{Role}
 use Rattle.cob_copybook.specs.declared.role.Role.TheVariants.{In, Out}
 use Rattle.cob_copybook.specs.Books.{IsBookOf, IsBookRefusal, IsMemory}
-use Rattle.cob_entry.specs.declared.fault.BookFault.{BookFault}
+use Rattle.cob_copybook_entry.specs.declared.fault.BookFault.{BookFault}
 use Rattle.cob_records.specs.declared.records.Form.{Form}
 use Rattle.cob_records.specs.declared.records.Form.TheVariants.{Fixed, Variable, Blocked}
 use Rattle.cob_convert_record.specs.Conversion.{Conversion, conversion_by, out_length}

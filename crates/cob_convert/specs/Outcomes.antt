@@ -9,11 +9,11 @@ use Rattle.cob_records.specs.Forms.{outlet_of, outlet_with_all, written_by_all}
 use Rattle.cob_records.specs.Frame.{IsRecord}
 use Rattle.cob_convert_record.specs.Becoming.{StopsAt}
 use Rattle.cob_convert_record.specs.Conversion.{Conversion, in_length}
-use Rattle.cob_convert_record.specs.cob_move_apply.declared.stop.Stop.{Stop}
-use Rattle.cob_stream.specs.declared.fault.Reason.{Reason}
-use Rattle.cob_stream.specs.declared.fault.RunFault.{RunFault}
-use Rattle.cob_stream.specs.Sizes.{IsSized}
-use Rattle.cob_stream.specs.Whole.{IsMisfitReason}
+use Rattle.cob_move_apply.specs.declared.stop.Stop.{Stop}
+use Rattle.cob_convert_stream.specs.declared.fault.Reason.{Reason}
+use Rattle.cob_convert_stream.specs.declared.fault.RunFault.{RunFault}
+use Rattle.cob_convert_stream.specs.Sizes.{IsSized}
+use Rattle.cob_convert_stream.specs.Whole.{IsMisfitReason}
 use Rattle.cob_convert.specs.Run.{IsConverted, stop_reason}
 
 -- what became of a record that came whole: what is written of it, or why it was rejected

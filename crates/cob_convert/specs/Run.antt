@@ -1,28 +1,26 @@
 -- A whole run: the records that came, what they became, and how the run ended.
-use Rattle.std.specs.Prelude.{◌≡◌, ℕ, ◌+◌, ◌-◌, ◌^◌, ◌<◌, Bool, true, false, min, List, []}
-use Rattle.std.specs.Prelude.{◌++◌, ◌⊎◌, length, map, Option, None, Some, Ok, Err, Result}
+use Rattle.std.specs.Prelude.{◌≡◌, ℕ, ◌+◌, ◌-◌, ◌^◌, ◌<◌, Bool, true, false, min, List, [], ◌++◌, ◌⊎◌, length, map, Option, None, Some, Ok, Err, Result}
 use Rattle.std.specs.List.{AllByRecursion}
 use Rattle.std.specs.Io.KnownBytes.{append_known}
 use Rattle.cob_records.specs.Device.{counted, greatest_count}
 use Rattle.cob_records.specs.declared.outlet.Outlet.{Outlet}
 use Rattle.cob_records.specs.declared.records.Form.{Form}
 use Rattle.cob_records.specs.declared.records.RecordFault.{RecordFault}
-use Rattle.cob_records.specs.Forms.{Come, ComesFirst, ReadsInForm, records_held, outlet_of}
-use Rattle.cob_records.specs.Forms.{pending_in, outlet_with_all, written_by, written_by_all, written_of}
+use Rattle.cob_records.specs.Forms.{Come, ComesFirst, ReadsInForm, records_held, outlet_of, pending_in, outlet_with_all, written_by, written_by_all, written_of}
 use Rattle.cob_records.specs.Frame.{IsRecord, Puts, is_unblocked}
 use Rattle.cob_convert_record.specs.Conversion.{Conversion, in_length}
-use Rattle.cob_convert_record.specs.cob_move_apply.declared.stop.Stop.{Stop}
+use Rattle.cob_move_apply.specs.declared.stop.Stop.{Stop}
 use Rattle.cob_layout_places.specs.declared.operands.Side.TheVariants.{In}
-use Rattle.cob_convert_record.specs.cob_move_apply.declared.stop.StopCause.{StopCause}
-use Rattle.cob_stream.specs.declared.fault.Cause.{Cause}
-use Rattle.cob_stream.specs.declared.fault.Cause.TheVariants.{NoValue, Count, Subscript, Limit}
-use Rattle.cob_convert_record.specs.cob_move_apply.declared.stop.StopCause.TheVariants.{NoValue as StopNoValue, Count as StopCount, Subscript as StopSubscript}
-use Rattle.cob_stream.specs.declared.fault.Reason.{Reason}
-use Rattle.cob_stream.specs.declared.fault.RunFault.{RunFault}
-use Rattle.cob_stream.specs.Reasons.{frame_reason, is_error_cause, is_read_cause, is_write_cause, misfit_reason, reason_of, write_reason}
-use Rattle.cob_stream.specs.declared.misfit.MeasureFault.{MeasureFault}
-use Rattle.cob_stream.specs.Input.{Remains, records_in}
-use Rattle.cob_stream.specs.Sizes.{IsSized, IsMeasureFault}
+use Rattle.cob_move_apply.specs.declared.stop.StopCause.{StopCause}
+use Rattle.cob_convert_stream.specs.declared.fault.Cause.{Cause}
+use Rattle.cob_convert_stream.specs.declared.fault.Cause.TheVariants.{NoValue, Count, Subscript, Limit}
+use Rattle.cob_move_apply.specs.declared.stop.StopCause.TheVariants.{NoValue as StopNoValue, Count as StopCount, Subscript as StopSubscript}
+use Rattle.cob_convert_stream.specs.declared.fault.Reason.{Reason}
+use Rattle.cob_convert_stream.specs.declared.fault.RunFault.{RunFault}
+use Rattle.cob_convert_stream.specs.Reasons.{frame_reason, is_error_cause, is_read_cause, is_write_cause, misfit_reason, reason_of, write_reason}
+use Rattle.cob_convert_stream.specs.declared.misfit.MeasureFault.{MeasureFault}
+use Rattle.cob_convert_stream.specs.Input.{Remains, records_in}
+use Rattle.cob_convert_stream.specs.Sizes.{IsSized, IsMeasureFault}
 use Rattle.cob_convert_record.specs.Becoming.{Becomes, StopsAt}
 
 -- a record that came, and what it became

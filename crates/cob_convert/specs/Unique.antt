@@ -3,10 +3,10 @@ use Rattle.std.specs.Prelude.{◌≡◌, ℕ, ◌<◌, ◌≤◌, List, Result}
 use Rattle.cob_limits.specs.Limits.{longest_record}
 use Rattle.cob_copybook_tree.specs.Forests.{Forest}
 use Rattle.cob_copybook_tree.specs.Nodes.{Resolved}
-use Rattle.cob_stream.specs.cob_layout.Storage.{greatest_length}
+use Rattle.cob_layout.specs.Storage.{greatest_length}
 use Rattle.cob_records.specs.Forms.{HasBlockSize}
 use Rattle.cob_convert_record.specs.Conversion.{Conversion}
-use Rattle.cob_stream.specs.declared.fault.RunFault.{RunFault}
+use Rattle.cob_convert_stream.specs.declared.fault.RunFault.{RunFault}
 use Rattle.cob_convert.specs.Converted.{Converted}
 
 -- a record has from 1 to 32,752 bytes

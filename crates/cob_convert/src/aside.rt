@@ -8,18 +8,17 @@ ghost use Rattle.cob_records.specs.Forms.{FitsForm, emptied, outlet_of};
 ghost use Rattle.cob_records.specs.Frame.{Puts, is_write_error};
 ghost use Rattle.cob_convert_record.specs.Rooms.{capacity_for};
 ghost use Rattle.cob_convert_record.specs.Conversion.{in_length, out_length};
-ghost use Rattle.cob_stream.specs.Reasons.{is_read_cause, is_write_cause};
+ghost use Rattle.cob_convert_stream.specs.Reasons.{is_read_cause, is_write_cause};
 ghost use Rattle.cob_convert.specs.Outcomes.{append_notes, fault_at};
-ghost use Rattle.cob_convert.specs.Aside.{ClosesAside, ClosesAtLimit, CountsUnlessSink, RanAside, is_aside_error};
-ghost use Rattle.cob_convert.specs.Aside.{is_aside_fault, is_read_fault, is_sink_ending, is_sink_error, is_sink_fault, tally_for};
+ghost use Rattle.cob_convert.specs.Aside.{ClosesAside, ClosesAtLimit, CountsUnlessSink, RanAside, is_aside_error, is_aside_fault, is_read_fault, is_sink_ending, is_sink_error, is_sink_fault, tally_for};
 ghost use Rattle.cob_convert.specs.declared.run.TheConstants.{LIMIT};
 
 use crate::notes::Notes;
 use crate::outcome::converted;
 use crate::run::LIMIT;
 use cob_convert_record::{Conversion, Room};
+use cob_convert_stream::{Cause, Reason, RunFault, Side, write_pending, write_record};
 use cob_records::{Form, Outlet, RecordFault, Sink, Source, put_alone};
-use cob_stream::{Cause, Reason, RunFault, Side, write_pending, write_record};
 use std::fmt;
 
 /// How many records a run converted, and how many it rejected and set aside.

@@ -1,5 +1,5 @@
 ghost use Rattle.std.specs.Prelude.{◌≡◌, ◌<◌, ◌≤◌, List, IfOk, IfErr, OnOk, min, vec_len};
-ghost use Rattle.cob_convert_record.specs.cob_move_apply.Prepared.{most_moves_told, single_moves};
+ghost use Rattle.cob_move_apply.specs.Prepared.{most_moves_told, single_moves};
 ghost use Rattle.cob_records.specs.Device.{counted, Told};
 ghost use Rattle.cob_move.specs.Paragraphs.{IsParagraphOf};
 ghost use Rattle.cob_limits.specs.Limits.{longest_record};
@@ -17,11 +17,11 @@ use crate::notes::Notes;
 use crate::run::run_over;
 use cob_codec::Reading;
 use cob_convert_record::{Conversion, Room, image_of};
+use cob_convert_stream::RunFault;
 use cob_copybook::Book;
 use cob_layout::Layout;
 use cob_move::Paragraph;
 use cob_records::{Form, Outlet, Sink, Source};
-use cob_stream::RunFault;
 use std::alloc::{AllocError, Global};
 use std::marker::Model;
 

@@ -22,9 +22,28 @@
 //! - Bytes have one conversion: [`conversion_is_one`]. They decide all of a run that sets records aside ([`aside_is_one`]), which is a run where none
 //!   is rejected ([`aside_is_run`]); and what was set aside is rejected again ([`rejected_again`]).
 //!
-//! It stands on `cob_stream` for a record that comes in, one that goes out and what stops a run, on `cob_records` for the frames, on
-//! `cob_copybook` and `cob_layout` for the records, on `cob_move` for the paragraph, on `cob_convert_record` for what becomes of one record, by one
-//! call for one that came whole, and on `thiserror` for what faults print.
+//! # Statuses
+//!
+//! How a program ends.
+//!
+//! [`Status`] is what the system is told when a program ends, and [`Status::code`] the number of it. [`Status::of_stop`] says it of a run that stopped,
+//! by its cause, and [`Status::of_prepare_fault`] of a conversion that is not prepared (specs/Statuses.antt).
+//!
+//! # Conversions of pieces
+//!
+//! Conversions of pieces: a file may be converted piece by piece, by many processes or machines.
+//!
+//! What is promised, as a law about the definitions of conversions ([`conversions_join`]; `ConversionsJoin` of specs/Pieces.antt): where bytes are
+//! whole frames, in form b whole blocks, which are converted to their end, and then others, both conversions together are a conversion of all of
+//! them, and there is no other.
+//!
+//! - In forms f and v of the output, all that is written is what was written for the ones and then what was written for the others, to the byte. In
+//!   form b it is the same records, one behind another, in blocks that fill anew (`AreJoined`).
+//! - The answer is that of the second, with the records of the first counted on, and all bytes that are written (`counted_on`): so a fault names the
+//!   record by its number in all of the bytes.
+//! - So it is in forms f and v of any number of pieces, each but the last converted to its end (`AreConverted`).
+//!
+//! It holds of bytes with fewer records than a run converts at most.
 #![tactic(auto)]
 
 mod aside;
@@ -35,16 +54,20 @@ mod fault;
 mod laws;
 mod notes;
 mod outcome;
+mod pieces;
 mod run;
+mod status;
 
 pub use aside::{AsideFault, Tally};
 pub use aside_laws::{aside_is_one, aside_is_run, rejected_again};
 pub use cob_codec::Reading;
 pub use cob_convert_record::Conversion;
+pub use cob_convert_stream::{Cause, RunFault, Side};
 pub use cob_copybook::{BookFault, BookRule};
 pub use cob_move::{MoveFault, MoveRule};
-pub use cob_stream::{Cause, RunFault, Side};
 pub use converter::Converter;
 pub use fault::PrepareFault;
 pub use laws::conversion_is_one;
 pub use notes::Notes;
+pub use pieces::conversions_join;
+pub use status::Status;

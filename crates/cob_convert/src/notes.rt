@@ -1,10 +1,10 @@
 //! Who is told of rejected records.
 
 ghost use Rattle.std.specs.Prelude.{◌≡◌, List, [], ◌∷◌, Option};
-ghost use Rattle.cob_stream.specs.declared.fault.RunFault.{RunFault as Noted};
+ghost use Rattle.cob_convert_stream.specs.declared.fault.RunFault.{RunFault as Noted};
 ghost use Rattle.cob_convert.specs.Outcomes.{append_notes};
 
-use cob_stream::RunFault;
+use cob_convert_stream::RunFault;
 
 /// An end that is told of each record that a run rejects and sets aside.
 pub trait Notes {

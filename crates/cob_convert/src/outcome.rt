@@ -10,7 +10,7 @@ ghost use Rattle.cob_convert.specs.Outcomes.{IsRejected};
 ghost use Rattle.cob_convert.specs.Run.{IsConverted, cause_from, stop_reason};
 
 use cob_convert_record::{Conversion, Rejection, Room, Stop, StopCause};
-use cob_stream::{Cause, Reason};
+use cob_convert_stream::{Cause, Reason};
 
 /// A conversion's cause as a run's.
 fn cause_of(cause: StopCause) -> Cause

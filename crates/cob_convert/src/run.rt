@@ -5,14 +5,14 @@ ghost use Rattle.cob_records.specs.Device.{counted, Took, Told};
 ghost use Rattle.cob_records.specs.Forms.{FitsForm, emptied, records_held, outlet_of};
 ghost use Rattle.cob_convert_record.specs.Rooms.{capacity_for};
 ghost use Rattle.cob_convert_record.specs.Conversion.{in_length, out_length};
-ghost use Rattle.cob_stream.specs.Reasons.{is_error_cause, is_write_cause};
+ghost use Rattle.cob_convert_stream.specs.Reasons.{is_error_cause, is_write_cause};
 ghost use Rattle.cob_convert.specs.Run.{Closes, CountsReads, Ran, is_write_stop, is_write_error_stop, limit_reason};
 ghost use Rattle.cob_convert.specs.declared.run.TheConstants.{LIMIT};
 
 use crate::outcome::converted;
 use cob_convert_record::{Conversion, Room};
+use cob_convert_stream::{Cause, Reason, RunFault, Side, write_pending, write_record};
 use cob_records::{Outlet, Sink, Source};
-use cob_stream::{Cause, Reason, RunFault, Side, write_pending, write_record};
 
 /// How many records a run converts at most.
 pub(crate) const LIMIT: u64 = u64::MAX - 1;

@@ -3,8 +3,8 @@ use Rattle.std.proofs.Common.{◌≡◌, ℕ, List, sym, ◌∙◌, ap, subst, O
 use Rattle.cob_copybook_tree.specs.Forests.{Forest}
 use Rattle.cob_copybook_tree.specs.Nodes.{Resolved}
 use Rattle.cob_layout_places.specs.declared.counts.CountFault.{CountFault}
-use Rattle.cob_move_apply.specs.cob_layout.Counting.{CountsOf}
-use Rattle.cob_move_apply.specs.cob_layout.Laws.{OneOfAll}
+use Rattle.cob_layout.specs.Counting.{CountsOf}
+use Rattle.cob_layout.specs.Laws.{OneOfAll}
 use Rattle.cob_move_initial.specs.Initial.{IsInitial}
 use Rattle.cob_move_initial.specs.Laws.{OneInitial}
 use Rattle.cob_layout_places.specs.declared.operands.Side.TheVariants.{Out}
@@ -13,8 +13,8 @@ use Rattle.cob_move_apply.specs.declared.stop.Stop.{Stop}
 use Rattle.cob_move_apply.specs.declared.stop.StopCause.TheVariants.{Count as CountCause}
 use Rattle.cob_move_apply.specs.Located.{stop_at}
 use Rattle.cob_move_apply.specs.Applied.{Applied, Ending, OneEnding, done, stopped}
-use Rattle.cob_stream.specs.Laws.{RecordsAreJudgedOnce}
-use Rattle.cob_stream.specs.Output.{IsOutputOf}
+use Rattle.cob_convert_stream.specs.Laws.{RecordsAreJudgedOnce}
+use Rattle.cob_convert_stream.specs.Output.{IsOutputOf}
 use Rattle.cob_convert_record.specs.Becoming.{Becomes, StopsAt}
 use Rattle.cob_convert_record.specs.Laws.{ConversionsAreDecided}
 

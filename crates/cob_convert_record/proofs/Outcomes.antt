@@ -5,7 +5,7 @@ use Rattle.cob_convert_record.specs.Conversion.{Conversion}
 use Rattle.cob_move_apply.specs.declared.stop.Stop.{Stop}
 use Rattle.cob_move_apply.specs.Applied.{Applied, done, stopped}
 use Rattle.cob_convert_record.specs.Becoming.{Becomes, IsCountStop, StopsAt}
-use Rattle.cob_stream.specs.Output.{IsOutputOf}
+use Rattle.cob_convert_stream.specs.Output.{IsOutputOf}
 
 -- the last storage is written
 pub becomes : (c : Conversion) (input initial last written : List ℕ) → IsInitial c.records.output initial

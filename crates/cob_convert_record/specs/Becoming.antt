@@ -3,8 +3,8 @@ use Rattle.std.specs.Prelude.{◌≡◌, ◌⊎◌, ℕ, List, Err}
 use Rattle.cob_copybook_tree.specs.Forests.{Forest}
 use Rattle.cob_copybook_tree.specs.Nodes.{Resolved}
 use Rattle.cob_layout_places.specs.declared.counts.CountFault.{CountFault}
-use Rattle.cob_move_apply.specs.cob_layout.Counting.{CountsOf}
-use Rattle.cob_stream.specs.Output.{IsOutputOf}
+use Rattle.cob_layout.specs.Counting.{CountsOf}
+use Rattle.cob_convert_stream.specs.Output.{IsOutputOf}
 use Rattle.cob_move_initial.specs.Initial.{IsInitial}
 use Rattle.cob_layout_places.specs.declared.operands.Side.TheVariants.{Out}
 use Rattle.cob_convert_record.specs.Conversion.{Conversion}

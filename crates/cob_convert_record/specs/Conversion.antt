@@ -4,7 +4,7 @@ use Rattle.cob_codec.specs.declared.reading.Reading.{Reading}
 use Rattle.cob_records.specs.declared.records.Form.{Form}
 use Rattle.cob_copybook_tree.specs.Forests.{Forest}
 use Rattle.cob_copybook_tree.specs.Nodes.{Resolved}
-use Rattle.cob_move_apply.specs.cob_layout.Storage.{greatest_length}
+use Rattle.cob_layout.specs.Storage.{greatest_length}
 use Rattle.cob_layout_places.specs.Moves.{Move, Records, read_by}
 use Rattle.cob_move_apply.specs.declared.moves.Moves.{Moves}
 use Rattle.cob_move_apply.specs.Prepared.{moves_of}

@@ -2,8 +2,8 @@
 use Rattle.std.specs.Prelude.{◌≡◌, ℕ, List}
 use Rattle.cob_convert_record.specs.Conversion.{Conversion}
 use Rattle.cob_move_apply.specs.declared.stop.Stop.{Stop}
-use Rattle.cob_stream.specs.declared.misfit.MeasureFault.{MeasureFault}
-use Rattle.cob_stream.specs.Sizes.{IsSized, IsMeasureFault}
+use Rattle.cob_convert_stream.specs.declared.misfit.MeasureFault.{MeasureFault}
+use Rattle.cob_convert_stream.specs.Sizes.{IsSized, IsMeasureFault}
 use Rattle.cob_convert_record.specs.Becoming.{Becomes, StopsAt}
 
 -- A record is one of its layout or isn't, for one reason; and of one input there is one output or one stop, and never both.

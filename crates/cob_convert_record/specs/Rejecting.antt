@@ -1,7 +1,7 @@
 -- What becomes of a record that came whole: its output, or why it has none.
 use Rattle.std.specs.Prelude.{ℕ, List}
-use Rattle.cob_stream.specs.Sizes.{IsSized}
-use Rattle.cob_stream.specs.Whole.{IsMisfitReason}
+use Rattle.cob_convert_stream.specs.Sizes.{IsSized}
+use Rattle.cob_convert_stream.specs.Whole.{IsMisfitReason}
 use Rattle.cob_convert_record.specs.Becoming.{Becomes, StopsAt}
 use Rattle.cob_convert_record.specs.Conversion.{Conversion}
 use Rattle.cob_convert_record.specs.declared.rejection.Rejection.{Rejection}

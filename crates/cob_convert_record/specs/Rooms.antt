@@ -1,5 +1,5 @@
 -- Room for conversions.
-use Rattle.cob_move_apply.specs.cob_layout.Standing.{RoomForCounts, room_for}
+use Rattle.cob_layout.specs.Standing.{RoomForCounts, room_for}
 use Rattle.cob_layout_places.specs.Moves.{Records}
 use Rattle.cob_move_apply.specs.Room.{RoomForMoves, room_of}
 

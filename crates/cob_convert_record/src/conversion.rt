@@ -2,17 +2,17 @@
 
 ghost use Rattle.std.specs.Prelude.{◌≡◌, ◌<◌, ◌≤◌, false, length, min, take, IfOk, IfErr, IfSome, OnOk};
 ghost use Rattle.cob_limits.specs.Limits.{longest_record};
-ghost use Rattle.cob_move_apply.specs.cob_layout.Storage.{greatest_length};
+ghost use Rattle.cob_layout.specs.Storage.{greatest_length};
 ghost use Rattle.cob_convert_record.specs.Conversion.{IsImage};
 
 use crate::lengths::{judge_kept, kept_output_length};
 use crate::rejection::Rejection;
 use crate::room::Room;
 use cob_codec::Reading;
+use cob_convert_stream::{Reason, judge, next_whole, read_record, sized_are_storages};
 use cob_move_apply::{Book, Layout, Moves, Scratch, Stop};
 use cob_move_initial::initial;
 use cob_records::{Form, Source};
-use cob_stream::{Reason, judge, next_whole, read_record, sized_are_storages};
 use std::alloc::{AllocError, Global};
 use std::marker::Model;
 
@@ -30,13 +30,13 @@ pub struct Conversion {
 
 impl Model for Conversion {
     ghost use Rattle.std.specs.Prelude.{◌≡◌, length};
-    ghost use Rattle.cob_move_apply.specs.cob_layout.Storage.{greatest_length};
+    ghost use Rattle.cob_layout.specs.Storage.{greatest_length};
     ghost use Rattle.cob_move_initial.specs.Initial.{IsInitial};
     ghost use Rattle.cob_records.specs.Forms.{HasBlockSize};
     ghost use Rattle.cob_convert_record.specs.Conversion.{Conversion};
     ghost use Rattle.cob_move_apply.specs.Prepared.{ArePrepared, moves_of};
     ghost use Rattle.std.specs.Coded.{codes};
-    ghost use Rattle.cob_move_apply.specs.cob_copybook.Codes.{coded_forest};
+    ghost use Rattle.cob_copybook.specs.Codes.{coded_forest};
 
     ghost Value = { Conversion };
 
@@ -76,16 +76,16 @@ impl Conversion {
     ghost use Rattle.cob_records.specs.Frame.{IsRecord};
     ghost use Rattle.cob_move_apply.specs.Prepared.{ArePrepared, most_moves_told, moves_of, single_moves};
     ghost use Rattle.cob_move_apply.specs.Room.{room_of};
-    ghost use Rattle.cob_move_apply.specs.cob_layout.Kept.{AreKeptOf};
-    ghost use Rattle.cob_move_apply.specs.cob_layout.Storage.{IsStorage};
+    ghost use Rattle.cob_layout.specs.Kept.{AreKeptOf};
+    ghost use Rattle.cob_layout.specs.Storage.{IsStorage};
     ghost use Rattle.cob_move_initial.specs.Initial.{IsInitial};
     ghost use Rattle.cob_convert_record.specs.Conversion.{HasImage, conversion_by, conversion_for, in_length, out_length};
     ghost use Rattle.cob_layout_places.specs.Moves.{AreMoves};
     ghost use Rattle.cob_records.specs.Device.{Told, counted};
-    ghost use Rattle.cob_stream.specs.Input.{IsInputReason, IsJudged, ReadsRecord};
-    ghost use Rattle.cob_stream.specs.Reasons.{is_read_cause, is_refused_for, is_write_cause};
-    ghost use Rattle.cob_stream.specs.Sizes.{IsSized};
-    ghost use Rattle.cob_stream.specs.Whole.{IsMisfitReason, IsWholeRecord, ReadsWhole};
+    ghost use Rattle.cob_convert_stream.specs.Input.{IsInputReason, IsJudged, ReadsRecord};
+    ghost use Rattle.cob_convert_stream.specs.Reasons.{is_read_cause, is_refused_for, is_write_cause};
+    ghost use Rattle.cob_convert_stream.specs.Sizes.{IsSized};
+    ghost use Rattle.cob_convert_stream.specs.Whole.{IsMisfitReason, IsWholeRecord, ReadsWhole};
     ghost use Rattle.cob_convert_record.specs.Becoming.{Becomes, StopsAt};
     ghost use Rattle.cob_convert_record.specs.Rejecting.{BecomesWhole, IsRejectedFor};
     ghost use Rattle.cob_convert_record.specs.Rooms.{capacity_for};

@@ -2,9 +2,9 @@
 
 ghost use Rattle.cob_convert_record.specs.Laws.{ConversionsAreDecided};
 
+use cob_convert_stream::records_are_judged_once;
 use cob_move_apply::{one_ending, one_outcome_of_counts};
 use cob_move_initial::one_initial;
-use cob_stream::records_are_judged_once;
 
 /// A record is one of its layout or isn't, for one reason, and what becomes of it is determined: its output or its stop.
 #[tactic(auto, using(crate::proofs::Decided::conversions_are_decided))]

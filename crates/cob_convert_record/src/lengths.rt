@@ -4,20 +4,20 @@ ghost use Rattle.std.specs.Prelude.{◌≡◌, ◌<◌, ◌≤◌, length, take,
 ghost use Rattle.cob_layout_places.specs.declared.operands.Side.TheVariants.{Out};
 ghost use Rattle.cob_limits.specs.Limits.{longest_record};
 ghost use Rattle.cob_move_apply.specs.Located.{stop_at};
-ghost use Rattle.cob_move_apply.specs.cob_layout.Kept.{AreKeptOf};
-ghost use Rattle.cob_move_apply.specs.cob_layout.Standing.{room_for};
-ghost use Rattle.cob_move_apply.specs.cob_layout.Storage.{greatest_length};
+ghost use Rattle.cob_layout.specs.Kept.{AreKeptOf};
+ghost use Rattle.cob_layout.specs.Standing.{room_for};
+ghost use Rattle.cob_layout.specs.Storage.{greatest_length};
 ghost use Rattle.cob_move_apply.specs.declared.stop.StopCause.TheVariants.{Count};
 ghost use Rattle.cob_records.specs.Frame.{IsRecord};
 ghost use Rattle.cob_records.specs.declared.records.Form.TheVariants.{Variable};
-ghost use Rattle.cob_stream.specs.Output.{IsOutputOf};
-ghost use Rattle.cob_stream.specs.Sizes.{IsSized};
-ghost use Rattle.cob_stream.specs.Whole.{IsMisfitReason};
+ghost use Rattle.cob_convert_stream.specs.Output.{IsOutputOf};
+ghost use Rattle.cob_convert_stream.specs.Sizes.{IsSized};
+ghost use Rattle.cob_convert_stream.specs.Whole.{IsMisfitReason};
 ghost use Rattle.cob_convert_record.specs.Becoming.{IsCountStop};
 
+use cob_convert_stream::{Reason, is_always_whole, length_in_form, measure_by};
 use cob_move_apply::{CountFault, Layout, Scratch, Side, Stop, StopCause};
 use cob_records::Form;
-use cob_stream::{Reason, is_always_whole, length_in_form, measure_by};
 
 /// The stop of a conversion at a count of the output that isn't valid.
 fn count_stop(fault: CountFault) -> Stop

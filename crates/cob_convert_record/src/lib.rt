@@ -8,7 +8,7 @@
 //!   any more. [`Conversion::new`] keeps what it is given (its clause), and [`Conversion::moves`] are moves between its records (`between`), of which the
 //!   output record has a storage before the first move (`image`).
 //! - [`Conversion::next_input`] reads the next record that comes in and judges it by the input layout (`reads`, `judged`, `reason`, `cause`), as
-//!   `cob_stream` says it, in the form in which records come.
+//!   `cob_convert_stream` says it, in the form in which records come.
 //! - [`Conversion::next_whole`] reads the next record as it came, and [`Conversion::judge`] judges one that was read so, for who sets aside what
 //!   isn't one of the layout (`reads`, `whole`, `sized`, `misfit`).
 //! - [`Conversion::convert`] makes the output record: its storage goes from the initial values through all moves, and then every count of the
@@ -21,9 +21,6 @@
 //! - What becomes of a record is determined ([`conversions_are_decided`]): a record is one of its layout or a misfit, for one reason; and it has
 //!   one output or one stop, and never both.
 //! - They ask for no memory, which tests show: all that they need is a [`Room`], made once, which each call leaves as large as it was (`room`).
-//!
-//! It stands on cob_move_apply for moves in order, on cob_move_initial for the initial storage, on cob_stream for a record that comes in and for
-//! how far one is written, on cob_layout for counts and lengths, and on cob_records for the record forms.
 #![tactic(auto)]
 
 mod conversion;
@@ -32,8 +29,8 @@ mod lengths;
 mod rejection;
 mod room;
 
+pub use cob_convert_stream::{Cause, MeasureFault, Reason};
 pub use cob_move_apply::{Book, Layout, Moves, Side, Stop, StopCause};
-pub use cob_stream::{Cause, MeasureFault, Reason};
 pub use conversion::{Conversion, image_of};
 pub use laws::conversions_are_decided;
 pub use rejection::Rejection;

@@ -1,7 +1,7 @@
 //! Why a record that came whole becomes nothing.
 
+use cob_convert_stream::Reason;
 use cob_move_apply::Stop;
-use cob_stream::Reason;
 
 /// Why an input record that came whole has no output record.
 #[derive(Clone, Copy, PartialEq, Eq)]

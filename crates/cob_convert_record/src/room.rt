@@ -16,7 +16,7 @@ pub struct Room {
 }
 
 impl Model for Room {
-    ghost use Rattle.cob_move_apply.specs.cob_layout.Standing.{room_in};
+    ghost use Rattle.cob_layout.specs.Standing.{room_in};
     ghost use Rattle.cob_convert_record.specs.Rooms.{Capacity};
 
     ghost Value = { Capacity };

@@ -1,9 +1,9 @@
 -- Books: what the parts of a text's book are, and whose rule a refusal names.
 use Rattle.std.proofs.Common.{◌≡◌, sym, subst, ap, ℕ, ◌+◌, ◌≤◌, inl, inr, List, ◌++◌, length, refl, arith}
 use Rattle.std.proofs.lemmas.List.{length-append}
-use Rattle.cob_entry.specs.Described.{PlainEntry}
-use Rattle.cob_entry.specs.declared.fault.BookRule.{BookRule}
-use Rattle.cob_entry.specs.declared.fault.BookRule.TheVariants as rule
+use Rattle.cob_copybook_entry.specs.Described.{PlainEntry}
+use Rattle.cob_copybook_entry.specs.declared.fault.BookRule.{BookRule}
+use Rattle.cob_copybook_entry.specs.declared.fault.BookRule.TheVariants as rule
 use Rattle.cob_copybook_tree.specs.Forests.{Forest, NoEntries, AnEntry, flat, entries_in}
 use Rattle.cob_copybook_tree.specs.Branches.{StandsFor}
 use Rattle.cob_copybook_tree.specs.Nodes.{Resolved}

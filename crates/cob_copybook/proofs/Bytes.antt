@@ -8,21 +8,21 @@ use Rattle.cob_picture.specs.Positions.{PlainPicture}
 use Rattle.cob_picture.specs.Counts.{size, digits}
 use Rattle.cob_picture.specs.Pictures.{IsPictureOf}
 use Rattle.cob_picture.specs.Laws.{TakesBytes}
-use Rattle.cob_entry.specs.declared.kinds.Usage.{Usage}
-use Rattle.cob_entry.specs.declared.kinds.Usage.TheVariants.{Display, Binary, Packed}
-use Rattle.cob_entry.specs.declared.kinds.Sign.{Sign}
-use Rattle.cob_copybook_entries.specs.cob_copybook_clauses.Entries.{is_condition}
-use Rattle.cob_entry.specs.Described.{PlainEntry}
+use Rattle.cob_copybook_entry.specs.declared.kinds.Usage.{Usage}
+use Rattle.cob_copybook_entry.specs.declared.kinds.Usage.TheVariants.{Display, Binary, Packed}
+use Rattle.cob_copybook_entry.specs.declared.kinds.Sign.{Sign}
+use Rattle.cob_copybook_clauses.specs.Entries.{is_condition}
+use Rattle.cob_copybook_entry.specs.Described.{PlainEntry}
 use Rattle.cob_copybook_entries.specs.Meaning.{IsOption}
 use Rattle.cob_copybook_entries.specs.Books.{IsSentence, AreDescribed}
 use Rattle.cob_copybook_tree.specs.Forests.{Forest, NoEntries, AnEntry, Tree, flat, entries_in}
 use Rattle.cob_copybook_tree.specs.Branches.{AreLevels}
 use Rattle.cob_copybook_tree.specs.Nodes.{Resolved}
 use Rattle.cob_copybook_tree.specs.Resolving.{inherited, kind_by_picture, resolved}
-use Rattle.cob_copybook_tree.specs.cob_codec.Binary.{binary_length}
+use Rattle.cob_codec.specs.Binary.{binary_length}
 use Rattle.cob_copybook_tree.specs.Lengths.{greatest_number, own_length, length_by_kind, sum_of}
 use Rattle.cob_copybook_rules.specs.Filled.{IsFilled, AreFilled}
-use Rattle.cob_copybook_lengths.specs.Areas.{AreAreas, ArePossible, MayFollow}
+use Rattle.cob_copybook_rules.specs.Areas.{AreAreas, ArePossible, MayFollow}
 use Rattle.cob_copybook.specs.declared.role.Role.{Role}
 use Rattle.cob_copybook.specs.Books.{implied, with_record}
 use Rattle.cob_copybook.specs.Bytes.{TakesByte, TakeBytes, RecordsTakeBytes}

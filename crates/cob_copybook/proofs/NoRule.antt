@@ -4,18 +4,18 @@ use Rattle.std.specs.Prelude.{Option, None}
 use Rattle.cob_source.specs.Tokens.{Lexeme}
 use Rattle.cob_source.specs.declared.token.Cutting.TheVariants.{Whole}
 use Rattle.cob_source.specs.Words.{WordsAreOne, WordsBreakNoRule}
-use Rattle.cob_entry.specs.Described.{PlainEntry}
+use Rattle.cob_copybook_entry.specs.Described.{PlainEntry}
 use Rattle.cob_copybook_entries.specs.Books.{AreEntriesOf, BreaksEntryRule}
 use Rattle.cob_copybook_entries.specs.Laws.{OneListOfEntries, EntriesBreakNoRule}
-use Rattle.cob_entry.specs.declared.fault.BookRule.{BookRule}
-use Rattle.cob_entry.specs.declared.fault.BookRule.TheVariants as rule
+use Rattle.cob_copybook_entry.specs.declared.fault.BookRule.{BookRule}
+use Rattle.cob_copybook_entry.specs.declared.fault.BookRule.TheVariants as rule
 use Rattle.cob_copybook_tree.specs.Forests.{Forest}
 use Rattle.cob_copybook_tree.specs.Nodes.{Resolved}
 use Rattle.cob_copybook_tree.specs.Resolving.{resolved}
 use Rattle.cob_copybook_tree.specs.Laws.{OneTree}
 use Rattle.cob_copybook_rules.specs.Rules.{AgreeingBreaksNoRule}
 use Rattle.cob_copybook_names.specs.Counts.{AreCountsOfTables}
-use Rattle.cob_copybook_lengths.specs.Rules.{BreaksLengthRule as BreaksLengths, FitBreaksNone}
+use Rattle.cob_copybook_rules.specs.LengthRules.{BreaksLengthRule as BreaksLengths, FitBreaksNone}
 use Rattle.cob_copybook.specs.declared.role.Role.{Role}
 use Rattle.cob_copybook.specs.Records.{IsStored, IsRecordOf, BreaksTree, BreaksStorage, BreaksRecord}
 use Rattle.cob_copybook.specs.Books.{HasEntries, BreaksText, IsTextRefusal, IsMemory, with_record}

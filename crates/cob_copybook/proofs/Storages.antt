@@ -1,20 +1,20 @@
 -- Resolved trees: each entry occurs at least once.
 use Rattle.std.proofs.Common.{◌≡◌, sym, subst, ap, ◌∙◌, ℕ, ◌+◌, ◌<◌, List, arith}
 use Rattle.std.specs.Prelude.{Option, Some, None, Bool, unwrap_or}
-use Rattle.cob_entry.specs.declared.kinds.Usage.{Usage}
-use Rattle.cob_entry.specs.declared.kinds.Sign.{Sign}
-use Rattle.cob_entry.specs.Described.{PlainEntry, PlainOccurs, Fixed, Varying}
+use Rattle.cob_copybook_entry.specs.declared.kinds.Usage.{Usage}
+use Rattle.cob_copybook_entry.specs.declared.kinds.Sign.{Sign}
+use Rattle.cob_copybook_entry.specs.Described.{PlainEntry, PlainOccurs, Fixed, Varying}
 use Rattle.cob_copybook_tree.specs.Forests.{Forest, NoEntries, AnEntry, entries_in}
 use Rattle.cob_copybook_tree.specs.Nodes.{Resolved, MayHold}
 use Rattle.cob_copybook_tree.specs.Lengths.{greatest_number_by}
 use Rattle.cob_copybook_tree.specs.Resolving.{count_at, inherited, times_of, kind_by_picture, resolved}
 use Rattle.cob_copybook_rules.specs.Tables.{AreTables, HasValidNumbers, dimension}
-use Rattle.cob_copybook_lengths.specs.Areas.{ArePossible}
+use Rattle.cob_copybook_rules.specs.Areas.{ArePossible}
 use Rattle.cob_copybook_rules.specs.Filled.{AreFilled, IsFilled}
 use Rattle.cob_picture.specs.Positions.{PlainPicture}
-use Rattle.cob_entry.specs.declared.kinds.Usage.TheVariants.{Display}
-use Rattle.cob_copybook_lengths.specs.Rules.{KeepsLengthRules, BreaksLengthRule, FitBreaksNone}
-use Rattle.cob_entry.specs.declared.fault.BookRule.{BookRule}
+use Rattle.cob_copybook_entry.specs.declared.kinds.Usage.TheVariants.{Display}
+use Rattle.cob_copybook_rules.specs.LengthRules.{KeepsLengthRules, BreaksLengthRule, FitBreaksNone}
+use Rattle.cob_copybook_entry.specs.declared.fault.BookRule.{BookRule}
 use Rattle.cob_copybook.specs.Records.{IsStored}
 
 occurs_some : (o : Option PlainOccurs) (count : Option ℕ) → HasValidNumbers o → 0 < greatest_number_by (times_of o count)

@@ -1,7 +1,7 @@
 -- Trees of entries: one tree for each list, and what a broken rule says of it.
 use Rattle.std.proofs.Common.{subst, List}
-use Rattle.cob_entry.specs.Described.{PlainEntry}
-use Rattle.cob_entry.specs.declared.fault.BookRule.{BookRule}
+use Rattle.cob_copybook_entry.specs.Described.{PlainEntry}
+use Rattle.cob_copybook_entry.specs.declared.fault.BookRule.{BookRule}
 use Rattle.cob_copybook_tree.specs.Forests.{Forest}
 use Rattle.cob_copybook_tree.specs.Branches.{StandsFor}
 use Rattle.cob_copybook_tree.specs.Laws.{OneTree}

@@ -1,6 +1,6 @@
 -- What follows from the definitions, said as laws.
 use Rattle.std.specs.Prelude.{ℕ, List}
-use Rattle.cob_entry.specs.declared.fault.BookRule.{BookRule}
+use Rattle.cob_copybook_entry.specs.declared.fault.BookRule.{BookRule}
 use Rattle.cob_copybook_tree.specs.Forests.{Forest}
 use Rattle.cob_copybook_tree.specs.Nodes.{Resolved}
 use Rattle.cob_copybook.specs.declared.role.Role.{Role}

@@ -1,15 +1,15 @@
 -- Which tree the entries of a record stand for, and which rule they break.
 use Rattle.std.specs.Prelude.{◌≡◌, ◌⊎◌, ℕ, List, Option, None}
-use Rattle.cob_entry.specs.Described.{PlainEntry}
-use Rattle.cob_entry.specs.declared.fault.BookRule.{BookRule}
-use Rattle.cob_entry.specs.declared.fault.BookRule.TheVariants as rule
+use Rattle.cob_copybook_entry.specs.Described.{PlainEntry}
+use Rattle.cob_copybook_entry.specs.declared.fault.BookRule.{BookRule}
+use Rattle.cob_copybook_entry.specs.declared.fault.BookRule.TheVariants as rule
 use Rattle.cob_copybook_tree.specs.Forests.{Forest}
 use Rattle.cob_copybook_tree.specs.Branches.{AreLevels, StandsFor}
 use Rattle.cob_copybook_tree.specs.Nodes.{Resolved}
 use Rattle.cob_copybook_tree.specs.Resolving.{resolved}
 use Rattle.cob_copybook_rules.specs.Rules.{AgreeAll, BreaksClauseRule as BreaksClauses}
 use Rattle.cob_copybook_names.specs.Counts.{AreCountsOfTables}
-use Rattle.cob_copybook_lengths.specs.Rules.{KeepsLengthRules, BreaksLengthRule as BreaksLengths}
+use Rattle.cob_copybook_rules.specs.LengthRules.{KeepsLengthRules, BreaksLengthRule as BreaksLengths}
 
 -- The tree as it is written has this one, with what its entries inherit: each table that varies has its count, and the rules on lengths are
 -- kept.

@@ -27,5 +27,5 @@ pub fn book_breaks_no_rule()
     one_tree();
     cob_copybook_rules::breaks_no_rule();
     one_list_of_counts();
-    cob_copybook_lengths::breaks_no_rule();
+    cob_copybook_rules::breaks_no_length_rule();
 }

@@ -12,8 +12,8 @@
 //! says.
 //!
 //! The crate puts the stages of reading in order, and speaks of no word and no length itself: it stands on `cob_source` for the words of
-//! a text, on `cob_copybook_entries` for its entries and on `cob_entry` for what they are, on `cob_copybook_tree` for the tree, and on
-//! `cob_copybook_rules`, `cob_copybook_names` and `cob_copybook_lengths` for the rules, by their public contracts and laws.
+//! a text, on `cob_copybook_entries` for its entries and on `cob_copybook_entry` for what they are, on `cob_copybook_tree` for the tree, and on
+//! `cob_copybook_rules`, `cob_copybook_names` and `cob_copybook_rules` for the rules, by their public contracts and laws.
 #![tactic(auto)]
 
 mod book;

@@ -1,13 +1,13 @@
 //! The tree of a record's entries.
 
 ghost use Rattle.std.specs.Prelude.{◌≡◌, ℕ, ◌≤◌, List, [], ◌∷◌, map, IfOk, IfErr, IsNone};
-ghost use Rattle.cob_entry.specs.Described.{PlainEntry, plain_entry};
+ghost use Rattle.cob_copybook_entry.specs.Described.{PlainEntry, plain_entry};
 ghost use Rattle.cob_copybook_tree.specs.Forests.{Forest};
 ghost use Rattle.cob_copybook_tree.specs.Branches.{AreLevels, StandsFor, forest_of};
 ghost use Rattle.cob_copybook_rules.specs.Rules.{AgreeAll};
 ghost use Rattle.cob_copybook.specs.Records.{IsTreeRefusal};
-ghost use Rattle.cob_entry.specs.declared.fault.BookRule.TheVariants.{Memory};
-ghost use Rattle.cob_entry.specs.Faults.{MemoryAside};
+ghost use Rattle.cob_copybook_entry.specs.declared.fault.BookRule.TheVariants.{Memory};
+ghost use Rattle.cob_copybook_entry.specs.Faults.{MemoryAside};
 
 use cob_copybook_rules::{breaks_no_rule, judge_clauses};
 use cob_copybook_tree::{BookFault, BookRule, Branch, Entry, build_tree, one_tree};

@@ -2,7 +2,7 @@
 
 ghost use Rattle.std.specs.Prelude.{◌≡◌, ℕ, ◌≤◌, ◌<◌, List, length, map, IfOk, IfErr};
 ghost use Rattle.cob_limits.specs.Limits.{longest_name};
-ghost use Rattle.cob_entry.specs.Described.{PlainEntry, plain_entry};
+ghost use Rattle.cob_copybook_entry.specs.Described.{PlainEntry, plain_entry};
 ghost use Rattle.cob_copybook.specs.Books.{record_name, implied, with_record, HasEntries, IsTextRefusal, IsMemory};
 
 use crate::role::Role;

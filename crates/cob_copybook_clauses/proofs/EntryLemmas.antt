@@ -5,7 +5,7 @@ use Rattle.cob_source.specs.declared.token.Token.{Token}
 use Rattle.cob_source.specs.Tokens.{Lexeme, lexeme, lexemes}
 use Rattle.cob_copybook_clauses.specs.declared.term.WordClass.{WordClass}
 use Rattle.cob_copybook_clauses.specs.declared.term.WordClass.TheVariants as term
-use Rattle.cob_entry.specs.declared.kinds.Usage.{Usage}
+use Rattle.cob_copybook_entry.specs.declared.kinds.Usage.{Usage}
 use Rattle.cob_copybook_clauses.specs.Terms.{word_class}
 use Rattle.cob_copybook_clauses.specs.Written.{WrittenClauses, WrittenEntry}
 use Rattle.cob_copybook_clauses.specs.Clauses.{usage_of, leading_of, Clause, Redefines, Picture, Stored, Signed, Occurs, Value, Justified, Blank, SaysClause}

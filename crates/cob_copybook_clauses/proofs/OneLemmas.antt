@@ -7,9 +7,9 @@ use Rattle.cob_source.specs.Tokens.{Lexeme}
 use Rattle.cob_copybook_clauses.specs.declared.term.WordClass.{WordClass}
 use Rattle.cob_copybook_clauses.specs.declared.term.WordClass.TheVariants as term
 use Rattle.cob_copybook_clauses.specs.declared.clause.ClauseKind.TheVariants as clause_kind
-use Rattle.cob_entry.specs.declared.kinds.Usage.{Usage}
-use Rattle.cob_entry.specs.declared.kinds.Sign.{Sign}
-use Rattle.cob_entry.specs.declared.kinds.Figurative.{Figurative}
+use Rattle.cob_copybook_entry.specs.declared.kinds.Usage.{Usage}
+use Rattle.cob_copybook_entry.specs.declared.kinds.Sign.{Sign}
+use Rattle.cob_copybook_entry.specs.declared.kinds.Figurative.{Figurative}
 use Rattle.cob_copybook_clauses.specs.Terms.{word_class, term_of_kind}
 use Rattle.cob_copybook_clauses.specs.Written.{WrittenValue, Word, Quoted, Figure, Repeated, WrittenName, WrittenOccurs, WrittenClauses, names_behind}
 use Rattle.cob_copybook_clauses.specs.Clauses.{IsOptionalWord, IsOrAre, IsWord, IsFree, IsNameWord, AreNames, AreQualifiers, IsPrefix, IsSeparatePhrase, AreKeys, Indexes, Keyed, IsLeast, IsDependingOn, IsVaried, IsTable, IsConstant, usage_of, leading_of, figurative_of, Clause, Redefines, Picture, Stored, Signed, Occurs, Value, Justified, Blank, SaysClause}

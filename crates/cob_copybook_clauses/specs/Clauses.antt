@@ -5,11 +5,11 @@ use Rattle.cob_source.specs.Tokens.{Lexeme}
 use Rattle.cob_source.specs.declared.token.Kind.TheVariants as kind
 use Rattle.cob_copybook_clauses.specs.declared.term.WordClass.{WordClass}
 use Rattle.cob_copybook_clauses.specs.declared.term.WordClass.TheVariants as term
-use Rattle.cob_entry.specs.declared.kinds.Usage.{Usage}
-use Rattle.cob_entry.specs.declared.kinds.Usage.TheVariants as usage
-use Rattle.cob_entry.specs.declared.kinds.Sign.{Sign}
-use Rattle.cob_entry.specs.declared.kinds.Figurative.{Figurative}
-use Rattle.cob_entry.specs.declared.kinds.Figurative.TheVariants as figurative
+use Rattle.cob_copybook_entry.specs.declared.kinds.Usage.{Usage}
+use Rattle.cob_copybook_entry.specs.declared.kinds.Usage.TheVariants as usage
+use Rattle.cob_copybook_entry.specs.declared.kinds.Sign.{Sign}
+use Rattle.cob_copybook_entry.specs.declared.kinds.Figurative.{Figurative}
+use Rattle.cob_copybook_entry.specs.declared.kinds.Figurative.TheVariants as figurative
 use Rattle.cob_copybook_clauses.specs.Terms.{word_class}
 use Rattle.cob_copybook_clauses.specs.Names.{IsName}
 use Rattle.cob_copybook_clauses.specs.Written.{WrittenValue, Word, Quoted, Figure, Repeated, WrittenName, WrittenOccurs, names_behind}

@@ -1,9 +1,9 @@
 -- Entries as they are written, without where their texts lie in memory.
 use Rattle.std.specs.Prelude.{ℕ, Bool, List, [], ◌∷◌, Option, option_map}
 use Rattle.cob_source.specs.Tokens.{Lexeme, lexemes}
-use Rattle.cob_entry.specs.declared.kinds.Usage.{Usage}
-use Rattle.cob_entry.specs.declared.kinds.Sign.{Sign}
-use Rattle.cob_entry.specs.declared.kinds.Figurative.{Figurative}
+use Rattle.cob_copybook_entry.specs.declared.kinds.Usage.{Usage}
+use Rattle.cob_copybook_entry.specs.declared.kinds.Sign.{Sign}
+use Rattle.cob_copybook_entry.specs.declared.kinds.Figurative.{Figurative}
 use Rattle.cob_copybook_clauses.specs.declared.parts.ValueClause.{ValueClause}
 use Rattle.cob_copybook_clauses.specs.declared.parts.ValueClause.TheVariants as constant
 use Rattle.cob_copybook_clauses.specs.declared.parts.Count.{Count}

@@ -33,7 +33,7 @@ use crate::parts::{OccursClause, ValueClause};
 use crate::table::table_at;
 use crate::term::{WordClass, word_class};
 use crate::words::{behind, other_word_at, skip, skip_is_or_are, skip_prefix, word_at};
-use cob_entry::{Sign, Usage};
+use cob_copybook_entry::{Sign, Usage};
 use cob_source::Token;
 
 /// The kind of a clause.

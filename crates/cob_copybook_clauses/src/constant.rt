@@ -9,7 +9,7 @@ ghost use Rattle.std.specs.Prelude.{◌++◌, ◌∷◌, ◌≡◌, IfSome, IsSo
 use crate::parts::ValueClause;
 use crate::term::{WordClass, word_class};
 use crate::words::{behind, free_at, is_literal};
-use cob_entry::Figurative;
+use cob_copybook_entry::Figurative;
 use cob_source::Token;
 
 /// The figurative constant that a word is.

@@ -12,11 +12,9 @@
 //! `sentence_at` cuts at the first Stop, and where it answers `None` there is no Stop (`none`); `sentences_cut` and
 //! `sentences_end` say that so all sentences of a text are found. `is_name` is true of exactly the names.
 //!
-//! The definitions stand in `specs/`: `Terms` has the tables of reserved words, `Names` what a name is, `Written` an entry
-//! without where its texts lie in memory, `Clauses` the words of each clause, `Entries` those of an entry, of level 88 and
-//! of what is left out, and the sentences of a text. `Reading` holds what the readers of words, of statements too,
-//! say of the words that they leave. The crate stands on `cob_source` for its tokens, and on `cob_entry` for usages, signs and
-//! figurative constants.
+//! The definitions stand in `specs/`: `Terms` has the tables of reserved words, `Names` what a name is, `Written` an entry without where its texts lie in
+//! memory, `Clauses` the words of each clause, `Entries` those of an entry, of level 88 and of what is left out, and the sentences of a text. `Reading` holds
+//! what the readers of words, of statements too, say of the words that they leave.
 #![tactic(auto)]
 
 mod clause;

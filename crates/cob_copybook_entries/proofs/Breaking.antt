@@ -1,8 +1,8 @@
 -- What a part of an entry breaks, the entry breaks.
 use Rattle.std.proofs.Common.{◌≡◌, Option, Some, None, sym, subst, inl, inr, ◌⊎◌}
 use Rattle.cob_copybook_clauses.specs.Written.{WrittenValue, WrittenOccurs, WrittenEntry}
-use Rattle.cob_entry.specs.declared.fault.BookRule.{BookRule}
-use Rattle.cob_entry.specs.declared.fault.BookRule.TheVariants as rule
+use Rattle.cob_copybook_entry.specs.declared.fault.BookRule.{BookRule}
+use Rattle.cob_copybook_entry.specs.declared.fault.BookRule.TheVariants as rule
 use Rattle.cob_copybook_entries.specs.Books.{BreaksNumbers, BreaksTable, BreaksConstant, BreaksValue, BreaksEntry, IsNoName, count_name}
 use Rattle.cob_copybook_entries.specs.Breaks.{IsTableFault, IsConstantFault, OfOption}
 

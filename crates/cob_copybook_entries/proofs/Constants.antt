@@ -6,7 +6,7 @@ use Rattle.cob_decimal.specs.Decimal.{number_of}
 use Rattle.cob_decimal.specs.Literals.{Literal, IsLiteral, IsValueOf, literal_text, sign_text, fraction_text, characters}
 use Rattle.cob_decimal.proofs.LiteralLemmas.{one_literal}
 use Rattle.cob_copybook_clauses.specs.Written.{Word}
-use Rattle.cob_entry.specs.Described.{PlainValue, Numeric, Quoted, Figure, Repeated}
+use Rattle.cob_copybook_entry.specs.Described.{PlainValue, Numeric, Quoted, Figure, Repeated}
 use Rattle.cob_copybook_entries.specs.Meaning.{IsConstantOf}
 use Rattle.cob_copybook_entries.specs.Signs.{begins_with_sign}
 

@@ -8,10 +8,10 @@ use Rattle.cob_source.specs.Tokens.{Lexeme, lexeme, lexemes}
 use Rattle.cob_source.specs.declared.token.Kind.TheVariants as kind
 use Rattle.cob_copybook_clauses.proofs.CutLemmas.{cut, ends}
 use Rattle.cob_copybook_clauses.specs.Entries.{Sentences, sentences, is_condition, HasNoStop}
-use Rattle.cob_entry.specs.declared.fault.BookRule.{BookRule}
-use Rattle.cob_entry.specs.declared.fault.BookRule.TheVariants as rule
+use Rattle.cob_copybook_entry.specs.declared.fault.BookRule.{BookRule}
+use Rattle.cob_copybook_entry.specs.declared.fault.BookRule.TheVariants as rule
 use Rattle.cob_limits.specs.Limits.{most_entries}
-use Rattle.cob_entry.specs.Described.{PlainEntry}
+use Rattle.cob_copybook_entry.specs.Described.{PlainEntry}
 use Rattle.cob_copybook_entries.specs.Books.{AreDescribed, AreEntriesOf, BeginsWithData, BeginsWithCondition, BreaksBy, BreaksEntryRule, OneBreaks, data_entries}
 use Rattle.cob_copybook_entries.specs.Adds.{Adds, IsAdded, IsPlaceFault, IsSentenceFault, listed}
 use Rattle.cob_copybook_entries.proofs.Reading.{SoFar, IsFirst, one, one_is, sentence_adds}

@@ -14,9 +14,9 @@ use Rattle.cob_copybook_clauses.specs.Names.{IsName}
 use Rattle.cob_copybook_clauses.specs.Written.{WrittenValue, Word, Quoted as QuotedText, Figure as FigureWord, Repeated as RepeatedText, WrittenName, WrittenOccurs, WrittenEntry}
 use Rattle.cob_copybook_clauses.specs.Entries.{IsWritten, IsCondition, is_condition, sentences}
 use Rattle.cob_copybook_clauses.specs.Laws.{OneEntry}
-use Rattle.cob_entry.specs.declared.fault.BookRule.{BookRule}
-use Rattle.cob_entry.specs.declared.fault.BookRule.TheVariants as rule
-use Rattle.cob_entry.specs.Described.{PlainValue, Numeric, Quoted, Figure, Repeated, PlainOccurs, PlainEntry}
+use Rattle.cob_copybook_entry.specs.declared.fault.BookRule.{BookRule}
+use Rattle.cob_copybook_entry.specs.declared.fault.BookRule.TheVariants as rule
+use Rattle.cob_copybook_entry.specs.Described.{PlainValue, Numeric, Quoted, Figure, Repeated, PlainOccurs, PlainEntry}
 use Rattle.cob_copybook_entries.specs.Meaning.{IsLeastOf, AreNumbers, IsTimesBy, IsOccursOf, IsConstantOf, IsOption, IsNameText, EntryMeans}
 use Rattle.cob_copybook_entries.specs.Parts.{count_digits, behind_sign}
 use Rattle.cob_copybook_entries.specs.Books.{HasNoLeftOut, IsEntry, IsConditionEntry, IsSentence, AreDescribed, BeginsWithData, AreEntriesOf, BreaksNumber, BreaksNumbers, BreaksConstant, BreaksValue, BreaksTable, IsNoName, count_name, BreaksEntry, BreaksCondition, BreaksData, BreaksBy, BreaksSentence, OneBreaks, BeginsWithCondition, data_entries, BreaksEntryRule}

@@ -4,12 +4,12 @@ use Rattle.cob_source.specs.Tokens.{Lexeme}
 use Rattle.cob_picture.specs.Positions.{PlainPicture}
 use Rattle.cob_picture.specs.Pictures.{IsPictureOf}
 use Rattle.cob_picture.proofs.OnePicture.{one_picture}
-use Rattle.cob_entry.specs.declared.kinds.Usage.{Usage}
-use Rattle.cob_entry.specs.declared.kinds.Sign.{Sign}
+use Rattle.cob_copybook_entry.specs.declared.kinds.Usage.{Usage}
+use Rattle.cob_copybook_entry.specs.declared.kinds.Sign.{Sign}
 use Rattle.cob_copybook_clauses.specs.Written.{WrittenValue, Word, Quoted as QuotedText, Figure as FigureWord, Repeated as RepeatedText, WrittenName, WrittenOccurs, WrittenEntry}
 use Rattle.cob_copybook_clauses.specs.Entries.{is_condition}
 use Rattle.cob_copybook_clauses.specs.Laws.{OneEntry}
-use Rattle.cob_entry.specs.Described.{PlainValue, Numeric, Quoted, Figure, Repeated, PlainOccurs, Fixed, Varying, PlainEntry}
+use Rattle.cob_copybook_entry.specs.Described.{PlainValue, Numeric, Quoted, Figure, Repeated, PlainOccurs, Fixed, Varying, PlainEntry}
 use Rattle.cob_copybook_entries.specs.Meaning.{IsIntegerText, IsLeastOf, IsTimesBy, IsOccursOf, IsConstantOf, IsOption, IsNameText, EntryMeans}
 use Rattle.cob_copybook_entries.specs.Books.{IsSentence, AreDescribed}
 use Rattle.cob_copybook_entries.proofs.Constants.{one_numeric}

@@ -5,9 +5,9 @@ use Rattle.std.proofs.lemmas.Bool.{false≢true}
 use Rattle.std.proofs.lemmas.List.Sums.{sum_by-cons}
 use Rattle.cob_source.specs.Tokens.{Lexeme}
 use Rattle.cob_copybook_clauses.specs.Entries.{sentences, is_condition}
-use Rattle.cob_entry.specs.declared.fault.BookRule.{BookRule}
+use Rattle.cob_copybook_entry.specs.declared.fault.BookRule.{BookRule}
 use Rattle.cob_limits.specs.Limits.{most_entries}
-use Rattle.cob_entry.specs.Described.{PlainEntry}
+use Rattle.cob_copybook_entry.specs.Described.{PlainEntry}
 use Rattle.cob_copybook_entries.specs.Books.{IsSentence, AreDescribed, BeginsWithData, OneBreaks, data_entries}
 use Rattle.cob_copybook_entries.specs.Adds.{Adds, IsAdded, listed}
 

@@ -3,7 +3,7 @@ use Rattle.std.proofs.Common.{◌≡◌, true, false, List, Option, Some, None, 
 use Rattle.std.proofs.lemmas.Bool.{true≢false}
 use Rattle.cob_source.specs.Tokens.{Lexeme}
 use Rattle.cob_copybook_clauses.specs.Entries.{is_condition}
-use Rattle.cob_entry.specs.Described.{PlainEntry}
+use Rattle.cob_copybook_entry.specs.Described.{PlainEntry}
 use Rattle.cob_copybook_entries.specs.Books.{IsEntry}
 use Rattle.cob_copybook_entries.specs.Adds.{IsAdded}
 

@@ -2,11 +2,11 @@
 use Rattle.std.specs.Prelude.{◌≡◌, ◌⊎◌, true, false, List, [], ◌∷◌, ◌++◌, length, map, Option, Some, None, IsSome, Result, OnOk, IfErr}
 use Rattle.cob_source.specs.Tokens.{Lexeme}
 use Rattle.cob_copybook_clauses.specs.Entries.{is_condition}
-use Rattle.cob_entry.specs.declared.entry.Entry.{Entry}
-use Rattle.cob_entry.specs.declared.fault.BookRule.{BookRule}
-use Rattle.cob_entry.specs.declared.fault.BookRule.TheVariants as rule
+use Rattle.cob_copybook_entry.specs.declared.entry.Entry.{Entry}
+use Rattle.cob_copybook_entry.specs.declared.fault.BookRule.{BookRule}
+use Rattle.cob_copybook_entry.specs.declared.fault.BookRule.TheVariants as rule
 use Rattle.cob_limits.specs.Limits.{most_entries}
-use Rattle.cob_entry.specs.Described.{PlainEntry, plain_entry}
+use Rattle.cob_copybook_entry.specs.Described.{PlainEntry, plain_entry}
 use Rattle.cob_copybook_entries.specs.Books.{HasNoLeftOut, IsConditionEntry, IsEntry, BreaksSentence}
 
 -- a level 88 entry adds nothing, a data entry itself

@@ -7,9 +7,9 @@ use Rattle.cob_decimal.specs.Literals.{Literal, AreDigits}
 use Rattle.cob_copybook_clauses.specs.Names.{IsName}
 use Rattle.cob_copybook_clauses.specs.Written.{WrittenValue, Word, Quoted, Repeated, WrittenOccurs, WrittenEntry}
 use Rattle.cob_copybook_clauses.specs.Entries.{IsWritten, IsCondition, is_condition, IsLeftOut, sentences}
-use Rattle.cob_entry.specs.declared.fault.BookRule.{BookRule}
-use Rattle.cob_entry.specs.declared.fault.BookRule.TheVariants as rule
-use Rattle.cob_entry.specs.Described.{PlainEntry}
+use Rattle.cob_copybook_entry.specs.declared.fault.BookRule.{BookRule}
+use Rattle.cob_copybook_entry.specs.declared.fault.BookRule.TheVariants as rule
+use Rattle.cob_copybook_entry.specs.Described.{PlainEntry}
 use Rattle.cob_copybook_entries.specs.Meaning.{EntryMeans, IsIntegerText, AreNumbers}
 use Rattle.cob_copybook_entries.specs.Parts.{IsLiteralOf, count_digits}
 

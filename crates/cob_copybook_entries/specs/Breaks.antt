@@ -1,8 +1,8 @@
 -- Which rule a part of an entry breaks.
 use Rattle.std.specs.Prelude.{◌≡◌, ◌⊎◌, Option, Some, None}
 use Rattle.cob_copybook_clauses.specs.Written.{WrittenValue, WrittenOccurs}
-use Rattle.cob_entry.specs.declared.fault.BookRule.{BookRule}
-use Rattle.cob_entry.specs.declared.fault.BookRule.TheVariants as rule
+use Rattle.cob_copybook_entry.specs.declared.fault.BookRule.{BookRule}
+use Rattle.cob_copybook_entry.specs.declared.fault.BookRule.TheVariants as rule
 use Rattle.cob_copybook_entries.specs.Books.{BreaksConstant, BreaksValue, BreaksNumber, BreaksTable, IsNoName, count_name}
 
 -- the constant breaks the grammar of literals, or the rule on values

@@ -1,9 +1,9 @@
 -- What follows from the definitions, said as laws.
 use Rattle.std.specs.Prelude.{◌≡◌, List}
 use Rattle.cob_source.specs.Tokens.{Lexeme}
-use Rattle.cob_entry.specs.Described.{PlainEntry}
-use Rattle.cob_entry.specs.declared.fault.BookRule.{BookRule}
-use Rattle.cob_entry.specs.declared.fault.BookRule.TheVariants.{Memory}
+use Rattle.cob_copybook_entry.specs.Described.{PlainEntry}
+use Rattle.cob_copybook_entry.specs.declared.fault.BookRule.{BookRule}
+use Rattle.cob_copybook_entry.specs.declared.fault.BookRule.TheVariants.{Memory}
 use Rattle.cob_copybook_entries.specs.Books.{AreEntriesOf, BreaksEntryRule}
 
 -- words are one list of entries at most

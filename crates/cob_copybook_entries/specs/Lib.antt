@@ -6,4 +6,3 @@ pub mod Signs
 pub mod Short
 pub mod Adds
 pub mod Laws
-pub use Rattle.cob_copybook_clauses.specs as cob_copybook_clauses

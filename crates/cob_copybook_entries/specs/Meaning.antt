@@ -5,9 +5,9 @@ use Rattle.cob_decimal.specs.Literals.{Literal, IsLiteral, literal_text, IsValue
 use Rattle.cob_picture.specs.Pictures.{IsPictureOf}
 use Rattle.cob_copybook_clauses.specs.Names.{IsName}
 use Rattle.cob_copybook_clauses.specs.Written.{WrittenValue, Word, Quoted as QuotedText, Figure as FigureWord, Repeated as RepeatedText, WrittenName, WrittenOccurs, WrittenEntry}
-use Rattle.cob_entry.specs.declared.entry.Qualified.{Qualified}
+use Rattle.cob_copybook_entry.specs.declared.entry.Qualified.{Qualified}
 use Rattle.cob_limits.specs.Limits.{longest_literal}
-use Rattle.cob_entry.specs.Described.{PlainValue, Numeric, Quoted, Figure, Repeated, PlainOccurs, Fixed, Varying, PlainEntry}
+use Rattle.cob_copybook_entry.specs.Described.{PlainValue, Numeric, Quoted, Figure, Repeated, PlainOccurs, Fixed, Varying, PlainEntry}
 
 -- a whole number without a sign, in so many digits at most
 pub record IsIntegerText (most : ℕ) (text : List ℕ) (n : ℕ) : Type 0 where

@@ -1,7 +1,7 @@
 //! The entries of a copybook, each by itself (ANSI X3.23-1985, Nucleus: the data description entry).
 //!
 //! A copybook is a list of record description entries, each ended by a period. `entries` reads the words of a text into that list,
-//! whose entries are those of `cob_entry`. The levels, names, pictures, numbers and literals in an entry's clauses are read here, and
+//! whose entries are those of `cob_copybook_entry`. The levels, names, pictures, numbers and literals in an entry's clauses are read here, and
 //! a text that is none of these is refused by the rule that it breaks. Entries of level 88 name a value and aren't kept. How entries
 //! make a tree, and which rules hold between them, is for the crates above.
 //!
@@ -13,11 +13,9 @@
 //! [`name_of_text`] answers a name exactly for a text that is one (`found`, `only`). [`value_of`] answers what a constant as it is
 //! written means, or the rule that it breaks, the grammar of literals or the rule on values (`found`, `only`, `fault`).
 //!
-//! The definitions stand in `specs/`: `Meaning` says what an entry's texts mean, `Parts` what a numeric literal of any length is, and
-//! `Books` which entries words are and which rules they break. `Breaks` says which rule a part of an entry breaks, a constant's among
-//! them; `Adds`, `Short` and `Signs` name the steps on the way; no public clause names them. `Laws` has the laws. The crate stands on `cob_source` for words, on `cob_copybook_clauses` for clauses as they are written, on
-//! `cob_entry` for entries, on `cob_picture` and `cob_decimal` for pictures and numbers, and on `arrayvec` for texts of bounded
-//! length.
+//! The definitions stand in `specs/`: `Meaning` says what an entry's texts mean, `Parts` what a numeric literal of any length is, and `Books` which entries
+//! words are and which rules they break. `Breaks` says which rule a part of an entry breaks, a constant's among them; `Adds`, `Short` and `Signs` name the
+//! steps on the way; no public clause names them. `Laws` has the laws.
 #![tactic(auto)]
 
 mod laws;

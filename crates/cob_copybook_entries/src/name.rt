@@ -4,7 +4,7 @@ ghost use Rattle.std.specs.Prelude.{◌≡◌, IfSome, IsSomeAnd};
 ghost use Rattle.cob_copybook_clauses.specs.Names.{IsName};
 
 use cob_copybook_clauses::is_name;
-use cob_entry::Name;
+use cob_copybook_entry::Name;
 
 /// The name that a text in capitals is, and `None` where it is none or is a reserved word.
 pub fn name_of_text(text: &[u8]) -> Option<Name>

@@ -4,8 +4,8 @@ ghost use Rattle.std.specs.Prelude.{◌≡◌, ℕ, ◌⊎◌, ◌↔◌, Ok, So
 ghost use Rattle.cob_source.specs.Tokens.{lexemes};
 ghost use Rattle.cob_copybook_clauses.specs.Names.{IsName};
 ghost use Rattle.cob_copybook_clauses.specs.Written.{names_behind, written_name, written_occurs};
-ghost use Rattle.cob_entry.specs.declared.fault.BookRule.TheVariants as rule;
-ghost use Rattle.cob_entry.specs.Described.{PlainOccurs, plain_occurs};
+ghost use Rattle.cob_copybook_entry.specs.declared.fault.BookRule.TheVariants as rule;
+ghost use Rattle.cob_copybook_entry.specs.Described.{PlainOccurs, plain_occurs};
 ghost use Rattle.cob_copybook_entries.specs.Meaning.{IsLeastOf, IsQualifiedOf, IsRange, AreNumbers, IsOccursOf};
 ghost use Rattle.cob_copybook_entries.specs.Books.{BreaksNumber};
 ghost use Rattle.cob_copybook_entries.specs.Breaks.{IsNumbersFault, IsTableFault};
@@ -14,8 +14,8 @@ ghost use Rattle.cob_copybook_entries.specs.Short.{AreShort, HasShortQualifiers}
 use crate::name::name_of_text;
 use crate::number::whole;
 use cob_copybook_clauses::{Count, OccursClause};
+use cob_copybook_entry::{BookRule, Name, Occurs, Qualified};
 use cob_decimal::are_digits;
-use cob_entry::{BookRule, Name, Occurs, Qualified};
 use cob_source::Token;
 use std::alloc::{AllocError, Global};
 

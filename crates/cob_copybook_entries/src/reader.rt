@@ -3,15 +3,15 @@
 ghost use Rattle.std.specs.Prelude.{◌≡◌, ◌<◌, ◌≤◌, [], ◌++◌, List, Option, length, map, IfErr, IfOk, IsSome, OnOk, option_map};
 ghost use Rattle.cob_limits.specs.Limits.{most_entries};
 ghost use Rattle.cob_source.specs.Tokens.{lexemes};
-ghost use Rattle.cob_entry.specs.declared.fault.BookRule.TheVariants.{Memory};
-ghost use Rattle.cob_entry.specs.Described.{PlainEntry, plain_entry};
-ghost use Rattle.cob_entry.specs.Faults.{MemoryAside};
+ghost use Rattle.cob_copybook_entry.specs.declared.fault.BookRule.TheVariants.{Memory};
+ghost use Rattle.cob_copybook_entry.specs.Described.{PlainEntry, plain_entry};
+ghost use Rattle.cob_copybook_entry.specs.Faults.{MemoryAside};
 ghost use Rattle.cob_copybook_entries.specs.Books.{AreEntriesOf, BreaksEntryRule};
 ghost use Rattle.cob_copybook_entries.specs.Adds.{Adds, AddsSentence, IsPlaceFault, IsSentenceFault, PutsBehind, listed};
 
 use crate::sentence::sentence_of;
 use cob_copybook_clauses::sentence_at;
-use cob_entry::{BookFault, BookRule, Entry};
+use cob_copybook_entry::{BookFault, BookRule, Entry};
 use cob_limits::MAX_ENTRIES;
 use cob_source::Token;
 use std::alloc::Global;

@@ -3,16 +3,16 @@
 ghost use Rattle.std.specs.Prelude.{◌≡◌, ◌⊎◌, ◌<◌, ◌≤◌, Option, length, IfErr, IfOk, IsOk, OnOk, option_map};
 ghost use Rattle.std.specs.List.{AllByRecursion};
 ghost use Rattle.cob_source.specs.Tokens.{lexemes};
-ghost use Rattle.cob_entry.specs.declared.fault.BookRule.TheVariants as rule;
-ghost use Rattle.cob_entry.specs.declared.fault.TheConstants.{MAX_WORD};
-ghost use Rattle.cob_entry.specs.Described.{PlainEntry, plain_entry};
+ghost use Rattle.cob_copybook_entry.specs.declared.fault.BookRule.TheVariants as rule;
+ghost use Rattle.cob_copybook_entry.specs.declared.fault.TheConstants.{MAX_WORD};
+ghost use Rattle.cob_copybook_entry.specs.Described.{PlainEntry, plain_entry};
 ghost use Rattle.cob_copybook_entries.specs.Books.{BreaksCondition, BreaksData, BreaksSentence, IsConditionEntry, IsEntry};
 ghost use Rattle.cob_copybook_entries.specs.Adds.{Adds};
 
 use crate::meaning::entry_of;
 use arrayvec::ArrayString;
 use cob_copybook_clauses::{is_condition, is_name, left_out, read_condition_name, read_entry};
-use cob_entry::{BookRule, Entry, MAX_WORD};
+use cob_copybook_entry::{BookRule, Entry, MAX_WORD};
 use cob_source::Token;
 use std::alloc::Global;
 

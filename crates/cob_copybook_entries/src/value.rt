@@ -4,16 +4,16 @@ ghost use Rattle.std.specs.Prelude.{◌≡◌, ◌<◌, ◌≤◌, ◌↔◌, fa
 ghost use Rattle.cob_limits.specs.Limits.{longest_literal};
 ghost use Rattle.cob_decimal.specs.Literals.{Literal, AreDigits};
 ghost use Rattle.cob_copybook_clauses.specs.Written.{Word, written_value};
-ghost use Rattle.cob_entry.specs.declared.fault.BookRule.TheVariants as rule;
-ghost use Rattle.cob_entry.specs.Described.{PlainValue as Meant, Numeric, plain_value};
+ghost use Rattle.cob_copybook_entry.specs.declared.fault.BookRule.TheVariants as rule;
+ghost use Rattle.cob_copybook_entry.specs.Described.{PlainValue as Meant, Numeric, plain_value};
 ghost use Rattle.cob_copybook_entries.specs.Meaning.{IsConstantOf, IsShortLiteral};
 ghost use Rattle.cob_copybook_entries.specs.Parts.{IsLiteralOf, behind_sign, IsUnsigned};
 ghost use Rattle.cob_copybook_entries.specs.Breaks.{IsConstantFault};
 ghost use Rattle.cob_copybook_entries.specs.Signs.{begins_with_sign};
 
 use cob_copybook_clauses::ValueClause;
+use cob_copybook_entry::{BookRule, Text, Value};
 use cob_decimal::{Number, are_digits};
-use cob_entry::{BookRule, Text, Value};
 use cob_limits::MAX_LITERAL;
 
 /// What a constant of a VALUE clause or a statement means.

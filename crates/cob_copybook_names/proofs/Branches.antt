@@ -1,7 +1,7 @@
 -- The forest of a list of branches.
 use Rattle.std.proofs.Common.{◌≡◌, ℕ, zero, suc, ◌+◌, ◌<◌, ◌≤◌, Bool, ◌||◌, is_some, List, [], ◌∷◌, ◌++◌, length, drop, get_or, sym, ap, ◌∙◌, append_assoc, arith}
 use Rattle.std.proofs.lemmas.List.{at_drop_more}
-use Rattle.cob_entry.specs.Described.{PlainEntry, plain_entry}
+use Rattle.cob_copybook_entry.specs.Described.{PlainEntry, plain_entry}
 use Rattle.cob_copybook_tree.specs.declared.branch.Branch.{Branch}
 use Rattle.cob_copybook_tree.specs.declared.branch.Branch.TheViews.{out-Branch}
 use Rattle.cob_copybook_tree.specs.declared.branch.Branch.TheFolds.{fold_out-Branch}

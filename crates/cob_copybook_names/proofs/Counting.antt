@@ -1,10 +1,10 @@
 -- The counts of a list of entries, one after the other.
 use Rattle.std.proofs.Common.{◌≡◌, ℕ, ◌+◌, ◌<◌, arith, length, map, List, [], ◌∷◌, ◌++◌, Option, Result, Ok, Err, IfOk, IfErr, refl, sym, ap, subst, ◌∙◌, append_assoc}
 use Rattle.std.proofs.lemmas.List.{append-nil}
-use Rattle.cob_entry.specs.Described.{PlainEntry}
-use Rattle.cob_entry.specs.declared.fault.BookFault.{BookFault}
-use Rattle.cob_entry.specs.declared.fault.BookRule.{BookRule}
-use Rattle.cob_entry.specs.declared.fault.BookRule.TheVariants as rule
+use Rattle.cob_copybook_entry.specs.Described.{PlainEntry}
+use Rattle.cob_copybook_entry.specs.declared.fault.BookFault.{BookFault}
+use Rattle.cob_copybook_entry.specs.declared.fault.BookRule.{BookRule}
+use Rattle.cob_copybook_entry.specs.declared.fault.BookRule.TheVariants as rule
 use Rattle.cob_copybook_names.specs.declared.bearer.Bearer.{Bearer as Listed}
 use Rattle.cob_copybook_names.specs.declared.fault.NameFault.{NameFault}
 use Rattle.cob_copybook_names.specs.declared.fault.NameFault.TheVariants.{Unknown, Ambiguous}

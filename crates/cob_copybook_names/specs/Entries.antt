@@ -1,7 +1,7 @@
 -- The entries of a record as written, as they may be named.
 use Rattle.std.specs.Prelude.{ℕ, ◌+◌, Bool, ◌||◌, is_some, List, [], ◌∷◌, ◌++◌, Option}
 use Rattle.cob_picture.specs.Positions.{PlainPicture}
-use Rattle.cob_entry.specs.Described.{PlainEntry, plain_entry}
+use Rattle.cob_copybook_entry.specs.Described.{PlainEntry, plain_entry}
 use Rattle.cob_copybook_tree.specs.Forests.{Forest, NoEntries, AnEntry, entries_in}
 use Rattle.cob_copybook_names.specs.declared.bearer.Bearer.{Bearer as Listed}
 use Rattle.cob_copybook_names.specs.declared.listing.NumberedEntry.{NumberedEntry as ListedEntry}

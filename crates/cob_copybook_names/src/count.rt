@@ -1,7 +1,7 @@
 ghost use Rattle.std.specs.Prelude.{◌≡◌, ℕ, ◌≤◌, List, [], ◌∷◌, map, IsTrue, Option, IfOk, IfErr, IfSome, IsSomeAnd, IsOkAnd};
-ghost use Rattle.cob_entry.specs.Described.{PlainEntry, plain_entry};
-ghost use Rattle.cob_entry.specs.declared.fault.BookRule.TheVariants.{Memory, Count};
-ghost use Rattle.cob_entry.specs.Faults.{MemoryAside};
+ghost use Rattle.cob_copybook_entry.specs.Described.{PlainEntry, plain_entry};
+ghost use Rattle.cob_copybook_entry.specs.declared.fault.BookRule.TheVariants.{Memory, Count};
+ghost use Rattle.cob_copybook_entry.specs.Faults.{MemoryAside};
 ghost use Rattle.cob_copybook_tree.specs.Forests.{Forest, entries_in};
 ghost use Rattle.cob_copybook_tree.specs.Branches.{forest_of};
 ghost use Rattle.cob_copybook_names.specs.Counts.{IsWholeNumber, MayCount, IsCountOfTable, IsCountOf, AreCounts, AreCountsOfTables, IsRefusedAmong, IsRefused};

@@ -18,9 +18,6 @@
 //!
 //! A name is found by a table of names and a chain from one bearer of a name to the one before it (`specs/Links.antt`), so that the time is
 //! that of the entries that bear the name, and not of all entries.
-//!
-//! It stands on `cob_copybook_tree` for the tree of entries as written, for an entry, its name and the fault, on `cob_picture` for a
-//! count's picture, and on `indexmap`, by which names are found.
 #![tactic(auto)]
 
 mod bearer;

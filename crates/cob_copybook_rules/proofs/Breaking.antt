@@ -1,7 +1,7 @@
 -- A tree whose clauses agree breaks no rule on them.
-use Rattle.cob_entry.specs.Described.{PlainEntry}
-use Rattle.cob_entry.specs.declared.fault.BookRule.{BookRule}
-use Rattle.cob_entry.specs.declared.fault.BookRule.TheVariants as rule
+use Rattle.cob_copybook_entry.specs.Described.{PlainEntry}
+use Rattle.cob_copybook_entry.specs.declared.fault.BookRule.{BookRule}
+use Rattle.cob_copybook_entry.specs.declared.fault.BookRule.TheVariants as rule
 use Rattle.cob_copybook_tree.specs.Forests.{Forest}
 use Rattle.cob_copybook_rules.specs.Rules.{AgreeAll, BreaksClauseRule}
 

@@ -1,7 +1,7 @@
 -- Items and groups: an entry has a picture, or entries beneath it.
 use Rattle.std.specs.Prelude.{Option, Some, None}
 use Rattle.cob_picture.specs.Positions.{PlainPicture}
-use Rattle.cob_entry.specs.Described.{PlainEntry}
+use Rattle.cob_copybook_entry.specs.Described.{PlainEntry}
 use Rattle.cob_copybook_tree.specs.Forests.{Forest, NoEntries, AnEntry}
 
 -- an entry with a picture has none beneath it, an entry without one has

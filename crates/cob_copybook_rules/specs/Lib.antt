@@ -4,3 +4,9 @@ pub mod Signs
 pub mod Tables
 pub mod Placements
 pub mod Rules
+pub mod Areas
+pub mod Fitting
+pub mod LengthRules
+pub mod Short
+pub mod Values
+pub mod Greatest

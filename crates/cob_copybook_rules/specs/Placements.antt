@@ -7,9 +7,9 @@ use Rattle.cob_picture.specs.declared.position.Position.{Position}
 use Rattle.cob_picture.specs.declared.symbol.Symbol.TheVariants.{Star}
 use Rattle.cob_picture.specs.declared.category.Category.{Category}
 use Rattle.cob_picture.specs.declared.category.Category.TheVariants.{Alphabetic, Numeric, Alphanumeric, AlphanumericEdited, NumericEdited}
-use Rattle.cob_entry.specs.declared.kinds.Usage.{Usage}
-use Rattle.cob_entry.specs.declared.kinds.Usage.TheVariants.{Display}
-use Rattle.cob_entry.specs.Described.{PlainEntry}
+use Rattle.cob_copybook_entry.specs.declared.kinds.Usage.{Usage}
+use Rattle.cob_copybook_entry.specs.declared.kinds.Usage.TheVariants.{Display}
+use Rattle.cob_copybook_entry.specs.Described.{PlainEntry}
 use Rattle.cob_copybook_tree.specs.Forests.{Forest, NoEntries, AnEntry}
 use Rattle.cob_copybook_tree.specs.Resolving.{inherited, is_display}
 

@@ -1,8 +1,8 @@
 -- Which rules on clauses a tree keeps, and which it breaks.
 use Rattle.std.specs.Prelude.{None}
-use Rattle.cob_entry.specs.Described.{PlainEntry}
-use Rattle.cob_entry.specs.declared.fault.BookRule.{BookRule}
-use Rattle.cob_entry.specs.declared.fault.BookRule.TheVariants as rule
+use Rattle.cob_copybook_entry.specs.Described.{PlainEntry}
+use Rattle.cob_copybook_entry.specs.declared.fault.BookRule.{BookRule}
+use Rattle.cob_copybook_entry.specs.declared.fault.BookRule.TheVariants as rule
 use Rattle.cob_copybook_tree.specs.Forests.{Forest}
 use Rattle.cob_copybook_rules.specs.Filled.{AreFilled}
 use Rattle.cob_copybook_rules.specs.Usages.{AreUsages}

@@ -1,10 +1,10 @@
 -- SIGN: on an item it asks for a signed DISPLAY number. On a group it asks for nothing.
 use Rattle.std.specs.Prelude.{◌≡◌, true, Option, Some, None, unwrap_or}
 use Rattle.cob_picture.specs.Positions.{PlainPicture}
-use Rattle.cob_entry.specs.declared.kinds.Usage.{Usage}
-use Rattle.cob_entry.specs.declared.kinds.Usage.TheVariants.{Display}
-use Rattle.cob_entry.specs.declared.kinds.Sign.{Sign}
-use Rattle.cob_entry.specs.Described.{PlainEntry}
+use Rattle.cob_copybook_entry.specs.declared.kinds.Usage.{Usage}
+use Rattle.cob_copybook_entry.specs.declared.kinds.Usage.TheVariants.{Display}
+use Rattle.cob_copybook_entry.specs.declared.kinds.Sign.{Sign}
+use Rattle.cob_copybook_entry.specs.Described.{PlainEntry}
 use Rattle.cob_copybook_tree.specs.Forests.{Forest, NoEntries, AnEntry}
 use Rattle.cob_copybook_tree.specs.Resolving.{inherited, keeps_sign}
 

@@ -1,6 +1,6 @@
 -- OCCURS: tables, and how deep they are nested.
 use Rattle.std.specs.Prelude.{◌≡◌, ℕ, ◌+◌, ◌<◌, ◌≤◌, Option, Some, None}
-use Rattle.cob_entry.specs.Described.{PlainEntry, PlainOccurs, Fixed, Varying}
+use Rattle.cob_copybook_entry.specs.Described.{PlainEntry, PlainOccurs, Fixed, Varying}
 use Rattle.cob_copybook_tree.specs.Forests.{Forest, NoEntries, AnEntry}
 use Rattle.cob_limits.specs.Limits.{most_dimensions}
 

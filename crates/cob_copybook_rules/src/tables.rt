@@ -1,7 +1,7 @@
 ghost use Rattle.std.specs.Prelude.{◌≡◌, ◌≤◌, IsTrue, option_map};
 ghost use Rattle.std.specs.Option.{IsNone};
 ghost use Rattle.cob_limits.specs.Limits.{most_dimensions};
-ghost use Rattle.cob_entry.specs.Described.{plain_entry, plain_occurs};
+ghost use Rattle.cob_copybook_entry.specs.Described.{plain_entry, plain_occurs};
 ghost use Rattle.cob_copybook_tree.specs.Branches.{forest_of};
 ghost use Rattle.cob_copybook_rules.specs.Tables.{dimension, HasValidNumbers, IsNoRecordTable, AreTables};
 

@@ -4,8 +4,6 @@
 //! order, with the same levels, names, pictures, usages, signs, tables, redefinitions and values (`IsSameRecord` of specs/Same.antt, both ways). Clauses
 //! count as they act: an entry's usage and sign may be its own or those of its group. A record that is an item by itself has a name in both or
 //! in neither. It takes no memory.
-//!
-//! It stands on `cob_copybook_tree` for the trees, on `cob_entry`, `cob_picture` and `cob_decimal` for names, constants, pictures and numbers.
 #![tactic(auto)]
 
 mod entries;

@@ -2,12 +2,12 @@
 
 ghost use Rattle.std.specs.Prelude.{◌≡◌, option_map};
 ghost use Rattle.std.specs.Bool.{Decides};
-ghost use Rattle.cob_entry.specs.Described.{plain_value};
+ghost use Rattle.cob_copybook_entry.specs.Described.{plain_value};
 
 use crate::pictures::is_same_picture;
+use cob_copybook_entry::Name;
 use cob_copybook_tree::{Item, Kind, ResolvedOccurs, Sign, Value};
 use cob_decimal::Number;
-use cob_entry::Name;
 
 /// Whether two lists of characters or digits are one.
 fn are_same_bytes(bytes: &[u8], others: &[u8]) -> bool

@@ -1,8 +1,8 @@
 -- The trees of a list of branches.
 use Rattle.std.proofs.Common.{◌≡◌, ℕ, ◌+◌, ◌<◌, List, [], ◌∷◌, ◌++◌, length, map, drop, get_or, refl, sym, ap, subst, ◌∙◌, append_assoc}
 use Rattle.std.proofs.lemmas.List.{at_drop_more, map-append}
-use Rattle.cob_entry.specs.declared.entry.Entry.{Entry}
-use Rattle.cob_entry.specs.Described.{PlainEntry, plain_entry}
+use Rattle.cob_copybook_entry.specs.declared.entry.Entry.{Entry}
+use Rattle.cob_copybook_entry.specs.Described.{PlainEntry, plain_entry}
 use Rattle.cob_copybook_tree.specs.declared.branch.Branch.{Branch}
 use Rattle.cob_copybook_tree.specs.declared.branch.Branch.TheOpen.{Branch-F}
 use Rattle.cob_copybook_tree.specs.declared.branch.Branch.TheViews.{out-Branch, roll-Branch}

@@ -1,10 +1,10 @@
 -- Bytes of an item represent one number, whatever its kind of storage.
 use Rattle.std.proofs.Common.{◌≡◌, ℕ, ◌+◌, ◌<◌, List, refl, sym, subst, arith, Bool, true, false, Option, Some, None}
-use Rattle.cob_entry.specs.cob_picture.Positions.{PlainPicture}
-use Rattle.cob_entry.specs.cob_picture.Counts.{digits, signed, size}
-use Rattle.cob_entry.specs.declared.kinds.Usage.{Usage}
-use Rattle.cob_entry.specs.declared.kinds.Usage.TheVariants as usage
-use Rattle.cob_entry.specs.declared.kinds.Sign.{Sign}
+use Rattle.cob_picture.specs.Positions.{PlainPicture}
+use Rattle.cob_picture.specs.Counts.{digits, signed, size}
+use Rattle.cob_copybook_entry.specs.declared.kinds.Usage.{Usage}
+use Rattle.cob_copybook_entry.specs.declared.kinds.Usage.TheVariants as usage
+use Rattle.cob_copybook_entry.specs.declared.kinds.Sign.{Sign}
 use Rattle.cob_copybook_tree.specs.declared.node.Item.{Item}
 use Rattle.cob_copybook_tree.specs.Lengths.{item_size, stored_size}
 use Rattle.cob_codec.specs.Sign.{IsHeld}

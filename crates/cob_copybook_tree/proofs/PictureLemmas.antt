@@ -2,17 +2,17 @@
 use Rattle.std.proofs.Common.{◌≡◌, ℕ, zero, suc, List, [], ◌∷◌, ◌++◌, refl, sym, subst, ◌∙◌, arith, Bool, true, false, Option, replicate}
 use Rattle.std.specs.List.{AllByRecursion}
 use Rattle.std.specs.Prelude.{cond, ◌||◌}
-use Rattle.cob_entry.specs.cob_picture.declared.symbol.Symbol.{Symbol}
-use Rattle.cob_entry.specs.cob_picture.declared.symbol.Symbol.TheVariants.{S, V, P, Nine}
-use Rattle.cob_entry.specs.cob_picture.declared.position.Position.{Position}
-use Rattle.cob_entry.specs.cob_picture.declared.category.Category.{Category}
-use Rattle.cob_entry.specs.cob_picture.declared.category.Category.TheVariants.{Alphabetic, Numeric, Alphanumeric, AlphanumericEdited, NumericEdited}
-use Rattle.cob_entry.specs.cob_picture.Positions.{positions, positions_from, position_at, role_at, floating, is_that}
-use Rattle.cob_entry.specs.cob_picture.Counts.{digits, size, width, is_digit_place}
-use Rattle.cob_entry.specs.cob_picture.Numeric.{numeric_symbols}
-use Rattle.cob_entry.specs.cob_picture.Pictures.{IsPicture}
-use Rattle.cob_entry.specs.cob_picture.Measures.{symbols_size}
-use Rattle.cob_entry.proofs.picture_lemmas.Placed.{MayFloat, floating_may, digits-cons, size-placed}
+use Rattle.cob_picture.specs.declared.symbol.Symbol.{Symbol}
+use Rattle.cob_picture.specs.declared.symbol.Symbol.TheVariants.{S, V, P, Nine}
+use Rattle.cob_picture.specs.declared.position.Position.{Position}
+use Rattle.cob_picture.specs.declared.category.Category.{Category}
+use Rattle.cob_picture.specs.declared.category.Category.TheVariants.{Alphabetic, Numeric, Alphanumeric, AlphanumericEdited, NumericEdited}
+use Rattle.cob_picture.specs.Positions.{positions, positions_from, position_at, role_at, floating, is_that}
+use Rattle.cob_picture.specs.Counts.{digits, size, width, is_digit_place}
+use Rattle.cob_picture.specs.Numeric.{numeric_symbols}
+use Rattle.cob_picture.specs.Pictures.{IsPicture}
+use Rattle.cob_picture.specs.Measures.{symbols_size}
+use Rattle.cob_copybook_entry.proofs.picture_lemmas.Placed.{MayFloat, floating_may, digits-cons, size-placed}
 use Rattle.cob_copybook_tree.specs.Resolving.{is_numeric}
 
 -- wherever this symbol stands in a numeric picture, it has as many bytes as digits

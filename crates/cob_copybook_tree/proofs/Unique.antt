@@ -1,7 +1,7 @@
 -- A list of entries has at most one tree.
 use Rattle.std.proofs.Common.{◌≡◌, ℕ, ◌<◌, ◌≤◌, List, [], ◌∷◌, ◌++◌, refl, sym, subst, ◌∙◌, append_assoc, arith}
 use Rattle.std.specs.List.{AllByRecursion}
-use Rattle.cob_entry.specs.Described.{PlainEntry}
+use Rattle.cob_copybook_entry.specs.Described.{PlainEntry}
 use Rattle.cob_copybook_tree.specs.Forests.{Forest, NoEntries, AnEntry, flat, IsTree, AreDeeper, NotDeeper}
 use Rattle.cob_copybook_tree.specs.Branches.{level_of}
 

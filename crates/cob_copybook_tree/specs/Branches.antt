@@ -1,7 +1,7 @@
 -- Entries as they are written, as a tree.
 use Rattle.std.specs.Prelude.{◌≡◌, ℕ, ◌<◌, ◌≤◌, List, [], ◌∷◌, map}
 use Rattle.std.specs.List.{AllByRecursion}
-use Rattle.cob_entry.specs.Described.{PlainEntry, plain_entry}
+use Rattle.cob_copybook_entry.specs.Described.{PlainEntry, plain_entry}
 use Rattle.cob_copybook_tree.specs.declared.branch.Branch.{Branch}
 use Rattle.cob_copybook_tree.specs.declared.branch.Branch.TheOpen.{Branch-F}
 use Rattle.cob_copybook_tree.specs.declared.branch.Branch.TheFolds.{fold-Branch}

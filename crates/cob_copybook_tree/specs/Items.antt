@@ -1,10 +1,10 @@
 -- Which number the bytes of an item represent, whatever its usage.
 use Rattle.std.specs.Prelude.{◌≡◌, ℕ, ◌+◌, ◌/◌, ◌<◌, ◌≤◌, Bool, true, false, List, Option, Some, None, MatchBool}
-use Rattle.cob_entry.specs.cob_picture.Positions.{PlainPicture}
-use Rattle.cob_entry.specs.cob_picture.Counts.{digits, signed, size}
-use Rattle.cob_entry.specs.declared.kinds.Usage.{Usage}
-use Rattle.cob_entry.specs.declared.kinds.Usage.TheVariants as usage
-use Rattle.cob_entry.specs.declared.kinds.Sign.{Sign}
+use Rattle.cob_picture.specs.Positions.{PlainPicture}
+use Rattle.cob_picture.specs.Counts.{digits, signed, size}
+use Rattle.cob_copybook_entry.specs.declared.kinds.Usage.{Usage}
+use Rattle.cob_copybook_entry.specs.declared.kinds.Usage.TheVariants as usage
+use Rattle.cob_copybook_entry.specs.declared.kinds.Sign.{Sign}
 use Rattle.cob_copybook_tree.specs.declared.node.Item.{Item}
 use Rattle.cob_copybook_tree.specs.Lengths.{item_size}
 use Rattle.cob_copybook_tree.specs.Resolving.{is_numeric, is_number}

@@ -1,6 +1,6 @@
 -- Laws of trees.
 use Rattle.std.specs.Prelude.{◌≡◌, List, length}
-use Rattle.cob_entry.specs.Described.{PlainEntry, plain_entry}
+use Rattle.cob_copybook_entry.specs.Described.{PlainEntry, plain_entry}
 use Rattle.cob_copybook_tree.specs.declared.branch.Branch.{Branch}
 use Rattle.cob_copybook_tree.specs.declared.branch.Branch.TheViews.{out-Branch}
 use Rattle.cob_copybook_tree.specs.declared.node.Node.{Node}

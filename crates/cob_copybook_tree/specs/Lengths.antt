@@ -1,11 +1,11 @@
 -- The greatest lengths of entries, in bytes.
 use Rattle.std.specs.Prelude.{ℕ, ◌+◌, ◌*◌, ◌/◌, nat_le, if◌then◌else◌, Option, Some, None, List}
-use Rattle.cob_entry.specs.cob_picture.Positions.{PlainPicture}
-use Rattle.cob_entry.specs.cob_picture.Counts.{size, digits}
+use Rattle.cob_picture.specs.Positions.{PlainPicture}
+use Rattle.cob_picture.specs.Counts.{size, digits}
 use Rattle.cob_codec.specs.Binary.{binary_length}
-use Rattle.cob_entry.specs.declared.kinds.Usage.{Usage}
-use Rattle.cob_entry.specs.declared.kinds.Usage.TheVariants.{Display, Binary, Packed}
-use Rattle.cob_entry.specs.declared.kinds.Sign.{Sign}
+use Rattle.cob_copybook_entry.specs.declared.kinds.Usage.{Usage}
+use Rattle.cob_copybook_entry.specs.declared.kinds.Usage.TheVariants.{Display, Binary, Packed}
+use Rattle.cob_copybook_entry.specs.declared.kinds.Sign.{Sign}
 use Rattle.cob_copybook_tree.specs.declared.node.ResolvedOccurs.{ResolvedOccurs}
 use Rattle.cob_copybook_tree.specs.declared.node.ResolvedOccurs.TheVariants.{Once, Fixed, Varying}
 use Rattle.cob_copybook_tree.specs.declared.node.Kind.{Kind}

@@ -1,6 +1,6 @@
 -- Entries with what they inherit and what their names refer to, as a tree.
 use Rattle.std.specs.Prelude.{ℕ, List, [], ◌∷◌, map, Option, option_map}
-use Rattle.cob_entry.specs.Described.{PlainValue, plain_value}
+use Rattle.cob_copybook_entry.specs.Described.{PlainValue, plain_value}
 use Rattle.cob_copybook_tree.specs.declared.node.Node.{Node}
 use Rattle.cob_copybook_tree.specs.declared.node.Node.TheOpen.{Node-F}
 use Rattle.cob_copybook_tree.specs.declared.node.Node.TheFolds.{fold-Node}

@@ -1,14 +1,14 @@
 -- What entries inherit, and what their counts' names refer to.
 use Rattle.std.specs.Prelude.{ℕ, ◌+◌, Bool, true, false, ◌&&◌, not, List, slice_index_or, Option, Some, None, unwrap_or}
-use Rattle.cob_entry.specs.cob_picture.Positions.{PlainPicture}
-use Rattle.cob_entry.specs.cob_picture.Counts.{signed}
-use Rattle.cob_entry.specs.cob_picture.declared.category.Category.{Category}
-use Rattle.cob_entry.specs.cob_picture.declared.category.Category.TheVariants.{Alphabetic, Numeric, Alphanumeric, AlphanumericEdited, NumericEdited}
-use Rattle.cob_entry.specs.declared.kinds.Usage.{Usage}
-use Rattle.cob_entry.specs.declared.kinds.Usage.TheVariants.{Display, Binary, Packed}
-use Rattle.cob_entry.specs.declared.kinds.Sign.{Sign}
-use Rattle.cob_entry.specs.Described as described
-use Rattle.cob_entry.specs.Described.{PlainEntry}
+use Rattle.cob_picture.specs.Positions.{PlainPicture}
+use Rattle.cob_picture.specs.Counts.{signed}
+use Rattle.cob_picture.specs.declared.category.Category.{Category}
+use Rattle.cob_picture.specs.declared.category.Category.TheVariants.{Alphabetic, Numeric, Alphanumeric, AlphanumericEdited, NumericEdited}
+use Rattle.cob_copybook_entry.specs.declared.kinds.Usage.{Usage}
+use Rattle.cob_copybook_entry.specs.declared.kinds.Usage.TheVariants.{Display, Binary, Packed}
+use Rattle.cob_copybook_entry.specs.declared.kinds.Sign.{Sign}
+use Rattle.cob_copybook_entry.specs.Described as described
+use Rattle.cob_copybook_entry.specs.Described.{PlainEntry}
 use Rattle.cob_copybook_tree.specs.declared.node.ResolvedOccurs.{ResolvedOccurs}
 use Rattle.cob_copybook_tree.specs.declared.node.ResolvedOccurs.TheVariants.{Once, Fixed, Varying}
 use Rattle.cob_copybook_tree.specs.declared.node.Item.{Item}

@@ -1,4 +1,4 @@
-use cob_entry::Entry;
+use cob_copybook_entry::Entry;
 
 /// An entry with those beneath it, as they are written.
 #[derive(Drop)]

@@ -5,7 +5,7 @@ ghost use Rattle.cob_copybook_tree.specs.Nodes.{node};
 ghost use Rattle.cob_copybook_tree.specs.Lengths.{element_length, item_size, greatest_number, greatest_number_by, separate_sign_length, whole_length};
 
 use crate::node::{Item, Kind, Node, ResolvedOccurs};
-use cob_entry::{Sign, Usage};
+use cob_copybook_entry::{Sign, Usage};
 
 /// The length that each greater one counts as.
 pub const MANY: u32 = 65_536;

@@ -23,16 +23,13 @@
 //!
 //! An [`Item`] is stored in one of the four kinds of `cob_codec`: zoned or with a separate sign under DISPLAY, packed, or binary.
 //!
-//! - [`read_number`] gives the number that the bytes of an item represent, at the scale of its picture (`found`, `scale`), and None only
-//!   where they represent none (`only`); [`read_sent`] does so of an item that is sent, by a [`Reading`] (`IsSentBy`); [`store_number`] writes the one stored form of a number (`bytes`), of one that the item can hold
-//!   (`held`), and these bytes represent it (`reads`). The words for these are in specs/Items.antt: `Represents`, `stored_form`, and
-//!   `IsNumberItem`, which says of which items this is said ([`is_number_item`] tells); `IsStorable` says of any item that its bytes can
+//! - [`read_number`] gives the number that the bytes of an item represent, at the scale of its picture (`found`, `scale`), and None only where they represent
+//!   none (`only`); [`read_sent`] does so of an item that is sent, by a [`Reading`] (`IsSentBy`); [`store_number`] writes the one stored form of a number
+//!   (`bytes`), of one that the item can hold (`held`), and these bytes represent it (`reads`). The words for these are in specs/Items.antt: `Represents`,
+//!   `stored_form`, and `IsNumberItem`, which says of which items this is said ([`is_number_item`] tells); `IsStorable` says of any item that its bytes can
 //!   hold what it describes.
 //! - The laws: bytes represent at most one number ([`one_number`], [`one_sent_number`]), what was stored reads back ([`stored_numbers_read_back`]), and what
 //!   bytes represent is a number of the picture's digits and sign ([`items_hold_numbers`]).
-//!
-//! It stands on `cob_entry` for the entries, their usages and signs, on `cob_picture` and `cob_decimal` for pictures and numbers, and on
-//! `cob_codec` for the four kinds of storage.
 #![tactic(auto)]
 
 mod branch;
@@ -47,7 +44,7 @@ mod resolving;
 
 pub use branch::Branch;
 pub use cob_codec::Reading;
-pub use cob_entry::{
+pub use cob_copybook_entry::{
     BookFault, BookRule, Entry, Figurative, Name, Occurs, Qualified, Sign, Text, Usage, Value,
 };
 pub use form::is_number_item;

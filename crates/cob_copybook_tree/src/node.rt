@@ -2,7 +2,7 @@
 
 ghost use Rattle.std.specs.Prelude.{◌≡◌};
 
-use cob_entry::{Name, Sign, Usage, Value};
+use cob_copybook_entry::{Name, Sign, Usage, Value};
 use cob_picture::Picture;
 
 /// How often an entry occurs.

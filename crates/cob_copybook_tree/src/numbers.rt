@@ -1,8 +1,8 @@
 ghost use Rattle.std.specs.Prelude.{◌≡◌, ◌<◌, ◌≤◌, ℕ, Bool, true, List, length, IfSome, IsTrue};
 ghost use Rattle.cob_codec.specs.Sign.{IsHeld};
-ghost use Rattle.cob_entry.specs.cob_decimal.Answers.{AnswersNumber};
-ghost use Rattle.cob_entry.specs.cob_picture.Counts.{digits, scale, signed};
-ghost use Rattle.cob_entry.specs.cob_picture.declared.category.Category.TheVariants.{Numeric};
+ghost use Rattle.cob_decimal.specs.Answers.{AnswersNumber};
+ghost use Rattle.cob_picture.specs.Counts.{digits, scale, signed};
+ghost use Rattle.cob_picture.specs.declared.category.Category.TheVariants.{Numeric};
 ghost use Rattle.cob_copybook_tree.specs.Lengths.{item_size};
 ghost use Rattle.cob_copybook_tree.specs.Resolving.{is_numeric};
 ghost use Rattle.cob_copybook_tree.specs.Items.{form_of, is_leading, size_as, IsNumberItem, IsSentBy, Represents, stored_form};

@@ -1,12 +1,12 @@
 ghost use Rattle.std.specs.Prelude.{◌≡◌, ◌<◌, [], ◌∷◌, ◌++◌, map, IfOk, OnOk, IfSome};
 ghost use Rattle.std.specs.Option.{IsNone};
-ghost use Rattle.cob_entry.specs.Described.{plain_entry};
+ghost use Rattle.cob_copybook_entry.specs.Described.{plain_entry};
 ghost use Rattle.cob_copybook_tree.specs.declared.branch.Branch.TheViews.{out-Branch};
 ghost use Rattle.cob_copybook_tree.specs.Forests.{flat, IsTree, AreDeeper, NotDeeper};
 ghost use Rattle.cob_copybook_tree.specs.Branches.{forest_of, level_of, AreLevels, StandsFor};
 
 use crate::branch::Branch;
-use cob_entry::Entry;
+use cob_copybook_entry::Entry;
 use std::alloc::{AllocError, Global};
 use std::collections::VecDeque;
 

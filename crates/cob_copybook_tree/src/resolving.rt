@@ -1,6 +1,6 @@
 ghost use Rattle.std.specs.Prelude.{◌≡◌, ◌+◌, ◌≤◌, [], ◌∷◌, None, unwrap_or, option_map, IfOk, OnOk};
-ghost use Rattle.cob_entry.specs.declared.kinds.Usage.TheVariants.{Display};
-ghost use Rattle.cob_entry.specs.Described.{plain_entry, plain_occurs};
+ghost use Rattle.cob_copybook_entry.specs.declared.kinds.Usage.TheVariants.{Display};
+ghost use Rattle.cob_copybook_entry.specs.Described.{plain_entry, plain_occurs};
 ghost use Rattle.cob_copybook_tree.specs.Forests.{entries_in};
 ghost use Rattle.cob_copybook_tree.specs.Branches.{forest_of};
 ghost use Rattle.cob_copybook_tree.specs.Nodes.{node, forest};
@@ -8,7 +8,7 @@ ghost use Rattle.cob_copybook_tree.specs.Resolving.{count_at, inherited, is_numb
 
 use crate::branch::Branch;
 use crate::node::{Item, Kind, Node, ResolvedOccurs};
-use cob_entry::{Entry, Name, Occurs, Sign, Usage, Value};
+use cob_copybook_entry::{Entry, Name, Occurs, Sign, Usage, Value};
 use cob_picture::{Category, Picture};
 use std::alloc::{AllocError, Global};
 

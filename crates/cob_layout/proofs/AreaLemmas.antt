@@ -6,7 +6,7 @@ use Rattle.cob_copybook_tree.specs.declared.node.ResolvedOccurs.{ResolvedOccurs}
 use Rattle.cob_copybook_tree.specs.Forests.{Forest, NoEntries, AnEntry, Tree, entries_in}
 use Rattle.cob_copybook_tree.specs.Nodes.{Resolved}
 use Rattle.cob_copybook_tree.specs.Lengths.{greatest_number, own_length, element_length, whole_length}
-use Rattle.cob_copybook.specs.cob_copybook_lengths.Areas.{AreAreas, MayFollow, area_with}
+use Rattle.cob_copybook_rules.specs.Areas.{AreAreas, MayFollow, area_with}
 use Rattle.cob_layout_places.specs.declared.places.Found.{Found}
 use Rattle.cob_layout_places.specs.Lengths.{times}
 use Rattle.cob_layout_places.specs.Places.{place_of, or_else, choose, also, begins, is_table, is_there, later, skipped}

@@ -5,11 +5,11 @@ use Rattle.std.specs.List.{AllByRecursion}
 use Rattle.std.proofs.lemmas.Bool.{MatchBool-at_true}
 use Rattle.cob_picture.specs.Positions.{PlainPicture}
 use Rattle.cob_picture.specs.Counts.{scale, size}
-use Rattle.cob_entry.specs.declared.kinds.Usage.{Usage}
-use Rattle.cob_entry.specs.declared.kinds.Usage.TheVariants.{Display}
-use Rattle.cob_entry.specs.declared.kinds.Sign.{Sign}
-use Rattle.cob_entry.specs.Described as described
-use Rattle.cob_entry.specs.Described.{PlainEntry}
+use Rattle.cob_copybook_entry.specs.declared.kinds.Usage.{Usage}
+use Rattle.cob_copybook_entry.specs.declared.kinds.Usage.TheVariants.{Display}
+use Rattle.cob_copybook_entry.specs.declared.kinds.Sign.{Sign}
+use Rattle.cob_copybook_entry.specs.Described as described
+use Rattle.cob_copybook_entry.specs.Described.{PlainEntry}
 use Rattle.cob_copybook_tree.specs.declared.node.Item.{Item}
 use Rattle.cob_copybook_tree.specs.declared.node.Kind.{Kind}
 use Rattle.cob_copybook_tree.specs.declared.node.Kind.TheVariants.{Item as ItemKind}
@@ -17,9 +17,9 @@ use Rattle.cob_copybook_tree.specs.Forests.{Forest, NoEntries, AnEntry, flat, en
 use Rattle.cob_copybook_tree.specs.Nodes.{Resolved}
 use Rattle.cob_copybook_tree.specs.Lengths.{item_size}
 use Rattle.cob_copybook_tree.specs.Resolving.{count_at, inherited, is_numeric, kind_by_picture, times_of, resolved_by, resolved, is_number}
-use Rattle.cob_copybook.specs.cob_copybook_names.Naming.{Bearer, is_named, named, with_name}
-use Rattle.cob_copybook.specs.cob_copybook_names.Entries.{NumberedEntry, bearers, bearer_at}
-use Rattle.cob_copybook.specs.cob_copybook_names.Counts.{IsCountOfTable, IsCountOf, AreCounts}
+use Rattle.cob_copybook_names.specs.Naming.{Bearer, is_named, named, with_name}
+use Rattle.cob_copybook_names.specs.Entries.{NumberedEntry, bearers, bearer_at}
+use Rattle.cob_copybook_names.specs.Counts.{IsCountOfTable, IsCountOf, AreCounts}
 use Rattle.cob_copybook_tree.specs.Items.{IsNumberItem, IsStorable}
 use Rattle.cob_layout_places.specs.declared.varying.Table.{Table}
 use Rattle.cob_layout_places.specs.Places.{is_table, or_else, choose}

@@ -4,8 +4,8 @@ use Rattle.std.specs.Prelude.{Option, Some, None}
 use Rattle.cob_copybook_tree.specs.Forests.{Forest, NoEntries, AnEntry, Tree}
 use Rattle.cob_copybook_tree.specs.Nodes.{Resolved}
 use Rattle.cob_copybook_tree.specs.Lengths.{greatest_number, whole_length}
-use Rattle.cob_copybook.specs.cob_copybook_lengths.Areas as areas
-use Rattle.cob_copybook.specs.cob_copybook_lengths.Areas.{AreAreas, MayFollow, area_with}
+use Rattle.cob_copybook_rules.specs.Areas as areas
+use Rattle.cob_copybook_rules.specs.Areas.{AreAreas, MayFollow, area_with}
 use Rattle.cob_layout_places.specs.Lengths.{area_by, MayOccur, AreInAreas, AreLeaves}
 use Rattle.cob_layout.specs.Sound.{RedefinesNothing}
 use Rattle.cob_copybook.proofs.Ones.{IsOne}

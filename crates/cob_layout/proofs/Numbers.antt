@@ -1,8 +1,8 @@
 -- The entries of a record are numbered in order from 0.
 use Rattle.std.proofs.Common.{◌≡◌, sym, subst, ℕ, ◌+◌, List, refl, arith, Option}
-use Rattle.cob_entry.specs.declared.kinds.Usage.{Usage}
-use Rattle.cob_entry.specs.declared.kinds.Sign.{Sign}
-use Rattle.cob_entry.specs.Described.{PlainEntry}
+use Rattle.cob_copybook_entry.specs.declared.kinds.Usage.{Usage}
+use Rattle.cob_copybook_entry.specs.declared.kinds.Sign.{Sign}
+use Rattle.cob_copybook_entry.specs.Described.{PlainEntry}
 use Rattle.cob_copybook_tree.specs.Forests.{Forest, NoEntries, AnEntry, entries_in}
 use Rattle.cob_copybook_tree.specs.Resolving.{inherited, resolved}
 use Rattle.cob_layout_places.specs.Cover.{AreNumbered}

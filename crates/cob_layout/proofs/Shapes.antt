@@ -2,15 +2,15 @@
 use Rattle.std.proofs.Common.{◌≡◌, subst, ℕ, ◌+◌, ◌≤◌, List, refl, Option, Some, None, Bool}
 use Rattle.std.specs.Prelude.{unwrap_or}
 use Rattle.cob_picture.specs.Positions.{PlainPicture}
-use Rattle.cob_entry.specs.declared.kinds.Usage.{Usage}
-use Rattle.cob_entry.specs.declared.kinds.Usage.TheVariants.{Display}
-use Rattle.cob_entry.specs.declared.kinds.Sign.{Sign}
-use Rattle.cob_entry.specs.Described as described
-use Rattle.cob_entry.specs.Described.{PlainEntry}
+use Rattle.cob_copybook_entry.specs.declared.kinds.Usage.{Usage}
+use Rattle.cob_copybook_entry.specs.declared.kinds.Usage.TheVariants.{Display}
+use Rattle.cob_copybook_entry.specs.declared.kinds.Sign.{Sign}
+use Rattle.cob_copybook_entry.specs.Described as described
+use Rattle.cob_copybook_entry.specs.Described.{PlainEntry}
 use Rattle.cob_copybook_tree.specs.Forests.{Forest, NoEntries, AnEntry, entries_in}
 use Rattle.cob_copybook_tree.specs.Resolving.{count_at, inherited, times_of, kind_by_picture, resolved}
-use Rattle.cob_copybook.specs.cob_copybook_rules.Filled as rules
-use Rattle.cob_copybook.specs.cob_copybook_rules.Tables as tables
+use Rattle.cob_copybook_rules.specs.Filled as rules
+use Rattle.cob_copybook_rules.specs.Tables as tables
 use Rattle.cob_limits.specs.Limits.{most_dimensions}
 use Rattle.cob_layout.specs.Sound.{HoldsSome, HoldSome, own_dimension, AreNested}
 

@@ -13,7 +13,7 @@ use Rattle.cob_copybook_tree.specs.declared.node.ResolvedOccurs.TheVariants.{Onc
 use Rattle.cob_copybook_tree.specs.Forests.{Forest, NoEntries, AnEntry, Tree, entries_in}
 use Rattle.cob_copybook_tree.specs.Nodes.{Resolved, MayHold, node, tree_of}
 use Rattle.cob_copybook_tree.specs.Lengths.{greatest_number, element_length, whole_length, own_length, length_by_kind, sum_of}
-use Rattle.cob_copybook.specs.cob_copybook_lengths.Areas.{AreAreas, MayFollow, area_with}
+use Rattle.cob_copybook_rules.specs.Areas.{AreAreas, MayFollow, area_with}
 use Rattle.cob_layout_places.specs.declared.spots.Spot.{Spot}
 use Rattle.cob_layout_places.specs.Lengths.{times, AreLeaves, MayOccur}
 use Rattle.cob_layout_places.specs.Places.{begins}

@@ -5,7 +5,7 @@ use Rattle.std.specs.List.{AllByRecursion}
 use Rattle.cob_copybook_tree.specs.Forests.{Forest}
 use Rattle.cob_copybook_tree.specs.Nodes.{Resolved}
 use Rattle.cob_copybook_tree.specs.Resolving.{resolved}
-use Rattle.cob_copybook.specs.cob_copybook_lengths.Areas.{ArePossible}
+use Rattle.cob_copybook_rules.specs.Areas.{ArePossible}
 use Rattle.cob_copybook.proofs.Storages.{possible}
 use Rattle.cob_layout_places.specs.Lengths.{FitsInRecord}
 use Rattle.cob_layout_places.specs.Cover.{AreNumbered}

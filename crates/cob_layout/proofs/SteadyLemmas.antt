@@ -5,7 +5,7 @@ use Rattle.cob_copybook_tree.specs.declared.node.ResolvedOccurs.TheVariants.{Onc
 use Rattle.cob_copybook_tree.specs.Forests.{Forest, NoEntries, AnEntry, Tree}
 use Rattle.cob_copybook_tree.specs.Nodes.{Resolved}
 use Rattle.cob_copybook_tree.specs.Lengths.{greatest_number, greatest_number_by, length_by_kind, own_length, whole_length, sum_of}
-use Rattle.cob_copybook.specs.cob_copybook_lengths.Areas.{is_varying, hold_varying, HasFixedLength, MayFollow, AreAreas, area_with}
+use Rattle.cob_copybook_rules.specs.Areas.{is_varying, hold_varying, HasFixedLength, MayFollow, AreAreas, area_with}
 use Rattle.cob_layout_places.specs.Lengths.{area_by, times, times_by}
 
 -- under these counts no redefinition is longer than its area, where the area before these entries has this length

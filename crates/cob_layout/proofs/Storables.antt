@@ -5,16 +5,16 @@ use Rattle.cob_picture.specs.Positions.{PlainPicture}
 use Rattle.cob_picture.specs.Counts.{size, signed}
 use Rattle.cob_picture.specs.declared.category.Category.{Category}
 use Rattle.cob_picture.specs.declared.category.Category.TheVariants.{Alphabetic, Numeric, Alphanumeric, AlphanumericEdited, NumericEdited}
-use Rattle.cob_entry.specs.declared.kinds.Usage.{Usage}
-use Rattle.cob_entry.specs.declared.kinds.Usage.TheVariants.{Display, Binary, Packed}
-use Rattle.cob_entry.specs.declared.kinds.Sign.{Sign}
-use Rattle.cob_entry.specs.Described.{PlainEntry}
+use Rattle.cob_copybook_entry.specs.declared.kinds.Usage.{Usage}
+use Rattle.cob_copybook_entry.specs.declared.kinds.Usage.TheVariants.{Display, Binary, Packed}
+use Rattle.cob_copybook_entry.specs.declared.kinds.Sign.{Sign}
+use Rattle.cob_copybook_entry.specs.Described.{PlainEntry}
 use Rattle.cob_copybook_tree.specs.declared.node.Item.{Item}
 use Rattle.cob_copybook_tree.specs.Forests.{Forest, NoEntries, AnEntry, entries_in}
 use Rattle.cob_copybook_tree.specs.Lengths.{stored_size}
 use Rattle.cob_copybook_tree.specs.Resolving.{inherited, is_numeric, is_display, keeps_sign, acting, kind_by_picture, resolved}
-use Rattle.cob_copybook.specs.cob_copybook_rules.Usages.{AreUsages, MayHave, Takes}
-use Rattle.cob_copybook.specs.cob_copybook_rules.Placements.{ArePlaced, MayBeBlank, CanBeBlank}
+use Rattle.cob_copybook_rules.specs.Usages.{AreUsages, MayHave, Takes}
+use Rattle.cob_copybook_rules.specs.Placements.{ArePlaced, MayBeBlank, CanBeBlank}
 use Rattle.cob_copybook_tree.specs.Items.{TakesPicture, IsNumberItem, display_form, form_by, is_separate}
 use Rattle.cob_layout.specs.Sound.{IsStorableKind, AreStorable}
 

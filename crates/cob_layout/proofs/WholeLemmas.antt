@@ -2,9 +2,9 @@
 use Rattle.std.proofs.Common.{◌≡◌, ℕ, ◌==◌, Bool, true, false, List, [], ◌∷◌, length, Option, Some, None, refl, sym, ap, subst, ◌∙◌, arith, inl, inr, Ok, Err, Result}
 use Rattle.std.specs.Prelude.{not, option_map, if◌then◌else◌, slice_index}
 use Rattle.std.proofs.lemmas.Bool.Decides.{nat_tests}
-use Rattle.cob_entry.specs.declared.kinds.Usage.{Usage}
-use Rattle.cob_entry.specs.declared.kinds.Sign.{Sign}
-use Rattle.cob_entry.specs.Described.{PlainEntry}
+use Rattle.cob_copybook_entry.specs.declared.kinds.Usage.{Usage}
+use Rattle.cob_copybook_entry.specs.declared.kinds.Sign.{Sign}
+use Rattle.cob_copybook_entry.specs.Described.{PlainEntry}
 use Rattle.cob_copybook_tree.specs.declared.node.ResolvedOccurs.{ResolvedOccurs}
 use Rattle.cob_copybook_tree.specs.declared.node.ResolvedOccurs.TheVariants.{Once}
 use Rattle.cob_copybook_tree.specs.Branches.{AreLevels, StandsFor}
@@ -12,7 +12,7 @@ use Rattle.cob_copybook_tree.specs.Forests.{Forest, NoEntries, AnEntry, flat}
 use Rattle.cob_copybook_tree.specs.Nodes.{Resolved}
 use Rattle.cob_copybook_tree.specs.Lengths.{element_length, greatest_number, sum_of}
 use Rattle.cob_copybook_tree.specs.Resolving.{count_at, resolved, times_of}
-use Rattle.cob_copybook.specs.cob_copybook_rules.Tables as tables
+use Rattle.cob_copybook_rules.specs.Tables as tables
 use Rattle.cob_copybook.specs.Books.{IsRecordDescription}
 use Rattle.cob_layout_places.specs.declared.counts.CountFault.{CountFault}
 use Rattle.cob_layout_places.specs.declared.places.Found.{Found}

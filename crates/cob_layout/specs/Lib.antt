@@ -12,5 +12,3 @@ pub mod Kept
 pub mod Finding
 pub mod Shifts
 pub mod Footings
-pub use Rattle.cob_copybook.specs as cob_copybook
-pub use Rattle.cob_copybook.specs.cob_copybook_lengths

@@ -8,8 +8,8 @@ use Rattle.cob_copybook_tree.specs.declared.node.ResolvedOccurs.TheVariants.{Onc
 use Rattle.cob_copybook_tree.specs.Forests.{Forest, NoEntries, AnEntry}
 use Rattle.cob_copybook_tree.specs.Nodes.{Resolved}
 use Rattle.cob_limits.specs.Limits.{most_dimensions}
-use Rattle.cob_copybook.specs.cob_copybook_lengths.Areas.{AreAreas}
-use Rattle.cob_copybook.specs.cob_copybook_lengths.Values.{AreValues}
+use Rattle.cob_copybook_rules.specs.Areas.{AreAreas}
+use Rattle.cob_copybook_rules.specs.Values.{AreValues}
 use Rattle.cob_copybook.specs.Books.{IsRecordDescription}
 use Rattle.cob_layout_places.specs.declared.varying.Table.{Table}
 use Rattle.cob_layout_places.specs.Lengths.{FitsInRecord}

@@ -6,13 +6,13 @@ use Rattle.std.proofs.lemmas.List.{take_more, length_push, map-append, length-ma
 use Rattle.byteorder.specs.Endian.{big_number, twos_complement}
 use Rattle.cob_decimal.specs.Decimal.{IsDigits, number_of}
 use Rattle.cob_decimal.proofs.DecimalLemmas.{number_of-push, number_of-lt, IsDigits-push, ten_more}
-use Rattle.cob_copybook_tree.specs.cob_codec.Sign.{sign_meaning, sign_place}
-use Rattle.cob_copybook_tree.specs.cob_codec.Zoned.{zone_of, low_digit, digit_bytes, IsZoned}
-use Rattle.cob_copybook_tree.specs.cob_codec.Binary.{binary_length, binary_number, IsBinary}
+use Rattle.cob_codec.specs.Sign.{sign_meaning, sign_place}
+use Rattle.cob_codec.specs.Zoned.{zone_of, low_digit, digit_bytes, IsZoned}
+use Rattle.cob_codec.specs.Binary.{binary_length, binary_number, IsBinary}
 use Rattle.cob_copybook_tree.proofs.codec_lemmas.SignLemmas.{digit_small, held_sign}
 use Rattle.cob_copybook_tree.proofs.codec_lemmas.ZonedLaws.{place_within, high_half, low_halves}
 use Rattle.cob_copybook_tree.proofs.codec_lemmas.BinaryLaws.{Width, half_of, width, fits_half, twos_number}
-use Rattle.cob_copybook_tree.specs.cob_picture.Counts.{digits, signed, size}
+use Rattle.cob_picture.specs.Counts.{digits, signed, size}
 use Rattle.cob_copybook_tree.specs.declared.node.Item.{Item}
 use Rattle.cob_copybook_tree.specs.declared.form.Form.{Form}
 use Rattle.cob_copybook_tree.specs.declared.form.Form.TheVariants.{Zoned, Binary}

@@ -2,7 +2,7 @@
 use Rattle.std.specs.Prelude.{◌≡◌, ◌⊎◌, ℕ, ◌+◌, ◌<◌, ◌≤◌, pos, Bool, true, false, ◌==◌, List, [], ◌∷◌, ◌++◌, length, take, drop, Option, Some, None, Ok, Err, Result, slice_set}
 use Rattle.std.specs.List.{AllByRecursion}
 use Rattle.cob_decimal.specs.Decimal.{number_of}
-use Rattle.cob_copybook_tree.specs.cob_picture.Counts.{scale}
+use Rattle.cob_picture.specs.Counts.{scale}
 use Rattle.cob_copybook_tree.specs.declared.node.Item.{Item}
 use Rattle.cob_copybook_tree.specs.declared.node.Kind.{Kind}
 use Rattle.cob_copybook_tree.specs.declared.node.Kind.TheVariants.{Item as ItemKind}

@@ -1,9 +1,9 @@
 -- Moves between two records.
 use Rattle.std.specs.Prelude.{◌≡◌, ℕ, List, [], ◌∷◌, map, Option, Some, None}
 use Rattle.std.specs.List.{AllByRecursion, flat_map}
-use Rattle.cob_copybook_tree.specs.cob_codec.declared.reading.Reading.{Reading}
-use Rattle.cob_copybook_tree.specs.cob_codec.declared.reading.Reading.TheVariants.{Pictured}
-use Rattle.cob_copybook_tree.specs.cob_entry.Described.{PlainValue, plain_value}
+use Rattle.cob_codec.specs.declared.reading.Reading.{Reading}
+use Rattle.cob_codec.specs.declared.reading.Reading.TheVariants.{Pictured}
+use Rattle.cob_copybook_entry.specs.Described.{PlainValue, plain_value}
 use Rattle.cob_copybook_tree.specs.declared.node.Kind.{Kind}
 use Rattle.cob_copybook_tree.specs.declared.node.Kind.TheVariants.{Group}
 use Rattle.cob_copybook_tree.specs.Forests.{Forest}

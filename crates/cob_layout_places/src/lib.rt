@@ -31,7 +31,7 @@
 //! beneath them, no redefinition beneath the entry is longer than its area, and the entry isn't too long. `FitsInRecord` says so of entries that
 //! stand side by side.
 //!
-//! It stands on `cob_copybook_tree` for the entries and the numbers of counts, and on `cob_entry` for constants. Only [`tables`] takes memory.
+//! Only [`tables`] takes memory.
 #![tactic(auto)]
 
 mod counts;

@@ -2,8 +2,8 @@
 
 ghost use Rattle.std.specs.Prelude.{◌≡◌, ◌≤◌, ◌<◌, ◌^◌, ℕ, List, length, IfSome, IfNone};
 ghost use Rattle.byteorder.specs.Endian.{big_number};
-ghost use Rattle.cob_copybook_tree.specs.cob_codec.Binary.{binary_length};
-ghost use Rattle.cob_copybook_tree.specs.cob_codec.Zoned.{digit_bytes};
+ghost use Rattle.cob_codec.specs.Binary.{binary_length};
+ghost use Rattle.cob_codec.specs.Zoned.{digit_bytes};
 ghost use Rattle.cob_copybook_tree.specs.Items.{form_of, is_separate, IsNumberItem};
 ghost use Rattle.cob_copybook_tree.specs.Lengths.{item_size};
 ghost use Rattle.cob_copybook_tree.specs.declared.form.Form.TheVariants.{Binary as BinaryForm, Zoned as ZonedForm};

@@ -7,7 +7,7 @@
 //! What is promised of [`is_steady`]: it says exactly where an element begins at the same byte of each record (`IsSteady` of specs/Steady.antt). The
 //! subscripts are those of a legal reference.
 //!
-//! It stands on `cob_layout` and `cob_layout_places` for places, and on `cob_copybook_tree` for entries. It takes no memory.
+//! It takes no memory.
 #![tactic(auto)]
 
 mod steady;

@@ -15,13 +15,13 @@ use Rattle.cob_layout_places.specs.Moves.{AreMoves, Entry, IsMove, Move, Records
 use Rattle.cob_move_statements.specs.declared.fault.MoveRule.{MoveRule}
 use Rattle.cob_move_statements.specs.declared.fault.MoveRule.TheVariants as rule
 use Rattle.cob_move_statements.specs.Written.{WrittenReference, MoveCorresponding}
-use Rattle.cob_move_references.specs.Candidates.{Candidate}
-use Rattle.cob_move_references.specs.References.{BreaksReceiver, BreaksReference, NamesOperand}
-use Rattle.cob_move_pairs.specs.declared.pair.EntryPair.{EntryPair}
-use Rattle.cob_move_pairs.specs.Between.{PairEnds, ends, ends_of}
-use Rattle.cob_move_pairs.specs.Groups.{operand_below}
-use Rattle.cob_move_pairs.specs.Pairing.{IsTwice}
-use Rattle.cob_move_pairs.specs.Pairs.{AreOnce, Pair, is_elementary}
+use Rattle.cob_move_names.specs.Candidates.{Candidate}
+use Rattle.cob_move_names.specs.References.{BreaksReceiver, BreaksReference, NamesOperand}
+use Rattle.cob_move_names.specs.declared.pair.EntryPair.{EntryPair}
+use Rattle.cob_move_names.specs.Between.{PairEnds, ends, ends_of}
+use Rattle.cob_move_names.specs.Groups.{operand_below}
+use Rattle.cob_move_names.specs.Pairing.{IsTwice}
+use Rattle.cob_move_names.specs.Pairs.{AreOnce, Pair, is_elementary}
 use Rattle.cob_move.specs.declared.corresponding.TwoGroups.{TwoGroups}
 use Rattle.cob_move.specs.Meaning.{AreGroupsOf, AreMovesOf, IsAllowedMove, pair_move, pairs_of}
 use Rattle.cob_move_apply.specs.Some.{SomeOf}

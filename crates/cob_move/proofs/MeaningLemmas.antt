@@ -8,7 +8,7 @@ use Rattle.cob_layout_places.specs.declared.operands.StatementMoves.{StatementMo
 use Rattle.cob_layout_places.specs.Moves.{Move, Records, moves, statement_moves}
 use Rattle.cob_move_statements.specs.declared.parts.Statement.{Statement}
 use Rattle.cob_move_statements.specs.Written.{WrittenStatement, written_statement, written_statements}
-use Rattle.cob_move_references.specs.Candidates.{Candidate, all_entries}
+use Rattle.cob_move_names.specs.Candidates.{Candidate, all_entries}
 use Rattle.cob_move.specs.Meaning.{AreMeanings, AreMeant, IsMeaning}
 use Rattle.cob_move.proofs.SomeLemmas.{next}
 

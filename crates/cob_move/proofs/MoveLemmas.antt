@@ -2,7 +2,7 @@
 use Rattle.std.proofs.Common.{◌≡◌, Bool, true, false, List, [], ◌∷◌, map, refl, sym, ap, subst, inl, inr}
 use Rattle.std.specs.Prelude.{filter}
 use Rattle.std.specs.List.{AllByRecursion}
-use Rattle.cob_move_apply.specs.cob_copybook.Books.{IsRecordDescription}
+use Rattle.cob_copybook.specs.Books.{IsRecordDescription}
 use Rattle.cob_copybook_tree.specs.Forests.{Forest}
 use Rattle.cob_copybook_tree.specs.Nodes.{Resolved}
 use Rattle.cob_layout_places.specs.declared.operands.Side.{Side}
@@ -10,14 +10,14 @@ use Rattle.cob_layout_places.specs.declared.operands.Side.TheVariants.{In, Out}
 use Rattle.cob_layout_places.specs.declared.operands.Operand.{Operand}
 use Rattle.cob_layout_places.specs.Moves.{AreMoves, IsMove, IsOperand, IsSender, Move, Records, Sender, record_of}
 use Rattle.cob_move_statements.specs.Written.{WrittenReference, WrittenSender, SentReference, SentConstant, WrittenAction, MoveTo, MoveCorresponding, WrittenStatement}
-use Rattle.cob_move_references.specs.Candidates.{Candidate, all_entries}
-use Rattle.cob_move_references.specs.Laws.{NamedAreOperands}
-use Rattle.cob_move_pairs.specs.Groups.{IsListed, SubordinatesAreOperands, entries_below}
-use Rattle.cob_move_pairs.specs.Pairs.{Pair, Subordinate, correspond, pairs_among, pairs_from, subordinates}
-use Rattle.cob_move_apply.specs.cob_layout.Sound.{RecordsAreSound}
+use Rattle.cob_move_names.specs.Candidates.{Candidate, all_entries}
+use Rattle.cob_move_names.specs.Laws.{NamedAreOperands}
+use Rattle.cob_move_names.specs.Groups.{IsListed, SubordinatesAreOperands, entries_below}
+use Rattle.cob_move_names.specs.Pairs.{Pair, Subordinate, correspond, pairs_among, pairs_from, subordinates}
+use Rattle.cob_layout.specs.Sound.{RecordsAreSound}
 use Rattle.cob_move.specs.declared.corresponding.TwoGroups.{TwoGroups}
 use Rattle.cob_move.specs.Meaning.{AreGroupsOf, AreMeant, AreMovesOf, AreReceiversOf, IsMeaning, IsSenderOf, pair_move, pairs_of}
-use Rattle.cob_move_pairs.specs.Between.{entries_of}
+use Rattle.cob_move_names.specs.Between.{entries_of}
 use Rattle.cob_move.specs.MeaningLaws.{MeantAreMoves}
 use Rattle.cob_move.proofs.SomeLemmas.{all_append, all_map, all_weaken}
 

@@ -18,10 +18,10 @@ use Rattle.cob_move_statements.specs.declared.fault.MoveFault.{MoveFault}
 use Rattle.cob_move_statements.specs.declared.fault.MoveRule.{MoveRule}
 use Rattle.cob_move_statements.specs.declared.fault.MoveRule.TheVariants as rule
 use Rattle.cob_move_statements.specs.Written.{WrittenReference, WrittenSender, SentReference, SentConstant, WrittenAction, MoveTo, MoveCorresponding, WrittenStatement}
-use Rattle.cob_move_references.specs.Candidates.{Candidate}
-use Rattle.cob_move_references.specs.Laws.{NamedBreakNoRule, OneNamed}
-use Rattle.cob_move_references.specs.References.{BreaksReceiver, BreaksReference, NamesOperand}
-use Rattle.cob_move_pairs.specs.Pairs.{AreOnce, Pair, is_elementary}
+use Rattle.cob_move_names.specs.Candidates.{Candidate}
+use Rattle.cob_move_names.specs.Laws.{NamedBreakNoRule, OneNamed}
+use Rattle.cob_move_names.specs.References.{BreaksReceiver, BreaksReference, NamesOperand}
+use Rattle.cob_move_names.specs.Pairs.{AreOnce, Pair, is_elementary}
 use Rattle.cob_move.specs.declared.corresponding.TwoGroups.{TwoGroups}
 use Rattle.cob_move.specs.Meaning.{AreMeanings, AreReceiversOf, IsAllowedMove, IsMeaning, IsSenderOf, kind_of_sender, pair_move, pairs_of}
 use Rattle.cob_move_apply.specs.Some.{SomeOf}

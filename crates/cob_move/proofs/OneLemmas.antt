@@ -1,15 +1,15 @@
 -- A statement has one meaning at most.
 use Rattle.std.proofs.Common.{◌≡◌, List, [], ◌∷◌, ◌++◌, map, sym, ap, ◌∙◌}
 use Rattle.cob_codec.specs.declared.reading.Reading.TheVariants.{Pictured}
-use Rattle.cob_entry.specs.Described.{PlainValue}
+use Rattle.cob_copybook_entry.specs.Described.{PlainValue}
 use Rattle.cob_move_apply.proofs.EntryOneList.{one_constant}
 use Rattle.cob_layout_places.specs.declared.operands.Side.{Side}
 use Rattle.cob_layout_places.specs.declared.operands.Side.TheVariants.{Out}
 use Rattle.cob_layout_places.specs.declared.operands.Operand.{Operand}
 use Rattle.cob_layout_places.specs.Moves.{Sender, Entry, Literal, Move}
 use Rattle.cob_move_statements.specs.Written.{WrittenReference, WrittenSender, SentReference, SentConstant, MoveTo, MoveCorresponding}
-use Rattle.cob_move_references.specs.Candidates.{Candidate}
-use Rattle.cob_move_references.specs.Laws.{OneNamed}
+use Rattle.cob_move_names.specs.Candidates.{Candidate}
+use Rattle.cob_move_names.specs.Laws.{OneNamed}
 use Rattle.cob_move.specs.declared.corresponding.TwoGroups.{TwoGroups}
 use Rattle.cob_move.specs.Meaning.{AreGroupsOf, AreReceiversOf, IsMoveOf, IsSenderOf, pair_move, pairs_of}
 use Rattle.cob_move.specs.MeaningLaws.{OneMeaning, OneMeant}

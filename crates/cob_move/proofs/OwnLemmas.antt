@@ -1,9 +1,9 @@
 -- Operands of a record, known by their entries.
 use Rattle.std.proofs.Common.{◌≡◌, ◌<◌, ◌++◌, List, [], ◌∷◌, map, sym, ap, subst, ◌∙◌, Option, Some, None}
 use Rattle.std.proofs.lemmas.List.{map-append}
-use Rattle.cob_move_apply.specs.cob_copybook.Books.{IsRecordDescription}
+use Rattle.cob_copybook.specs.Books.{IsRecordDescription}
 use Rattle.cob_copybook_tree.specs.Forests.{Forest, entries_in}
-use Rattle.cob_move_apply.specs.cob_layout.Sound.{IsSound}
+use Rattle.cob_layout.specs.Sound.{IsSound}
 use Rattle.cob_move_apply.proofs.SeenLemmas.{there}
 use Rattle.cob_copybook_tree.specs.Nodes.{Resolved}
 use Rattle.cob_copybook_tree.specs.declared.node.Kind.{Kind}
@@ -13,9 +13,9 @@ use Rattle.cob_layout_places.specs.declared.operands.Operand.{Operand}
 use Rattle.cob_layout_places.specs.declared.reference.Ref.{Ref}
 use Rattle.cob_layout_places.specs.Moves.{IsOperand, Records, operand_in, or_group, record_of}
 use Rattle.cob_move_statements.specs.Written.{WrittenReference}
-use Rattle.cob_move_references.specs.Candidates.{Candidate, all_entries}
-use Rattle.cob_move_references.specs.Laws.{NamedAreOperands}
-use Rattle.cob_move_references.specs.References.{NamesOperand}
+use Rattle.cob_move_names.specs.Candidates.{Candidate, all_entries}
+use Rattle.cob_move_names.specs.Laws.{NamedAreOperands}
+use Rattle.cob_move_names.specs.References.{NamesOperand}
 
 some_kind : (o : Option Kind) (k : Kind) → o ≡ Some k → k ≡ or_group o
 some_kind None k e = cc

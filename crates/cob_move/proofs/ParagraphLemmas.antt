@@ -4,7 +4,7 @@ use Rattle.cob_source.specs.Tokens.{Lexeme}
 use Rattle.cob_source.specs.declared.fault.SourceRule.{SourceRule}
 use Rattle.cob_source.specs.declared.fault.SourceRule.TheVariants as source
 use Rattle.cob_source.specs.Words.{AreParagraphWordsOf, IsSourceRefusal, ParagraphWordsAreOne}
-use Rattle.cob_move_apply.specs.cob_copybook.Books.{IsRecordDescription}
+use Rattle.cob_copybook.specs.Books.{IsRecordDescription}
 use Rattle.cob_copybook_tree.specs.Forests.{Forest}
 use Rattle.cob_copybook_tree.specs.Nodes.{Resolved}
 use Rattle.cob_move_statements.specs.declared.fault.MoveFault.{MoveFault}
@@ -17,7 +17,7 @@ use Rattle.cob_move_statements.specs.Laws.{OneListOfStatements}
 use Rattle.cob_layout_places.specs.Moves.{AreMoves, Move}
 use Rattle.cob_move.specs.Meaning.{AreMeant}
 use Rattle.cob_move.specs.MeaningLaws.{MeantAreMoves, MeantBreakNoRule, OneMeant}
-use Rattle.cob_move_references.specs.Candidates.{all_entries}
+use Rattle.cob_move_names.specs.Candidates.{all_entries}
 use Rattle.cob_move.specs.Paragraphs.{BreaksParagraph, IsParagraphOf, IsRefusalOf}
 use Rattle.cob_move.specs.Laws.{OneParagraph, ParagraphBreaksNoRule}
 

@@ -11,7 +11,7 @@ use Rattle.cob_copybook_tree.specs.Forests.{Forest}
 use Rattle.cob_copybook_tree.specs.Nodes.{Resolved}
 use Rattle.cob_layout_places.specs.declared.operands.StatementMoves.{StatementMoves}
 use Rattle.cob_layout_places.specs.Moves.{Move, moves, statement_moves}
-use Rattle.cob_move_references.specs.Candidates.{Candidate}
+use Rattle.cob_move_names.specs.Candidates.{Candidate}
 use Rattle.cob_move_statements.specs.Statements.{FollowsStatements, IsEndedStatement, IsHeading, IsParagraph, Several}
 use Rattle.cob_move_statements.specs.Written.{WrittenStatement}
 use Rattle.cob_move.specs.declared.entries.Entries.{Entries}

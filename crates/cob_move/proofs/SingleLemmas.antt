@@ -11,8 +11,8 @@ use Rattle.cob_move_statements.specs.declared.fault.MoveRule.{MoveRule}
 use Rattle.cob_move_statements.specs.declared.fault.MoveRule.TheVariants as rule
 use Rattle.cob_move_statements.specs.declared.parts.Reference.{Reference}
 use Rattle.cob_move_statements.specs.Written.{WrittenReference, WrittenSender, SentReference, MoveTo, written_reference, written_references}
-use Rattle.cob_move_references.specs.Candidates.{Candidate}
-use Rattle.cob_move_references.specs.References.{NamesOperand, BreaksReference, BreaksReceiver}
+use Rattle.cob_move_names.specs.Candidates.{Candidate}
+use Rattle.cob_move_names.specs.References.{NamesOperand, BreaksReference, BreaksReceiver}
 use Rattle.cob_move.specs.Meaning.{AreReceiversOf, IsSenderOf}
 use Rattle.cob_move_apply.specs.Some.{SomeOf}
 use Rattle.cob_move.specs.Refusals.{BreaksReceipt, BreaksReceiving, BreaksSender, BreaksStatement, sent_references}

@@ -16,12 +16,12 @@ use Rattle.cob_move_statements.specs.declared.fault.MoveRule.{MoveRule}
 use Rattle.cob_move_statements.specs.declared.fault.MoveRule.TheVariants as rule
 use Rattle.cob_move_statements.specs.declared.parts.Reference.{Reference}
 use Rattle.cob_move_statements.specs.Written.{WrittenReference, WrittenSender, WrittenAction, WrittenStatement, MoveCorresponding, written_reference}
-use Rattle.cob_move_pairs.specs.declared.correspondences.Correspondences.{Correspondences}
-use Rattle.cob_move_pairs.specs.Found.{pairs_between}
-use Rattle.cob_move_pairs.specs.Pairs.{Pair}
-use Rattle.cob_move_references.specs.Candidates.{Candidate}
-use Rattle.cob_move_references.specs.Directory.{entries_named}
-use Rattle.cob_move_references.specs.References.{NamesOperand}
+use Rattle.cob_move_names.specs.declared.correspondences.Correspondences.{Correspondences}
+use Rattle.cob_move_names.specs.Found.{pairs_between}
+use Rattle.cob_move_names.specs.Pairs.{Pair}
+use Rattle.cob_move_names.specs.Candidates.{Candidate}
+use Rattle.cob_move_names.specs.Directory.{entries_named}
+use Rattle.cob_move_names.specs.References.{NamesOperand}
 use Rattle.cob_move.specs.declared.corresponding.TwoGroups.{TwoGroups}
 use Rattle.cob_move.specs.declared.entries.Entries.{Entries}
 use Rattle.cob_move.specs.Between.{numbered}

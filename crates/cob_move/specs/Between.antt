@@ -5,9 +5,9 @@ use Rattle.cob_layout_places.specs.Moves.{Records}
 use Rattle.cob_copybook_tree.specs.Nodes.{tree_of}
 use Rattle.cob_move_receive.specs.Table.{Entry as EntryOf}
 use Rattle.cob_move_receive.specs.Refusals.{IsAllowed}
-use Rattle.cob_move_pairs.specs.declared.correspondences.Correspondences.{Correspondences}
-use Rattle.cob_move_pairs.specs.Between.{PairEnds, ends_of}
-use Rattle.cob_move_pairs.specs.Pairs.{Pair}
+use Rattle.cob_move_names.specs.declared.correspondences.Correspondences.{Correspondences}
+use Rattle.cob_move_names.specs.Between.{PairEnds, ends_of}
+use Rattle.cob_move_names.specs.Pairs.{Pair}
 
 -- the pairs are those of groups of these records
 pub record ArePairsOf (r : Records) (pairs : Correspondences) : Type 0 where

@@ -2,7 +2,7 @@
 use Rattle.std.specs.Prelude.{◌≡◌, ◌||◌, false, List, [], ◌∷◌, ◌++◌, map}
 use Rattle.std.specs.List.{AllByRecursion}
 use Rattle.cob_codec.specs.declared.reading.Reading.TheVariants.{Pictured}
-use Rattle.cob_entry.specs.Described.{PlainValue}
+use Rattle.cob_copybook_entry.specs.Described.{PlainValue}
 use Rattle.cob_copybook_entries.specs.Meaning.{IsConstantOf}
 use Rattle.cob_copybook_tree.specs.Forests.{Forest}
 use Rattle.cob_copybook_tree.specs.Nodes.{Resolved}
@@ -13,12 +13,12 @@ use Rattle.cob_layout_places.specs.Moves.{Sender, Entry, Literal, Move}
 use Rattle.cob_move_receive.specs.Table.{SenderKind, Entry as EntryOf, Literal as LiteralOf}
 use Rattle.cob_move_receive.specs.Refusals.{IsAllowed}
 use Rattle.cob_move_statements.specs.Written.{WrittenReference, WrittenSender, SentReference, SentConstant, WrittenAction, MoveTo, MoveCorresponding, WrittenStatement}
-use Rattle.cob_move_references.specs.Candidates.{Candidate, all_entries}
-use Rattle.cob_move_references.specs.References.{NamesOperand}
+use Rattle.cob_move_names.specs.Candidates.{Candidate, all_entries}
+use Rattle.cob_move_names.specs.References.{NamesOperand}
 use Rattle.cob_move.specs.declared.corresponding.TwoGroups.{TwoGroups}
-use Rattle.cob_move_pairs.specs.Between.{entries_of, pairs_below}
-use Rattle.cob_move_pairs.specs.Groups.{operand_below}
-use Rattle.cob_move_pairs.specs.Pairs.{AreOnce, Pair, is_elementary}
+use Rattle.cob_move_names.specs.Between.{entries_of, pairs_below}
+use Rattle.cob_move_names.specs.Groups.{operand_below}
+use Rattle.cob_move_names.specs.Pairs.{AreOnce, Pair, is_elementary}
 
 -- What the table of categories asks of a sender: what its entry describes, or its constant.
 abbrev pub kind_of_sender : Sender → SenderKind

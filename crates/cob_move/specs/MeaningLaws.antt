@@ -1,6 +1,6 @@
 -- What follows from the definitions, said as laws.
 use Rattle.std.specs.Prelude.{◌≡◌, List}
-use Rattle.cob_move_apply.specs.cob_copybook.Books.{IsRecordDescription}
+use Rattle.cob_copybook.specs.Books.{IsRecordDescription}
 use Rattle.cob_copybook_tree.specs.Forests.{Forest}
 use Rattle.cob_copybook_tree.specs.Nodes.{Resolved}
 use Rattle.cob_layout_places.specs.Moves.{Move, Records, AreMoves}
@@ -8,7 +8,7 @@ use Rattle.cob_move_statements.specs.declared.fault.MoveFault.{MoveFault}
 use Rattle.cob_move_statements.specs.declared.fault.MoveRule.{MoveRule}
 use Rattle.cob_move_statements.specs.declared.fault.MoveRule.TheVariants.{Memory}
 use Rattle.cob_move_statements.specs.Written.{WrittenAction, WrittenStatement}
-use Rattle.cob_move_references.specs.Candidates.{Candidate}
+use Rattle.cob_move_names.specs.Candidates.{Candidate}
 use Rattle.cob_move.specs.Meaning.{IsMeaning, AreMeanings, AreMeant}
 use Rattle.cob_move.specs.Refusals.{BreaksStatement, SomeBroken}
 

@@ -17,10 +17,10 @@ use Rattle.cob_move_statements.specs.declared.fault.MoveRule.TheVariants as rule
 use Rattle.cob_move_statements.specs.declared.fault.MoveFault.{MoveFault}
 use Rattle.cob_move_statements.specs.Written.{WrittenReference, WrittenSender, SentReference, SentConstant, WrittenAction, MoveTo, MoveCorresponding, WrittenStatement}
 use Rattle.cob_move_apply.specs.Some.{SomeOf}
-use Rattle.cob_move_references.specs.Candidates.{Candidate, all_entries}
-use Rattle.cob_move_references.specs.References.{NamesOperand, BreaksReference, BreaksReceiver}
-use Rattle.cob_move_pairs.specs.Between.{PairEnds, ends_of}
-use Rattle.cob_move_pairs.specs.Pairs.{AreOnce, Pair, is_elementary}
+use Rattle.cob_move_names.specs.Candidates.{Candidate, all_entries}
+use Rattle.cob_move_names.specs.References.{NamesOperand, BreaksReference, BreaksReceiver}
+use Rattle.cob_move_names.specs.Between.{PairEnds, ends_of}
+use Rattle.cob_move_names.specs.Pairs.{AreOnce, Pair, is_elementary}
 use Rattle.cob_move.specs.declared.corresponding.TwoGroups.{TwoGroups}
 use Rattle.cob_move.specs.Meaning.{IsSenderOf, AreGroupsOf, kind_of_sender, pairs_of}
 

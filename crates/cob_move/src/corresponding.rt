@@ -5,20 +5,13 @@ ghost use Rattle.std.specs.List.{AllByRecursion};
 ghost use Rattle.cob_move.specs.Between.{MayMoveBetween, ArePairsOf, numbers_of};
 ghost use Rattle.cob_move.specs.Entries.{AllMayBeNamed, records_of};
 ghost use Rattle.cob_move.specs.Meaning.{AreGroupsOf, IsAllowedMove, pair_move};
-ghost use Rattle.cob_move.specs.Among.{
-  AreMovesAmong,
-  BreaksAmong,
-  BreaksBetweenAny,
-  KeepsPairs,
-  pairs_in,
-  written_corresponding,
-};
+ghost use Rattle.cob_move.specs.Among.{AreMovesAmong, BreaksAmong, BreaksBetweenAny, KeepsPairs, pairs_in, written_corresponding};
 ghost use Rattle.cob_move_apply.specs.Some.{SomeOf};
 ghost use Rattle.cob_move.specs.Refusals.{BreaksBetween, BreaksPair};
-ghost use Rattle.cob_move_pairs.specs.Between.{ends};
-ghost use Rattle.cob_move_pairs.specs.Pairing.{IsTwice};
-ghost use Rattle.cob_move_pairs.specs.Pairs.{AreOnce, is_elementary};
-ghost use Rattle.cob_move_references.specs.Directory.{entries_named};
+ghost use Rattle.cob_move_names.specs.Between.{ends};
+ghost use Rattle.cob_move_names.specs.Pairing.{IsTwice};
+ghost use Rattle.cob_move_names.specs.Pairs.{AreOnce, is_elementary};
+ghost use Rattle.cob_move_names.specs.Directory.{entries_named};
 ghost use Rattle.cob_move_statements.specs.Written.{written_reference};
 
 use crate::entries::Entries;
@@ -26,8 +19,9 @@ use crate::single::judge;
 use cob_layout::records_are_sound;
 use cob_layout_places::{NumberedPair, Operand, PairMoves, Side};
 use cob_move_initial::SenderKind;
-use cob_move_pairs::{Correspondences, EntryPair, is_no_group, subordinates_are_operands};
-use cob_move_references::{Names, named_are_operands};
+use cob_move_names::{
+    Correspondences, EntryPair, Names, is_no_group, named_are_operands, subordinates_are_operands,
+};
 use cob_move_statements::{MoveRule, Reference};
 use std::alloc::Global;
 

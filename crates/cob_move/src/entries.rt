@@ -3,8 +3,8 @@
 ghost use Rattle.std.specs.Prelude.{◌≡◌, IfErr, IfOk};
 ghost use Rattle.cob_layout_places.specs.Moves.{IsOperand, operand_in, record_of};
 ghost use Rattle.cob_layout_places.specs.declared.operands.Side.TheVariants.{Out};
-ghost use Rattle.cob_move_references.specs.Directory.{entries_named};
-ghost use Rattle.cob_move_references.specs.References.{BreaksReceiver, BreaksReference};
+ghost use Rattle.cob_move_names.specs.Directory.{entries_named};
+ghost use Rattle.cob_move_names.specs.References.{BreaksReceiver, BreaksReference};
 ghost use Rattle.cob_move_statements.specs.Written.{written_reference};
 ghost use Rattle.cob_move.specs.Among.{NamesAmong};
 ghost use Rattle.cob_move.specs.Entries.{AllMayBeNamed, records_of};
@@ -12,7 +12,7 @@ ghost use Rattle.cob_move.specs.Entries.{AllMayBeNamed, records_of};
 use cob_copybook_tree::Kind;
 use cob_layout::{Layout, records_are_sound};
 use cob_layout_places::{Ref, Side};
-use cob_move_references::{Names, named_are_operands};
+use cob_move_names::{Names, named_are_operands};
 use cob_move_statements::{MoveRule, Reference};
 
 /// The entries of the input record and of the output record: by their names, and by their numbers.

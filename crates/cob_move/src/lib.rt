@@ -35,7 +35,7 @@
 //! nothing of it.
 //!
 //! It puts the reading of a paragraph together: it stands on `cob_source` for words, on `cob_move_statements` for statements, on
-//! `cob_move_references`, `cob_move_pairs` and, through `cob_move_initial`, `cob_move_receive` for the moves that they mean, and on
+//! `cob_move_names`, `cob_move_names` and, through `cob_move_initial`, `cob_move_receive` for the moves that they mean, and on
 //! `cob_move_apply` for what these do.
 #![tactic(auto)]
 
@@ -56,7 +56,7 @@ pub use cob_layout::Layout;
 pub use cob_layout_places::{Side, StatementMoves};
 pub use cob_move_apply::{Moves, Scratch, Stop, StopCause};
 pub use cob_move_initial::{initial, one_initial};
-pub use cob_move_pairs::pairs;
+pub use cob_move_names::pairs;
 pub use cob_move_statements::{MoveFault, MoveRule};
 pub use laws::{one_paragraph, paragraph_breaks_no_rule};
 pub use meaning::all_meant;

@@ -27,8 +27,7 @@ use crate::meaning_laws::{meant_break_no_rule, one_meant};
 use crate::single::move_of;
 use cob_layout::Layout;
 use cob_layout_places::StatementMoves;
-use cob_move_pairs::Correspondences;
-use cob_move_references::Names;
+use cob_move_names::{Correspondences, Names};
 use cob_move_statements::{Action, MoveFault, MoveRule, Statement};
 use std::alloc::Global;
 

@@ -9,8 +9,9 @@ ghost use Rattle.cob_move.specs.MeaningLaws.{
 };
 
 use cob_layout::records_are_sound;
-use cob_move_pairs::subordinates_are_operands;
-use cob_move_references::{named_are_operands, named_break_no_rule, one_named};
+use cob_move_names::{
+    named_are_operands, named_break_no_rule, one_named, subordinates_are_operands,
+};
 
 /// A law: a statement has one meaning at most.
 pub fn one_meaning()

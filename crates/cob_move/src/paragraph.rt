@@ -1,8 +1,8 @@
 //! Paragraphs.
 
 ghost use Rattle.std.specs.Prelude.{◌≡◌, ◌+◌, ◌*◌, ◌≤◌, ℕ, length, map, min, IfErr, IfOk, List};
-ghost use Rattle.cob_move_apply.specs.cob_copybook.Books.{IsRecordDescription};
-ghost use Rattle.cob_move_apply.specs.cob_layout.Storage.{IsStorage, greatest_length};
+ghost use Rattle.cob_copybook.specs.Books.{IsRecordDescription};
+ghost use Rattle.cob_layout.specs.Storage.{IsStorage, greatest_length};
 ghost use Rattle.cob_move_apply.specs.Applied.{Applied, ending};
 ghost use Rattle.cob_move_apply.specs.Joined.{steps_in};
 ghost use Rattle.cob_move_apply.specs.Met.{HaveMet};

@@ -2,21 +2,21 @@
 
 ghost use Rattle.std.specs.Prelude.{◌≡◌, List, IfErr, IfOk};
 ghost use Rattle.cob_copybook_clauses.specs.Written.{written_value};
-ghost use Rattle.cob_entry.specs.Described.{plain_value};
+ghost use Rattle.cob_copybook_entry.specs.Described.{plain_value};
 ghost use Rattle.cob_copybook_entries.specs.Meaning.{IsConstantOf};
 ghost use Rattle.cob_move.specs.Among.{IsSenderAmong};
 ghost use Rattle.cob_move.specs.Meaning.{IsSenderOf};
 ghost use Rattle.cob_move.specs.Refusals.{BreaksSender};
 ghost use Rattle.cob_layout_places.specs.Moves.{IsSender, sender};
 ghost use Rattle.cob_move.specs.Entries.{AllMayBeNamed, records_of};
-ghost use Rattle.cob_move_references.specs.Candidates.{Candidate};
-ghost use Rattle.cob_move_references.specs.Directory.{entries_named};
+ghost use Rattle.cob_move_names.specs.Candidates.{Candidate};
+ghost use Rattle.cob_move_names.specs.Directory.{entries_named};
 ghost use Rattle.cob_move_statements.specs.Written.{SentConstant, SentReference, written_reference, written_sender};
 
 use crate::entries::Entries;
 use cob_copybook_clauses::ValueClause;
 use cob_copybook_entries::value_of;
-use cob_entry::{BookRule, Value};
+use cob_copybook_entry::{BookRule, Value};
 use cob_layout_places::Sender;
 use cob_move_statements::{MoveRule, Reference, StatementSender};
 

@@ -1,7 +1,7 @@
 -- Single moves of constants that are made ready.
 use Rattle.std.proofs.Common.{◌≡◌, ◌+◌, ◌≤◌, true, [], ◌∷◌, List, ℕ, Ok, Err, Some, get_or, inl, inr, refl, subst, sym, Result}
 use Rattle.cob_copybook_tree.specs.declared.node.Kind.{Kind}
-use Rattle.cob_entry.specs.Described.{PlainValue}
+use Rattle.cob_copybook_entry.specs.Described.{PlainValue}
 use Rattle.cob_layout.specs.declared.fields.Place.{Place}
 use Rattle.cob_layout.specs.Counting.{ReadsNone, greatest_counts}
 use Rattle.cob_layout.specs.Fields.{with_field}
@@ -11,8 +11,8 @@ use Rattle.cob_layout_places.specs.declared.operands.Side.TheVariants.{Out}
 use Rattle.cob_layout_places.specs.declared.operands.Operand.{Operand}
 use Rattle.cob_layout_places.specs.declared.reference.Ref.{Ref}
 use Rattle.cob_layout_places.specs.Moves.{IsOperand, Literal, Move, Records, operand_in}
-use Rattle.cob_move_prepared.specs.declared.constant_step.ConstantStep.{ConstantStep}
-use Rattle.cob_move_prepared.proofs.PoolLemmas.{read_at}
+use Rattle.cob_move_steps.specs.declared.constant_step.ConstantStep.{ConstantStep}
+use Rattle.cob_move_steps.proofs.PoolLemmas.{read_at}
 use Rattle.cob_move_receive.specs.Sent as sent
 use Rattle.cob_move_apply.specs.Applied.{Applied, Content, Ending, IsMoved, done, stopped}
 use Rattle.cob_move_apply.specs.Located.{Located}

@@ -6,13 +6,13 @@ use Rattle.cob_copybook_tree.specs.declared.node.Kind.{Kind}
 use Rattle.cob_layout.specs.Fields.{field_of, with_field}
 use Rattle.cob_layout_places.specs.declared.operands.Side.TheVariants.{In}
 use Rattle.cob_layout_places.specs.Moves.{Move, Records, operand_in}
-use Rattle.cob_move_prepared.specs.Pool.{IsMoveStep, MoveKinds}
-use Rattle.cob_move_prepared.specs.declared.pictured.PicturedStep.{PicturedStep}
-use Rattle.cob_move_prepared.specs.declared.pictured.PicturedSteps.{PicturedSteps}
-use Rattle.cob_move_prepared.specs.declared.pool.MoveStep.{MoveStep}
-use Rattle.cob_move_prepared.specs.declared.pool.MoveStep.TheVariants.{Characters}
-use Rattle.cob_move_prepared.specs.declared.pool.MoveSteps.{MoveSteps}
-use Rattle.cob_move_prepared.proofs.PoolLemmas.{read_at}
+use Rattle.cob_move_steps.specs.Pool.{IsMoveStep, MoveKinds}
+use Rattle.cob_move_steps.specs.declared.pictured.PicturedStep.{PicturedStep}
+use Rattle.cob_move_steps.specs.declared.pictured.PicturedSteps.{PicturedSteps}
+use Rattle.cob_move_steps.specs.declared.pool.MoveStep.{MoveStep}
+use Rattle.cob_move_steps.specs.declared.pool.MoveStep.TheVariants.{Characters}
+use Rattle.cob_move_steps.specs.declared.pool.MoveSteps.{MoveSteps}
+use Rattle.cob_move_steps.proofs.PoolLemmas.{read_at}
 use Rattle.cob_move_receive.specs.Received.{Received}
 use Rattle.cob_move_receive.specs.Sent as sent
 use Rattle.cob_move_apply.specs.Applied.{Applied, Ending, IsMoved, content_at}

@@ -2,7 +2,7 @@
 use Rattle.std.proofs.Common.{◌≡◌, ℕ, ◌+◌, ◌-◌, ◌≤◌, Bool, true, false, List, [], ◌∷◌, length, take, drop, sym, ap, subst, ◌∙◌, arith, inl, inr, Option, Some, None, length-take-le}
 use Rattle.cob_codec.specs.declared.reading.Reading.{Reading}
 use Rattle.cob_codec.specs.declared.reading.Reading.TheVariants.{Pictured}
-use Rattle.cob_layout.specs.cob_copybook.Books.{IsRecordDescription}
+use Rattle.cob_copybook.specs.Books.{IsRecordDescription}
 use Rattle.cob_copybook_tree.specs.declared.node.Kind.{Kind}
 use Rattle.cob_layout.specs.Fields.{field_of}
 use Rattle.cob_layout.specs.Laws.{LieInStorage}
@@ -11,10 +11,10 @@ use Rattle.cob_layout_places.specs.declared.operands.Operand.{Operand}
 use Rattle.cob_layout_places.specs.declared.operands.StatementMoves.{StatementMoves}
 use Rattle.cob_layout_places.specs.declared.reference.Ref.{Ref}
 use Rattle.cob_layout_places.specs.Moves.{IsOperand, Move, Records, operand_in}
-use Rattle.cob_move_prepared.specs.Pictured.{IsPicturedStep, IsReceivedPictured}
-use Rattle.cob_move_prepared.specs.Pool.{MoveKinds}
-use Rattle.cob_move_prepared.specs.declared.pictured.PicturedStep.{PicturedStep}
-use Rattle.cob_move_prepared.specs.declared.pictured.PicturedSteps.{PicturedSteps}
+use Rattle.cob_move_steps.specs.Pictured.{IsPicturedStep, IsReceivedPictured}
+use Rattle.cob_move_steps.specs.Pool.{MoveKinds}
+use Rattle.cob_move_steps.specs.declared.pictured.PicturedStep.{PicturedStep}
+use Rattle.cob_move_steps.specs.declared.pictured.PicturedSteps.{PicturedSteps}
 use Rattle.cob_move_receive.specs.Received.{Received, outcome}
 use Rattle.cob_move_receive.specs.Sent as sent
 use Rattle.cob_move_apply.specs.Applied.{Applied, Ending, IsMoved, done, stopped}

@@ -11,15 +11,15 @@ use Rattle.cob_layout_places.specs.Moves.{Move, Records, Sender, moves_by, numbe
 use Rattle.cob_move_apply.specs.Placed.{IsPlaced, IsPlacedMove}
 use Rattle.cob_move_apply.specs.Steps.{AreMovesCut, AreSteps, BeginsWith, CarriesLocated, Gains, GainsCut, IsMoveOfPart, IsOfConstant, IsPicturedMove, IsReadyAnywhere, IsReadyConstant, IsStep, StandFor, Support, WritesFor, alone, constant_move, copied_move, pair_at, singles, support_of}
 use Rattle.cob_copybook_tree.specs.declared.node.Kind.{Kind}
-use Rattle.cob_entry.specs.Described.{PlainValue}
-use Rattle.cob_move_prepared.specs.Copies.{IsConstantStep}
-use Rattle.cob_move_prepared.specs.Pictured.{KeepsPictured}
-use Rattle.cob_move_prepared.specs.declared.constant_step.ConstantStep.{ConstantStep}
-use Rattle.cob_move_prepared.proofs.PoolLemmas.{Grows as IsLonger, as_before, kept_at, put_at}
-use Rattle.cob_move_prepared.specs.Pool.{IsStepAt, KeepsSteps}
-use Rattle.cob_move_prepared.specs.declared.pictured.PicturedSteps.{PicturedSteps}
-use Rattle.cob_move_prepared.specs.declared.pool.MoveStep.TheVariants as move_step
-use Rattle.cob_move_prepared.specs.declared.pool.MoveSteps.{MoveSteps}
+use Rattle.cob_copybook_entry.specs.Described.{PlainValue}
+use Rattle.cob_move_steps.specs.Copies.{IsConstantStep}
+use Rattle.cob_move_steps.specs.Pictured.{KeepsPictured}
+use Rattle.cob_move_steps.specs.declared.constant_step.ConstantStep.{ConstantStep}
+use Rattle.cob_move_steps.proofs.PoolLemmas.{Grows as IsLonger, as_before, kept_at, put_at}
+use Rattle.cob_move_steps.specs.Pool.{IsStepAt, KeepsSteps}
+use Rattle.cob_move_steps.specs.declared.pictured.PicturedSteps.{PicturedSteps}
+use Rattle.cob_move_steps.specs.declared.pool.MoveStep.TheVariants as move_step
+use Rattle.cob_move_steps.specs.declared.pool.MoveSteps.{MoveSteps}
 use Rattle.cob_move_apply.specs.Written.{IsFixedConstant}
 use Rattle.cob_move_apply.specs.declared.basis.Basis.{Basis}
 use Rattle.cob_move_apply.specs.declared.step.ConstantMove.{ConstantMove}

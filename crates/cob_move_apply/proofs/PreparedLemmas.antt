@@ -1,7 +1,7 @@
 -- Single moves that are made ready.
 use Rattle.std.proofs.Common.{◌≡◌, ℕ, ◌+◌, ◌-◌, ◌≤◌, Bool, true, false, List, [], ◌∷◌, ◌++◌, length, take, drop, refl, sym, ap, subst, ◌∙◌, arith, inl, inr, Option, Some, None, length-take-le}
 use Rattle.cob_codec.specs.declared.reading.Reading.{Reading}
-use Rattle.cob_layout.specs.cob_copybook.Books.{IsRecordDescription}
+use Rattle.cob_copybook.specs.Books.{IsRecordDescription}
 use Rattle.cob_copybook_tree.specs.declared.node.Kind.{Kind}
 use Rattle.cob_layout.specs.declared.fields.Place.{Place}
 use Rattle.cob_layout.specs.Counting.{greatest_counts}
@@ -13,9 +13,9 @@ use Rattle.cob_layout_places.specs.declared.operands.Side.TheVariants.{In, Out}
 use Rattle.cob_layout_places.specs.declared.operands.Operand.{Operand}
 use Rattle.cob_layout_places.specs.declared.reference.Ref.{Ref}
 use Rattle.cob_layout_places.specs.Moves.{Entry, IsOperand, Records, operand_in}
-use Rattle.cob_move_prepared.specs.Pool.{AreOccupied, IsMoveStep, IsReceived, MoveKinds}
-use Rattle.cob_move_prepared.specs.declared.pool.MoveStep.{MoveStep}
-use Rattle.cob_move_prepared.specs.declared.pool.MoveSteps.{MoveSteps}
+use Rattle.cob_move_steps.specs.Pool.{AreOccupied, IsMoveStep, IsReceived, MoveKinds}
+use Rattle.cob_move_steps.specs.declared.pool.MoveStep.{MoveStep}
+use Rattle.cob_move_steps.specs.declared.pool.MoveSteps.{MoveSteps}
 use Rattle.cob_move_receive.specs.Received.{Received, outcome}
 use Rattle.cob_move_receive.specs.Sent as sent
 use Rattle.cob_move_apply.specs.Applied.{Applied, content_at, done, stopped}

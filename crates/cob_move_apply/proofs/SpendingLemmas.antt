@@ -20,11 +20,11 @@ use Rattle.cob_layout_places.specs.declared.operands.StatementMoves.TheVariants.
 use Rattle.cob_layout_places.specs.declared.reference.Ref.{Ref}
 use Rattle.cob_layout_places.specs.Counts.{tables_of}
 use Rattle.cob_layout_places.specs.Moves.{Entry, Move, Records, Sender, entry_below, moves_by, numbered_move_by, operand_in, record_of, sender_by}
-use Rattle.cob_move_prepared.specs.Pool.{IsMoveStep, MoveKinds}
-use Rattle.cob_move_prepared.specs.declared.pictured.PicturedStep.{PicturedStep}
-use Rattle.cob_move_prepared.specs.declared.pictured.PicturedSteps.{PicturedSteps}
-use Rattle.cob_move_prepared.specs.declared.pool.MoveStep.{MoveStep}
-use Rattle.cob_move_prepared.specs.declared.pool.MoveSteps.{MoveSteps}
+use Rattle.cob_move_steps.specs.Pool.{IsMoveStep, MoveKinds}
+use Rattle.cob_move_steps.specs.declared.pictured.PicturedStep.{PicturedStep}
+use Rattle.cob_move_steps.specs.declared.pictured.PicturedSteps.{PicturedSteps}
+use Rattle.cob_move_steps.specs.declared.pool.MoveStep.{MoveStep}
+use Rattle.cob_move_steps.specs.declared.pool.MoveSteps.{MoveSteps}
 use Rattle.cob_move_receive.specs.Received.{Received}
 use Rattle.cob_move_receive.specs.Sent as sent
 use Rattle.cob_move_apply.specs.Applied.{Applied, Content, Ending, Gets, Gives, content_at, done, ending, storage_of}

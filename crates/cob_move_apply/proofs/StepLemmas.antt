@@ -3,7 +3,7 @@ use Rattle.std.proofs.Common.{◌≡◌, ℕ, ◌+◌, ◌<◌, ◌≤◌, List,
 use Rattle.std.proofs.lemmas.List.{drop_all, drop_more}
 use Rattle.cob_codec.specs.declared.reading.Reading.{Reading}
 use Rattle.cob_copybook_tree.specs.declared.node.Kind.{Kind}
-use Rattle.cob_entry.specs.Described.{PlainValue}
+use Rattle.cob_copybook_entry.specs.Described.{PlainValue}
 use Rattle.cob_layout.specs.Fields.{field_of, with_field}
 use Rattle.cob_layout.specs.Laws.{OneOfNeeded}
 use Rattle.cob_layout.specs.Storage.{greatest_length, IsStorage}
@@ -15,8 +15,8 @@ use Rattle.cob_move_apply.specs.Steps.{AreSteps, IsConstantAt, IsMoveOfPart, IsP
 use Rattle.cob_move_apply.specs.Going.{Left}
 use Rattle.cob_move_apply.specs.Surveyed.{IsWorkspace}
 use Rattle.cob_move_apply.specs.Written.{HasPlaces}
-use Rattle.cob_move_prepared.specs.Pool.{IsMoveStep, MoveKinds}
-use Rattle.cob_move_prepared.specs.declared.pool.MoveSteps.{MoveSteps}
+use Rattle.cob_move_steps.specs.Pool.{IsMoveStep, MoveKinds}
+use Rattle.cob_move_steps.specs.declared.pool.MoveSteps.{MoveSteps}
 use Rattle.cob_move_apply.specs.declared.step.ConstantMove.{ConstantMove}
 use Rattle.cob_move_apply.specs.declared.step.MovePlaces.{MovePlaces}
 use Rattle.cob_move_apply.specs.declared.step.Part.{Part}

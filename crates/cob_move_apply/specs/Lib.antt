@@ -15,5 +15,3 @@ pub mod Surveyed
 pub mod Met
 pub mod Spent
 pub mod Going
-pub use Rattle.cob_layout.specs.cob_copybook
-pub use Rattle.cob_layout.specs as cob_layout

@@ -1,17 +1,17 @@
 -- What single moves that were made ready make of the output record's storage.
 use Rattle.std.specs.Prelude.{◌≡◌, ℕ, ◌+◌, ◌≤◌, false, true, List, length, Ok, Option, Some}
 use Rattle.cob_copybook_tree.specs.declared.node.Kind.{Kind}
-use Rattle.cob_entry.specs.Described.{PlainValue}
+use Rattle.cob_copybook_entry.specs.Described.{PlainValue}
 use Rattle.cob_layout.specs.declared.fields.Place.{Place}
 use Rattle.cob_layout.specs.Fields.{with_field}
 use Rattle.cob_layout.specs.Storage.{greatest_length}
 use Rattle.cob_layout_places.specs.declared.operands.Side.TheVariants.{In, Out}
 use Rattle.cob_layout_places.specs.Moves.{Records, operand_in}
-use Rattle.cob_move_prepared.specs.Pictured.{IsPicturedStep}
-use Rattle.cob_move_prepared.specs.Pool.{IsMoveStep, MoveKinds}
-use Rattle.cob_move_prepared.specs.declared.constant_step.ConstantStep.{ConstantStep}
-use Rattle.cob_move_prepared.specs.declared.pictured.PicturedSteps.{PicturedSteps}
-use Rattle.cob_move_prepared.specs.declared.pool.MoveSteps.{MoveSteps}
+use Rattle.cob_move_steps.specs.Pictured.{IsPicturedStep}
+use Rattle.cob_move_steps.specs.Pool.{IsMoveStep, MoveKinds}
+use Rattle.cob_move_steps.specs.declared.constant_step.ConstantStep.{ConstantStep}
+use Rattle.cob_move_steps.specs.declared.pictured.PicturedSteps.{PicturedSteps}
+use Rattle.cob_move_steps.specs.declared.pool.MoveSteps.{MoveSteps}
 use Rattle.cob_move_receive.specs.Received.{Received}
 use Rattle.cob_move_receive.specs.Sent as sent
 use Rattle.cob_move_receive.specs.Sent.{Occupies}

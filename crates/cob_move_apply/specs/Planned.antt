@@ -3,8 +3,8 @@ use Rattle.std.specs.Prelude.{◌≡◌, ℕ, ◌+◌, ◌<◌, ◌≤◌, true,
 use Rattle.cob_codec.specs.declared.reading.Reading.{Reading}
 use Rattle.cob_codec.specs.declared.reading.Reading.TheVariants.{Pictured}
 use Rattle.cob_copybook_tree.specs.declared.node.Kind.{Kind}
-use Rattle.cob_entry.specs.Described.{PlainValue, plain_value}
-use Rattle.cob_entry.specs.declared.value.Value.{Value}
+use Rattle.cob_copybook_entry.specs.Described.{PlainValue, plain_value}
+use Rattle.cob_copybook_entry.specs.declared.value.Value.{Value}
 use Rattle.cob_limits.specs.Limits.{longest_record}
 use Rattle.cob_layout.specs.Counting.{ReadsNone, greatest_counts}
 use Rattle.cob_layout.specs.Placed.{placed_under}
@@ -18,13 +18,13 @@ use Rattle.cob_move_apply.specs.Joined.{CopyEnds, copies_of, copy_ends, last_end
 use Rattle.cob_move_apply.specs.Steps.{Gains, GainsCut, HasPart, IsPicturedMove, IsPreparedMove, IsReadyAnywhere, WritesFor, alone, constant_move, copied_move, pair_at, part_of}
 use Rattle.cob_move_apply.specs.Placed.{IsPlaced}
 use Rattle.cob_move_apply.specs.Written.{AreCopied, IsFixedConstant}
-use Rattle.cob_move_prepared.specs.Copies.{IsConstantStep}
+use Rattle.cob_move_steps.specs.Copies.{IsConstantStep}
 use Rattle.cob_move_apply.specs.declared.step.Plan.{Plan}
 use Rattle.cob_move_apply.specs.declared.step.LocatedMove.{LocatedMove}
 use Rattle.cob_move_apply.specs.declared.step.PreparedMove.{PreparedMove}
 use Rattle.cob_move_apply.specs.declared.step.PicturedMove.{PicturedMove}
-use Rattle.cob_move_prepared.specs.declared.pictured.PicturedSteps.{PicturedSteps}
-use Rattle.cob_move_prepared.specs.declared.pool.MoveSteps.{MoveSteps}
+use Rattle.cob_move_steps.specs.declared.pictured.PicturedSteps.{PicturedSteps}
+use Rattle.cob_move_steps.specs.declared.pool.MoveSteps.{MoveSteps}
 use Rattle.cob_move_apply.specs.declared.step.MovePlaces.{MovePlaces}
 use Rattle.cob_move_apply.specs.declared.step.Step.{Step}
 use Rattle.cob_move_apply.specs.declared.step.Step.TheVariants as step

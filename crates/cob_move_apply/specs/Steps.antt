@@ -3,7 +3,7 @@ use Rattle.std.specs.Prelude.{◌≡◌, ◌⊎◌, ℕ, ◌+◌, ◌<◌, ◌�
 use Rattle.cob_codec.specs.declared.reading.Reading.{Reading}
 use Rattle.cob_codec.specs.declared.reading.Reading.TheVariants.{Pictured, Whole}
 use Rattle.cob_copybook_tree.specs.declared.node.Kind.{Kind}
-use Rattle.cob_entry.specs.Described.{PlainValue}
+use Rattle.cob_copybook_entry.specs.Described.{PlainValue}
 use Rattle.cob_layout_places.specs.declared.operands.Side.TheVariants.{In, Out}
 use Rattle.cob_layout_places.specs.declared.operands.Operand.{Operand}
 use Rattle.cob_layout_places.specs.declared.operands.Move as code_move
@@ -16,15 +16,15 @@ use Rattle.cob_layout_places.specs.declared.reference.Ref.{Ref}
 use Rattle.cob_move_apply.specs.Placed.{IsPlaced, IsPlacedMove}
 use Rattle.cob_move_apply.specs.Written.{AreCopied, IsFixedConstant, IsFixedMove}
 use Rattle.cob_move_receive.specs.Sent.{Occupies}
-use Rattle.cob_move_prepared.specs.Pictured.{IsPicturedStep}
-use Rattle.cob_move_prepared.specs.Copies.{IsConstantStep, gives_bytes, stands_right}
-use Rattle.cob_move_prepared.specs.Pool.{IsMoveStep, IsStepAt, MoveKinds}
-use Rattle.cob_move_prepared.specs.declared.constant_step.ConstantStep.{ConstantStep}
-use Rattle.cob_move_prepared.specs.declared.pictured.PicturedStep.{PicturedStep}
-use Rattle.cob_move_prepared.specs.declared.pictured.PicturedSteps.{PicturedSteps}
-use Rattle.cob_move_prepared.specs.declared.pool.MoveStep.{MoveStep}
-use Rattle.cob_move_prepared.specs.declared.pool.MoveStep.TheVariants as move_step
-use Rattle.cob_move_prepared.specs.declared.pool.MoveSteps.{MoveSteps}
+use Rattle.cob_move_steps.specs.Pictured.{IsPicturedStep}
+use Rattle.cob_move_steps.specs.Copies.{IsConstantStep, gives_bytes, stands_right}
+use Rattle.cob_move_steps.specs.Pool.{IsMoveStep, IsStepAt, MoveKinds}
+use Rattle.cob_move_steps.specs.declared.constant_step.ConstantStep.{ConstantStep}
+use Rattle.cob_move_steps.specs.declared.pictured.PicturedStep.{PicturedStep}
+use Rattle.cob_move_steps.specs.declared.pictured.PicturedSteps.{PicturedSteps}
+use Rattle.cob_move_steps.specs.declared.pool.MoveStep.{MoveStep}
+use Rattle.cob_move_steps.specs.declared.pool.MoveStep.TheVariants as move_step
+use Rattle.cob_move_steps.specs.declared.pool.MoveSteps.{MoveSteps}
 use Rattle.cob_move_apply.specs.declared.basis.Basis.{Basis}
 use Rattle.cob_move_apply.specs.declared.step.ConstantMove.{ConstantMove}
 use Rattle.cob_move_apply.specs.declared.step.LocatedConstant.{LocatedConstant}

@@ -29,7 +29,7 @@ use crate::workspace::Workspace;
 use cob_codec::Reading;
 use cob_layout::one_outcome_of_counts;
 use cob_layout_places::StatementMoves;
-use cob_move_prepared::MoveStep;
+use cob_move_steps::MoveStep;
 
 /// Carries out a part of the moves of a statement.
 ///

@@ -2,7 +2,7 @@
 
 ghost use Rattle.std.specs.Prelude.{◌≡◌, ◌+◌, ◌≤◌, [], ◌∷◌, false, length, IfSome, IsTrue, List, OnOk, IfErr, Err};
 ghost use Rattle.cob_copybook_tree.specs.declared.node.Kind.{Kind};
-ghost use Rattle.cob_entry.specs.Described.{PlainValue};
+ghost use Rattle.cob_copybook_entry.specs.Described.{PlainValue};
 ghost use Rattle.cob_layout.specs.Sound.{IsSound};
 ghost use Rattle.cob_layout.specs.Storage.{greatest_length};
 ghost use Rattle.cob_layout_places.specs.Moves.{Move as Meant, operand_in};

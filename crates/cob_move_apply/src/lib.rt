@@ -15,7 +15,7 @@
 //!
 //! The moves are carried out by steps that stand for them (`StandFor` of specs/Steps.antt), each chosen when they are made ready. Single moves that are
 //! plain copies, each beginning on both sides where the one before ends, are one copy (`AreCopied` of specs/Written.antt); a single move between two
-//! places that no count decides is made ready, where cob_move_prepared has a step for it (`IsFixedMove`), whatever the reading of binary senders or where they
+//! places that no count decides is made ready, where cob_move_steps has a step for it (`IsFixedMove`), whatever the reading of binary senders or where they
 //! are read as their pictures say; so is a single move of a constant to such a place (`IsFixedConstant`), and one of an entry to another where a count
 //! decides a place: an item has as many bytes wherever it stands, and characters are as many as there are, so only the two places are found as the move is
 //! carried out (`IsLocatedMove`), and only that of the receiver where a constant is moved to an item behind a table (`IsLocatedConstant`); a part of a
@@ -30,8 +30,7 @@
 //! [`Moves::apply`]; `HaveMet` of specs/Met.antt). [`Scratch::input_length`] keeps the counts that an input's length rests on, [`Moves::apply_kept`] carries
 //! the moves out by them, and [`Scratch::output_length`] tells the output's length by what the moves kept of it; so each count is read once.
 //!
-//! It stands on cob_layout_places for moves as data, on cob_layout for places, counts and what holds of every record, on cob_move_receive
-//! for what one receiver gets, and on cob_move_prepared for single moves that are made ready. [`Moves::apply`] takes no memory: its room is a [`Scratch`].
+//! [`Moves::apply`] takes no memory: its room is a [`Scratch`].
 #![tactic(auto)]
 
 mod application;

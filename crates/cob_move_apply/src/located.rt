@@ -24,7 +24,7 @@ use crate::workspace::Workspace;
 use cob_codec::Reading;
 use cob_layout::places_lie_in_storage;
 use cob_layout_places::Side;
-use cob_move_prepared::CharactersStep;
+use cob_move_steps::CharactersStep;
 use std::slice;
 
 /// Whether a step carries its moves out where senders are read so.

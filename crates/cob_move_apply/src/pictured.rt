@@ -7,15 +7,15 @@ ghost use Rattle.cob_move_apply.specs.Spent.{WriteSpends};
 ghost use Rattle.cob_move_apply.specs.Surveyed.{IsWorkspace, records};
 ghost use Rattle.cob_move_apply.specs.Made.{IsMadePictured};
 ghost use Rattle.cob_move_apply.specs.Written.{HasPlaces};
-ghost use Rattle.cob_move_prepared.specs.Pictured.{IsPicturedStep};
-ghost use Rattle.cob_move_prepared.specs.Pool.{MoveKinds};
+ghost use Rattle.cob_move_steps.specs.Pictured.{IsPicturedStep};
+ghost use Rattle.cob_move_steps.specs.Pool.{MoveKinds};
 
 use crate::layouts::Layouts;
 use crate::step::PicturedMove;
 use crate::stop::{Stop, StopCause};
 use crate::workspace::Workspace;
 use cob_layout_places::Side;
-use cob_move_prepared::PicturedSteps;
+use cob_move_steps::PicturedSteps;
 
 /// Carries out a single move that was made ready, its sender read as its picture says. It is inlined, so that it costs no call.
 ///

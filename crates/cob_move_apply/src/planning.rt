@@ -44,8 +44,8 @@ use crate::step::{
 };
 use cob_layout::{Layout, Ref, places_lie_in_storage, records_are_sound, tables};
 use cob_layout_places::{Move, PairMoves, Sender, Side, StatementMoves};
-use cob_move_prepared::{MoveSteps, PicturedSteps};
 use cob_move_receive::copies_bytes;
+use cob_move_steps::{MoveSteps, PicturedSteps};
 use std::alloc::{AllocError, Global};
 use std::slice;
 

@@ -7,15 +7,15 @@ ghost use Rattle.cob_move_apply.specs.Spent.{PlaceSpends, WriteSpends};
 ghost use Rattle.cob_move_apply.specs.Surveyed.{IsWorkspace, records};
 ghost use Rattle.cob_move_apply.specs.Made.{IsMadeReady};
 ghost use Rattle.cob_move_apply.specs.Written.{HasPlaces};
-ghost use Rattle.cob_move_prepared.specs.Pool.{IsMoveStep, MoveKinds};
-ghost use Rattle.cob_move_prepared.specs.declared.pool.MoveStep.TheVariants.{Characters};
+ghost use Rattle.cob_move_steps.specs.Pool.{IsMoveStep, MoveKinds};
+ghost use Rattle.cob_move_steps.specs.declared.pool.MoveStep.TheVariants.{Characters};
 
 use crate::layouts::Layouts;
 use crate::step::MovePlaces;
 use crate::stop::{Stop, StopCause};
 use crate::workspace::Workspace;
 use cob_layout_places::Side;
-use cob_move_prepared::{CharactersStep, MoveStep, MoveSteps};
+use cob_move_steps::{CharactersStep, MoveStep, MoveSteps};
 
 /// Carries out a single move that was made ready. It is inlined, so that it costs no call.
 ///

@@ -21,7 +21,7 @@ use crate::prepared::make_characters;
 use crate::step::{MovePlaces, PicturedMove, Plan, PreparedMove, Step, copy_across};
 use crate::workspace::Workspace;
 use cob_codec::Reading;
-use cob_move_prepared::MoveStep;
+use cob_move_steps::MoveStep;
 
 /// Carries out a single move that was made ready. False where a value of the sender is missing: all is as it was then.
 #[inline(always)]

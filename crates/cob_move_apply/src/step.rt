@@ -14,7 +14,7 @@ ghost use Rattle.cob_move_apply.specs.Written.{IsBoth};
 
 use crate::basis::Basis;
 use cob_layout::{Place, Ref, field};
-use cob_move_prepared::{
+use cob_move_steps::{
     CharactersStep, ConstantStep, MoveStep, MoveSteps, PicturedStep, PicturedSteps, copy_all,
 };
 use std::alloc::AllocError;

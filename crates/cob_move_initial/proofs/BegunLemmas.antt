@@ -1,7 +1,7 @@
 -- The storage before the first move, cut by lengths: it is one, and where its elements stand.
 use Rattle.std.proofs.Common.{◌≡◌, ℕ, zero, suc, ◌+◌, ◌*◌, ◌<◌, ◌≤◌, List, ◌++◌, length, take, drop, Option, None, Some, sym, ap, ◌∙◌, subst, arith}
 use Rattle.std.proofs.lemmas.List.{length-append, length-drop, take_at, take-append-le, drop_at, drop-drop, drop-append-le}
-use Rattle.cob_entry.specs.Described.{PlainValue}
+use Rattle.cob_copybook_entry.specs.Described.{PlainValue}
 use Rattle.cob_copybook_tree.specs.declared.node.Kind.{Kind}
 use Rattle.cob_copybook_tree.specs.declared.node.Kind.TheVariants.{Group, Item as ItemKind}
 use Rattle.cob_copybook_tree.specs.Forests.{Forest, NoEntries, AnEntry}

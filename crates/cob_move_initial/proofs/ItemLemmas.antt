@@ -2,13 +2,13 @@
 use Rattle.std.proofs.Common.{◌≡◌, ℕ, Bool, true, false, List, Some, None, refl, sym, subst}
 use Rattle.std.specs.Prelude.{MatchBool, if◌then◌else◌}
 use Rattle.cob_picture.specs.Positions.{shows_number, PlainPicture}
-use Rattle.cob_entry.specs.declared.kinds.Figurative.{Figurative}
-use Rattle.cob_entry.specs.declared.kinds.Figurative.TheVariants.{Space, Zero, HighValue, LowValue, Quote}
-use Rattle.cob_entry.specs.Described.{PlainValue, Numeric, Quoted, Figure, Repeated}
+use Rattle.cob_copybook_entry.specs.declared.kinds.Figurative.{Figurative}
+use Rattle.cob_copybook_entry.specs.declared.kinds.Figurative.TheVariants.{Space, Zero, HighValue, LowValue, Quote}
+use Rattle.cob_copybook_entry.specs.Described.{PlainValue, Numeric, Quoted, Figure, Repeated}
 use Rattle.cob_copybook_tree.specs.declared.node.Kind.TheVariants.{Group, Item as ItemKind}
 use Rattle.cob_copybook_tree.specs.declared.node.Item.{Item}
 use Rattle.cob_copybook_tree.specs.Lengths.{item_size}
-use Rattle.cob_layout.specs.cob_copybook_lengths.Values.{IsNumericValue}
+use Rattle.cob_copybook_rules.specs.Values.{IsNumericValue}
 use Rattle.cob_copybook_tree.specs.Resolving.{is_number}
 use Rattle.cob_move_receive.specs.Sent.{Amount, Literal}
 use Rattle.cob_move_receive.specs.Numbers.{ConstantGives}

@@ -1,6 +1,6 @@
 -- The storage of a record before the first move.
 use Rattle.std.specs.Prelude.{◌≡◌, ℕ, zero, suc, List, [], ◌++◌, Option, Some, None}
-use Rattle.cob_entry.specs.Described.{PlainValue}
+use Rattle.cob_copybook_entry.specs.Described.{PlainValue}
 use Rattle.cob_copybook_tree.specs.declared.node.Kind.{Kind}
 use Rattle.cob_copybook_tree.specs.declared.node.Kind.TheVariants.{Group, Item as ItemKind}
 use Rattle.cob_copybook_tree.specs.Forests.{Forest, NoEntries, AnEntry}

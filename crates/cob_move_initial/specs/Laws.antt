@@ -1,6 +1,6 @@
 -- What items and groups hold before the first move is determined.
 use Rattle.std.specs.Prelude.{◌≡◌, ℕ, List, Option}
-use Rattle.cob_entry.specs.Described.{PlainValue}
+use Rattle.cob_copybook_entry.specs.Described.{PlainValue}
 use Rattle.cob_copybook_tree.specs.declared.node.Item.{Item}
 use Rattle.cob_move_initial.specs.Values.{HoldsGroup, HoldsItem}
 use Rattle.cob_copybook_tree.specs.Forests.{Forest}

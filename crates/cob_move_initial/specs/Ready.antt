@@ -4,7 +4,7 @@ use Rattle.cob_limits.specs.Limits.{longest_record}
 use Rattle.cob_copybook_tree.specs.Forests.{Forest}
 use Rattle.cob_copybook_tree.specs.Nodes.{Resolved}
 use Rattle.cob_copybook_tree.specs.Lengths.{greatest_number, sum_of, whole_length}
-use Rattle.cob_layout.specs.cob_copybook_lengths.Values.{MayHaveValue, AreValues}
+use Rattle.cob_copybook_rules.specs.Values.{MayHaveValue, AreValues}
 use Rattle.cob_layout_places.specs.Lengths.{MayOccur}
 use Rattle.cob_layout.specs.Sound.{IsStorableKind, AreStorable}
 

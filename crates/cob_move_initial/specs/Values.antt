@@ -1,9 +1,9 @@
 -- What items and groups hold before the first move: their VALUE, or what MOVE ZERO or MOVE SPACE leaves.
 use Rattle.std.specs.Prelude.{ℕ, List, Option, Some, None, MatchBool, if◌then◌else◌}
 use Rattle.cob_picture.specs.Positions.{shows_number}
-use Rattle.cob_entry.specs.declared.kinds.Figurative.{Figurative}
-use Rattle.cob_entry.specs.declared.kinds.Figurative.TheVariants.{Space, Zero}
-use Rattle.cob_entry.specs.Described.{PlainValue, Figure}
+use Rattle.cob_copybook_entry.specs.declared.kinds.Figurative.{Figurative}
+use Rattle.cob_copybook_entry.specs.declared.kinds.Figurative.TheVariants.{Space, Zero}
+use Rattle.cob_copybook_entry.specs.Described.{PlainValue, Figure}
 use Rattle.cob_copybook_tree.specs.declared.node.Kind.TheVariants.{Group, Item as ItemKind}
 use Rattle.cob_copybook_tree.specs.declared.node.Item.{Item}
 use Rattle.cob_copybook_tree.specs.Lengths.{item_size}

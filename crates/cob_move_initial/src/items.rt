@@ -2,10 +2,10 @@
 
 ghost use Rattle.std.specs.Prelude.{◌≡◌, length, option_map, true, IfSome, Some};
 ghost use Rattle.cob_picture.specs.Positions.{shows_number};
-ghost use Rattle.cob_entry.specs.Described.{plain_value};
+ghost use Rattle.cob_copybook_entry.specs.Described.{plain_value};
 ghost use Rattle.cob_copybook_tree.specs.Lengths.{item_size};
 ghost use Rattle.cob_copybook_tree.specs.declared.node.Kind.TheVariants.{Item as ItemKind};
-ghost use Rattle.cob_layout.specs.cob_copybook_lengths.Values.{IsItemValue, IsNumericValue};
+ghost use Rattle.cob_copybook_rules.specs.Values.{IsItemValue, IsNumericValue};
 ghost use Rattle.cob_copybook_tree.specs.Resolving.{is_number};
 ghost use Rattle.cob_copybook_tree.specs.Items.{IsStorable};
 ghost use Rattle.cob_move_receive.specs.Sent.{Amount, Literal};

@@ -17,9 +17,6 @@
 //! - [`one_initial`] is the law that a record has one such storage.
 //!
 //! [`initial`] takes no memory, and writes each byte of a record as often as tables hold it, at most: an element is written once and then copied.
-//!
-//! It stands on cob_move_receive for the rule of MOVE, and on cob_layout for the record, its layout and what holds of every record description,
-//! with the words of copybooks that this passes on.
 #![tactic(auto)]
 
 mod items;

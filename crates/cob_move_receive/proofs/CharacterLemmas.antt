@@ -5,7 +5,7 @@ use Rattle.std.proofs.lemmas.Bool.{cases_lt, cases_eq}
 use Rattle.std.proofs.lemmas.List.{same_lists, get_or_default, get_or-take, get_or-append_right, get_or_append_left, get_or-replicate, get_or_past, length-take, length-replicate}
 use Rattle.std.specs.Prelude.{IfSome, unwrap_or}
 use Rattle.cob_cp037.specs.Table.{IsCoded, HasCode, IsPairOf, table, TableIsOneToOne}
-use Rattle.cob_entry.specs.Described.{PlainValue, Numeric, Quoted, Figure, Repeated}
+use Rattle.cob_copybook_entry.specs.Described.{PlainValue, Numeric, Quoted, Figure, Repeated}
 use Rattle.cob_move_receive.specs.Characters.{IsByteOf, AreBytesOf, GivesConstant, padded, repeated}
 
 -- ---- one byte

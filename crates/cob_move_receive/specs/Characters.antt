@@ -9,10 +9,10 @@ use Rattle.cob_codec.specs.declared.reading.Reading.{Reading}
 use Rattle.cob_cp037.specs.Table.{IsCoded, HasCode}
 use Rattle.cob_cp037.specs.Named.{quote_byte, space_byte, zero_byte}
 use Rattle.cob_edit.specs.Characters.{HasCharacters}
-use Rattle.cob_entry.specs.declared.kinds.Figurative.{Figurative}
-use Rattle.cob_entry.specs.declared.kinds.Figurative.TheVariants.{Space, Zero, HighValue, LowValue, Quote}
-use Rattle.cob_entry.specs.Described.{PlainValue}
-use Rattle.cob_entry.specs.Described as constant
+use Rattle.cob_copybook_entry.specs.declared.kinds.Figurative.{Figurative}
+use Rattle.cob_copybook_entry.specs.declared.kinds.Figurative.TheVariants.{Space, Zero, HighValue, LowValue, Quote}
+use Rattle.cob_copybook_entry.specs.Described.{PlainValue}
+use Rattle.cob_copybook_entry.specs.Described as constant
 use Rattle.cob_copybook_tree.specs.declared.node.Kind.{Kind}
 use Rattle.cob_copybook_tree.specs.declared.node.Kind.TheVariants.{Group, Item as ItemKind}
 use Rattle.cob_copybook_tree.specs.declared.node.Item.{Item}

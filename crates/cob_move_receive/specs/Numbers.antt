@@ -10,11 +10,11 @@ use Rattle.cob_picture.specs.Counts.{scale}
 use Rattle.cob_picture.specs.Counts as counts
 use Rattle.cob_picture.specs.declared.category.Category.{Category}
 use Rattle.cob_picture.specs.declared.category.Category.TheVariants.{Alphabetic, Numeric, Alphanumeric, AlphanumericEdited, NumericEdited}
-use Rattle.cob_entry.specs.declared.kinds.Figurative.{Figurative}
-use Rattle.cob_entry.specs.declared.kinds.Figurative.TheVariants.{Space, Zero, HighValue, LowValue, Quote}
+use Rattle.cob_copybook_entry.specs.declared.kinds.Figurative.{Figurative}
+use Rattle.cob_copybook_entry.specs.declared.kinds.Figurative.TheVariants.{Space, Zero, HighValue, LowValue, Quote}
 use Rattle.cob_edit.specs.Pictured.{IsEdited, IsInRange}
-use Rattle.cob_entry.specs.Described.{PlainValue}
-use Rattle.cob_entry.specs.Described as constant
+use Rattle.cob_copybook_entry.specs.Described.{PlainValue}
+use Rattle.cob_copybook_entry.specs.Described as constant
 use Rattle.cob_copybook_tree.specs.declared.node.Kind.TheVariants.{Group, Item as ItemKind}
 use Rattle.cob_copybook_tree.specs.declared.node.Item.{Item}
 use Rattle.cob_copybook_tree.specs.Resolving.{is_number}

@@ -5,7 +5,7 @@ use Rattle.cob_limits.specs.Limits.{most_digits}
 use Rattle.cob_picture.specs.Positions.{shows_number}
 use Rattle.cob_picture.specs.declared.category.Category.{Category}
 use Rattle.cob_picture.specs.declared.category.Category.TheVariants.{Alphabetic, Numeric, Alphanumeric, AlphanumericEdited, NumericEdited}
-use Rattle.cob_entry.specs.Described.{PlainValue, Quoted, Figure, Repeated, Numeric as NumericLiteral}
+use Rattle.cob_copybook_entry.specs.Described.{PlainValue, Quoted, Figure, Repeated, Numeric as NumericLiteral}
 use Rattle.cob_copybook_tree.specs.declared.node.Kind.{Kind}
 use Rattle.cob_copybook_tree.specs.declared.node.Kind.TheVariants.{Group, Item as ItemKind}
 use Rattle.cob_copybook_tree.specs.declared.node.Item.{Item}

@@ -2,7 +2,7 @@
 use Rattle.std.specs.Prelude.{◌≡◌, ℕ, ℤ, Bool, List, length}
 use Rattle.cob_decimal.specs.declared.number.Number.{Number}
 use Rattle.cob_codec.specs.declared.reading.Reading.{Reading}
-use Rattle.cob_entry.specs.Described.{PlainValue, plain_value}
+use Rattle.cob_copybook_entry.specs.Described.{PlainValue, plain_value}
 use Rattle.cob_copybook_tree.specs.declared.node.Kind.{Kind}
 use Rattle.cob_copybook_tree.specs.declared.node.Kind.TheVariants.{Group, Item as ItemKind}
 use Rattle.cob_copybook_tree.specs.Lengths.{item_size}

@@ -2,20 +2,10 @@
 
 ghost use Rattle.std.specs.Prelude.{◌≡◌, ◌≤◌, ℕ, List, length, IsTrue};
 ghost use Rattle.cob_limits.specs.Limits.{longest_literal};
-ghost use Rattle.cob_entry.specs.Described.{Repeated, plain_value};
+ghost use Rattle.cob_copybook_entry.specs.Described.{Repeated, plain_value};
 ghost use Rattle.cob_copybook_tree.specs.Lengths.{item_size};
 ghost use Rattle.cob_copybook_tree.specs.Items.{IsStorable};
-ghost use Rattle.cob_move_receive.specs.Characters.{
-  figurative_byte,
-  has_insertions,
-  padded,
-  placement_in,
-  AreBytesOf,
-  Arranged,
-  GivesConstant,
-  IsByteOf,
-  IsRepeated,
-};
+ghost use Rattle.cob_move_receive.specs.Characters.{figurative_byte, has_insertions, padded, placement_in, AreBytesOf, Arranged, GivesConstant, IsByteOf, IsRepeated};
 
 use crate::characters::{put, put_left};
 use crate::numerals::numerals;

@@ -13,9 +13,7 @@
 //! move that the table doesn't have (M6), a literal that isn't as its receiver asks (M7), and an alphanumeric sender of more characters
 //! than a number has digits (M10).
 //!
-//! It stands on cob_copybook_tree and cob_entry for items, constants and the storage of numbers, on cob_edit for edited items, on
-//! cob_picture and cob_decimal for pictures and numbers, on cob_cp037 for the code page, and on cob_limits. Nothing here takes memory, and
-//! the work grows with the bytes that are sent and received.
+//! Nothing here takes memory, and the work grows with the bytes that are sent and received.
 #![tactic(auto)]
 
 mod characters;

@@ -4,7 +4,7 @@ ghost use Rattle.std.specs.Prelude.{◌≡◌, ◌↔◌, ◌<◌, ◌≤◌, �
 ghost use Rattle.cob_decimal.specs.Decimal.{IsDigits};
 ghost use Rattle.cob_decimal.specs.Literals.{AreDigits, digits_in};
 ghost use Rattle.cob_limits.specs.Limits.{most_digits};
-ghost use Rattle.cob_entry.specs.Described.{plain_value, Quoted};
+ghost use Rattle.cob_copybook_entry.specs.Described.{plain_value, Quoted};
 ghost use Rattle.cob_picture.specs.Counts.{size};
 ghost use Rattle.cob_picture.specs.Positions.{shows_number};
 ghost use Rattle.cob_copybook_tree.specs.Lengths.{item_size};

@@ -1,7 +1,7 @@
 //! One receiver.
 
 ghost use Rattle.std.specs.Prelude.{◌≡◌, ◌≤◌, ℕ, List, length, false, IsTrue, Some};
-ghost use Rattle.cob_entry.specs.Described.{plain_value};
+ghost use Rattle.cob_copybook_entry.specs.Described.{plain_value};
 ghost use Rattle.cob_picture.specs.Positions.{shows_number};
 ghost use Rattle.cob_copybook_tree.specs.Lengths.{item_size};
 ghost use Rattle.cob_copybook_tree.specs.declared.node.Kind.TheVariants.{Group, Item as ItemKind};

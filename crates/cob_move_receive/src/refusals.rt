@@ -2,19 +2,9 @@
 
 ghost use Rattle.std.specs.Prelude.{◌≡◌, true, IfNone, IfSome};
 ghost use Rattle.std.specs.List.{list_all};
-ghost use Rattle.cob_entry.specs.Described.{plain_value};
+ghost use Rattle.cob_copybook_entry.specs.Described.{plain_value};
 ghost use Rattle.cob_move_receive.specs.Table.{sender_kind};
-ghost use Rattle.cob_move_receive.specs.Refusals.{
-  is_digit_character,
-  is_refused,
-  is_empty_literal,
-  is_longer_than_number,
-  is_too_long,
-  is_wrong_literal,
-  receives_bytes,
-  receives_number,
-  IsAllowed,
-};
+ghost use Rattle.cob_move_receive.specs.Refusals.{is_digit_character, is_refused, is_empty_literal, is_longer_than_number, is_too_long, is_wrong_literal, receives_bytes, receives_number, IsAllowed};
 
 use crate::table::{SenderKind, has_fraction, may_move};
 use cob_copybook_tree::{Item, Kind, Value};

@@ -1,20 +1,8 @@
 //! The table of categories: which sender may be moved to which receiver.
 
 ghost use Rattle.std.specs.Prelude.{◌≡◌};
-ghost use Rattle.cob_entry.specs.Described.{plain_value};
-ghost use Rattle.cob_move_receive.specs.Table.{
-  category_with,
-  constant_receivers,
-  entry_may_move,
-  figure_receivers,
-  has_fraction,
-  has_receiver,
-  item_receivers,
-  may_move,
-  receivers_if,
-  receivers_under,
-  sender_kind,
-};
+ghost use Rattle.cob_copybook_entry.specs.Described.{plain_value};
+ghost use Rattle.cob_move_receive.specs.Table.{category_with, constant_receivers, entry_may_move, figure_receivers, has_fraction, has_receiver, item_receivers, may_move, receivers_if, receivers_under, sender_kind};
 
 use cob_copybook_tree::{Figurative, Item, Kind, Value};
 use cob_picture::Category;

@@ -12,10 +12,6 @@
 //!
 //! [`MoveRule`] names every rule that a paragraph may break, for all crates that read one, and prints as `M1` to `M10` and `M19`, or as the rule of
 //! the text; [`MoveFault`] adds the line.
-//!
-//! It stands on `cob_source` for tokens, on `cob_copybook_clauses` for reserved words, names, qualifiers and constants, on `cob_copybook_entries` for
-//! what a numeric literal is, and on
-//! `cob_decimal` for what digits are.
 #![tactic(auto)]
 
 mod actions;

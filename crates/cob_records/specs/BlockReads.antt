@@ -1,10 +1,8 @@
 -- Frames in blocks, as a reader sees them: what stands before the next one, what refuses it, and what a reader says of it.
-use Rattle.std.specs.Prelude.{◌≡◌, ◌⊎◌, ℕ, zero, suc, ◌+◌, ◌<◌, ◌≤◌, Bool, true, false, ◌==◌, nat_lt, ◌||◌, not}
-use Rattle.std.specs.Prelude.{List, [], ◌++◌, length, take, slice_index, None, Some, Option, Ok, Err, Result}
+use Rattle.std.specs.Prelude.{◌≡◌, ◌⊎◌, ℕ, zero, suc, ◌+◌, ◌<◌, ◌≤◌, Bool, true, false, ◌==◌, nat_lt, ◌||◌, not, List, [], ◌++◌, length, take, slice_index, None, Some, Option, Ok, Err, Result}
 use Rattle.cob_records.specs.declared.records.Form.TheVariants.{Variable}
 use Rattle.cob_records.specs.declared.records.RecordFault.{RecordFault}
-use Rattle.cob_records.specs.declared.records.RecordFault.TheVariants.{Truncated, Descriptor, Spanned, Length, ReadFailed}
-use Rattle.cob_records.specs.declared.records.RecordFault.TheVariants.{WriteFailed, TookNothing, BlockDescriptor, PastBlock}
+use Rattle.cob_records.specs.declared.records.RecordFault.TheVariants.{Truncated, Descriptor, Spanned, Length, ReadFailed, WriteFailed, TookNothing, BlockDescriptor, PastBlock}
 use Rattle.cob_records.specs.Frame.{IsRecord, descriptor, framed, number_in, refusal}
 
 -- No block descriptor word: its third or fourth byte isn't zero, or its number is below 8 or over the greatest length of a block.

@@ -1,11 +1,10 @@
 //! The program `cobconv`: it reads the words that it is called with, and does what they ask for.
 #![tactic(auto)]
 
-use cob_convert_commands::{answer, refuse};
-use cob_convert_line::LineFault;
-use cob_file_limit::Limited;
-use cob_standard_streams::take_closed;
-use cob_status::Status;
+use cob_convert::Status;
+use cob_program_commands::{answer, refuse};
+use cob_program_line::LineFault;
+use cob_program_runtime::{Limited, take_closed};
 use std::env;
 use std::io::ErrorKind;
 use std::process::ExitCode;

@@ -1,5 +1,5 @@
 use Rattle.std.proofs.Common.{ap, ◌∙◌}
-use Rattle.cob_stream.specs.declared.fault.Reason.{Reason}
+use Rattle.cob_convert_stream.specs.declared.fault.Reason.{Reason}
 use Rattle.cob_convert.specs.Outcomes.{fault_at}
 use Rattle.cob_convert.proofs.Sifted.{closes_part}
 use Rattle.cob_convert.proofs.aside.close_aside.Goals as goal

@@ -4,9 +4,9 @@ use Rattle.cob_records.specs.Device.{Took, counted}
 use Rattle.cob_records.specs.Frame.{Puts, is_write_error}
 use Rattle.cob_records.specs.declared.records.Form.{Form}
 use Rattle.cob_convert_record.specs.Conversion.{in_length}
-use Rattle.cob_stream.specs.declared.fault.Reason.{Reason}
-use Rattle.cob_stream.specs.declared.fault.RunFault.{RunFault}
-use Rattle.cob_stream.specs.Reasons.{is_read_cause}
+use Rattle.cob_convert_stream.specs.declared.fault.Reason.{Reason}
+use Rattle.cob_convert_stream.specs.declared.fault.RunFault.{RunFault}
+use Rattle.cob_convert_stream.specs.Reasons.{is_read_cause}
 use Rattle.cob_convert.specs.declared.aside.AsideFault.TheVariants as fault
 use Rattle.cob_convert.specs.declared.aside.Ending.TheVariants as ending
 use Rattle.cob_convert.specs.Aside.{is_aside_ending, is_aside_error, is_aside_error_ending, is_aside_fault, is_read_ending, is_read_fault}

@@ -1,7 +1,7 @@
 use Rattle.std.proofs.Common.{sym, subst}
 use Rattle.std.proofs.lemmas.Result.{err_from_is_err_and}
 use Rattle.cob_move.specs.Paragraphs.{IsParagraphOf}
-use Rattle.cob_convert_record.specs.cob_move_apply.Prepared.{ArePrepared, moves_of}
+use Rattle.cob_move_apply.specs.Prepared.{ArePrepared, moves_of}
 use Rattle.cob_convert_record.specs.Conversion.{Conversion}
 use Rattle.cob_convert.proofs.Refused.{paragraph_refused, paragraph_too, refusal_too, refused_memory}
 use Rattle.cob_convert.proofs.converter.conversion_of.Goals as goal

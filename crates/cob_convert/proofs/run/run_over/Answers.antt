@@ -1,8 +1,8 @@
 use Rattle.std.proofs.Common.{ℕ, Bool, rules, arith, take, Some, ◌∙◌, ap, sym}
 use Rattle.cob_records.specs.Device.{counted}
-use Rattle.cob_stream.specs.declared.fault.Reason.{Reason}
-use Rattle.cob_stream.specs.declared.fault.RunFault.{RunFault}
-use Rattle.cob_stream.specs.Reasons.{is_read_cause, reason_of}
+use Rattle.cob_convert_stream.specs.declared.fault.Reason.{Reason}
+use Rattle.cob_convert_stream.specs.declared.fault.RunFault.{RunFault}
+use Rattle.cob_convert_stream.specs.Reasons.{is_read_cause, reason_of}
 use Rattle.cob_convert.proofs.Carried.{clean_exit, emptied_again, fits_in, input_exit, limit_exit, reads_closed, reject_exit, step, write_exit}
 use Rattle.cob_convert.proofs.Rejections.{rejected_unread}
 use Rattle.cob_convert.proofs.run.run_over.Goals as goal

@@ -1,4 +1,4 @@
-use Rattle.cob_stream.proofs.Lengths.{gives_length}
+use Rattle.cob_convert_stream.proofs.Lengths.{gives_length}
 use Rattle.cob_convert_record.proofs.lengths.judge_current.Goals as goal
 
 pub returns-in-Ok-clause-sized : goal.returns-in-Ok-clause-sized

@@ -1,7 +1,7 @@
 use Rattle.std.proofs.Common.{map}
 use Rattle.std.specs.List.{AllByRecursion}
 use Rattle.std.specs.Prelude.{drop}
-use Rattle.cob_entry.specs.Described.{plain_entry}
+use Rattle.cob_copybook_entry.specs.Described.{plain_entry}
 use Rattle.cob_copybook_tree.specs.Branches.{IsBelow}
 use Rattle.cob_copybook.proofs.tree.wrong_level.Given as goal
 

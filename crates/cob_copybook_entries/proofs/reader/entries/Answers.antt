@@ -2,8 +2,8 @@ use Rattle.std.proofs.Common.{◌≡◌, [], map, sym, ◌∙◌, subst, inl, ar
 use Rattle.std.proofs.lemmas.Grind.{common_steps}
 use Rattle.std.proofs.lemmas.List.{length-map, nil_from_length}
 use Rattle.cob_source.specs.Tokens.{lexemes}
-use Rattle.cob_entry.specs.declared.fault.BookRule.{BookRule}
-use Rattle.cob_entry.specs.Described.{plain_entry}
+use Rattle.cob_copybook_entry.specs.declared.fault.BookRule.{BookRule}
+use Rattle.cob_copybook_entry.specs.Described.{plain_entry}
 use Rattle.cob_copybook_entries.specs.Books.{BreaksEntryRule}
 use Rattle.cob_copybook_entries.proofs.Reading.{SoFar, goes_on}
 use Rattle.cob_copybook_entries.proofs.Endings.{front_cut, shorter, sentence_broken, sentence_only, open_end, not_empty, all_read}

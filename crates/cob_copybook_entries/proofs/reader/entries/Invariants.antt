@@ -1,6 +1,6 @@
 use Rattle.std.proofs.Common.{length, map}
 use Rattle.cob_source.specs.Tokens.{lexemes}
-use Rattle.cob_entry.specs.Described.{plain_entry}
+use Rattle.cob_copybook_entry.specs.Described.{plain_entry}
 use Rattle.cob_copybook_entries.proofs.Reading.{SoFar}
 use Rattle.cob_copybook_entries.proofs.reader.entries.Given as goal
 

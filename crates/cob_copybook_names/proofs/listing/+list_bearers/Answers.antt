@@ -2,7 +2,7 @@ use Rattle.std.proofs.Common.{◌≡◌, List, ◌+◌, sym, ap, ◌∙◌, map,
 use Rattle.cob_copybook_tree.specs.Forests.{Forest, AnEntry, flat, entries_in}
 use Rattle.cob_copybook_tree.specs.Branches.{forest_of}
 use Rattle.cob_copybook_tree.specs.declared.branch.Branch.{Branch}
-use Rattle.cob_entry.specs.Described.{PlainEntry, plain_entry}
+use Rattle.cob_copybook_entry.specs.Described.{PlainEntry, plain_entry}
 use Rattle.cob_copybook_tree.specs.declared.branch.Branch.TheViews.{out-Branch}
 use Rattle.cob_copybook_names.specs.Entries.{bearer_of, bearers, entry_of}
 use Rattle.cob_copybook_names.specs.Listed.{texts}

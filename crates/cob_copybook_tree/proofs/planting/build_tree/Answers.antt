@@ -1,5 +1,5 @@
 use Rattle.std.proofs.Common.{map, sym, ap, subst, ◌∙◌}
-use Rattle.cob_entry.specs.Described.{plain_entry}
+use Rattle.cob_copybook_entry.specs.Described.{plain_entry}
 use Rattle.cob_copybook_tree.specs.Forests.{flat, IsTree}
 use Rattle.cob_copybook_tree.specs.Branches.{branch, forest_of, level_of}
 use Rattle.cob_copybook_tree.proofs.StandsForLemmas.{stands_for}

@@ -1,6 +1,6 @@
 use Rattle.std.proofs.Common.{◌≡◌, ◌∙◌, ◌^◌, ap, length, rules, arith}
-use Rattle.cob_copybook_tree.specs.cob_picture.Counts.{digits}
-use Rattle.cob_copybook_tree.specs.cob_codec.Binary.{binary_length}
+use Rattle.cob_picture.specs.Counts.{digits}
+use Rattle.cob_codec.specs.Binary.{binary_length}
 use Rattle.cob_layout_places.proofs.NaturalLemmas.{unsigned_natural}
 use Rattle.cob_layout_places.proofs.naturals.binary_natural.Goals as goal
 

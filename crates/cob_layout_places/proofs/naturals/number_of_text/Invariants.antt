@@ -1,5 +1,5 @@
 use Rattle.std.proofs.Common.{◌≡◌, ℕ, List, take}
-use Rattle.cob_copybook_tree.specs.cob_codec.Zoned.{digit_bytes}
+use Rattle.cob_codec.specs.Zoned.{digit_bytes}
 use Rattle.cob_decimal.specs.Decimal.{IsDigits, number_of}
 use Rattle.cob_layout_places.proofs.naturals.number_of_text.Given as goal
 

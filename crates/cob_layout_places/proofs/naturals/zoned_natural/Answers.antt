@@ -1,5 +1,5 @@
 use Rattle.std.proofs.Common.{◌≡◌, ◌∙◌, ◌<◌, length, rules, arith}
-use Rattle.cob_copybook_tree.specs.cob_picture.Counts.{digits}
+use Rattle.cob_picture.specs.Counts.{digits}
 use Rattle.cob_copybook_tree.proofs.PictureLemmas.{digits_are_bytes}
 use Rattle.cob_layout_places.proofs.NaturalLemmas.{zoned_long, text_natural}
 use Rattle.cob_layout_places.proofs.naturals.zoned_natural.Goals as goal

@@ -2,7 +2,7 @@ use Rattle.std.proofs.Common.{map, refl}
 use Rattle.std.proofs.lemmas.Result.{err_from_is_err_and}
 use Rattle.cob_move.specs.Between.{numbers_of}
 use Rattle.cob_move.specs.Refusals.{BreaksBetween}
-use Rattle.cob_move_pairs.specs.Between.{ends}
+use Rattle.cob_move_names.specs.Between.{ends}
 use Rattle.cob_move.proofs.CorrespondingLemmas.{allowed_more, numbers_more, one_broken}
 use Rattle.cob_move.proofs.SomeLemmas.{some_later}
 use Rattle.cob_move.proofs.corresponding.judged_numbers.Goals as goal

@@ -3,7 +3,7 @@ use Rattle.std.specs.List.{AllByRecursion}
 use Rattle.cob_move.specs.Between.{MayMoveBetween, numbers_of}
 use Rattle.cob_move_apply.specs.Some.{SomeOf}
 use Rattle.cob_move.specs.Refusals.{BreaksBetween}
-use Rattle.cob_move_pairs.specs.Between.{ends}
+use Rattle.cob_move_names.specs.Between.{ends}
 use Rattle.cob_move_statements.specs.declared.fault.MoveRule.{MoveRule}
 use Rattle.cob_move.proofs.corresponding.judged_numbers.Given as goal
 

@@ -2,8 +2,8 @@ use Rattle.std.proofs.Common.{◌≡◌, ◌∙◌, List, ap, inl, map, refl, su
 use Rattle.std.proofs.lemmas.Result.{err_from_is_err_and}
 use Rattle.cob_copybook_tree.specs.Forests.{Forest}
 use Rattle.cob_copybook_tree.specs.Nodes.{Resolved, tree_of}
-use Rattle.cob_move_pairs.specs.Between.{ends, ends_of}
-use Rattle.cob_move_pairs.specs.Pairs.{AreOnce, Pair}
+use Rattle.cob_move_names.specs.Between.{ends, ends_of}
+use Rattle.cob_move_names.specs.Pairs.{AreOnce, Pair}
 use Rattle.cob_move.specs.declared.corresponding.TwoGroups.{TwoGroups}
 use Rattle.cob_move.specs.Meaning.{pairs_of}
 use Rattle.cob_move.proofs.CorrespondingLemmas.{allowed_pairs, broken_pairs, moved_pairs, same_numbers}

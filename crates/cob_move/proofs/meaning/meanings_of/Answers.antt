@@ -2,7 +2,7 @@ use Rattle.std.proofs.Common.{inr}
 use Rattle.std.proofs.lemmas.Result.{err_from_is_err_and}
 use Rattle.cob_move.specs.Entries.{records_of}
 use Rattle.cob_move.specs.Refusals.{BreaksOn}
-use Rattle.cob_move_references.specs.Directory.{entries_named}
+use Rattle.cob_move_names.specs.Directory.{entries_named}
 use Rattle.cob_move_statements.specs.Written.{written_statement}
 use Rattle.cob_move.proofs.MeaningLemmas.{meanings_all, meanings_more}
 use Rattle.cob_move.proofs.SomeLemmas.{some_here, some_later}

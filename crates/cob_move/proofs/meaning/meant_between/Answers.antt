@@ -1,4 +1,4 @@
-use Rattle.cob_move_references.specs.Directory.{entries_named}
+use Rattle.cob_move_names.specs.Directory.{entries_named}
 use Rattle.cob_move_statements.specs.Written.{written_statements}
 use Rattle.cob_move.proofs.MeaningLemmas.{meant_here}
 use Rattle.cob_move.proofs.meaning.meant_between.Goals as goal

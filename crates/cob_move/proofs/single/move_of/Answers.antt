@@ -1,7 +1,7 @@
 use Rattle.std.proofs.lemmas.Result.{err_from_is_err_and}
 use Rattle.cob_layout_places.specs.Moves.{sender}
 use Rattle.cob_move.specs.Entries.{records_of}
-use Rattle.cob_move_references.specs.Directory.{entries_named}
+use Rattle.cob_move_names.specs.Directory.{entries_named}
 use Rattle.cob_move_statements.specs.Written.{written_references, written_sender}
 use Rattle.cob_move.proofs.SingleLemmas.{receivers_fault}
 use Rattle.cob_move.proofs.single.move_of.Goals as goal

@@ -7,7 +7,7 @@ use Rattle.cob_layout_places.specs.Moves.{operand_in, sender}
 use Rattle.cob_move.specs.Entries.{records_of}
 use Rattle.cob_move.proofs.OwnLemmas.{pushed}
 use Rattle.cob_move_receive.specs.Refusals.{IsAllowed}
-use Rattle.cob_move_references.specs.Directory.{entries_named}
+use Rattle.cob_move_names.specs.Directory.{entries_named}
 use Rattle.cob_move_statements.specs.Written.{written_reference}
 use Rattle.cob_move.proofs.SingleLemmas.{allowed_more, found_all, found_more}
 use Rattle.cob_move.proofs.SomeLemmas.{some_here, some_later}

@@ -7,7 +7,7 @@ use Rattle.cob_layout_places.specs.declared.operands.Operand.{Operand}
 use Rattle.cob_layout_places.specs.Moves.{operand_in, sender}
 use Rattle.cob_move.specs.Entries.{records_of}
 use Rattle.cob_move_receive.specs.Refusals.{IsAllowed}
-use Rattle.cob_move_references.specs.Directory.{entries_named}
+use Rattle.cob_move_names.specs.Directory.{entries_named}
 use Rattle.cob_move_statements.specs.declared.fault.MoveRule.{MoveRule}
 use Rattle.cob_move_statements.specs.Written.{written_references}
 use Rattle.cob_move.proofs.single.receivers_of.Given as goal

@@ -1,8 +1,8 @@
 use Rattle.std.proofs.Common.{◌≡◌, ◌+◌, ◌-◌, ◌∙◌, ℕ, List, arith, length, sym, subst}
 use borrow.Rule.Slice.PartMut.{mid_len}
-use Rattle.cob_move_prepared.specs.Copies.{IsConstantStep}
-use Rattle.cob_move_prepared.specs.declared.constant_step.ConstantStep.{ConstantStep}
-use Rattle.cob_move_prepared.proofs.PoolLemmas.{read_at}
+use Rattle.cob_move_steps.specs.Copies.{IsConstantStep}
+use Rattle.cob_move_steps.specs.declared.constant_step.ConstantStep.{ConstantStep}
+use Rattle.cob_move_steps.proofs.PoolLemmas.{read_at}
 use Rattle.cob_move_apply.specs.Surveyed.{IsSurvey}
 use Rattle.cob_move_apply.proofs.ReceiverLemmas.{put_is}
 use Rattle.cob_move_apply.proofs.constant.make_constant.Goals as goal

@@ -1,6 +1,6 @@
 use Rattle.std.proofs.Common.{◌≡◌, ◌+◌, ◌-◌, ◌∙◌, ℕ, List, arith, length, refl, sym, subst, true}
 use borrow.Rule.Slice.PartMut.{mid_len}
-use Rattle.cob_move_prepared.specs.declared.pool.MoveStep.TheVariants.{Characters}
+use Rattle.cob_move_steps.specs.declared.pool.MoveStep.TheVariants.{Characters}
 use Rattle.cob_move_apply.specs.Surveyed.{IsSurvey}
 use Rattle.cob_move_apply.proofs.PreparedLemmas.{made}
 use Rattle.cob_move_apply.proofs.ReceiverLemmas.{put_is}

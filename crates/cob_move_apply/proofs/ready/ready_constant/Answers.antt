@@ -1,6 +1,6 @@
 use Rattle.std.proofs.Common.{◌∙◌, Some, ap, sym}
 use Rattle.cob_copybook_tree.specs.declared.node.Kind.{Kind}
-use Rattle.cob_entry.specs.Described.{plain_value}
+use Rattle.cob_copybook_entry.specs.Described.{plain_value}
 use Rattle.cob_layout.specs.Counting.{greatest_counts}
 use Rattle.cob_move_apply.specs.Planned.{records_between}
 use Rattle.cob_move_apply.proofs.ConstantLemmas.{ready}

@@ -1,5 +1,5 @@
 use Rattle.std.proofs.Common.{ℕ, Ok, subst}
-use Rattle.cob_move_prepared.specs.declared.pool.MoveStep.TheVariants.{Characters}
+use Rattle.cob_move_steps.specs.declared.pool.MoveStep.TheVariants.{Characters}
 use Rattle.cob_move_apply.specs.Applied.{done}
 use Rattle.cob_move_apply.specs.Steps.{IsStep, Support, support_of}
 use Rattle.cob_move_apply.specs.Surveyed.{records}

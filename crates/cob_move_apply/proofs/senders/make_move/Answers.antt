@@ -1,5 +1,5 @@
 use Rattle.std.proofs.Common.{Ok, refl, subst, sym}
-use Rattle.cob_entry.specs.Described.{plain_value}
+use Rattle.cob_copybook_entry.specs.Described.{plain_value}
 use Rattle.cob_layout_places.specs.declared.operands.Sender as code
 use Rattle.cob_layout_places.specs.declared.operands.Side.TheVariants.{Out}
 use Rattle.cob_layout_places.specs.Moves.{sender_by}

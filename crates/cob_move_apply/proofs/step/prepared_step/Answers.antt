@@ -1,5 +1,5 @@
 use Rattle.std.proofs.Common.{subst}
-use Rattle.cob_move_prepared.specs.declared.pool.MoveStep.{MoveStep}
+use Rattle.cob_move_steps.specs.declared.pool.MoveStep.{MoveStep}
 use Rattle.cob_move_apply.specs.Steps.{IsPreparedMove}
 use Rattle.cob_move_apply.proofs.step.prepared_step.Goals as goal
 

@@ -1,5 +1,5 @@
 use Rattle.std.proofs.Common.{ℕ, length, Some, subst}
-use Rattle.cob_entry.specs.Described.{plain_value}
+use Rattle.cob_copybook_entry.specs.Described.{plain_value}
 use Rattle.cob_copybook_tree.specs.declared.node.Kind.TheVariants.{Item as ItemKind}
 use Rattle.cob_move_receive.specs.Sent.{Literal}
 use Rattle.cob_move_receive.specs.Received.{Received}

@@ -1,4 +1,4 @@
-use Rattle.cob_entry.specs.Described.{plain_value}
+use Rattle.cob_copybook_entry.specs.Described.{plain_value}
 use Rattle.cob_move_initial.proofs.ItemLemmas.{some_number}
 use Rattle.cob_move_initial.proofs.items.write_number.Goals as goal
 

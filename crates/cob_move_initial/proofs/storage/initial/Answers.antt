@@ -2,7 +2,7 @@ use Rattle.std.proofs.Common.{sym, subst, ap, arith}
 use Rattle.std.proofs.lemmas.List.{drop_all}
 use Rattle.cob_copybook_tree.specs.Nodes.{node, tree_of}
 use Rattle.cob_copybook_tree.specs.Lengths.{greatest_number, sum_of}
-use Rattle.cob_layout.specs.cob_copybook.Books.{IsRecordDescription}
+use Rattle.cob_copybook.specs.Books.{IsRecordDescription}
 use Rattle.cob_move_initial.proofs.AtPlaceLemmas.{record_begun}
 use Rattle.cob_move_initial.proofs.storage.initial.Goals as goal
 

@@ -2,7 +2,7 @@ use Rattle.std.proofs.Common.{◌∙◌, ap, subst, sym}
 use Rattle.std.proofs.lemmas.Result.{err_from_is_err_and}
 use Rattle.cob_copybook.specs.Books.{IsBookOf}
 use Rattle.cob_copybook.specs.declared.role.Role.TheVariants.{In, Out}
-use Rattle.cob_stream.specs.cob_layout.Storage.{greatest_length}
+use Rattle.cob_layout.specs.Storage.{greatest_length}
 use Rattle.cob_records.specs.Forms.{FitsForm}
 use Rattle.cob_convert.specs.Means.{Means}
 use Rattle.cob_convert.proofs.Refused.{block_refused, block_refused_not, out_refused, paragraph_too}

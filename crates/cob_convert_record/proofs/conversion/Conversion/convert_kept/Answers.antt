@@ -5,7 +5,7 @@ use Rattle.cob_convert_record.specs.Conversion.{Conversion}
 use Rattle.cob_move_apply.specs.Prepared.{moves_of}
 use Rattle.cob_move_apply.specs.declared.stop.Stop.{Stop}
 use Rattle.cob_convert_record.specs.Becoming.{Becomes, IsCountStop, StopsAt}
-use Rattle.cob_stream.specs.Output.{IsOutputOf}
+use Rattle.cob_convert_stream.specs.Output.{IsOutputOf}
 use Rattle.cob_convert_record.proofs.Outcomes.{at_move, at_count, becomes, if_error, if_value}
 use Rattle.cob_convert_record.proofs.conversion.Conversion.convert_kept.Goals as goal
 

@@ -1,5 +1,5 @@
 use Rattle.std.proofs.Common.{subst}
-use Rattle.cob_move_apply.specs.cob_copybook.Books.{IsRecordDescription}
+use Rattle.cob_copybook.specs.Books.{IsRecordDescription}
 use Rattle.cob_copybook_tree.specs.Forests.{Forest}
 use Rattle.cob_copybook_tree.specs.Nodes.{Resolved}
 use Rattle.cob_layout_places.specs.Moves.{record_of}

@@ -1,0 +1,6 @@
+pub mod DigitLemmas
+pub mod ByteLemmas
+pub mod KeepingLemmas
+pub mod NumberLemmas
+pub mod MovedLemmas
+pub mod CoveredLemmas

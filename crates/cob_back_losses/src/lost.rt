@@ -1,0 +1,114 @@
+//! The first byte by which a move may lose its description.
+
+ghost use Rattle.std.specs.Prelude.{◌≡◌, ◌<◌, ℕ, IfOk, IsTrue, length};
+ghost use Rattle.cob_copybook_tree.specs.Nodes.{node};
+ghost use Rattle.cob_back_losses.specs.Bytes.{element_bytes};
+ghost use Rattle.cob_back_losses.specs.Keeping.{HoldsSent, IsMarked, Nothing, Tells, is_group, moves_bytes, sent};
+
+use crate::bytes::{ItemByte, bytes_of};
+use crate::keeping::{Sent, Unkept, first_unkept, is_marked};
+use cob_copybook_tree::{Kind, MANY, Node, element_length};
+use std::alloc::{AllocError, Global};
+
+/// Whether an entry is a group.
+fn is_group(kind: &Kind) -> bool
+    ensures { result ≡ is_group kind.now }
+{
+    matches!(kind, Kind::Group)
+}
+
+/// Whether a move copies bytes, whatever they are: a group is on either side.
+fn moves_bytes(from: &Sent<'_>, to: &Node) -> bool
+    ensures { result ≡ moves_bytes (sent from.now) (node to.now) }
+{
+    match from {
+        Sent::Entry(entry) => is_group(&entry.kind) || is_group(&to.kind),
+        Sent::Constant(_) => is_group(&to.kind),
+    }
+}
+
+/// The bytes of an entry that is sent, up to a limit; none of a constant.
+fn sent_bytes<'a>(
+    alloc: Global,
+    from: &Sent<'a>,
+    limit: usize,
+) -> Result<Vec<ItemByte<'a>>, AllocError>
+    ensures { IfOk result (λ bytes. HoldsSent (sent from.now) bytes.items limit) }
+{
+    match from {
+        Sent::Entry(entry) => bytes_of(alloc, entry, limit),
+        Sent::Constant(_) => Ok(Vec::new(alloc)),
+    }
+}
+
+/// Whether all bytes of an entry's element are marked.
+fn are_marked(marks: &[bool], entry: &Node) -> bool
+    ensures { IsTrue result → (at : ℕ) → at < length (element_bytes (node entry.now))
+        → IsMarked marks.now at }
+{
+    let count = element_length(entry);
+    if count == MANY {
+        return false;
+    }
+    for at in 0..count {
+        if !is_marked(marks, at as usize) {
+            return false;
+        }
+    }
+    true
+}
+
+/// The first byte of an entry's element that a move of bytes doesn't keep, where these of its bytes are covered.
+fn unkept_byte(
+    alloc: Global,
+    from: &Sent<'_>,
+    to: &Node,
+    covered: &[bool],
+) -> Result<Option<Unkept>, AllocError>
+    requires { IsTrue (moves_bytes (sent from.now) (node to.now)) }
+    ensures { IfOk result (λ lost. Tells (sent from.now) (node to.now)
+        (IsMarked covered.now) lost) }
+{
+    if are_marked(covered, to) {
+        return Ok(None);
+    }
+    let received = bytes_of(alloc, to, usize::MAX)?;
+    let bytes = sent_bytes(alloc, from, received.len())?;
+    Ok(first_unkept(from, &bytes, &received, covered))
+}
+
+/// The first byte of an entry's element by which the move of a sender may lose its description, where these of its bytes are covered; those behind the marks
+/// are not. None exactly where it may not lose it: no byte is copied, or each that is not covered is described as what it gets.
+///
+/// # Errors
+///
+/// Where no memory is left.
+pub fn description_lost_among(
+    alloc: Global,
+    from: &Sent<'_>,
+    to: &Node,
+    covered: &[bool],
+) -> Result<Option<Unkept>, AllocError>
+    ensures { IfOk result (λ lost. Tells (sent from.now) (node to.now)
+        (IsMarked covered.now) lost) }
+{
+    if !moves_bytes(from, to) {
+        return Ok(None);
+    }
+    unkept_byte(alloc, from, to, covered)
+}
+
+/// The first byte of an entry's element by which the move of a sender may lose its description, where nothing covers it.
+///
+/// # Errors
+///
+/// Where no memory is left.
+pub fn description_lost(
+    alloc: Global,
+    from: &Sent<'_>,
+    to: &Node,
+) -> Result<Option<Unkept>, AllocError>
+    ensures { IfOk result (λ lost. Tells (sent from.now) (node to.now) Nothing lost) }
+{
+    description_lost_among(alloc, from, to, &[])
+}

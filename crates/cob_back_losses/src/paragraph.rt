@@ -1,0 +1,96 @@
+//! The first byte by which each single move of a paragraph may lose its description.
+
+ghost use Rattle.std.specs.Prelude.{◌≡◌, ◌∷◌, List, IfOk, OnOk, length, map, reverse};
+ghost use Rattle.cob_copybook_tree.specs.Lengths.{greatest_number, sum_of};
+ghost use Rattle.cob_back_moves.specs.Brought.{singles_in};
+ghost use Rattle.cob_back_moves.specs.Tested.{layout_records};
+ghost use Rattle.cob_back_losses.specs.Moved.{AreTold, Moved, TellsOf, moved};
+ghost use Rattle.cob_back_losses.specs.Seen.{AreMarks, TellsIn, seen};
+
+use crate::entries::entry_in;
+use crate::keeping::Unkept;
+use crate::later::{cover, place_of, uncovered};
+use crate::lost::description_lost_among;
+use crate::singles::{Single, singles_of};
+use cob_back_moves::MovesBetween;
+use cob_layout::Layout;
+use std::alloc::{AllocError, Global};
+
+/// The first byte by which a single move may lose its description, where these bytes from its receiver's beginning on are covered.
+fn lost_among(
+    alloc: Global,
+    output: &Layout,
+    single: &Single<'_>,
+    covered: &[bool],
+) -> Result<Option<Unkept>, AllocError>
+    ensures { IfOk result (λ lost. TellsIn output.now (seen single.now) covered.now lost) }
+{
+    let Some(from) = single.sent else {
+        return Ok(None);
+    };
+    let Some(to) = entry_in(output.root(), single.receiver) else {
+        return Ok(None);
+    };
+    description_lost_among(alloc, &from, to, covered)
+}
+
+/// The first byte by which a single move may lose its description, where the marked bytes of the record are covered by those behind it. Then its own are
+/// marked too.
+fn lost_before(
+    alloc: Global,
+    output: &Layout,
+    single: &Single<'_>,
+    covered: &mut [bool],
+) -> Result<Option<Unkept>, AllocError>
+    requires all { length covered.old ≡ sum_of greatest_number output.now }
+    ensures told { IfOk result (λ lost. (later : List Moved) → AreMarks output.now later covered.old
+        → TellsOf output.now (seen single.now) later lost) }
+    ensures marks { OnOk result ((later : List Moved) → AreMarks output.now later covered.old
+        → AreMarks output.now (seen single.now ∷ later) covered.new) }
+    ensures room { length covered.new ≡ length covered.old }
+{
+    let Some(place) = place_of(output, single.receiver, single.subscripts) else {
+        return Ok(None);
+    };
+    let start = place.offset as usize;
+    let lost = lost_among(alloc, output, single, &covered[start..])?;
+    cover(covered, place);
+    Ok(lost)
+}
+
+/// The same of each of these single moves, the last one first.
+fn lost_from_end(
+    alloc: Global,
+    output: &Layout,
+    singles: &[Single<'_>],
+) -> Result<Vec<Option<Unkept>>, AllocError>
+    ensures { IfOk result (λ all. AreTold output.now (map seen singles.now) (reverse all.items)) }
+{
+    let mut covered = uncovered(alloc, output)?;
+    let mut all = Vec::new(alloc);
+    let count = singles.len();
+    for step in 0..count {
+        let single = &singles[count - 1 - step];
+        all.push(lost_before(alloc, output, single, &mut covered)?)?;
+    }
+    Ok(all)
+}
+
+/// Of each single move, in their order, the first byte by which it may lose its description: a byte that is not described as what it gets, and that no later
+/// one covers. None exactly where it may not lose it.
+///
+/// # Errors
+///
+/// Where no memory is left.
+pub fn descriptions_lost(
+    alloc: Global,
+    moves: &MovesBetween<'_>,
+) -> Result<Vec<Option<Unkept>>, AllocError>
+    ensures { IfOk result (λ all. AreTold moves.now.layouts.output.now
+        (map (moved (layout_records moves.now.layouts)) (singles_in moves.now)) all.items) }
+{
+    let singles = singles_of(alloc, moves)?;
+    let mut all = lost_from_end(alloc, moves.layouts.output, &singles)?;
+    all.reverse();
+    Ok(all)
+}

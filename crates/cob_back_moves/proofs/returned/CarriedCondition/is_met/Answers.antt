@@ -1,0 +1,11 @@
+use Rattle.cob_back_moves.specs.Brought.{occurrence_at}
+use Rattle.cob_back_moves.specs.Received.{occurrence}
+use Rattle.cob_back_moves.specs.Tested.{single_of}
+use Rattle.cob_back_moves.proofs.ReturnedLemmas.{never_carried}
+use Rattle.cob_back_moves.proofs.returned.CarriedCondition.is_met.Goals as goal
+
+pub returns-in-None : goal.returns-in-None
+returns-in-None c =
+    let x = c.args.self.now in
+    never_carried (single_of c.args.layouts.now c.args.single.now) (occurrence x.from.number x.from.subscripts.now) (occurrence_at x.to) x.from.item.now
+    (rw c.as_slice-to.ensures.value at c.in-None.ensures.none)

@@ -1,0 +1,12 @@
+pub mod Apart
+pub mod Wider
+pub mod Singles
+pub mod Returns
+pub mod Lossless
+pub mod Laws
+pub mod Tested
+pub mod Received
+pub mod Brought
+pub mod Noting
+pub mod Walk
+pub mod Losses

@@ -1,0 +1,83 @@
+-- Single moves, each of a sender to one of its receivers.
+use Rattle.std.specs.Prelude.{◌≡◌, ◌⊎◌, ℕ, List, [], ◌∷◌, ◌++◌}
+use Rattle.std.specs.List.{AllByRecursion}
+use Rattle.cob_codec.specs.declared.reading.Reading.{Reading}
+use Rattle.cob_copybook_tree.specs.declared.node.Kind.{Kind}
+use Rattle.cob_copybook_tree.specs.declared.node.Kind.TheVariants.{Group, Item as ItemKind}
+use Rattle.cob_layout_places.specs.Cover.{Occurrence}
+use Rattle.cob_layout_places.specs.declared.operands.Operand.{Operand}
+use Rattle.cob_layout_places.specs.declared.operands.Side.TheVariants.{In, Out}
+use Rattle.cob_layout_places.specs.Moves.{Entry, Literal, Move, Sender}
+use Rattle.cob_back_moves.specs.Wider.{IsReadPictured}
+
+-- a sender and one of its receivers
+pub record SingleMove : Type 0 where
+  pub sender : Sender
+  pub receiver : Operand
+
+-- the single moves of a sender to these receivers
+abbrev pub singles_from : Sender → List Operand → List SingleMove
+singles_from s [] = []
+singles_from s (o ∷ os) = record { sender = s; receiver = o } ∷ singles_from s os
+
+-- the single moves of moves, in their order
+abbrev pub all_singles : List Move → List SingleMove
+all_singles [] = []
+all_singles (m ∷ ms) = singles_from m.sender m.receivers ++ all_singles ms
+
+-- the occurrence of an entry that an operand is
+abbrev pub occurrence_of : Operand → Occurrence
+occurrence_of o = record { number = o.entry.node; subscripts = o.entry.subscripts.items }
+
+-- an elementary item
+abbrev pub IsItemKind : Kind → Type 0
+IsItemKind Group = ⊥
+IsItemKind (ItemKind i) = Unit {0}
+
+-- the sender is an item of the input record
+abbrev pub IsInputItem : Sender → Type 0
+IsInputItem (Entry In reading o) = IsItemKind o.kind
+IsInputItem (Entry Out reading o) = ⊥
+IsInputItem (Literal c) = ⊥
+
+-- A single move is elementary: it sends an item of the input record to an item.
+pub record IsElementary (s : SingleMove) : Type 0 where
+  pub sender : IsInputItem s.sender
+  pub receiver : IsItemKind s.receiver.kind
+
+-- what an entry of this kind holds is read as its picture says
+abbrev pub IsKindReadPictured : Reading → Kind → Type 0
+IsKindReadPictured reading Group = Unit {0}
+IsKindReadPictured reading (ItemKind i) = IsReadPictured reading i
+
+-- a sender is read as its picture says
+abbrev pub IsSenderReadPictured : Sender → Type 0
+IsSenderReadPictured (Entry side reading o) = IsKindReadPictured reading o.kind
+IsSenderReadPictured (Literal c) = Unit {0}
+
+-- the sender of a single move is read as its picture says: it is no binary item that is read whole
+abbrev pub SendsPictured : SingleMove → Type 0
+SendsPictured s = IsSenderReadPictured s.sender
+
+-- a single move is one of these
+abbrev pub IsOneOf : SingleMove → List SingleMove → Type 0
+IsOneOf s [] = ⊥
+IsOneOf s (t ∷ ts) = (s ≡ t) ⊎ IsOneOf s ts
+
+-- the occurrence receives in one of these
+abbrev pub Receives : Occurrence → List SingleMove → Type 0
+Receives x [] = ⊥
+Receives x (s ∷ ss) = (occurrence_of s.receiver ≡ x) ⊎ Receives x ss
+
+-- no occurrence receives twice
+abbrev pub ReceiveOnce : List SingleMove → Type 0
+ReceiveOnce [] = Unit {0}
+ReceiveOnce (s ∷ ss) = (Receives (occurrence_of s.receiver) ss → ⊥) × ReceiveOnce ss
+
+-- the single move goes from this occurrence of the input record to that one
+pub record Goes (s : SingleMove) (from to : Occurrence) : Type 0 where
+  pub reading : Reading
+  pub operand : Operand
+  pub sends : s.sender ≡ Entry In reading operand
+  pub leaves : occurrence_of operand ≡ from
+  pub reaches : occurrence_of s.receiver ≡ to

@@ -1,4 +1,0 @@
-use Rattle.cob_chosen.proofs.chosen.Chosen.new.Given as goal
-
-abbrev pub ghost-foretell : goal.ghost-foretell
-ghost-foretell g a = g.R.Source.coming

@@ -1,5 +1,0 @@
-use Rattle.cob_chosen.proofs.chosen.Chosen.refilled.Given as goal
-use Rattle.cob_chosen.specs.Comings.{chosen_coming}
-
-abbrev pub ghost-foretell : goal.ghost-foretell
-ghost-foretell g a = chosen_coming g.R.Source.coming

@@ -1,0 +1,57 @@
+//! Numbers as digits in lanes of a vector, at most sixteen in one: numeric items read to digits and written from digits, sixteen bytes at a time.
+//!
+//! A [`LaneReader`] reads items of one kind and shape, each at the end of a window of sixteen bytes, and keeps the digits that are
+//! [`Wanted`] when the number is moved by the point; a [`LaneWriter`] writes items of one kind and shape from such digits. Both are
+//! made ready once, by [`LaneReader::zoned`], `separate` and `packed` and by [`LaneWriter::zoned`], `separate` and `packed`, and hold
+//! nothing but bounds, positions and what is added: no length, scale or sign is looked at while numbers are read and written.
+//!
+//! What is promised: [`LaneReader::read`] answers whether a window passes the reader, and the lanes that it takes (`IsLanesRead` of
+//! specs/Readers.antt), and of a reader that was made ready it is proved that this is reading (`IsReaderOf`): bytes pass exactly where they
+//! represent a number by the definitions of `cob_codec`, and what is taken then is that number's digits, aligned (`AreRead`).
+//! [`LaneWriter::write`] leaves the bytes that it makes of digits and a sign (`AreMade` of specs/Writers.antt), and of a writer that was
+//! made ready these are the stored form (`IsWriterOf`). A number of more digits stands in two vectors, its last sixteen digits and those in
+//! front of them: of two readers of such items one reads, and the other takes the digits of what passed ([`LaneReader::take`], `AreLanesTaken`); a
+//! [`WideWriter`] writes them (`IsWideWriterOf`). [`LaneText::write`] leaves a text of digits (`AreShown` of specs/Texts.antt): what each byte
+//! shows of them, and what is added to it; [`WideText::write`] leaves one of up to thirty-two bytes likewise (`AreWidelyShown`).
+//! [`keeps_minus`] and [`keeps_minus_of_both`] say whether a minus stays with digits, and [`zeros_before`] how many of them are zeros in front.
+//!
+//! Texts are read by lanes too. [`LaneReader::numerals`] is a reader of items whose bytes are all characters of digits, as whole numbers
+//! (`AreNumeralsOf`). A text of at most thirty-two bytes stands in [`TextLanes`], with zeros behind it. [`DigitPlaces::digits`] takes the digits
+//! that stand at given bytes of it, and 0 of a byte that shows none (`AreDigitsAt`); [`KeptDigits::keep`] keeps of them, as a number, the
+//! digits that are wanted when it is moved by the point (`AreWanted`); and [`WideText::is`] says whether the text that digits and a sign make
+//! is just this one.
+//!
+//! It knows no record and no move, and nothing here takes memory.
+#![tactic(auto)]
+
+mod binary;
+mod binary_reading;
+mod binary_writing;
+mod bounds;
+mod filling;
+mod lanes;
+mod picks;
+mod reader;
+mod readers;
+mod reading;
+mod signs;
+mod text;
+mod text_lanes;
+mod wanted;
+mod wide_writer;
+mod width;
+mod words;
+mod writer;
+mod writers;
+
+pub use binary::{BinaryReader, BinaryWriter};
+pub use lanes::{Bounds, NO_LANE, Picks, keeps_minus, keeps_minus_of_both, zeros_before};
+pub use reader::LaneReader;
+pub use reading::LanesRead;
+pub use signs::SignByte;
+pub use text::{DigitPlaces, KeptDigits, LaneText, WideText};
+pub use text_lanes::TextLanes;
+pub use wanted::Wanted;
+pub use wide_writer::WideWriter;
+pub use width::Width;
+pub use writer::LaneWriter;

@@ -1,6 +1,0 @@
-use Rattle.cob_command_faults.proofs.EndLemmas.{ends_among}
-use Rattle.cob_command_convert.specs.Ends.{MayEndConvert}
-use Rattle.cob_command_convert.proofs.converting.do_convert.Goals as goal
-
-pub returns : goal.returns
-returns g c = ends_among (MayEndConvert c.args.line.now.atomic) _ _ c.convert.ensures c.tell_converted.ensures

@@ -1,4 +1,0 @@
-pub mod Inputs
-pub mod Ends
-pub mod Aside
-pub mod Counted

@@ -1,6 +1,0 @@
-use Rattle.cob_command_faults.proofs.EndLemmas.{ends_among}
-use Rattle.cob_command_aside.specs.Ends.{MayEndAside}
-use Rattle.cob_command_explained.proofs.conversions.do_convert_aside_explained.Goals as goal
-
-pub returns : goal.returns
-returns g c = ends_among (MayEndAside c.args.line.now.atomic) _ _ c.convert_aside.ensures c.tell_explained_aside.ensures

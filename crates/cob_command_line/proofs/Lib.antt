@@ -1,4 +1,0 @@
-pub mod Top
-pub mod Spelled
-pub mod Parts
-pub mod Said

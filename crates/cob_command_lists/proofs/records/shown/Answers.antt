@@ -1,4 +1,0 @@
-use Rattle.cob_command_lists.proofs.records.shown.Goals as goal
-
-pub returns-in-Some-clause-shows : goal.returns-in-Some-clause-shows
-returns-in-Some-clause-shows g c = λ text. (_, rw c.new-told.ensures.inner at c.listed_as-answer.ensures.shows text)

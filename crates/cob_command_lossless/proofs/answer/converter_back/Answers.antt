@@ -1,4 +1,0 @@
-use Rattle.cob_command_lossless.proofs.answer.converter_back.Goals as goal
-
-pub returns-in-Err-clause-refused : goal.returns-in-Err-clause-refused
-returns-in-Err-clause-refused c = record { refused = c.in-Err.fault; breaks = c.in-Err.ensures.refused; told_so = c.refused_back.ensures }

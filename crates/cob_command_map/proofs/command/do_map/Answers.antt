@@ -1,5 +1,0 @@
-use Rattle.cob_command_map.proofs.EndLemmas.{ends_map}
-use Rattle.cob_command_map.proofs.command.do_map.Goals as goal
-
-pub returns : goal.returns
-returns g c = ends_map _ _ c.print_map.ensures c.tell_mapped.ensures

@@ -1,2 +1,0 @@
-pub mod WalkLemmas
-pub mod ReadLemmas

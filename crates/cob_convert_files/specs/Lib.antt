@@ -1,3 +1,0 @@
-pub mod Identity
-pub mod Names
-pub mod Texts

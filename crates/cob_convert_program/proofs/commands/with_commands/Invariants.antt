@@ -1,8 +1,0 @@
-use Rattle.std.proofs.Common.{◌≡◌, drop}
-use Rattle.clap.specs.Words.{app_of}
-use Rattle.cob_convert_program.specs.Definitions.{commands_in}
-use Rattle.cob_convert_program.specs.Program.{with_commands}
-use Rattle.cob_convert_program.proofs.commands.with_commands.Given as goal
-
-abbrev pub invariant-loop-definition : goal.invariant-loop-definition
-invariant-loop-definition l = with_commands (app_of l.program) (commands_in (drop l.definition-index l.definitions)) ≡ with_commands (app_of l.initial.program) (commands_in l.definitions)

@@ -1,6 +1,0 @@
--- Each call has one table less.
-use Rattle.std.proofs.Common.{length}
-use Rattle.cob_convert_values.proofs.rows.+put_names.Given as goal
-
-abbrev pub decreases-put_names : goal.decreases-put_names
-decreases-put_names g l = length l.tables.now

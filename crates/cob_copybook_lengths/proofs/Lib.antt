@@ -1,3 +1,0 @@
-pub mod AreaLemmas
-pub mod FittingLemmas
-pub mod NodeLemmas

@@ -1,6 +1,0 @@
-pub mod GatherLemmas
-pub mod JoinLemmas
-pub mod PlaceLemmas
-pub mod StatementLemmas
-pub mod MeetLemmas
-pub mod SweepLemmas

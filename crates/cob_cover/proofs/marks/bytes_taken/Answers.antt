@@ -1,6 +1,0 @@
-use Rattle.cob_cover.proofs.MeetLemmas.{are_marks}
-use Rattle.cob_cover.proofs.marks.bytes_taken.Goals as goal
-
-pub returns-clause-marks : goal.returns-clause-marks
-returns-clause-marks c =
-    are_marks c.args.moves.now.layouts.input.now c.in_ok-places.places.items c.deref.result.now _ c.in_ok-marks.marks.items c.deref.ensures.value c.in_ok-marks.ensures.marks c.in_ok-places.ensures

@@ -1,5 +1,0 @@
-pub mod Gathered
-pub mod Statements
-pub mod Covered
-pub mod Reaches
-pub mod Numbers

@@ -1,5 +1,0 @@
-use Rattle.std.proofs.Common.{length}
-use Rattle.cob_draft_partners.proofs.naming.+reach.Given as goal
-
-abbrev pub decreases-reach : goal.decreases-reach
-decreases-reach l = length l.above.now

@@ -1,5 +1,0 @@
-use Rattle.cob_layout.specs.Standing.{IsRoomFor}
-use Rattle.cob_fault_words.proofs.counts.counted_at.Given as goal
-
-abbrev pub invariant-loop-table : goal.invariant-loop-table
-invariant-loop-table l = IsRoomFor l.layout l.counts

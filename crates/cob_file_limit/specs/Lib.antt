@@ -1,4 +1,0 @@
-pub mod Extents
-pub mod Files
-pub mod Limits
-pub mod Prints

@@ -1,5 +1,0 @@
-use Rattle.cob_html.proofs.EscapeLemmas.{reads_back}
-use Rattle.cob_html.proofs.laws.escapes_read_back.Goals as goal
-
-pub returns : goal.returns
-returns c = reads_back

@@ -1,2 +1,0 @@
-mod GroupLemmas
-mod TopLemmas

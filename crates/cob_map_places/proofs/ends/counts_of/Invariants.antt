@@ -1,8 +1,0 @@
-use Rattle.indexmap.specs.IndexMap.{get_by}
-use Rattle.cob_map_places.specs.Ends.{same}
-use Rattle.cob_map_places.specs.declared.ends.Ends.{Ends}
-use Rattle.cob_map_places.proofs.GroupLemmas.{SoFar}
-use Rattle.cob_map_places.proofs.ends.counts_of.Given as goal
-
-abbrev pub invariant-loop-single : goal.invariant-loop-single
-invariant-loop-single l = SoFar l.singles l.single-index l.counts.items (λ (q : Ends). get_by (same q) l.left)

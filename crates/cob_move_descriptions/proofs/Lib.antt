@@ -1,2 +1,0 @@
-pub mod MovedLemmas
-pub mod CoveredLemmas

@@ -1,2 +1,0 @@
-pub mod EachLemmas
-pub mod LawLemmas

@@ -1,5 +1,0 @@
-use Rattle.cob_move_lossless.proofs.LossLemmas.{returned}
-use Rattle.cob_move_lossless.proofs.lossless.return_all.Goals as goal
-
-pub returns : goal.returns
-returns c = returned c.args.there.now c.args.back.now c.lost_item.result c.is_none.result c.is_none.ensures c.lost_item.ensures.fine c.lost_item.ensures.lost

@@ -1,9 +1,0 @@
-use Rattle.std.proofs.Common.{List}
-use Rattle.std.specs.List.{AllByRecursion}
-use Rattle.cob_layout_places.specs.declared.reference.Ref.{Ref}
-use Rattle.cob_move_lossless.specs.Received.{IsElsewhere, occurrence}
-use Rattle.cob_move_lossless.proofs.LeftLemmas.{Left}
-use Rattle.cob_move_lossless.proofs.once.are_elsewhere.Given as goal
-
-abbrev pub invariant-loop-receiver : goal.invariant-loop-receiver
-invariant-loop-receiver l = Left (λ (rs : List Ref). AllByRecursion (IsElsewhere (occurrence l.number l.subscripts)) rs) l.receivers l.receiver-index

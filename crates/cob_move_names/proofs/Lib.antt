@@ -1,0 +1,11 @@
+pub mod ReferenceLemmas
+pub mod SubscriptLemmas
+pub mod OnceLemmas
+pub mod SubordinateLemmas
+pub mod PairLemmas
+pub mod GroupLemmas
+pub mod NodeLemmas
+pub mod OperandLemmas
+pub mod PartnerLemmas
+pub mod NumberLemmas
+pub mod KeptLemmas

@@ -1,0 +1,14 @@
+pub mod Candidates
+pub mod Listed
+pub mod References
+pub mod Directory
+pub mod Laws
+pub mod Pairs
+pub mod Pairing
+pub mod PlainPairs
+pub mod Partners
+pub mod Groups
+pub mod Between
+pub mod Keys
+pub mod Found
+pub mod Numbers

@@ -1,0 +1,19 @@
+-- The listed entries without where they lie in memory.
+use Rattle.std.specs.Prelude.{◌≡◌, List, ◌++◌, map}
+use Rattle.cob_copybook_tree.specs.declared.node.Node.TheViews.{out-Node}
+use Rattle.cob_copybook_names.specs.declared.bearer.Bearer.{Bearer as Listed}
+use Rattle.cob_copybook_names.specs.Listed.{bearer_by}
+use Rattle.cob_move_names.specs.declared.candidate.RecordEntry.{RecordEntry as ListedEntry}
+use Rattle.cob_move_names.specs.Candidates.{Candidate, RecordEntry}
+
+-- What is known of a listed entry.
+abbrev pub listed_record_entry : ListedEntry → RecordEntry
+listed_record_entry e = record { side = e.side; number = (out-Node e.entry.now).number; tables = e.tables.items; kind = (out-Node e.entry.now).kind }
+
+-- A listed entry, with its names.
+abbrev pub candidate_of : Listed ListedEntry → Candidate
+candidate_of b = bearer_by listed_record_entry b
+
+-- Entries are listed behind those before.
+abbrev pub ListsMore : List (Listed ListedEntry) → List (Listed ListedEntry) → List Candidate → Type 0
+ListsMore before after more = map candidate_of after ≡ map candidate_of before ++ more

@@ -1,0 +1,114 @@
+//! The entries of a record with what stands above them.
+
+ghost use Rattle.std.specs.Prelude.{◌≡◌, ◌+◌, ◌≤◌, List, [], ◌∷◌, ◌++◌, length, map, OnOk};
+ghost use Rattle.cob_copybook_tree.specs.Lengths.{greatest_number};
+ghost use Rattle.cob_copybook_tree.specs.Nodes.{resolved_entry, tree_of};
+ghost use Rattle.cob_copybook_tree.specs.declared.node.Node.TheViews.{out-Node};
+ghost use Rattle.cob_copybook_names.specs.Listed.{texts};
+ghost use Rattle.cob_layout.specs.Sound.{AreNested, own_dimension};
+ghost use Rattle.cob_layout_places.specs.Places.{is_table};
+ghost use Rattle.cob_limits.specs.Limits.{most_dimensions};
+ghost use Rattle.cob_move_names.specs.Candidates.{candidate, candidates, with_table};
+ghost use Rattle.cob_move_names.specs.Listed.{ListsMore};
+
+use arrayvec::ArrayVec;
+use cob_copybook_names::{Bearer, name_of, names_beneath};
+use cob_layout::{Node, is_table};
+use cob_layout_places::Side;
+use cob_limits::MAX_SUBSCRIPTS;
+use std::alloc::{AllocError, Global};
+
+/// The greatest numbers of tables, one within the other, the outermost first.
+type Tables = ArrayVec<u32, MAX_SUBSCRIPTS>;
+
+/// An entry of one of the two records.
+#[derive(Drop)]
+pub(crate) struct RecordEntry<'a> {
+    pub side: Side,
+    pub entry: &'a Node,
+    /// The tables that hold it or that it is.
+    pub tables: Tables,
+}
+
+/// The tables that hold an entry, and itself if it is one.
+fn tables_of(entry: &Node, holding: &[u32]) -> Tables
+    requires nested { length holding.now + own_dimension (out-Node entry.now).occurs
+        ≤ most_dimensions }
+    ensures { result.items ≡ with_table (is_table (out-Node entry.now).occurs)
+        (greatest_number (resolved_entry (out-Node entry.now))) holding.now }
+{
+    let mut tables = ArrayVec::new();
+    for table in holding {
+        tables.push(*table);
+    }
+    if is_table(entry.occurs) {
+        tables.push(entry.occurs.most());
+    }
+    tables
+}
+
+/// Puts an entry behind those that are listed.
+fn list_entry<'a>(
+    alloc: Global,
+    side: Side,
+    above: &[&'a [u8]],
+    holding: &[u32],
+    entry: &'a Node,
+    listed: &mut Vec<Bearer<'a, RecordEntry<'a>>>,
+) -> Result<(), AllocError>
+    requires nested { length holding.now + own_dimension (out-Node entry.now).occurs
+        ≤ most_dimensions }
+    ensures { OnOk result (ListsMore listed.old.items listed.new.items
+        (candidate side (texts above.now) holding.now (resolved_entry (out-Node entry.now)) ∷ [])) }
+{
+    let mut names = Vec::new(alloc);
+    names.extend_from_slice(above)?;
+    let tables = tables_of(entry, holding);
+    listed.push(Bearer {
+        name: name_of(&entry.name),
+        above: names,
+        entry: RecordEntry {
+            side,
+            entry,
+            tables,
+        },
+    })?;
+    Ok(())
+}
+
+/// Puts an entry, and then those beneath it, behind those that are listed. The names `above` are those of the groups that it stands in, and
+/// `holding` are the tables that hold it.
+///
+/// # Errors
+///
+/// Memory for a list was refused.
+pub(crate) fn list_tree<'a>(
+    alloc: Global,
+    side: Side,
+    above: &[&'a [u8]],
+    holding: &[u32],
+    entry: &'a Node,
+    listed: &mut Vec<Bearer<'a, RecordEntry<'a>>>,
+) -> Result<(), AllocError>
+    requires nested { AreNested (length holding.now) (tree_of entry.now) }
+    ensures { OnOk result (ListsMore listed.old.items listed.new.items
+        (candidates side (texts above.now) holding.now (tree_of entry.now))) }
+{
+    list_entry(alloc, side, above, holding, entry, listed)?;
+    if entry.children.is_empty() {
+        return Ok(());
+    }
+    let beneath = names_beneath(alloc, &entry.name, above)?;
+    let inner = tables_of(entry, holding);
+    for child in entry.children.iter() {
+        list_tree(
+            alloc,
+            side,
+            beneath.as_slice(),
+            inner.as_slice(),
+            child,
+            listed,
+        )?;
+    }
+    Ok(())
+}

@@ -1,0 +1,22 @@
+//! What follows from the definitions.
+
+ghost use Rattle.cob_move_names.specs.Laws.{NamedAreOperands, NamedBreakNoRule, OneNamed};
+
+use cob_layout::records_are_sound;
+
+/// A law: what a reference names is an operand of its record.
+pub fn named_are_operands()
+    ensures { NamedAreOperands }
+{
+    records_are_sound();
+}
+
+/// A law: a reference names one operand at most.
+pub fn one_named()
+    ensures { OneNamed }
+{}
+
+/// A law: a reference that names an operand breaks no rule.
+pub fn named_break_no_rule()
+    ensures { NamedBreakNoRule }
+{}

@@ -1,9 +1,0 @@
-pub mod OnceLemmas
-pub mod SubordinateLemmas
-pub mod PairLemmas
-pub mod GroupLemmas
-pub mod NodeLemmas
-pub mod OperandLemmas
-pub mod PartnerLemmas
-pub mod NumberLemmas
-pub mod KeptLemmas

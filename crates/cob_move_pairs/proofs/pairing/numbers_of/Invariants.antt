@@ -1,7 +1,0 @@
-use Rattle.std.proofs.Common.{◌≡◌, map, take}
-use Rattle.cob_move_pairs.specs.Listed.{pairs}
-use Rattle.cob_move_pairs.specs.Pairing.{pair_numbers}
-use Rattle.cob_move_pairs.proofs.pairing.numbers_of.Given as goal
-
-abbrev pub invariant-loop-one : goal.invariant-loop-one
-invariant-loop-one l = l.numbers.items ≡ map pair_numbers (pairs (take l.one-index l.list))

@@ -1,5 +1,0 @@
-use Rattle.std.proofs.Common.{length}
-use Rattle.cob_move_pairs.proofs.subordinate.+same_names.Given as goal
-
-abbrev pub decreases-same_names : goal.decreases-same_names
-decreases-same_names l = length l.a.now

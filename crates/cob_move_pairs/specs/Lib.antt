@@ -1,9 +1,0 @@
-pub mod Pairs
-pub mod Pairing
-pub mod Listed
-pub mod Partners
-pub mod Groups
-pub mod Between
-pub mod Keys
-pub mod Found
-pub mod Numbers

@@ -1,2 +1,0 @@
-pub mod ReferenceLemmas
-pub mod SubscriptLemmas

@@ -1,9 +1,0 @@
-pub mod NumberLemmas
-pub mod TextLemmas
-pub mod ReturnLaw
-pub mod ApartLaw
-pub mod SteadyLemmas
-pub mod MoveLemmas
-pub mod KeepsLaw
-pub mod FillLaw
-pub mod SoundLaw

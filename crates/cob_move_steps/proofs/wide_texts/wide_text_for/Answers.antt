@@ -1,0 +1,12 @@
+use Rattle.std.proofs.Common.{sym, subst, ◌∙◌, ap, length}
+use Rattle.cob_edit.specs.Rows.{IsRowOf}
+use Rattle.cob_move_steps.proofs.TextLemmas.{wide_text_made}
+use Rattle.cob_move_steps.proofs.wide_texts.wide_text_for.Goals as goal
+
+pub returns : goal.returns
+returns c =
+    let item = c.args.item.now in
+    wide_text_made item c.args.zeros c.as_slice.result.now c.wide_text_of.result c.requires.item.few c.requires.item.fits
+    (c.requires.item.plainly.bytes ∙ sym (ap length c.as_slice.ensures.value ∙ c.row_of-row.ensures.count))
+    c.wide_text_of.ensures
+    (subst (λ xs. IsRowOf item.picture item.blank c.args.zeros xs) (sym c.as_slice.ensures.value) c.row_of-row.ensures.text)

@@ -1,0 +1,96 @@
+//! What reads and writes numbers of items, made ready.
+
+ghost use Rattle.std.specs.Prelude.{◌≡◌, ◌↔◌, ◌≤◌, IfSome, IsSome, IsTrue};
+ghost use Rattle.cob_picture.specs.Counts.{digits};
+ghost use Rattle.cob_move_steps.specs.Steps.{is_binary};
+ghost use Rattle.cob_move_steps.specs.Ends.{IsNumberReaderFor, IsNumberWriterFor, IsNumeralItem, IsShortNumber, IsShortSender, IsWordItem};
+
+use crate::number_ends::{NumberReader, NumberWriter};
+use crate::preparing::{reader_for, wanted_of, writer_for};
+use crate::storage::{lane_storage, number_shape, window_storage};
+use cob_codec_lanes::{BinaryReader, BinaryWriter, LaneReader};
+use cob_copybook_tree::{Item, Usage, is_number_item};
+use cob_picture::Category;
+
+/// Whether a usage is binary.
+pub(crate) fn is_binary(usage: Usage) -> bool
+    ensures { result ≡ is_binary usage }
+{
+    matches!(usage, Usage::Binary)
+}
+
+/// Whether an item is a binary number of at most sixteen digits.
+fn is_word_item(item: &Item) -> bool
+    ensures { IsTrue result ↔ IsWordItem item.now }
+{
+    is_number_item(item) && is_binary(item.usage) && item.picture.digits() <= 16
+}
+
+/// Whether an item holds from 1 to 16 characters. Its picture has no point.
+fn is_numeral_item(item: &Item) -> bool
+    ensures { IsTrue result ↔ IsNumeralItem item.now }
+{
+    matches!(item.picture.category(), Category::Alphanumeric)
+        && item.picture.scale() == 0
+        && item.size() > 0
+        && item.size() <= 16
+}
+
+/// What reads the number of a sender that is stored as one, if lanes hold its bytes, or its number where it is binary.
+pub(crate) fn stored_reader(sender: &Item, receiver: &Item) -> Option<NumberReader>
+    requires { digits receiver.now.picture.positions ≤ 16 }
+    ensures reader { IfSome result (IsNumberReaderFor sender.now receiver.now) }
+    ensures must { IsShortNumber sender.now → IsSome result }
+{
+    if let Some(storage) = window_storage(sender) {
+        return Some(NumberReader::Lanes(reader_for(sender, storage, receiver)));
+    }
+    if is_word_item(sender) {
+        let shape = number_shape(sender);
+        let wanted = wanted_of(sender, receiver);
+        Some(NumberReader::Binary(BinaryReader::of(&shape, wanted)))
+    } else {
+        None
+    }
+}
+
+/// What reads the number that the characters of a sender are.
+fn numeral_reader(sender: &Item, receiver: &Item) -> Option<NumberReader>
+    requires { digits receiver.now.picture.positions ≤ 16 }
+    ensures reader { IfSome result (IsNumberReaderFor sender.now receiver.now) }
+    ensures must { IsNumeralItem sender.now → IsSome result }
+{
+    if !is_numeral_item(sender) {
+        return None;
+    }
+    let wanted = wanted_of(sender, receiver);
+    let reader = LaneReader::numerals(sender.size() as u8, wanted);
+    Some(NumberReader::Lanes(reader))
+}
+
+/// What reads the number that a sender gives, if lanes hold it.
+pub(crate) fn number_reader(sender: &Item, receiver: &Item) -> Option<NumberReader>
+    requires { digits receiver.now.picture.positions ≤ 16 }
+    ensures reader { IfSome result (IsNumberReaderFor sender.now receiver.now) }
+    ensures must { IsShortSender sender.now → IsSome result }
+{
+    match stored_reader(sender, receiver) {
+        Some(reader) => Some(reader),
+        None => numeral_reader(sender, receiver),
+    }
+}
+
+/// What writes the number of a receiver, if lanes hold it.
+pub(crate) fn number_writer(receiver: &Item) -> Option<NumberWriter>
+    ensures writer { IfSome result (IsNumberWriterFor receiver.now) }
+    ensures must { IsShortNumber receiver.now → IsSome result }
+{
+    if let Some(storage) = lane_storage(receiver) {
+        return Some(NumberWriter::Lanes(writer_for(receiver, storage)));
+    }
+    if is_word_item(receiver) {
+        Some(NumberWriter::Binary(BinaryWriter::of(&number_shape(receiver))))
+    } else {
+        None
+    }
+}

@@ -1,0 +1,73 @@
+-- With which number the program ends: that of the status of what its words came to.
+use Rattle.std.specs.Prelude.{◌≡◌, ◌⊎◌, ℕ, Bool, List, Option, None, Some, ⊤, if◌then◌else◌}
+use Rattle.clap.specs.Words.{Text, kind_of}
+use Rattle.cob_program_line.specs.Lines.{IsCommandLineOf, IsFaultOf, is_answer_kind}
+use Rattle.cob_program_line.specs.declared.line.CommandLine.{CommandLine}
+use Rattle.cob_program_line.specs.declared.line.Line.{Line}
+use Rattle.cob_program_line.specs.declared.line.Line.TheVariants as line
+use Rattle.cob_program_line.specs.declared.fault.LineFault.{LineFault}
+use Rattle.cob_program_line.specs.declared.fault.LineFault.TheVariants as refusal
+use Rattle.cob_convert.specs.Statuses.{code_of}
+use Rattle.cob_convert.specs.declared.status.Status.{Status}
+use Rattle.cob_convert.specs.declared.status.Status.TheVariants as status
+use Rattle.cob_program_faults.specs.Ends.{EndsAmong, EndsAs, EndsAtRecord}
+use Rattle.cob_program_convert.specs.AsideEnds.{MayEndAside}
+use Rattle.cob_program_texts.specs.CheckEnds.{EndsCheck}
+use Rattle.cob_program_convert.specs.Ends.{MayEndConvert}
+use Rattle.cob_program_texts.specs.DraftEnds.{MayEndDraft}
+use Rattle.cob_program_list.specs.Ends.{MayEndLayout, MayEndListing}
+use Rattle.cob_program_texts.specs.LosslessEnds.{MayEndLossless}
+use Rattle.cob_program_manual.specs.Ends.{MayEndPrinting}
+
+-- how a conversion ends, by whether rejected records are set aside in a file
+abbrev pub EndsConvert : {A : Type 0} → Option A → Bool → Status → Type 0
+EndsConvert None atomic end = EndsAmong (MayEndConvert atomic) end
+EndsConvert (Some rejects) atomic end = EndsAmong (MayEndAside atomic) end
+
+-- How a command line ends, by what it asks for: with the status of what its command came to, which may have the faults of that command. With which
+-- status a job ends is promised by `cob_program_job`.
+abbrev pub EndsLine : Line → Status → Type 0
+EndsLine line.Job end = ⊤
+EndsLine (line.Convert options) end = EndsConvert options.rejects options.atomic end
+EndsLine (line.Check options) end = EndsCheck options.strict end
+EndsLine (line.Layout options) end = EndsAmong MayEndLayout end
+EndsLine (line.Show options) end = EndsAmong MayEndListing end
+EndsLine (line.Pieces options) end = EndsAmong MayEndListing end
+EndsLine (line.Lossless options) end = EndsAmong MayEndLossless end
+EndsLine (line.Explain options) end = EndsAtRecord end
+EndsLine (line.Draft options) end = EndsAmong MayEndDraft end
+EndsLine line.Completion end = EndsAmong MayEndPrinting end
+EndsLine line.Manual end = EndsAmong MayEndPrinting end
+EndsLine (line.Map options) end = EndsAtRecord end
+
+-- the number of a status with which this command line ends
+abbrev pub IsEndOfLine : Line → ℕ → Type 0
+IsEndOfLine said code = (end : Status) × EndsLine said end × (code ≡ code_of end)
+
+-- The status of words that are refused: help and the version are all that such words ask for; want of memory is told as that; other words are
+-- malformed.
+abbrev pub status_of_refusal : LineFault → Status
+status_of_refusal (refusal.Words error) = if is_answer_kind (kind_of error) then status.Done else status.Malformed
+status_of_refusal refusal.Form = status.Malformed
+status_of_refusal refusal.Reading = status.Malformed
+status_of_refusal refusal.Block = status.Malformed
+status_of_refusal refusal.Piece = status.Malformed
+status_of_refusal refusal.Number = status.Malformed
+status_of_refusal refusal.Pieces = status.Malformed
+status_of_refusal refusal.Listing = status.Malformed
+status_of_refusal refusal.Lrecl = status.Malformed
+status_of_refusal refusal.NotText = status.Malformed
+status_of_refusal refusal.Memory = status.Memory
+
+-- the number of a status with which words end that are refused so
+abbrev pub IsEndOfRefusal : LineFault → ℕ → Type 0
+IsEndOfRefusal fault code = (end : Status) × EndsAs (status_of_refusal fault) end × (code ≡ code_of end)
+
+-- Words are refused for this: memory was, or they are no command line, by the first rule that they break.
+abbrev pub RefusesWords : List Text → LineFault → Type 0
+RefusesWords words fault = (fault ≡ refusal.Memory) ⊎ (((said : CommandLine) → IsCommandLineOf words said → ⊥) × IsFaultOf words fault)
+
+-- The program ends with this number, called with these words: a command line is carried out, and other words are refused.
+pub data IsEndOfWords (words : List Text) (code : ℕ) : Type 0 where
+  CarriedOut : (said : CommandLine) → IsCommandLineOf words said → IsEndOfLine said.line code → IsEndOfWords words code
+  Refused : (fault : LineFault) → RefusesWords words fault → IsEndOfRefusal fault code → IsEndOfWords words code

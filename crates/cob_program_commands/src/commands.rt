@@ -1,0 +1,175 @@
+ghost use Rattle.std.specs.Prelude.{◌≡◌, map};
+ghost use Rattle.cob_program_line.specs.Lines.{HasBlocks};
+ghost use Rattle.cob_records.specs.Forms.{HasBlockSize};
+ghost use Rattle.cob_program_texts.specs.CheckEnds.{EndsCheck};
+ghost use Rattle.cob_program_commands.specs.Commands.{EndsConvert, IsEndOfLine, IsEndOfRefusal, IsEndOfWords, status_of_refusal};
+
+use cob_convert::Status;
+use cob_program_convert::{do_convert, do_convert_aside};
+use cob_program_explain::do_explain;
+use cob_program_explained::{
+    do_convert_aside_explained, do_convert_explained, files_of, tell_file_error,
+};
+use cob_program_faults::printed;
+use cob_program_job::do_job;
+use cob_program_line::{CheckLine, CommandLine, ConvertLine, Line, LineFault, line_of};
+use cob_program_list::{do_layout, do_pieces, do_show};
+use cob_program_manual::{do_completion, do_manual};
+use cob_program_map::do_map;
+use cob_program_runtime::Noted;
+use cob_program_texts::{do_check, do_cover, do_draft, do_lossless};
+use std::cell::Cell;
+use std::convert::AsStr;
+use std::io::{Eprint, Input, Print};
+use std::rt::{Clock, Files};
+
+/// Converts a file of records: up to the first that does not convert, or past those, which are set aside.
+fn do_conversion<R: AllocGlobal + Files + Input + Print + Eprint + Clock>(
+    rt: &R,
+    line: &ConvertLine<'_>,
+) -> Status
+    requires in_block { HasBlockSize line.now.in_form }
+    requires out_block { HasBlockSize line.now.out_form }
+    ensures { EndsConvert line.now.rejects line.now.atomic result }
+{
+    match line.rejects {
+        None => do_convert(rt, line),
+        Some(rejects) => do_convert_aside(rt, line, rejects),
+    }
+}
+
+/// Converts a file of records so, and says of a record that ends the run why it does.
+fn do_conversion_explained<R: AllocGlobal + Files + Input + Print + Eprint + Clock>(
+    rt: &R,
+    line: &ConvertLine<'_>,
+) -> Status
+    requires in_block { HasBlockSize line.now.in_form }
+    requires out_block { HasBlockSize line.now.out_form }
+    ensures { EndsConvert line.now.rejects line.now.atomic result }
+{
+    match line.rejects {
+        None => do_convert_explained(rt, line),
+        Some(rejects) => do_convert_aside_explained(rt, line, rejects),
+    }
+}
+
+/// Converts a file of records, and explains where that is asked for.
+fn do_asked_conversion<R: AllocGlobal + Files + Input + Print + Eprint + Clock>(
+    rt: &R,
+    line: &ConvertLine<'_>,
+    explain: bool,
+) -> Status
+    requires in_block { HasBlockSize line.now.in_form }
+    requires out_block { HasBlockSize line.now.out_form }
+    ensures { EndsConvert line.now.rejects line.now.atomic result }
+{
+    if explain {
+        do_conversion_explained(rt, line)
+    } else {
+        do_conversion(rt, line)
+    }
+}
+
+/// Checks the three texts of a conversion: alone, or with the lists of what the paragraph leaves open.
+fn do_checking<R: AllocGlobal + Files + Print + Eprint>(rt: &R, line: &CheckLine<'_>) -> Status
+    ensures { EndsCheck line.now.strict result }
+{
+    if line.cover || line.strict {
+        do_cover(rt, line)
+    } else {
+        do_check(rt, line)
+    }
+}
+
+/// Carries out what a line asks for, prints what comes of it, and of a record why it stops a conversion where that is asked for, and answers the program's
+/// status.
+fn perform_line<R: AllocGlobal + Files + Input + Print + Eprint + Clock>(
+    rt: &R,
+    line: &Line<'_>,
+    explain: bool,
+) -> u8
+    requires { HasBlocks line.now }
+    ensures { IsEndOfLine line.now result }
+{
+    match line {
+        Line::Job => do_job(rt),
+        Line::Convert(line) => do_asked_conversion(rt, line, explain).code(),
+        Line::Check(line) => do_checking(rt, line).code(),
+        Line::Layout(line) => do_layout(rt, line).code(),
+        Line::Show(line) => do_show(rt, line).code(),
+        Line::Pieces(line) => do_pieces(rt, line).code(),
+        Line::Lossless(line) => do_lossless(rt, line).code(),
+        Line::Explain(line) => do_explain(rt, line).code(),
+        Line::Draft(line) => do_draft(rt, line).code(),
+        Line::Completion => do_completion(rt).code(),
+        Line::Manual => do_manual(rt).code(),
+        Line::Map(line) => do_map(rt, line).code(),
+    }
+}
+
+/// Carries out what a line asks for, over a runtime that keeps the last error of the files that its options name, and prints behind a device that failed
+/// why it did. Where memory for these files is refused, that is not told.
+fn perform_explained<R: AllocGlobal + Files + Input + Print + Eprint + Clock>(
+    rt: &R,
+    line: &Line<'_>,
+) -> u8
+    requires { HasBlocks line.now }
+    ensures { IsEndOfLine line.now result }
+{
+    let Ok(files) = files_of(rt.alloc(), line) else {
+        return perform_line(rt, line, true);
+    };
+    let last = Cell::new(None);
+    let noted = Noted::new(rt, &files, &last);
+    let code = perform_line(&noted, line, true);
+    if code == Status::Device.code() {
+        tell_file_error(rt, noted.last());
+    }
+    code
+}
+
+/// Carries out what a command line asks for, prints what comes of it, and what is wrong where that is asked for, and answers the program's status.
+pub fn perform<R: AllocGlobal + Files + Input + Print + Eprint + Clock>(
+    rt: &R,
+    said: &CommandLine<'_>,
+) -> u8
+    requires { HasBlocks said.now.line }
+    ensures { IsEndOfLine said.now.line result }
+{
+    if said.explain {
+        perform_explained(rt, &said.line)
+    } else {
+        perform_line(rt, &said.line, false)
+    }
+}
+
+/// The status of words that are no command line: of help and the version it is that all is done.
+fn refusal_status(fault: &LineFault) -> Status
+    ensures { result ≡ status_of_refusal fault.now }
+{
+    match fault {
+        LineFault::Memory => Status::Memory,
+        fault if fault.is_answer() => Status::Done,
+        _ => Status::Malformed,
+    }
+}
+
+/// Prints why the words are no command line, or the help or the version that they ask for, and answers the program's status.
+pub fn refuse<R: Print + Eprint>(rt: &R, fault: &LineFault) -> u8
+    ensures { IsEndOfRefusal fault.now result }
+{
+    printed(fault.print(rt), refusal_status(fault)).code()
+}
+
+/// Does what the words after the program's name ask for, and answers the program's status.
+pub fn answer<R: AllocGlobal + Files + Input + Print + Eprint + Clock, S: AsStr>(
+    rt: &R,
+    words: &[S],
+) -> u8
+    ensures { IsEndOfWords (map S.text words.now) result }
+{
+    match line_of(rt.alloc(), words) {
+        Ok(said) => perform(rt, &said),
+        Err(fault) => refuse(rt, &fault),
+    }
+}

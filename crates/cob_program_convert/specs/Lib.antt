@@ -1,0 +1,4 @@
+pub mod Told
+pub mod Ends
+pub mod AsideTold
+pub mod AsideEnds

@@ -1,0 +1,161 @@
+ghost use Rattle.std.specs.Prelude.{◌≡◌, Bool, IfErr};
+ghost use Rattle.cob_program_faults.specs.Ends.{EndsAmong, EndsAs, status_of_outcome};
+ghost use Rattle.cob_records.specs.Forms.{HasBlockSize};
+ghost use Rattle.cob_program_run.specs.Ends.{StopsRun};
+ghost use Rattle.cob_program_convert.specs.Ends.{EndsRun, MayEndConvert};
+ghost use Rattle.cob_program_convert.specs.Told.{told_counted_from};
+
+use cob_convert::{Converter, Status};
+use cob_program_ends::{
+    Ends, counted_from, first_of, is_standard_output, open_ends, telling_piece,
+};
+use cob_program_faults::{
+    CommandFault, Texts, part_name, printed, put_in_place, tell_fault, tell_uneven,
+};
+use cob_program_line::ConvertLine;
+use cob_program_run::{placed, run_to_end};
+use cob_records::FileSink;
+use std::io::{Eprint, Input, Print, Printer};
+use std::rt::{Clock, Files};
+
+/// What a command came to, its records counted from this one.
+fn told_counted_from(first: u64, outcome: Result<u64, CommandFault>) -> Result<u64, CommandFault>
+    ensures told { result ≡ told_counted_from first outcome }
+    ensures ends { (atomic : Bool) → IfErr outcome (EndsRun atomic)
+        → IfErr result (MayEndConvert atomic) }
+{
+    match outcome {
+        Ok(done) => Ok(done),
+        Err(fault) => Err(counted_from(first, fault)),
+    }
+}
+
+/// What a run comes to whose output is this; or is its part, which is put in its place where the run is done.
+fn placed_run<'a, R: AllocGlobal + Files + Print>(
+    rt: &'a R,
+    atomic: bool,
+    outcome: Result<u64, CommandFault>,
+    sink: FileSink<R::File, Printer<'a, R>>,
+    part: &str,
+    output: &str,
+) -> Result<u64, CommandFault>
+    requires { IfErr outcome StopsRun }
+    ensures { IfErr result (EndsRun atomic) }
+{
+    match outcome {
+        Ok(done) if atomic => placed(done, put_in_place(rt, sink, part, output)),
+        Ok(done) => Ok(done),
+        Err(fault) => Err(fault),
+    }
+}
+
+/// The part that stands in for the output, where one does.
+fn part_of<'a>(line: &ConvertLine<'_>, part: &'a str) -> Option<&'a str> {
+    if line.atomic { Some(part) } else { None }
+}
+
+/// Converts into the output itself, which is made, or emptied where it is there; or into its part, and puts it in its place when all is done. Where it is
+/// not, the output is as it was, and the part has the records before.
+fn convert_into<R: AllocGlobal + Files + Input + Print + Eprint + Clock>(
+    rt: &R,
+    line: &ConvertLine<'_>,
+    part: &str,
+    converter: &mut Converter,
+) -> Result<u64, CommandFault>
+    requires { HasBlockSize line.now.in_form }
+    ensures { IfErr result (MayEndConvert line.now.atomic) }
+{
+    let greatest = converter.in_length();
+    match open_ends(rt, line, greatest, part_of(line, part)) {
+        Ok(Ends { source, mut sink }) => {
+            tell_uneven(
+                rt,
+                line.input,
+                line.in_form,
+                greatest,
+                line.from,
+                line.bytes,
+            );
+            let telling = telling_piece(rt, line);
+            let ending = run_to_end(rt, line.in_form, telling, converter, source, &mut sink);
+            let run = ending.finished();
+            let outcome = placed_run(rt, line.atomic, run, sink, part, line.output);
+            told_counted_from(first_of(line), outcome)
+        }
+        Err(fault) => Err(fault),
+    }
+}
+
+/// Converts as the command line says: into the output itself, or into its part, whose name is that of the output with `.part` behind it.
+fn convert_by<R: AllocGlobal + Files + Input + Print + Eprint + Clock>(
+    rt: &R,
+    line: &ConvertLine<'_>,
+    converter: &mut Converter,
+) -> Result<u64, CommandFault>
+    requires { HasBlockSize line.now.in_form }
+    ensures { IfErr result (MayEndConvert line.now.atomic) }
+{
+    if !line.atomic {
+        return convert_into(rt, line, line.output, converter);
+    }
+    match part_name(rt.alloc(), line.output) {
+        Ok(part) => convert_into(rt, line, &part, converter),
+        Err(_) => Err(CommandFault::Memory),
+    }
+}
+
+/// Converts the records of the file that `--in` names, and answers how many there were. The texts are read and prepared before the input is
+/// opened, and the output is made or emptied last: so a text that is refused leaves no file, and neither does an output that is one of the files
+/// that are read.
+///
+/// # Errors
+///
+/// A file that is not opened or not read, a text that is refused, an output that is one of the files that are read, a record that stops the run,
+/// a device that fails at one, an output that is not put in its place, want of memory.
+pub fn convert<R: AllocGlobal + Files + Input + Print + Eprint + Clock>(
+    rt: &R,
+    line: &ConvertLine<'_>,
+) -> Result<u64, CommandFault>
+    requires in_block { HasBlockSize line.now.in_form }
+    requires out_block { HasBlockSize line.now.out_form }
+    ensures { IfErr result (MayEndConvert line.now.atomic) }
+{
+    let texts = Texts {
+        in_book: line.in_book,
+        out_book: line.out_book,
+        moves: line.moves,
+    };
+    match texts.prepared(rt, line.in_form, line.out_form, line.reading, line.lrecl) {
+        Ok(mut converter) => convert_by(rt, line, &mut converter),
+        Err(fault) => Err(fault),
+    }
+}
+
+/// Prints what a conversion comes to, and answers how it ends: how many records there were, on standard error where the records themselves go to
+/// standard output; or its fault.
+pub fn tell_converted<R: Print + Eprint>(
+    rt: &R,
+    beside: bool,
+    outcome: Result<u64, CommandFault>,
+) -> Status
+    ensures { EndsAs (status_of_outcome outcome) result }
+{
+    match outcome {
+        Ok(done) if beside => printed(eprintln!(rt; "done {done}"), Status::Done),
+        Ok(done) => printed(println!(rt; "done {done}"), Status::Done),
+        Err(fault) => tell_fault(rt, fault),
+    }
+}
+
+/// Converts, prints how many records there were or what is at fault, and answers how the program ends.
+pub fn do_convert<R: AllocGlobal + Files + Input + Print + Eprint + Clock>(
+    rt: &R,
+    line: &ConvertLine<'_>,
+) -> Status
+    requires in_block { HasBlockSize line.now.in_form }
+    requires out_block { HasBlockSize line.now.out_form }
+    ensures { EndsAmong (MayEndConvert line.now.atomic) result }
+{
+    let beside = is_standard_output(rt, line.output);
+    tell_converted(rt, beside, convert(rt, line))
+}

@@ -1,0 +1,20 @@
+//! What the flag `--explain` adds to commands: behind a fault, what is wrong and why.
+//!
+//! - [`do_convert_explained`] and [`do_convert_aside_explained`] convert and print what comes of it as `convert` does, and behind the fault line of a record
+//!   that stops the run what `explain` prints behind that line: which item it is, its picture, its place and its bytes, what is wrong with them, and the
+//!   statement that asked. For that they read the texts and the record once more, in the same piece of the file, where none of them comes from standard
+//!   input or a pipe, which can't be read again.
+//! - [`files_of`] are the files that the options of a command line name, in the order in which they are opened, for a runtime that keeps the last error of
+//!   one (`cob_program_runtime`), and [`tell_file_error`] prints that error: the option, its path and the system's words.
+//!
+//! What is promised: that conversions end as those without the flag do, with the status of what they came to (`EndsAmong` of `cob_program_faults`, with
+//! the faults `MayEndConvert` and `MayEndAside`), or as where a device failed if the last line was not printed. Which words are printed is shown by the
+//! stored command lines of `cob_test_jobs`, and that no pipe is waited for by `tools/try_files`.
+#![tactic(auto)]
+
+mod conversions;
+mod files;
+mod stops;
+
+pub use conversions::{do_convert_aside_explained, do_convert_explained};
+pub use files::{files_of, tell_file_error};

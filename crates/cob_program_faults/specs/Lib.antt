@@ -1,0 +1,7 @@
+pub mod Identity
+pub mod Names
+pub mod WholeTexts
+pub mod Faults
+pub mod Ends
+pub mod Texts
+pub mod Lengths

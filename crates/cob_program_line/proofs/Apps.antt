@@ -1,0 +1,252 @@
+-- What the parser says of a command, and of what it found, in the words of this crate.
+use Rattle.std.proofs.Common.{Result, Ok, Err, IsErrAnd, IfErr, codes, subst, ◌∙◌, ◌≡◌, inl, inr, ◌==◌, ℕ, arith, [], ◌∷◌, Option, Some, None, true, false, refl, sym, ap, true≢false}
+use Rattle.std.specs.Prelude.{is_some, unwrap_or}
+use Rattle.std.proofs.lemmas.Bool.Decides.{nat_tests}
+use Rattle.clap.specs.Words.{Text}
+use Rattle.cob_program_line.specs.Numbers.{SaysNumber}
+use Rattle.cob_program_options.specs.Commands.{pieces_options, show_options}
+use Rattle.cob_program_options.specs.Looks.{AreAll, Look}
+use Rattle.cob_program_line.specs.Named.{NamesBlock, NamesBound, NamesNumber, form_by_letter, letter_of, listing_by_word, reading_by_word, sized_by, word_of, word_of_listing}
+use Rattle.cob_program_line.specs.Faults.{HasCounts, HasForms, HasListing, HasPiece, HasPieces, HasSizes, IsFaultIn, LacksABlock, LacksBlock, LacksBound, LacksCount, LacksForm, LacksListing, LacksNumber, LacksPiece, LacksPieces, LacksReading, LacksSize}
+use Rattle.cob_program_line.specs.Lines.{NameChoice, NameForms, NamePiece}
+use Rattle.cob_program_line.specs.declared.line.Listing.{Listing}
+use Rattle.cob_program_line.specs.declared.line.Listing.TheVariants as listing
+use Rattle.cob_program_line.specs.declared.fault.LineFault.{LineFault}
+use Rattle.cob_codec.specs.declared.reading.Reading.{Reading}
+use Rattle.cob_codec.specs.declared.reading.Reading.TheVariants.{Pictured, Whole}
+use Rattle.cob_records.specs.BlockSize.{SaysBlockSize}
+use Rattle.cob_records.specs.declared.records.Form.{Form}
+use Rattle.cob_records.specs.declared.records.Form.TheVariants.{Fixed, Variable, Blocked}
+
+-- a letter is no other
+other_letter : (a b : ℕ) (letter : Text) → (a == b) ≡ false → a ∷ [] ≡ letter → letter ≡ b ∷ [] → ⊥
+other_letter a b letter differ p q =
+    let same : a ≡ b = ap first_letter (p ∙ q) in true≢false (sym (subst (λ (n : ℕ). (a == n) ≡ true) same (itself a)) ∙ differ)
+  where
+    first_letter : Text → ℕ
+    first_letter [] = 0
+    first_letter (c ∷ cs) = c
+
+    itself : (n : ℕ) → (n == n) ≡ true
+    itself n = grind (arith, nat_tests)
+
+-- an option that names a form does not lack one
+pub has_form : (look : Look) (name : Text) (f : Form) → look name ≡ Some (letter_of f) → LacksForm look name → ⊥
+has_form look name f named (letter, is, none) = true≢false (sym (ap is_some (sym none ∙ ap form_by_letter same) ∙ back f))
+  where
+    back : (f : Form) → is_some (form_by_letter (letter_of f)) ≡ true
+    back Fixed = refl
+    back Variable = refl
+    back (Blocked most) = refl
+
+    same : letter ≡ letter_of f
+    same = ap (λ o. unwrap_or o letter) (sym is ∙ named)
+
+-- an option that names nothing names no word
+absent : (look : Look) (name word : Text) → look name ≡ None → look name ≡ Some word → ⊥
+absent look name word none is = true≢false (sym (ap is_some (sym none ∙ is)))
+
+pub no_form : (look : Look) (name : Text) → look name ≡ None → LacksForm look name → ⊥
+no_form look name none lacks = absent look name lacks.0 none lacks.1
+
+-- none of the options for a form lacks one
+pub has_forms : (look : Look) → (LacksForm look (codes "form") → ⊥) → (LacksForm look (codes "in-form") → ⊥) → (LacksForm look (codes "out-form") → ⊥) → HasForms look
+has_forms look one two three (name, is, lacks) = elim is [
+  | inl e ↦ one (subst (LacksForm look) e lacks)
+  | inr (inl e) ↦ two (subst (LacksForm look) e lacks)
+  | inr (inr e) ↦ three (subst (LacksForm look) e lacks)
+]
+
+pub both_forms : (look : Look) (f g : Form) → look (codes "form") ≡ None → look (codes "in-form") ≡ Some (letter_of f) → look (codes "out-form") ≡ Some (letter_of g) → HasForms look
+both_forms look f g none from to = has_forms look (no_form look (codes "form") none) (has_form look (codes "in-form") f from) (has_form look (codes "out-form") g to)
+
+-- the option for the reading that names one does not lack one
+pub has_reading : (look : Look) (r : Reading) → look (codes "binary") ≡ Some (word_of r) → LacksReading look → ⊥
+has_reading look r named (word, is, none) = true≢false (sym (ap is_some (sym none ∙ ap reading_by_word same) ∙ back r))
+  where
+    back : (r : Reading) → is_some (reading_by_word (word_of r)) ≡ true
+    back Pictured = refl
+    back Whole = refl
+
+    same : word ≡ word_of r
+    same = ap (λ o. unwrap_or o word) (sym is ∙ named)
+
+-- a size is named beside a form as beside another of the same letter
+pub block_beside : (look : Look) (name : Text) (f g : Form) (size : ℕ) → letter_of f ≡ letter_of g → NamesBlock look name f size → NamesBlock look name g size
+block_beside look name Fixed Fixed size same is = is
+block_beside look name Fixed Variable size same is = is
+block_beside look name Fixed (Blocked n) size same is = absurd (other_letter 102 98 (letter_of (Blocked n)) refl same refl)
+block_beside look name Variable Fixed size same is = is
+block_beside look name Variable Variable size same is = is
+block_beside look name Variable (Blocked n) size same is = absurd (other_letter 118 98 (letter_of (Blocked n)) refl same refl)
+block_beside look name (Blocked m) Fixed size same is = absurd (other_letter 98 102 (codes "f") refl same refl)
+block_beside look name (Blocked m) Variable size same is = absurd (other_letter 98 118 (codes "v") refl same refl)
+block_beside look name (Blocked m) (Blocked n) size same is = is
+
+-- two forms that one option names have one letter
+pub same_letter : (look : Look) (name : Text) (f g : Form) → look name ≡ Some (letter_of f) → look name ≡ Some (letter_of g) → letter_of f ≡ letter_of g
+same_letter look name f g p q = ap (λ o. unwrap_or o (letter_of f)) (sym p ∙ q)
+
+-- an option that names a size of blocks does not lack one
+has_size : (look : Look) (name : Text) (f : Form) (size : ℕ) → NamesBlock look name f size → LacksSize look name f → ⊥
+has_size look name Fixed size is lacks = lacks
+has_size look name Variable size is lacks = lacks
+has_size look name (Blocked most) size (word, named, says) (other, is, none) =
+    none size (subst (λ (w : Text). SaysBlockSize w size) (ap (λ o. unwrap_or o word) (sym named ∙ is)) says)
+
+has_block : (look : Look) (form_name block_name : Text) (f : Form) (size : ℕ) → look form_name ≡ Some (letter_of f) → NamesBlock look block_name f size
+    → LacksBlock look form_name block_name → ⊥
+has_block look form_name block_name f size named names (g, is, lacks) =
+    has_size look block_name g size (block_beside look block_name f g size (same_letter look form_name f g named is) names) lacks
+
+pub have_blocks : (look : Look) (f g : Form) (m n : ℕ) → look (codes "in-form") ≡ Some (letter_of f) → look (codes "out-form") ≡ Some (letter_of g)
+    → NamesBlock look (codes "in-block") f m → NamesBlock look (codes "out-block") g n → LacksABlock look → ⊥
+have_blocks look f g m n from to in_size out_size (inl lacks) = has_block look (codes "in-form") (codes "in-block") f m from in_size lacks
+have_blocks look f g m n from to in_size out_size (inr lacks) = has_block look (codes "out-form") (codes "out-block") g n to out_size lacks
+
+letter_sized : (size : ℕ) (f : Form) → letter_of (sized_by size f) ≡ letter_of f
+letter_sized size Fixed = refl
+letter_sized size Variable = refl
+letter_sized size (Blocked most) = refl
+
+sized_twice : (size : ℕ) (f : Form) → sized_by size f ≡ sized_by size (sized_by size f)
+sized_twice size Fixed = refl
+sized_twice size Variable = refl
+sized_twice size (Blocked most) = refl
+
+pub sized_again : (f g : Form) (size : ℕ) → g ≡ sized_by size f → g ≡ sized_by size g
+sized_again f g size is = is ∙ sized_twice size f ∙ ap (sized_by size) (sym is)
+
+pub named_sized : (look : Look) (name : Text) (f g : Form) (size : ℕ) → g ≡ sized_by size f → look name ≡ Some (letter_of f) → look name ≡ Some (letter_of g)
+named_sized look name f g size is named = named ∙ ap Some (sym (letter_sized size f) ∙ ap letter_of (sym is))
+
+pub block_sized : (look : Look) (name : Text) (f g : Form) (size : ℕ) → g ≡ sized_by size f → NamesBlock look name f size → NamesBlock look name g size
+block_sized look name f g size is named = block_beside look name f g size (sym (letter_sized size f) ∙ ap letter_of (sym is)) named
+
+-- the option for the listing that names one does not lack one
+has_listing : (look : Look) (l : Listing) → look (codes "as") ≡ Some (word_of_listing l) → LacksListing look → ⊥
+has_listing look l named (word, is, none) = true≢false (sym (ap is_some (sym none ∙ ap listing_by_word same) ∙ back l))
+  where
+    back : (l : Listing) → is_some (listing_by_word (word_of_listing l)) ≡ true
+    back listing.Text = refl
+    back listing.Json = refl
+    back listing.Csv = refl
+
+    same : word ≡ word_of_listing l
+    same = ap (λ o. unwrap_or o word) (sym is ∙ named)
+
+-- an option that names a number does not lack one
+pub has_number : (look : Look) (name : Text) (least number : ℕ) → NamesNumber look name least number → LacksNumber look name least → ⊥
+has_number look name least number (word, named, says, low) (other, is, none) =
+    none number (subst (λ (w : Text). SaysNumber w number) (ap (λ o. unwrap_or o word) (sym named ∙ is)) says) low
+
+pub has_bound : (look : Look) (name : Text) (most : Option ℕ) → NamesBound look name most → LacksBound look name → ⊥
+has_bound look name None named (word, is, other, none) = other (ap (λ o. unwrap_or o word) (sym is ∙ named))
+has_bound look name (Some number) (word, named, says, low) (other, is, all, none) =
+    none number (subst (λ (w : Text). SaysNumber w number) (ap (λ o. unwrap_or o word) (sym named ∙ is)) says)
+
+has_piece : (look : Look) (from : ℕ) (bytes : Option ℕ) (first : ℕ) → NamePiece look from bytes first → LacksPiece look → ⊥
+has_piece look from bytes first h (inl lacks) = has_number look (codes "from") 0 from h.offset lacks
+has_piece look from bytes first h (inr (inl lacks)) = has_bound look (codes "bytes") bytes h.size lacks
+has_piece look from bytes first h (inr (inr lacks)) = has_number look (codes "record") 1 first h.number lacks
+
+-- where the forms of both files are named, nothing is wrong before a listing
+pub before_listing : (look : Look) (f g : Form) (m n : ℕ) (r : Reading) → look (codes "form") ≡ None → NameForms look f g m n r → HasSizes look
+before_listing look f g m n r none h = (
+  (both_forms look f g none h.in_letter h.out_letter, has_reading look r h.word),
+  have_blocks look f g m n h.in_letter h.out_letter h.in_size h.out_size,
+)
+
+-- nor before a piece where there is no listing, nor before a number of records where the piece is named
+pub before_piece : (look : Look) → look (codes "as") ≡ None → HasSizes look → HasListing look
+before_piece look none before = (before, λ lacks. absent look (codes "as") lacks.0 none lacks.1)
+
+pub before_counts : (look : Look) (from : ℕ) (bytes : Option ℕ) (first : ℕ) → NamePiece look from bytes first → HasListing look → HasPiece look
+before_counts look from bytes first h before = (before, has_piece look from bytes first h)
+
+-- nor where one form is named, and the options before are not there
+one_form : (look : Look) (f : Form) → look (codes "form") ≡ Some (letter_of f) → look (codes "in-form") ≡ None → look (codes "out-form") ≡ None
+    → look (codes "binary") ≡ None → HasSizes look
+one_form look f named from to binary = (
+  (
+    has_forms look (has_form look (codes "form") f named) (no_form look (codes "in-form") from) (no_form look (codes "out-form") to),
+    λ lacks. absent look (codes "binary") lacks.0 binary lacks.1,
+  ),
+  λ lacks. elim lacks [
+    | inl block ↦ absent look (codes "in-form") _ from block.1
+    | inr block ↦ absent look (codes "out-form") _ to block.1
+  ],
+)
+
+no_piece : (look : Look) → look (codes "from") ≡ None → look (codes "bytes") ≡ None → look (codes "record") ≡ None → LacksPiece look → ⊥
+no_piece look from bytes first (inl lacks) = absent look (codes "from") lacks.0 from lacks.1
+no_piece look from bytes first (inr (inl lacks)) = absent look (codes "bytes") lacks.0 bytes lacks.1
+no_piece look from bytes first (inr (inr lacks)) = absent look (codes "record") lacks.0 first lacks.1
+
+no_count : (look : Look) → look (codes "skip") ≡ None → look (codes "records") ≡ None → look (codes "most-rejects") ≡ None → LacksCount look → ⊥
+no_count look skip records most (inl lacks) = absent look (codes "skip") lacks.0 skip lacks.1
+no_count look skip records most (inr (inl lacks)) = absent look (codes "records") lacks.0 records lacks.1
+no_count look skip records most (inr (inr lacks)) = absent look (codes "most-rejects") lacks.0 most lacks.1
+
+pub show_form : (look : Look) (f : Form) → AreAll show_options look → look (codes "form") ≡ Some (letter_of f) → HasSizes look
+show_form look f all named = one_form look f named (all (codes "in-form") refl) (all (codes "out-form") refl) (all (codes "binary") refl)
+
+pub show_listing : (look : Look) (f : Form) (l : Listing) → AreAll show_options look → look (codes "form") ≡ Some (letter_of f) → look (codes "as") ≡ Some (word_of_listing l)
+    → HasPiece look
+show_listing look f l all named listed = (
+  (show_form look f all named, has_listing look l listed),
+  no_piece look (all (codes "from") refl) (all (codes "bytes") refl) (all (codes "record") refl),
+)
+
+pub pieces_form : (look : Look) (f : Form) → AreAll pieces_options look → look (codes "form") ≡ Some (letter_of f) → HasCounts look
+pieces_form look f all named = (
+  (
+    before_piece look (all (codes "as") refl) (one_form look f named (all (codes "in-form") refl) (all (codes "out-form") refl) (all (codes "binary") refl)),
+    no_piece look (all (codes "from") refl) (all (codes "bytes") refl) (all (codes "record") refl),
+  ),
+  no_count look (all (codes "skip") refl) (all (codes "records") refl) (all (codes "most-rejects") refl),
+)
+
+-- nothing is wrong before a record length where there is no number of pieces, nor where there are no numbers of records either
+no_pieces : (look : Look) → look (codes "pieces") ≡ None → HasCounts look → HasPieces look
+no_pieces look none before = (before, λ lacks. absent look (codes "pieces") lacks.0 none lacks.1)
+
+pub chosen : (look : Look) (skip : ℕ) (records most : Option ℕ) → NameChoice look skip records → NamesBound look (codes "most-rejects") most → look (codes "pieces") ≡ None
+    → HasPiece look → HasPieces look
+chosen look skip records most choice bound pieces before = no_pieces look pieces (before, has_counts)
+  where
+    has_counts : LacksCount look → ⊥
+    has_counts (inl lacks) = has_number look (codes "skip") 0 skip choice.passed lacks
+    has_counts (inr (inl lacks)) = has_bound look (codes "records") records choice.most lacks
+    has_counts (inr (inr lacks)) = has_bound look (codes "most-rejects") most bound lacks
+
+pub chosen_alone : (look : Look) (skip : ℕ) (records : Option ℕ) → NameChoice look skip records → look (codes "most-rejects") ≡ None → look (codes "pieces") ≡ None
+    → HasPiece look → HasPieces look
+chosen_alone look skip records choice most pieces before = no_pieces look pieces (before, has_counts)
+  where
+    has_counts : LacksCount look → ⊥
+    has_counts (inl lacks) = has_number look (codes "skip") 0 skip choice.passed lacks
+    has_counts (inr (inl lacks)) = has_bound look (codes "records") records choice.most lacks
+    has_counts (inr (inr lacks)) = absent look (codes "most-rejects") lacks.0 most lacks.1
+
+pub one_record : (look : Look) (number : ℕ) → NamesNumber look (codes "record") 1 number → look (codes "from") ≡ None → look (codes "bytes") ≡ None
+    → look (codes "skip") ≡ None → look (codes "records") ≡ None → look (codes "most-rejects") ≡ None → look (codes "pieces") ≡ None
+    → HasListing look → HasPieces look
+one_record look number named from bytes skip records most pieces before = no_pieces look pieces ((before, has_piece), no_count look skip records most)
+  where
+    has_piece : LacksPiece look → ⊥
+    has_piece (inl lacks) = absent look (codes "from") lacks.0 from lacks.1
+    has_piece (inr (inl lacks)) = absent look (codes "bytes") lacks.0 bytes lacks.1
+    has_piece (inr (inr lacks)) = has_number look (codes "record") 1 number named lacks
+
+pub cut_in : (look : Look) (pieces : ℕ) → NamesNumber look (codes "pieces") 1 pieces → HasCounts look → HasPieces look
+cut_in look pieces named before = (before, λ lacks. has_number look (codes "pieces") 1 pieces named lacks)
+
+-- a fault that is one of the options
+pub fault_is : (look : Look) (told kind : LineFault) → told ≡ kind → IsFaultIn look kind → IsFaultIn look told
+fault_is look told kind is h = subst (IsFaultIn look) (sym is) h
+
+-- what holds of a fault that is handed on
+pub told : {T E : Type 0} (r : Result T E) (Q P : E → Type 0) → ((e : E) → Q e → P e) → IsErrAnd r Q → IfErr r P
+told (Ok x) Q P step h = absurd h
+told (Err e) Q P step h = step e h

@@ -1,0 +1,173 @@
+-- What a command line says.
+use Rattle.std.specs.Prelude.{◌≡◌, ◌<◌, ⊤, false, ℕ, List, [], ◌∷◌, Some, Option, option_map, codes}
+use Rattle.clap.specs.Words.{Text}
+use Rattle.cob_codec.specs.declared.reading.Reading.{Reading}
+use Rattle.cob_records.specs.declared.records.Form.{Form}
+use Rattle.cob_records.specs.Forms.{HasBlockSize}
+use Rattle.cob_limits.specs.Limits.{longest_block}
+use Rattle.cob_program_options.specs.Options.{AreOptions, Given, Options, found_at, taken}
+use Rattle.cob_program_options.specs.Commands.{commands}
+use Rattle.cob_program_options.specs.Looks.{Look, is_flagged}
+use Rattle.cob_program_line.specs.Named.{NamesBlock, NamesBound, NamesLrecl, NamesNumber, letter_of, sized_by, word_of, word_of_listing}
+pub use Rattle.cob_program_line.specs.Faults.{IsFaultOf, is_answer_kind}
+use Rattle.cob_program_line.specs.declared.line.CommandLine.{CommandLine}
+use Rattle.cob_program_line.specs.declared.line.Line.{Line}
+use Rattle.cob_program_line.specs.declared.line.Line.TheVariants as line
+use Rattle.cob_program_line.specs.declared.line.ConvertLine.{ConvertLine}
+use Rattle.cob_program_line.specs.declared.line.CheckLine.{CheckLine}
+use Rattle.cob_program_line.specs.declared.line.LayoutLine.{LayoutLine}
+use Rattle.cob_program_line.specs.declared.line.ShowLine.{ShowLine}
+use Rattle.cob_program_line.specs.declared.line.PiecesLine.{PiecesLine}
+use Rattle.cob_program_line.specs.declared.line.LosslessLine.{LosslessLine}
+use Rattle.cob_program_line.specs.declared.line.ExplainLine.{ExplainLine}
+use Rattle.cob_program_line.specs.declared.line.DraftLine.{DraftLine}
+use Rattle.cob_program_line.specs.declared.line.MapLine.{MapLine}
+
+-- Options name the forms of both files with the sizes of their blocks, and the reading of binary items.
+pub record NameForms (look : Look) (in_form out_form : Form) (in_block out_block : ℕ) (reading : Reading) : Type 0 where
+  pub in_letter : look (codes "in-form") ≡ Some (letter_of in_form)
+  pub out_letter : look (codes "out-form") ≡ Some (letter_of out_form)
+  pub in_size : NamesBlock look (codes "in-block") in_form in_block
+  pub out_size : NamesBlock look (codes "out-block") out_form out_block
+  pub in_sized : in_form ≡ sized_by in_block in_form
+  pub out_sized : out_form ≡ sized_by out_block out_form
+  pub word : look (codes "binary") ≡ Some (word_of reading)
+
+-- options name no forms
+abbrev pub NameNoForms : Look → Type 0
+NameNoForms look = (in_form out_form : Form) (in_block out_block : ℕ) (reading : Reading) → NameForms look in_form out_form in_block out_block reading → ⊥
+
+-- Options name a piece of the input: where it begins, how long it is, and the number of its first record.
+pub record NamePiece (look : Look) (from : ℕ) (bytes : Option ℕ) (first : ℕ) : Type 0 where
+  pub offset : NamesNumber look (codes "from") 0 from
+  pub size : NamesBound look (codes "bytes") bytes
+  pub number : NamesNumber look (codes "record") 1 first
+
+-- Options choose among records: how many are passed over, and how many are taken behind them.
+pub record NameChoice (look : Look) (skip : ℕ) (records : Option ℕ) : Type 0 where
+  pub passed : NamesNumber look (codes "skip") 0 skip
+  pub most : NamesBound look (codes "records") records
+
+-- The options of `convert` name the line's files, its forms, its reading, the record length of its input, its flags, the piece of the input and the records of
+-- it that are converted, and the file for the records that are set aside with the bound for their number.
+pub record IsConvert (look : Look) (line : ConvertLine) : Type 0 where
+  pub in_book : look (codes "in-book") ≡ Some line.in_book.now
+  pub out_book : look (codes "out-book") ≡ Some line.out_book.now
+  pub moves : look (codes "moves") ≡ Some line.moves.now
+  pub input : look (codes "in") ≡ Some line.input.now
+  pub output : look (codes "out") ≡ Some line.output.now
+  pub forms : NameForms look line.in_form line.out_form line.in_block line.out_block line.reading
+  pub lrecl : NamesLrecl look line.lrecl
+  pub atomic : is_flagged (codes "atomic") look ≡ line.atomic
+  pub progress : is_flagged (codes "progress") look ≡ line.progress
+  pub piece : NamePiece look line.from line.bytes line.first
+  pub choice : NameChoice look line.skip line.records
+  pub rejects : look (codes "rejects") ≡ option_map (λ file. file.now) line.rejects
+  pub most_rejects : NamesBound look (codes "most-rejects") line.most_rejects
+
+-- The options of `check` name the line's files and its flags.
+pub record IsCheck (look : Look) (line : CheckLine) : Type 0 where
+  pub in_book : look (codes "in-book") ≡ Some line.in_book.now
+  pub out_book : look (codes "out-book") ≡ Some line.out_book.now
+  pub moves : look (codes "moves") ≡ Some line.moves.now
+  pub cover : is_flagged (codes "cover") look ≡ line.cover
+  pub strict : is_flagged (codes "strict") look ≡ line.strict
+
+-- The option of `layout` names the line's file.
+pub record IsLayout (look : Look) (line : LayoutLine) : Type 0 where
+  pub book : look (codes "book") ≡ Some line.book.now
+
+-- The options of `show` name the line's files, its form, whose blocks may be the longest, its record length, its listing, its flag, and the records that are
+-- listed.
+pub record IsShow (look : Look) (line : ShowLine) : Type 0 where
+  pub book : look (codes "book") ≡ Some line.book.now
+  pub input : look (codes "in") ≡ Some line.input.now
+  pub form : look (codes "form") ≡ Some (letter_of line.form)
+  pub sized : line.form ≡ sized_by longest_block line.form
+  pub lrecl : NamesLrecl look line.lrecl
+  pub listed : look (codes "as") ≡ Some (word_of_listing line.listing)
+  pub progress : is_flagged (codes "progress") look ≡ line.progress
+  pub choice : NameChoice look line.skip line.records
+
+-- The options of `pieces` name the line's files, its form, whose blocks may be the longest, its record length, and how many pieces there may be.
+pub record IsPieces (look : Look) (line : PiecesLine) : Type 0 where
+  pub book : look (codes "book") ≡ Some line.book.now
+  pub input : look (codes "in") ≡ Some line.input.now
+  pub form : look (codes "form") ≡ Some (letter_of line.form)
+  pub sized : line.form ≡ sized_by longest_block line.form
+  pub lrecl : NamesLrecl look line.lrecl
+  pub pieces : NamesNumber look (codes "pieces") 1 line.pieces
+
+-- The options of `lossless` name the line's files.
+pub record IsLosslessLine (look : Look) (line : LosslessLine) : Type 0 where
+  pub in_book : look (codes "in-book") ≡ Some line.in_book.now
+  pub out_book : look (codes "out-book") ≡ Some line.out_book.now
+  pub there : look (codes "there") ≡ Some line.there.now
+  pub back : look (codes "back") ≡ Some line.back.now
+
+-- The options of `explain` name the line's files, its forms, its reading, the record length of its input, and the number of the record.
+pub record IsExplain (look : Look) (line : ExplainLine) : Type 0 where
+  pub in_book : look (codes "in-book") ≡ Some line.in_book.now
+  pub out_book : look (codes "out-book") ≡ Some line.out_book.now
+  pub moves : look (codes "moves") ≡ Some line.moves.now
+  pub input : look (codes "in") ≡ Some line.input.now
+  pub forms : NameForms look line.in_form line.out_form line.in_block line.out_block line.reading
+  pub lrecl : NamesLrecl look line.lrecl
+  pub number : NamesNumber look (codes "record") 1 line.record
+
+-- The options of `draft` name the line's files.
+pub record IsDraft (look : Look) (line : DraftLine) : Type 0 where
+  pub in_book : look (codes "in-book") ≡ Some line.in_book.now
+  pub out_book : look (codes "out-book") ≡ Some line.out_book.now
+
+-- The options of `map` name the line's files, its forms, its reading, the record length of its input, and the number of the record.
+pub record IsMap (look : Look) (line : MapLine) : Type 0 where
+  pub in_book : look (codes "in-book") ≡ Some line.in_book.now
+  pub out_book : look (codes "out-book") ≡ Some line.out_book.now
+  pub moves : look (codes "moves") ≡ Some line.moves.now
+  pub input : look (codes "in") ≡ option_map (λ file. file.now) line.input
+  pub forms : NameForms look line.in_form line.out_form line.in_block line.out_block line.reading
+  pub lrecl : NamesLrecl look line.lrecl
+  pub number : NamesNumber look (codes "record") 1 line.record
+
+-- the command is that of the line, and its options name what the line says
+abbrev pub IsCommand : Text → Look → Line → Type 0
+IsCommand name look line.Job = ⊥
+IsCommand name look (line.Convert options) = (name ≡ codes "convert") × IsConvert look options
+IsCommand name look (line.Check options) = (name ≡ codes "check") × IsCheck look options
+IsCommand name look (line.Layout options) = (name ≡ codes "layout") × IsLayout look options
+IsCommand name look (line.Show options) = (name ≡ codes "show") × IsShow look options
+IsCommand name look (line.Pieces options) = (name ≡ codes "pieces") × IsPieces look options
+IsCommand name look (line.Lossless options) = (name ≡ codes "lossless") × IsLosslessLine look options
+IsCommand name look (line.Explain options) = (name ≡ codes "explain") × IsExplain look options
+IsCommand name look (line.Draft options) = (name ≡ codes "draft") × IsDraft look options
+IsCommand name look (line.Map options) = (name ≡ codes "map") × IsMap look options
+IsCommand name look line.Completion = name ≡ codes "completion"
+IsCommand name look line.Manual = name ≡ codes "manual"
+
+-- The name of a command and its options say the command's line, and by a flag that is no option of the line whether its faults are explained.
+pub record SaysCommand (name : Text) (look : Look) (said : CommandLine) : Type 0 where
+  pub command : IsCommand name look said.line
+  pub explain : is_flagged (codes "explain") look ≡ said.explain
+
+-- the blocks of a line's forms may have their greatest sizes, and a number of pieces or that of a record is one at least
+abbrev pub HasBlocks : Line → Type 0
+HasBlocks line.Job = ⊤
+HasBlocks (line.Convert options) = HasBlockSize options.in_form × HasBlockSize options.out_form
+HasBlocks (line.Check options) = ⊤
+HasBlocks (line.Layout options) = ⊤
+HasBlocks (line.Show options) = HasBlockSize options.form
+HasBlocks (line.Pieces options) = HasBlockSize options.form × (0 < options.pieces)
+HasBlocks (line.Lossless options) = ⊤
+HasBlocks (line.Explain options) = HasBlockSize options.in_form × HasBlockSize options.out_form × (0 < options.record)
+HasBlocks (line.Draft options) = ⊤
+HasBlocks (line.Map options) = HasBlockSize options.in_form × HasBlockSize options.out_form × (0 < options.record)
+HasBlocks line.Completion = ⊤
+HasBlocks line.Manual = ⊤
+
+-- What the words behind the program's name say: none at all are a job, of which nothing is explained; others are the name of a command and then its
+-- options, each of which names what the line says, by the value that it is given or by its default.
+abbrev pub IsCommandLineOf : List Text → CommandLine → Type 0
+IsCommandLineOf [] said = (said.line ≡ line.Job) × (said.explain ≡ false)
+IsCommandLineOf (command ∷ words) said = (options : Options) × (given : Given) × (found_at command commands ≡ Some options)
+    × AreOptions options words given × SaysCommand command (taken options given) said

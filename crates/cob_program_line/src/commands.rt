@@ -1,0 +1,233 @@
+//! The lines of the commands that have options.
+
+ghost use Rattle.std.specs.Prelude.{◌<◌, IfErr, IfOk};
+ghost use Rattle.cob_program_options.specs.Commands.{check_options, convert_options, draft_options, explain_options, layout_options, lossless_options, map_options, pieces_options, show_options};
+ghost use Rattle.cob_program_line.specs.Faults.{IsFaultIn};
+ghost use Rattle.cob_program_line.specs.Lines.{IsCheck, IsConvert, IsDraft, IsExplain, IsLayout, IsLosslessLine, IsMap, IsPieces, IsShow};
+ghost use Rattle.cob_program_options.specs.Looks.{AreAll, AreNamed, look_of};
+ghost use Rattle.cob_records.specs.Forms.{HasBlockSize};
+
+use crate::fault::LineFault;
+use crate::line::{
+    CheckLine, ConvertLine, DraftLine, ExplainLine, LayoutLine, LosslessLine, MapLine, PiecesLine,
+    ShowLine,
+};
+use crate::values::{
+    bound, choice_of, form, forms_of, listing, lrecl_of, number, piece_of, record_of,
+};
+use clap::ArgMatches;
+use cob_program_options::{flag, named, named_if_there};
+
+/// What the options of `convert` name.
+///
+/// # Errors
+///
+/// The first of [`LineFault`] that an option has (`IsFaultIn` of specs/Faults.antt).
+pub fn convert_line<'a>(options: &ArgMatches<'a>) -> Result<ConvertLine<'a>, LineFault>
+    requires named { AreNamed convert_options (look_of options.now) }
+    requires only { AreAll convert_options (look_of options.now) }
+    ensures options { IfOk result (IsConvert (look_of options.now)) }
+    ensures lacks { IfErr result (λ _. (line : ConvertLine)
+        → IsConvert (look_of options.now) line → ⊥) }
+    ensures fault { IfErr result (IsFaultIn (look_of options.now)) }
+    ensures blocks { IfOk result
+        (λ line. HasBlockSize line.in_form × HasBlockSize line.out_form) }
+{
+    let forms = forms_of(options)?;
+    let piece = piece_of(options)?;
+    let choice = choice_of(options)?;
+    let most_rejects = bound(options, "most-rejects", LineFault::Number)?;
+    let lrecl = lrecl_of(options)?;
+    Ok(ConvertLine {
+        in_book: named(options, "in-book"),
+        out_book: named(options, "out-book"),
+        moves: named(options, "moves"),
+        input: named(options, "in"),
+        output: named(options, "out"),
+        in_form: forms.input,
+        out_form: forms.output,
+        in_block: forms.in_block,
+        out_block: forms.out_block,
+        reading: forms.reading,
+        lrecl,
+        atomic: flag(options, "atomic"),
+        progress: flag(options, "progress"),
+        from: piece.from,
+        bytes: piece.bytes,
+        first: piece.first,
+        skip: choice.skip,
+        records: choice.records,
+        rejects: named_if_there(options, "rejects"),
+        most_rejects,
+    })
+}
+
+/// What the options of `check` name.
+pub fn check_line<'a>(options: &ArgMatches<'a>) -> CheckLine<'a>
+    requires { AreNamed check_options (look_of options.now) }
+    ensures { IsCheck (look_of options.now) result }
+{
+    CheckLine {
+        in_book: named(options, "in-book"),
+        out_book: named(options, "out-book"),
+        moves: named(options, "moves"),
+        cover: flag(options, "cover"),
+        strict: flag(options, "strict"),
+    }
+}
+
+/// What the option of `layout` names.
+pub fn layout_line<'a>(options: &ArgMatches<'a>) -> LayoutLine<'a>
+    requires { AreNamed layout_options (look_of options.now) }
+    ensures { IsLayout (look_of options.now) result }
+{
+    LayoutLine {
+        book: named(options, "book"),
+    }
+}
+
+/// What the options of `show` name.
+///
+/// # Errors
+///
+/// The first of [`LineFault`] that an option has (`IsFaultIn` of specs/Faults.antt).
+pub fn show_line<'a>(options: &ArgMatches<'a>) -> Result<ShowLine<'a>, LineFault>
+    requires named { AreNamed show_options (look_of options.now) }
+    requires only { AreAll show_options (look_of options.now) }
+    ensures options { IfOk result (IsShow (look_of options.now)) }
+    ensures lacks { IfErr result (λ _. (line : ShowLine)
+        → IsShow (look_of options.now) line → ⊥) }
+    ensures fault { IfErr result (IsFaultIn (look_of options.now)) }
+    ensures blocks { IfOk result (λ line. HasBlockSize line.form) }
+{
+    let form = form(options, "form")?;
+    let listing = listing(options)?;
+    let choice = choice_of(options)?;
+    let lrecl = lrecl_of(options)?;
+    Ok(ShowLine {
+        book: named(options, "book"),
+        input: named(options, "in"),
+        form,
+        lrecl,
+        listing,
+        progress: flag(options, "progress"),
+        skip: choice.skip,
+        records: choice.records,
+    })
+}
+
+/// What the options of `pieces` name.
+///
+/// # Errors
+///
+/// The first of [`LineFault`] that an option has (`IsFaultIn` of specs/Faults.antt).
+pub fn pieces_line<'a>(options: &ArgMatches<'a>) -> Result<PiecesLine<'a>, LineFault>
+    requires named { AreNamed pieces_options (look_of options.now) }
+    requires only { AreAll pieces_options (look_of options.now) }
+    ensures options { IfOk result (IsPieces (look_of options.now)) }
+    ensures lacks { IfErr result (λ _. (line : PiecesLine)
+        → IsPieces (look_of options.now) line → ⊥) }
+    ensures fault { IfErr result (IsFaultIn (look_of options.now)) }
+    ensures blocks { IfOk result (λ line. HasBlockSize line.form × (0 < line.pieces)) }
+{
+    let form = form(options, "form")?;
+    let pieces = number(options, "pieces", 1, LineFault::Pieces)?;
+    let lrecl = lrecl_of(options)?;
+    Ok(PiecesLine {
+        book: named(options, "book"),
+        input: named(options, "in"),
+        form,
+        lrecl,
+        pieces,
+    })
+}
+
+/// What the options of `lossless` name.
+pub fn lossless_line<'a>(options: &ArgMatches<'a>) -> LosslessLine<'a>
+    requires { AreNamed lossless_options (look_of options.now) }
+    ensures { IsLosslessLine (look_of options.now) result }
+{
+    LosslessLine {
+        in_book: named(options, "in-book"),
+        out_book: named(options, "out-book"),
+        there: named(options, "there"),
+        back: named(options, "back"),
+    }
+}
+
+/// What the options of `explain` name.
+///
+/// # Errors
+///
+/// The first of [`LineFault`] that an option has (`IsFaultIn` of specs/Faults.antt).
+pub fn explain_line<'a>(options: &ArgMatches<'a>) -> Result<ExplainLine<'a>, LineFault>
+    requires named { AreNamed explain_options (look_of options.now) }
+    requires only { AreAll explain_options (look_of options.now) }
+    ensures options { IfOk result (IsExplain (look_of options.now)) }
+    ensures lacks { IfErr result (λ _. (line : ExplainLine)
+        → IsExplain (look_of options.now) line → ⊥) }
+    ensures fault { IfErr result (IsFaultIn (look_of options.now)) }
+    ensures blocks { IfOk result (λ line. HasBlockSize line.in_form
+        × HasBlockSize line.out_form × (0 < line.record)) }
+{
+    let forms = forms_of(options)?;
+    let record = record_of(options)?;
+    let lrecl = lrecl_of(options)?;
+    Ok(ExplainLine {
+        in_book: named(options, "in-book"),
+        out_book: named(options, "out-book"),
+        moves: named(options, "moves"),
+        input: named(options, "in"),
+        in_form: forms.input,
+        out_form: forms.output,
+        in_block: forms.in_block,
+        out_block: forms.out_block,
+        reading: forms.reading,
+        lrecl,
+        record,
+    })
+}
+
+/// What the options of `draft` name.
+pub fn draft_line<'a>(options: &ArgMatches<'a>) -> DraftLine<'a>
+    requires { AreNamed draft_options (look_of options.now) }
+    ensures { IsDraft (look_of options.now) result }
+{
+    DraftLine {
+        in_book: named(options, "in-book"),
+        out_book: named(options, "out-book"),
+    }
+}
+
+/// What the options of `map` name.
+///
+/// # Errors
+///
+/// The first of [`LineFault`] that an option has (`IsFaultIn` of specs/Faults.antt).
+pub fn map_line<'a>(options: &ArgMatches<'a>) -> Result<MapLine<'a>, LineFault>
+    requires named { AreNamed map_options (look_of options.now) }
+    requires only { AreAll map_options (look_of options.now) }
+    ensures options { IfOk result (IsMap (look_of options.now)) }
+    ensures lacks { IfErr result (λ _. (line : MapLine)
+        → IsMap (look_of options.now) line → ⊥) }
+    ensures fault { IfErr result (IsFaultIn (look_of options.now)) }
+    ensures blocks { IfOk result (λ line. HasBlockSize line.in_form
+        × HasBlockSize line.out_form × (0 < line.record)) }
+{
+    let forms = forms_of(options)?;
+    let record = record_of(options)?;
+    let lrecl = lrecl_of(options)?;
+    Ok(MapLine {
+        in_book: named(options, "in-book"),
+        out_book: named(options, "out-book"),
+        moves: named(options, "moves"),
+        input: named_if_there(options, "in"),
+        in_form: forms.input,
+        out_form: forms.output,
+        in_block: forms.in_block,
+        out_block: forms.out_block,
+        reading: forms.reading,
+        lrecl,
+        record,
+    })
+}

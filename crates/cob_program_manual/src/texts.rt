@@ -1,0 +1,48 @@
+use crate::completion::push_completion;
+use crate::page::push_page;
+use clap::Command;
+use cob_program_options::program;
+use std::alloc::{AllocError, Global};
+
+/// What is made of the definition of the command.
+#[derive(Clone, Copy)]
+enum Asked {
+    Completion,
+    Page,
+}
+
+/// What is asked for of a program with these commands.
+fn text_for(alloc: Global, program: &Command<'_>, asked: Asked) -> Result<String, AllocError> {
+    let mut text = String::new(alloc);
+    match asked {
+        Asked::Completion => push_completion(alloc, &mut text, program)?,
+        Asked::Page => push_page(alloc, &mut text, program)?,
+    }
+    Ok(text)
+}
+
+/// What is asked for of the program.
+fn text_of(alloc: Global, asked: Asked) -> Result<String, AllocError> {
+    match program(alloc) {
+        Ok(program) => text_for(alloc, &program, asked),
+        Err(fault) => Err(fault),
+    }
+}
+
+/// What bash needs to complete the program's command lines.
+///
+/// # Errors
+///
+/// Want of memory.
+pub fn completion_of(alloc: Global) -> Result<String, AllocError> {
+    text_of(alloc, Asked::Completion)
+}
+
+/// The program's manual page.
+///
+/// # Errors
+///
+/// Want of memory.
+pub fn page_of(alloc: Global) -> Result<String, AllocError> {
+    text_of(alloc, Asked::Page)
+}

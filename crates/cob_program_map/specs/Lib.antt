@@ -1,0 +1,4 @@
+pub mod Numbered
+pub mod Showing
+pub mod Ends
+pub mod Told

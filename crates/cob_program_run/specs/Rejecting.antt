@@ -1,0 +1,7 @@
+-- The end that tells why records were rejected.
+use Rattle.std.specs.Prelude.{ℕ}
+use Rattle.cob_program_run.specs.declared.rejections.Rejections.{Rejections}
+
+-- the number of the first record that is read, from which those of the fault lines are counted
+abbrev pub first_told : {T : Type 0} → Rejections T → ℕ
+first_told notes = notes.first

@@ -1,0 +1,75 @@
+//! The end that tells why records were rejected.
+
+ghost use Rattle.std.specs.Prelude.{◌≡◌, true, false, None};
+ghost use Rattle.cob_convert.specs.Outcomes.{append_notes};
+ghost use Rattle.cob_program_run.specs.AsideFinished.{number_from};
+ghost use Rattle.cob_program_run.specs.Marks.{marks_behind};
+
+use crate::marks::Marks;
+use cob_convert::{Notes, RunFault};
+use std::io::Eprint;
+
+/// What is written over the line that tells how far a run is, on a terminal, so that a fault line stands by itself.
+const CLEARED: &str =
+    "\r                                                                              \r";
+
+/// The number of a record, where the first that was read has this one.
+pub fn counted_on(first: u64, number: u64) -> u64
+    ensures { result ≡ number_from first number }
+{
+    number.saturating_add(first.saturating_sub(1))
+}
+
+/// An end that prints the fault line of each rejected record on standard error, its records counted from a number, and keeps the marks of all.
+#[derive(Drop)]
+pub struct Rejections<'a, T> {
+    rt: &'a T,
+    first: u64,
+    is_cleared: bool,
+    /// Those of the rejected records.
+    pub marks: Marks,
+    /// Whether each fault line was printed.
+    pub are_printed: bool,
+}
+
+impl<'a, T> Rejections<'a, T> {
+    ghost use Rattle.cob_program_run.specs.Rejecting.{first_told};
+
+    /// An end for a run whose first record has this number, and which writes over the lines that tell how far it is, or does not.
+    pub fn new(rt: &'a T, first: u64, is_cleared: bool) -> Rejections<'a, T>
+        ensures first { first_told result ≡ first }
+        ensures printed { result.are_printed ≡ true }
+    {
+        Rejections {
+            rt,
+            first,
+            is_cleared,
+            marks: Marks::new(),
+            are_printed: true,
+        }
+    }
+}
+
+impl<T: Eprint> Notes for Rejections<'_, T> {
+    ghost told = { λ _. None };
+
+    fn note(&mut self, fault: RunFault)
+        ensures marks { self.new.marks ≡ marks_behind self.old.marks fault.number }
+        // That one was not printed is never forgotten.
+        ensures printed { self.old.are_printed ≡ false → self.new.are_printed ≡ false }
+    {
+        let line = RunFault {
+            number: counted_on(self.first, fault.number),
+            ..fault
+        };
+        let printed = if self.is_cleared {
+            eprintln!(self.rt; "{CLEARED}{line}")
+        } else {
+            eprintln!(self.rt; "{line}")
+        };
+        self.marks = self.marks.behind(fault.number);
+        if printed.is_err() {
+            self.are_printed = false;
+        }
+    }
+}

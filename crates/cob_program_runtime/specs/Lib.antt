@@ -1,0 +1,5 @@
+pub mod Streams
+pub mod Extents
+pub mod Files
+pub mod Limits
+pub mod Prints

@@ -1,0 +1,11 @@
+use Rattle.cob_program_texts.proofs.TellLemmas.{answered, memory_refused}
+use Rattle.cob_program_texts.proofs.answer.answer_from.Goals as goal
+
+pub returns-in-Ok-clause-answer : goal.returns-in-Ok-clause-answer
+returns-in-Ok-clause-answer c means =
+    answered c.answer_between.result c.args.in_book.now c.args.out_book.now c.args.there.now c.args.back.now c.args.forth.now c.in-Ok.home means
+    c.in-Ok.ensures.means c.answer_between.ensures.exactly c.answer_between.ensures.keeps
+
+pub returns-in-Ok-clause-refused : goal.returns-in-Ok-clause-refused
+returns-in-Ok-clause-refused c =
+    memory_refused c.answer_between.result c.args.in_book.now c.args.out_book.now c.args.back.now c.answer_between.ensures.memory

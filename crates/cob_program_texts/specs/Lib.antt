@@ -1,0 +1,4 @@
+pub mod CheckEnds
+pub mod DraftEnds
+pub mod Answers
+pub mod LosslessEnds

@@ -1,0 +1,14 @@
+pub mod Cutting
+pub mod Finding
+pub mod Beginning
+pub mod Behind
+pub mod Fieldless
+pub mod FirstBlocked
+pub mod FirstLaw
+pub mod Foretelling
+pub mod GivenLaw
+pub mod Giving
+pub mod InFront
+pub mod RestLaw
+pub mod Resting
+pub mod Stepping

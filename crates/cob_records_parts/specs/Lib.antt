@@ -1,0 +1,14 @@
+pub mod Cut
+pub mod Reading
+pub mod Aheads
+pub mod Choices
+pub mod Comings
+pub mod Firsts
+pub mod Fronts
+pub mod Gives
+pub mod Helds
+pub mod Incomings
+pub mod Parts
+pub mod Rests
+pub mod StillGiven
+pub mod Walks

@@ -1,0 +1,70 @@
+//! Parts of a stream of records: pieces that are converted each for itself, and records chosen by their places.
+//!
+//! # Pieces
+//!
+//! Pieces of a file of records: where it may be cut, so that each piece is converted for itself, by a process or a machine of its own.
+//!
+//! - [`pieces_in`] cuts a stream in any form by its descriptors, [`pieces_of_size`] one of records of one length by its size alone. Both answer a
+//!   list of [`Piece`]s: behind how many bytes each begins, how many it has, and the number of its first record in the whole stream.
+//! - What is promised (`AreCut` of specs/Cut.antt): one behind another the pieces are the bytes of the stream, none is empty, each but the last is
+//!   whole frames, in form b whole blocks, and the number of its first record is one more than the records before it. There are as many as are asked
+//!   for at most. What the stream ends in that is less than a frame is in the last piece.
+//! - A frame that can't be read is answered with the number of its record, as a conversion would tell it (`StopsCut`); a read failed exactly where
+//!   that is the answer.
+//!
+//! [`open_part`] makes an end over one piece of a file: it reads just as many bytes as the piece has, or all that are left (`all`, `part`), over standard
+//! input just where the name is `-` (`which`), and none is opened where the system does not move to the offset.
+//!
+//! That the pieces are of nearly equal size is shown by tests.
+//!
+//! # Chosen records
+//!
+//! Records of a stream chosen by their places: the first so many are passed over, and of the others so many are taken at most.
+//!
+//! - [`Chosen`] goes round a source and gives just the records of a [`Choice`], each as it stands by itself in a stream of the same form: in the forms
+//!   f and v its frame, in form b a block that holds just it, so that choosing may begin and end within a block. A reader finds just these records
+//!   there (`alone_is_one_record` of `cob_records`). The source inside is read once, from its front, and only as far as the last record that is chosen:
+//!   so it may be standard input.
+//! - What is promised (`HasGiven` of specs/Gives.antt): what it has given and still holds are, one behind another, the records behind the first ones that
+//!   are passed over, of those that came whole; and where it says that nothing is left, the last one that is chosen has come, or the source inside is
+//!   at its end. A frame that can't be read, of a record that is passed over or taken, is a read that fails; [`Chosen::stopped`] tells then the number
+//!   of the record among all and why, as a reader of the whole stream would (`HasStopped`). A read of the source inside failed exactly where that is why.
+//! - Where the source inside tells its bytes, what it tells to come itself is a function of these (`given_of` of specs/StillGiven.antt): the chosen records,
+//!   each by itself, and behind them, where a frame can't be read, a mark of the fault, which is never given ([`given_are_chosen`]).
+//! - [`Chosen::into_rest`] gives, where the chosen records are all that is left of the source inside, or its first bytes, just that ([`Rest`]), with nothing
+//!   between: in form f always, in form v where no number of records is asked for. These are the bytes behind the records that are passed over
+//!   ([`rest_is_behind`]).
+//! - [`whole_records`] says how many records of one length may be passed over by a seek: by arithmetic on the size of a file.
+//!
+//! One buffer is made for all records.
+#![tactic(auto)]
+
+mod ahead;
+mod choice;
+mod chosen;
+mod cut;
+mod files;
+mod fixed;
+mod foretold;
+mod held;
+mod incoming;
+mod laws;
+mod part;
+mod piece;
+mod refill;
+mod rest;
+mod step;
+mod stream;
+mod walk;
+mod whole;
+
+pub use choice::{Choice, ChoiceFault, Stopped};
+pub use chosen::Chosen;
+pub use files::{PartSource, open_part};
+pub use fixed::pieces_of_size;
+pub use incoming::{Incoming, choose};
+pub use laws::{given_are_chosen, rest_is_behind};
+pub use part::Part;
+pub use piece::{Piece, PiecesFault};
+pub use rest::Rest;
+pub use stream::{MOST_RECORDS_CUT, pieces_in};

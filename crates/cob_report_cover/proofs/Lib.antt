@@ -1,0 +1,7 @@
+mod LosingLemmas
+pub mod GatherLemmas
+pub mod JoinLemmas
+pub mod PlaceLemmas
+pub mod StatementLemmas
+pub mod MeetLemmas
+pub mod SweepLemmas

@@ -1,0 +1,63 @@
+-- Places of the occurrences that moves send and receive.
+use Rattle.std.specs.Prelude.{◌≡◌, Bool, true, List, [], ◌∷◌, ◌++◌, Option, Some, None, Result, Ok, Err, map}
+use Rattle.std.specs.List.{flat_map}
+use Rattle.cob_copybook_tree.specs.Forests.{Forest}
+use Rattle.cob_copybook_tree.specs.Nodes.{Resolved}
+use Rattle.cob_layout_places.specs.Cover.{Occurrence}
+use Rattle.cob_layout_places.specs.Lengths.{times}
+use Rattle.cob_layout_places.specs.Moves.{Entry, Literal, Move, Sender}
+use Rattle.cob_layout_places.specs.Places.{place_of}
+use Rattle.cob_layout_places.specs.References.{Refers}
+use Rattle.cob_layout_places.specs.declared.operands.Side.TheVariants.{In, Out}
+use Rattle.cob_layout.specs.Counting.{greatest_counts}
+use Rattle.cob_layout.specs.declared.fields.Place.{Place}
+use Rattle.cob_layout.specs.declared.layout.PlaceFault.{PlaceFault}
+use Rattle.cob_move_apply.specs.Some.{SomeOf}
+use Rattle.cob_back_moves.specs.Singles.{occurrence_of}
+
+-- The occurrence stands at this place of the record where each table has its greatest number of elements.
+pub record HasPlace (tree : Forest Resolved) (x : Occurrence) (p : Place) : Type 0 where
+  pub refers : Refers x.number x.subscripts tree
+  pub place : place_of (times (greatest_counts tree)) x.number tree 0 0 x.subscripts ≡ Some record { offset = p.offset; length = p.length; within = true }
+
+-- the place that an answer has, if it has one
+abbrev pub answered : Result Place PlaceFault → Option Place
+answered (Ok p) = Some p
+answered (Err e) = None
+
+-- it stands at a place of which this holds
+pub record HasPlaceWhere (tree : Forest Resolved) (Q : Place → Type 0) (x : Occurrence) : Type 0 where
+  pub place : Place
+  pub stands : HasPlace tree x place
+  pub so : Q place
+
+-- a place passes a test
+abbrev pub IsPassed : (Place → Bool) → Place → Type 0
+IsPassed test p = test p ≡ true
+
+-- These are the places of the occurrences: a test that one of the places passes is passed where one of the occurrences stands, and the other way round.
+abbrev pub Gathers : Forest Resolved → List Place → List Occurrence → Type 0
+Gathers tree ps xs = (test : Place → Bool) → (SomeOf (IsPassed test) ps → SomeOf (HasPlaceWhere tree (IsPassed test)) xs)
+    × (SomeOf (HasPlaceWhere tree (IsPassed test)) xs → SomeOf (IsPassed test) ps)
+
+-- the places of further occurrences came to those of the ones before
+abbrev pub Joins : Forest Resolved → List Place → List Place → List Occurrence → Type 0
+Joins tree old now xs = (before : List Occurrence) → Gathers tree old before → Gathers tree now (before ++ xs)
+
+-- the occurrences of the output record that a move's receivers are
+abbrev pub receivers_of : Move → List Occurrence
+receivers_of m = map occurrence_of m.receivers
+
+-- the occurrence of an entry of the input record that a sender is, if it is one
+abbrev pub input_of : Sender → List Occurrence
+input_of (Entry In reading o) = occurrence_of o ∷ []
+input_of (Entry Out reading o) = []
+input_of (Literal c) = []
+
+-- the occurrences that receive in moves
+abbrev pub received_in : List Move → List Occurrence
+received_in ms = flat_map receivers_of ms
+
+-- the occurrences of the input record that are sent in moves
+abbrev pub sent_in : List Move → List Occurrence
+sent_in ms = flat_map (λ m. input_of m.sender) ms

@@ -1,0 +1,6 @@
+pub mod Losing
+pub mod Gathered
+pub mod Statements
+pub mod Covered
+pub mod Reaches
+pub mod Numbers

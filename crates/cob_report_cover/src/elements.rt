@@ -1,0 +1,75 @@
+//! What single moves send and receive, in words.
+
+use cob_back_moves::Layouts;
+use cob_copybook_tree::Value;
+use cob_layout::Layout;
+use cob_layout_places::Side;
+use cob_report_lossless::{Element, Sent};
+use cob_report_words::{ConstantText, DescribedText, Named, PictureText};
+use std::fmt;
+
+/// The layout of a side's record.
+pub(crate) fn layout_of<'a>(layouts: &Layouts<'a>, side: Side) -> &'a Layout {
+    match side {
+        Side::In => layouts.input,
+        Side::Out => layouts.output,
+    }
+}
+
+/// An occurrence by its name.
+fn named_in<'a>(layout: &'a Layout, element: Element<'_>) -> Named<'a> {
+    Named::new(layout.root(), element.number, element.subscripts)
+}
+
+/// Writes an occurrence with its picture, where it has one, and what stands behind that.
+pub(crate) fn write_pictured<W: fmt::Write>(
+    f: &mut fmt::Formatter<W>,
+    layout: &Layout,
+    element: Element<'_>,
+    behind: &str,
+) -> fmt::Result {
+    let named = named_in(layout, element);
+    write!(f, "{named}")?;
+    match named.item() {
+        None => Ok(()),
+        Some(item) => {
+            let picture = PictureText {
+                picture: &item.picture,
+            };
+            write!(f, ", PIC {picture}{behind}")
+        }
+    }
+}
+
+/// Writes an occurrence with what it is.
+pub(crate) fn write_element<W: fmt::Write>(
+    f: &mut fmt::Formatter<W>,
+    layout: &Layout,
+    element: Element<'_>,
+) -> fmt::Result {
+    let named = named_in(layout, element);
+    write!(f, "{}", DescribedText { named: &named })
+}
+
+/// Writes a figurative constant by its word, and of a literal that it is one.
+fn write_constant<W: fmt::Write>(f: &mut fmt::Formatter<W>, value: &Value) -> fmt::Result {
+    match value {
+        Value::Figurative(_) => write!(f, "{}", ConstantText { value }),
+        Value::Number { .. } | Value::Literal(_) | Value::All(_) => write!(f, "a literal"),
+    }
+}
+
+/// Writes what is sent with what it is, and a comma behind it where that has one.
+pub(crate) fn write_sent<W: fmt::Write>(
+    f: &mut fmt::Formatter<W>,
+    layouts: &Layouts<'_>,
+    sent: Sent<'_>,
+) -> fmt::Result {
+    match sent {
+        Sent::Constant(value) => write_constant(f, value),
+        Sent::Entry { side, entry } => {
+            write_element(f, layout_of(layouts, side), entry)?;
+            write!(f, ",")
+        }
+    }
+}

@@ -1,0 +1,104 @@
+//! The lists of what a draft does not move.
+
+use crate::held::{Held, held_at, held_in};
+use crate::pairs::{Records, is_own_item, number_of};
+use crate::progress::Progress;
+use crate::shares::Share;
+use crate::words::Reference;
+use cob_layout::Layout;
+use cob_layout_steady::is_steady;
+use cob_report_partners::DraftBearer;
+use std::alloc::AllocError;
+use std::fmt;
+
+/// Elements that the other record doesn't have, if it is of these that something is told.
+#[derive(Clone, Copy)]
+struct Past {
+    is_part: bool,
+    other: &'static str,
+}
+
+/// The words for elements that the other record doesn't have.
+fn past_words(share: Share, other: &'static str) -> Past {
+    Past {
+        is_part: share == Share::Part,
+        other,
+    }
+}
+
+impl fmt::Display for Past {
+    fn fmt<W: fmt::Write>(&self, f: &mut fmt::Formatter<W>) -> fmt::Result {
+        if !self.is_part {
+            return Ok(());
+        }
+        let other = self.other;
+        write!(f, ", past the elements of the {other}")
+    }
+}
+
+/// Whether each element of an item begins at the same byte of each record: where one doesn't, the last one doesn't.
+fn stays(layout: &Layout, item: &DraftBearer<'_>) -> bool {
+    // Where no table varies, all elements do.
+    if !layout.varies() {
+        return true;
+    }
+    match layout.reference(number_of(item), item.entry.tables.as_slice()) {
+        Some(reference) => is_steady(layout, &reference),
+        None => true,
+    }
+}
+
+/// What an item holds, of which this would be held where it stands under the greatest counts.
+fn held_there<'a>(layout: &Layout, item: &DraftBearer<'_>, own: Held<'a>) -> Held<'a> {
+    if stays(layout, item) {
+        own
+    } else {
+        Held::Shifted
+    }
+}
+
+impl Progress {
+    /// Adds the items of the output record to which not all is moved, and what they hold.
+    pub(crate) fn push_unfilled(&mut self, records: &Records<'_>) -> Result<(), AllocError> {
+        let held = held_in(self.alloc, records.output.root())?;
+        let mut is_first = true;
+        for to in records.both.outputs() {
+            let share = self.received.of(number_of(to));
+            if !is_own_item(to) || share == Share::All {
+                continue;
+            }
+            if is_first {
+                self.lines
+                    .push_remark("Nothing fills these items, which hold:")?;
+                is_first = false;
+            }
+            let name = Reference::whole(to);
+            let past = past_words(share, "input");
+            let own = held_at(&held, number_of(to));
+            let held = held_there(records.output, to, own);
+            let words = format!(in self.alloc; "{name}{past}: {held}")?;
+            self.lines.push_listed(&words)?;
+        }
+        Ok(())
+    }
+
+    /// Adds the items of the input record of which not all is moved.
+    pub(crate) fn push_untaken(&mut self, inputs: &[DraftBearer<'_>]) -> Result<(), AllocError> {
+        let mut is_first = true;
+        for from in inputs {
+            let share = self.sent.of(number_of(from));
+            if !is_own_item(from) || share == Share::All {
+                continue;
+            }
+            if is_first {
+                self.lines.push_remark("Nothing takes these items:")?;
+                is_first = false;
+            }
+            let name = Reference::whole(from);
+            let past = past_words(share, "output");
+            let words = format!(in self.alloc; "{name}{past}")?;
+            self.lines.push_listed(&words)?;
+        }
+        Ok(())
+    }
+}

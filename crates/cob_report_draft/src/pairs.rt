@@ -1,0 +1,107 @@
+//! Entries of the two records, and pairs of them.
+
+use crate::words::Reference;
+use cob_copybook_tree::Kind;
+use cob_layout::Layout;
+use cob_report_partners::{BothRecords, DraftBearer, qualifiers_needed};
+
+/// Two records, of which a draft is made.
+#[derive(Drop)]
+pub(crate) struct Records<'a> {
+    pub(crate) both: BothRecords<'a>,
+    pub(crate) input: &'a Layout,
+    pub(crate) output: &'a Layout,
+}
+
+/// An entry, its partner, and with how many qualifiers each is named.
+#[derive(Clone, Copy)]
+pub(crate) struct Pair<'s, 'a> {
+    pub(crate) from: &'s DraftBearer<'a>,
+    pub(crate) to: &'s DraftBearer<'a>,
+    from_qualifiers: usize,
+    to_qualifiers: usize,
+}
+
+impl<'s, 'a> Pair<'s, 'a> {
+    /// The sender of the statement for the elements with these subscripts.
+    pub(crate) fn sender(&self, subscripts: &'s [u32]) -> Reference<'s, 'a> {
+        Reference {
+            bearer: self.from,
+            qualifiers: self.from_qualifiers,
+            subscripts,
+        }
+    }
+
+    /// The receiver of that statement.
+    pub(crate) fn receiver(&self, subscripts: &'s [u32]) -> Reference<'s, 'a> {
+        Reference {
+            bearer: self.to,
+            qualifiers: self.to_qualifiers,
+            subscripts,
+        }
+    }
+}
+
+/// An entry and its partner, with the qualifiers that each needs; `None` where one of the two isn't told from another entry.
+pub(crate) fn paired<'s, 'a>(
+    records: &BothRecords<'_>,
+    from: &'s DraftBearer<'a>,
+    to: &'s DraftBearer<'a>,
+) -> Option<Pair<'s, 'a>> {
+    let from_qualifiers = qualifiers_needed(records, from.name?, from.above.as_slice())?;
+    let to_qualifiers = qualifiers_needed(records, to.name?, to.above.as_slice())?;
+    Some(Pair {
+        from,
+        to,
+        from_qualifiers,
+        to_qualifiers,
+    })
+}
+
+/// The number of an entry.
+pub(crate) fn number_of(bearer: &DraftBearer<'_>) -> usize {
+    let entry = bearer.entry.entry;
+    entry.number
+}
+
+/// What an entry describes.
+pub(crate) fn kind_of<'a>(bearer: &DraftBearer<'a>) -> &'a Kind {
+    let entry = bearer.entry.entry;
+    &entry.kind
+}
+
+/// Whether an entry is an item.
+pub(crate) fn is_item(bearer: &DraftBearer<'_>) -> bool {
+    matches!(kind_of(bearer), Kind::Item(_))
+}
+
+/// Whether an entry is a named item in no redefinition.
+pub(crate) fn is_own_item(bearer: &DraftBearer<'_>) -> bool {
+    bearer.entry.own && bearer.name.is_some() && is_item(bearer)
+}
+
+/// Whether an entry is a named group below a record, in no redefinition.
+pub(crate) fn is_own_group(bearer: &DraftBearer<'_>) -> bool {
+    bearer.entry.own && bearer.name.is_some() && !bearer.above.is_empty() && !is_item(bearer)
+}
+
+/// Whether an entry has this name.
+fn has_name(bearer: &DraftBearer<'_>, name: &[u8]) -> bool {
+    match bearer.name {
+        Some(own) => own == name,
+        None => false,
+    }
+}
+
+/// Whether one of these entries has the name of another entry.
+pub(crate) fn has_namesake(entries: &[DraftBearer<'_>], to: &DraftBearer<'_>) -> bool {
+    let Some(name) = to.name else {
+        return false;
+    };
+    for entry in entries {
+        if has_name(entry, name) {
+            return true;
+        }
+    }
+    false
+}

@@ -1,0 +1,65 @@
+//! What is against the move of an entry to its partner, in words.
+
+use crate::pairs::{Pair, Records, kind_of};
+use cob_back_losses::{Gets, Losses, Unkept};
+use cob_copybook_tree::{Item, Kind};
+use cob_report_partners::Objection;
+use cob_report_words::{DescribedText, GotText, Named, PictureText};
+use std::fmt;
+
+/// What is against a move.
+#[derive(Clone, Copy)]
+pub(crate) struct Reason<'s, 'a> {
+    pub(crate) records: &'s Records<'a>,
+    pub(crate) pair: Pair<'s, 'a>,
+    pub(crate) objection: Objection,
+}
+
+/// Writes what the move of an item to another one may lose, with both pictures.
+fn write_losses<W: fmt::Write>(
+    f: &mut fmt::Formatter<W>,
+    from: &Item,
+    to: &Item,
+    losses: Losses,
+) -> fmt::Result {
+    let from = PictureText {
+        picture: &from.picture,
+    };
+    let to = PictureText {
+        picture: &to.picture,
+    };
+    write!(f, "PIC {from} to PIC {to} may lose {losses}:")
+}
+
+impl Reason<'_, '_> {
+    /// Writes which item does not keep its description, and what it gets.
+    fn write_description<W: fmt::Write>(
+        &self,
+        f: &mut fmt::Formatter<W>,
+        unkept: Unkept,
+    ) -> fmt::Result {
+        let named = Named::new(self.records.output.root(), unkept.item, &[]);
+        let described = DescribedText { named: &named };
+        write!(f, "It moves bytes, and {described}, gets ")?;
+        match unkept.gets {
+            Gets::Item(number) => {
+                let sent = Named::new(self.records.input.root(), number, &[]);
+                write!(f, "{}:", GotText { sent: Some(&sent) })
+            }
+            Gets::Space | Gets::Character => write!(f, "{}:", GotText { sent: None }),
+        }
+    }
+}
+
+impl fmt::Display for Reason<'_, '_> {
+    fn fmt<W: fmt::Write>(&self, f: &mut fmt::Formatter<W>) -> fmt::Result {
+        let kinds = (kind_of(self.pair.from), kind_of(self.pair.to));
+        match (self.objection, kinds) {
+            (Objection::Loses(losses), (Kind::Item(from), Kind::Item(to))) => {
+                write_losses(f, from, to, losses)
+            }
+            (Objection::Description(unkept), _) => self.write_description(f, unkept),
+            (objection, _) => write!(f, "{objection}:"),
+        }
+    }
+}

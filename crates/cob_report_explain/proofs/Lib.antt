@@ -1,0 +1,4 @@
+pub mod EachLemmas
+pub mod LawLemmas
+pub mod WalkLemmas
+pub mod ReadLemmas

@@ -1,0 +1,6 @@
+pub mod Each
+pub mod Seen
+pub mod Room
+pub mod Told
+pub mod Walked
+pub mod Explained

@@ -1,0 +1,192 @@
+//! Why single moves stop, in words.
+
+use crate::moves::{bytes_at, line_at};
+use crate::single::{Asked, MoveStop, SingleNumber};
+use cob_convert_record::{Conversion, Side, Stop, StopCause};
+use cob_layout::Layout;
+use cob_layout_places::{PairMoves, StatementMoves};
+use cob_report_faults::{
+    Asker, AskingMove, CountTable, Occurrence, Qualifying, SentText, StopCase, StopText, counted_at,
+};
+use std::alloc::{AllocError, Global};
+
+/// A conversion and what is known of one record.
+#[derive(Clone, Copy)]
+pub struct Scene<'a> {
+    pub conversion: &'a Conversion,
+    pub records: Qualifying<'a>,
+    /// The lines of the statements.
+    pub lines: &'a [u32],
+    pub input: &'a [u8],
+    /// The storage of the output record, as the moves before the stop left it.
+    pub output: &'a [u8],
+    /// What the last sender that lay in the output record gave, in front.
+    pub content: &'a [u8],
+}
+
+/// The single move of the pair of two groups with this number, whose statement stands on this line.
+fn pair_asking<'a>(
+    scene: &Scene<'a>,
+    group: &'a PairMoves,
+    number: SingleNumber,
+) -> Option<AskingMove<'a>> {
+    let pair = group.pairs.get(number.pair)?;
+    Some(AskingMove {
+        line: line_at(scene.lines, number.statement),
+        sender: SentText::Entry(Occurrence {
+            records: scene.records,
+            side: group.side,
+            number: pair.from,
+            subscripts: group.from.subscripts.as_slice(),
+        }),
+        receiver: Occurrence {
+            records: scene.records,
+            side: Side::Out,
+            number: pair.to,
+            subscripts: group.to.subscripts.as_slice(),
+        },
+    })
+}
+
+/// The single move with this number.
+fn asking<'a>(scene: &Scene<'a>, number: SingleNumber) -> Option<AskingMove<'a>> {
+    let statements = scene.conversion.moves().statements();
+    match statements.get(number.statement)? {
+        StatementMoves::Single(single) => {
+            let receiver = single.receivers.get(number.receiver)?;
+            Some(AskingMove {
+                line: line_at(scene.lines, number.statement),
+                sender: SentText::of(scene.records, &single.sender),
+                receiver: Occurrence::of(scene.records, Side::Out, receiver),
+            })
+        }
+        StatementMoves::Pairs(group) => pair_asking(scene, group, number),
+    }
+}
+
+/// The layout and the storage of a side.
+fn side_of<'a>(scene: &Scene<'a>, side: Side) -> (&'a Layout, &'a [u8]) {
+    let (input, output) = scene.conversion.layouts();
+    match side {
+        Side::In => (input, scene.input),
+        Side::Out => (output, scene.output),
+    }
+}
+
+/// What is wrong with the count of a table.
+fn count_text<'a>(
+    scene: &Scene<'a>,
+    side: Side,
+    offset: u32,
+    table: CountTable,
+    asked: Asker<'a>,
+) -> Option<StopText<'a>> {
+    let (_, storage) = side_of(scene, side);
+    let subject = Occurrence {
+        records: scene.records,
+        side,
+        number: table.count,
+        subscripts: &[],
+    };
+    let item = subject.item()?;
+    Some(StopText {
+        subject,
+        offset,
+        case: StopCase::Count {
+            item,
+            bytes: bytes_at(storage, offset as usize, usize::from(item.size())),
+            table: Occurrence {
+                number: table.table,
+                ..subject
+            },
+            least: table.least,
+            most: table.most,
+        },
+        asked,
+    })
+}
+
+/// A text where there is one, and else none.
+fn written(alloc: Global, text: Option<StopText<'_>>) -> Result<String, AllocError> {
+    match text {
+        Some(text) => format!(in alloc; "{text}"),
+        None => Ok(String::new(alloc)),
+    }
+}
+
+/// What is wrong with a count at this offset of the storage of a side, in words.
+///
+/// # Errors
+///
+/// Where no memory is left.
+pub fn count_words(
+    alloc: Global,
+    scene: &Scene<'_>,
+    side: Side,
+    offset: u32,
+    asked: Asker<'_>,
+) -> Result<String, AllocError> {
+    let (layout, storage) = side_of(scene, side);
+    match counted_at(alloc, layout, storage, offset)? {
+        Some(table) => written(alloc, count_text(scene, side, offset, table, asked)),
+        None => Ok(String::new(alloc)),
+    }
+}
+
+/// What is wrong with the value of a sender.
+fn value_text<'a>(scene: &Scene<'a>, stop: Stop, asked: AskingMove<'a>) -> Option<StopText<'a>> {
+    let SentText::Entry(subject) = asked.sender else {
+        return None;
+    };
+    let item = subject.item()?;
+    let size = usize::from(item.size());
+    let bytes = match subject.side {
+        Side::In => bytes_at(scene.input, stop.offset as usize, size),
+        Side::Out => bytes_at(scene.content, 0, size),
+    };
+    Some(StopText {
+        subject,
+        offset: stop.offset,
+        case: StopCase::NoValue {
+            item,
+            bytes,
+            record: scene.input,
+            reading: scene.conversion.moves().reading(),
+        },
+        asked: Asker::Move(asked),
+    })
+}
+
+/// What is wrong with a subscript of a sender or a receiver.
+fn subscript_text<'a>(stop: &MoveStop, asked: AskingMove<'a>) -> Option<StopText<'a>> {
+    let subject = match (stop.asked, asked.sender) {
+        (Asked::Sender, SentText::Entry(subject)) => subject,
+        (Asked::Sender, SentText::Constant(_)) => return None,
+        (Asked::Receiver | Asked::Value, _) => asked.receiver,
+    };
+    Some(StopText {
+        subject,
+        offset: stop.stop.offset,
+        case: StopCase::Subscript,
+        asked: Asker::Move(asked),
+    })
+}
+
+/// Why a single move stops, in words.
+///
+/// # Errors
+///
+/// Where no memory is left.
+pub fn move_words(alloc: Global, scene: &Scene<'_>, stop: &MoveStop) -> Result<String, AllocError> {
+    let Some(asked) = asking(scene, stop.number) else {
+        return Ok(String::new(alloc));
+    };
+    match stop.stop.cause {
+        StopCause::NoValue => written(alloc, value_text(scene, stop.stop, asked)),
+        StopCause::Subscript => written(alloc, subscript_text(stop, asked)),
+        StopCause::Count => {
+            let Stop { side, offset, .. } = stop.stop;
+            count_words(alloc, scene, side, offset, Asker::Move(asked))
+        }
+    }
+}

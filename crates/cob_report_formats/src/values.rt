@@ -1,0 +1,30 @@
+//! The values of items.
+
+use arrayvec::ArrayVec;
+use cob_layout::{Item, is_number_item};
+use cob_report_show::number_text;
+
+/// What bytes are as the value of an item.
+#[derive(Drop)]
+pub(crate) enum Value {
+    /// A number, by its text.
+    Number(ArrayVec<u8, 64>),
+    /// The bytes of a number item that represent none.
+    NoNumber,
+    /// Those of an item of characters.
+    Characters,
+}
+
+/// What bytes are as the value of an item.
+pub(crate) fn shown_value(item: &Item, bytes: &[u8]) -> Value {
+    if !is_number_item(item) {
+        return Value::Characters;
+    }
+    if bytes.len() != usize::from(item.size()) {
+        return Value::NoNumber;
+    }
+    match number_text(item, bytes) {
+        Some(text) => Value::Number(text),
+        None => Value::NoNumber,
+    }
+}

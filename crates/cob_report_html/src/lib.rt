@@ -1,0 +1,45 @@
+//! What a page of HTML is made of: texts and shapes as HTML, and places on the page of a map.
+//!
+//! # Texts and shapes
+//!
+//! Texts and shapes as HTML, made up where they are printed: texts with their escapes, and the lines and rectangles of a drawing in SVG.
+//!
+//! - [`Escaped`] prints a text so that a browser shows just its characters: `<`, `>`, `&` and `"` as escapes, and each other one as it is.
+//! - [`Line`] and [`Rectangle`] print as elements of a drawing.
+//!
+//! What each prints is promised whole (`output`). That no text can leave its place is a law: what is written of it are plain characters and escapes, one
+//! behind another ([`escapes_read_back`]; `ReadsAs` of specs/Escapes.antt), and such a writing is read in one way, as the text ([`reading_is_one`]). So it
+//! holds no `<`, `>` or `"`, and no `&` but at the front of an escape.
+//!
+//! It takes no memory.
+//!
+//! # Places on a page
+//!
+//! Places on the page of a map: where boxes stand, which parts of a ruler bytes take, and which single moves one line stands for.
+//!
+//! - [`tops_of`] says where boxes stand that lie one below another: each begins where the one before it ends, or at the front of the next sheet of paper,
+//!   where the rest of a sheet is too short for it (`AreTops` of specs/Tops.antt). A sheet is [`SHEET`] high.
+//! - [`part_at`] is the part of a run of bytes that stands in the row of the ruler in which it begins, and [`rows_of`] says how many rows a run meets
+//!   (specs/Rulers.antt). A row has [`ROW`] bytes.
+//! - [`bare_length`] is how many bytes at the front of a piece of a record are not covered: by it a page goes from one run of such bytes to the next.
+//! - [`counts_of`] groups single moves by what they join: a line is drawn for the first one of those that join the same two, and says how many they are
+//!   (`AreCountsAtFirsts` of specs/Ends.antt).
+//!
+//! No sum wraps: a top past the greatest number of 32 bits is that number.
+#![tactic(auto)]
+
+mod ends;
+mod escapes;
+mod laws;
+mod rulers;
+mod runs;
+mod shapes;
+mod tops;
+
+pub use ends::{Ends, Origin, counts_of};
+pub use escapes::Escaped;
+pub use laws::{escapes_read_back, reading_is_one};
+pub use rulers::{Part, ROW, part_at, rows_of};
+pub use runs::bare_length;
+pub use shapes::{Line, Rectangle};
+pub use tops::{SHEET, tops_of};

@@ -1,0 +1,27 @@
+//! Why two conversions may lose something, in words: the first point that fails, with its item and its statement.
+//!
+//! [`told_loss`] finds what is to be told of a [`Loss`] that `cob_back_moves` answers of moves there and back: the entry that redefines another one or varies,
+//! the single move that isn't as is asked, the second of two single moves to one occurrence, or the first occurrence of an item that doesn't come back, and why
+//! it doesn't. [`ToldLoss`] prints it in one line, as `E OF OUT-REC, PIC ZZ9.99, has no sign, and N OF IN-REC has one: there line 2`:
+//!
+//! - an occurrence by its name with those of the groups that hold it, and its subscripts in brackets;
+//! - a picture by its symbols, with repeats as they are written;
+//! - the place by the option that names the text, `there`, `back`, `in-book` or `out-book`, and the line in it where there is one.
+//!
+//! What is promised: of two items, what the second one lacks ([`lack_of`]; `Lacks` of specs/Lacks.antt), nothing exactly where it loses nothing of the
+//! first (`LosesNothing` of `cob_back_moves`); and the lines of a paragraph's statements ([`lines_of`]; `AreLinesOf` of specs/Lines.antt). Which words tell
+//! a loss is shown by `cob_test_jobs`.
+#![tactic(auto)]
+
+mod items;
+mod lacks;
+mod lines;
+mod reasons;
+mod singles;
+mod storage;
+mod words;
+
+pub use lacks::{Lack, lack_of};
+pub use lines::lines_of;
+pub use reasons::{LinedMoves, Position, Reason, ToldLoss, told_loss};
+pub use singles::{Element, Sent, Single, singles_of};

@@ -1,0 +1,251 @@
+//! The words that tell a loss.
+
+use crate::lacks::{Lack, digits_before};
+use crate::reasons::{Position, Reason, ToldLoss};
+use cob_back_moves::Way;
+use cob_copybook_tree::Item;
+use cob_layout_places::Side;
+use cob_picture::Category;
+use cob_report_words::{Named, PictureText};
+use std::fmt;
+
+/// Two items, of which the second one lacks something.
+#[derive(Clone, Copy)]
+struct Pair<'p, 'a> {
+    item: &'p Named<'a>,
+    own: &'a Item,
+    other: &'p Named<'a>,
+    others: &'a Item,
+}
+
+/// A side of the point.
+#[derive(Clone, Copy)]
+enum Part {
+    Before,
+    Behind,
+}
+
+/// The option that names a paragraph.
+fn way_word(way: Way) -> &'static str {
+    match way {
+        Way::There => "there",
+        Way::Back => "back",
+    }
+}
+
+/// The option that names a copybook.
+fn book_word(side: Side) -> &'static str {
+    match side {
+        Side::In => "in-book",
+        Side::Out => "out-book",
+    }
+}
+
+/// The words for a category.
+fn category_words(category: Category) -> &'static str {
+    match category {
+        Category::Alphabetic => "alphabetic",
+        Category::Numeric => "numeric",
+        Category::Alphanumeric => "alphanumeric",
+        Category::AlphanumericEdited => "alphanumeric edited",
+        Category::NumericEdited => "numeric edited",
+    }
+}
+
+/// A thing's word for so many.
+fn counted_word(count: u16, one: &'static str, more: &'static str) -> &'static str {
+    if count == 1 { one } else { more }
+}
+
+/// The word for a side of the point.
+fn part_word(part: Part) -> &'static str {
+    match part {
+        Part::Before => "before",
+        Part::Behind => "behind",
+    }
+}
+
+/// Writes how far beyond the point a number begins or ends.
+fn write_beyond<W: fmt::Write>(f: &mut fmt::Formatter<W>, part: Part, count: u16) -> fmt::Result {
+    let places = counted_word(count, "place", "places");
+    match part {
+        Part::Before => write!(f, "begins {count} {places} behind the point"),
+        Part::Behind => write!(f, "ends {count} {places} before the point"),
+    }
+}
+
+/// Writes how many digits a number has on a side of the point.
+fn write_digits<W: fmt::Write>(f: &mut fmt::Formatter<W>, part: Part, count: i16) -> fmt::Result {
+    let side = part_word(part);
+    if count < 0 {
+        return write_beyond(f, part, count.unsigned_abs());
+    }
+    if count == 0 {
+        return write!(f, "has no digit {side} the point");
+    }
+    let digits = counted_word(count.unsigned_abs(), "digit", "digits");
+    write!(f, "has {count} {digits} {side} the point")
+}
+
+/// Writes how many digits a number has, where another one has so many fewer.
+fn write_more_digits<W: fmt::Write>(
+    f: &mut fmt::Formatter<W>,
+    part: Part,
+    count: i16,
+    fewer: i16,
+) -> fmt::Result {
+    if fewer >= 0 {
+        return write!(f, "has {count}");
+    }
+    if count != 0 {
+        return write_digits(f, part, count);
+    }
+    match part {
+        Part::Before => write!(f, "begins at the point"),
+        Part::Behind => write!(f, "ends at the point"),
+    }
+}
+
+/// How many digits an item's number has on a side of the point; below 0, so many places beyond it.
+fn digits_on(part: Part, item: &Item) -> i16 {
+    match part {
+        Part::Before => digits_before(&item.picture),
+        Part::Behind => i16::from(item.picture.scale()),
+    }
+}
+
+impl Pair<'_, '_> {
+    /// Writes the second item with its picture.
+    fn write_other<W: fmt::Write>(&self, f: &mut fmt::Formatter<W>) -> fmt::Result {
+        let picture = PictureText {
+            picture: &self.others.picture,
+        };
+        write!(f, "{}, PIC {picture}, ", self.other)
+    }
+
+    /// Writes the first item with its picture.
+    fn write_own<W: fmt::Write>(&self, f: &mut fmt::Formatter<W>) -> fmt::Result {
+        let picture = PictureText {
+            picture: &self.own.picture,
+        };
+        write!(f, "{}, PIC {picture}, ", self.item)
+    }
+
+    /// Writes that the second item has fewer digits on a side of the point.
+    fn write_fewer<W: fmt::Write>(&self, f: &mut fmt::Formatter<W>, part: Part) -> fmt::Result {
+        let fewer = digits_on(part, self.others);
+        self.write_other(f)?;
+        write_digits(f, part, fewer)?;
+        write!(f, ", and {} ", self.item)?;
+        write_more_digits(f, part, digits_on(part, self.own), fewer)
+    }
+
+    /// Writes that the second item has fewer characters.
+    fn write_shorter<W: fmt::Write>(&self, f: &mut fmt::Formatter<W>) -> fmt::Result {
+        let count = self.others.size();
+        let characters = counted_word(count, "character", "characters");
+        self.write_other(f)?;
+        write!(
+            f,
+            "has {count} {characters}, and {} has {}",
+            self.item,
+            self.own.size()
+        )
+    }
+
+    /// Writes that the items are of categories that do not go together.
+    fn write_categories<W: fmt::Write>(&self, f: &mut fmt::Formatter<W>) -> fmt::Result {
+        let other = category_words(self.others.picture.category());
+        let own = category_words(self.own.picture.category());
+        self.write_other(f)?;
+        write!(f, "is {other}, and {} is {own}", self.item)
+    }
+
+    /// Writes what the second item lacks.
+    fn write_lack<W: fmt::Write>(&self, f: &mut fmt::Formatter<W>, lack: Lack) -> fmt::Result {
+        match lack {
+            Lack::Before => self.write_fewer(f, Part::Before),
+            Lack::Behind => self.write_fewer(f, Part::Behind),
+            Lack::Character => self.write_shorter(f),
+            Lack::Category => self.write_categories(f),
+            Lack::Sign => {
+                self.write_other(f)?;
+                write!(f, "has no sign, and {} has one", self.item)
+            }
+            Lack::NotJustified => {
+                self.write_other(f)?;
+                write!(f, "is JUSTIFIED, and {} is not", self.item)
+            }
+            Lack::Left => {
+                self.write_own(f)?;
+                write!(f, "is JUSTIFIED and does not come back")
+            }
+            Lack::Unedited => {
+                self.write_own(f)?;
+                write!(f, "is alphanumeric edited and does not come back")
+            }
+        }
+    }
+}
+
+impl fmt::Display for Reason<'_> {
+    fn fmt<W: fmt::Write>(&self, f: &mut fmt::Formatter<W>) -> fmt::Result {
+        match self {
+            Reason::Records => write!(f, "the records of back are not those of there"),
+            Reason::Redefines(entry, area) => write!(f, "{entry} redefines {area}"),
+            Reason::Varies(entry) => write!(f, "{entry} is a table that varies"),
+            Reason::Literal(receiver) => write!(f, "{receiver} receives a literal"),
+            Reason::Figurative(receiver) => {
+                write!(f, "{receiver} receives a figurative constant")
+            }
+            Reason::OwnRecord(sender) => {
+                write!(f, "{sender}, which is sent, is of the output record")
+            },
+            Reason::SendingGroup(sender) => write!(f, "{sender}, which is sent, is a group"),
+            Reason::ReceivingGroup(receiver) => {
+                write!(f, "{receiver}, which receives, is a group")
+            }
+            Reason::Whole(sender) => write!(f, "{sender} is binary and read whole"),
+            Reason::Twice { receiver, first } => {
+                write!(f, "{receiver} receives twice, first in line {first}")
+            }
+            Reason::Nameless(receiver) => write!(f, "{receiver}, which receives, has no name"),
+            Reason::NotMoved(item) => write!(f, "{item} is not moved"),
+            Reason::NotReceived(item) => write!(f, "{item} receives nothing"),
+            Reason::Other { item, away, other } => match other {
+                Some(other) => write!(f, "{item} receives {away}, and {other} is moved to that"),
+                None => write!(f, "{item} receives {away}, and nothing is moved to that"),
+            },
+            Reason::Lacks {
+                item,
+                own,
+                other,
+                others,
+                lack,
+            } => Pair {
+                item,
+                own,
+                other,
+                others,
+            }
+            .write_lack(f, *lack),
+        }
+    }
+}
+
+impl fmt::Display for Position {
+    fn fmt<W: fmt::Write>(&self, f: &mut fmt::Formatter<W>) -> fmt::Result {
+        match self {
+            Position::Nowhere => Ok(()),
+            Position::Paragraph(way) => write!(f, ": {}", way_word(*way)),
+            Position::Statement { way, line } => write!(f, ": {} line {line}", way_word(*way)),
+            Position::Entry { side, line } => write!(f, ": {} line {line}", book_word(*side)),
+        }
+    }
+}
+
+impl fmt::Display for ToldLoss<'_> {
+    fn fmt<W: fmt::Write>(&self, f: &mut fmt::Formatter<W>) -> fmt::Result {
+        write!(f, "{}{}", self.reason, self.position)
+    }
+}

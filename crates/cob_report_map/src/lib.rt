@@ -1,0 +1,38 @@
+//! A mapping as one page of HTML: both records as rulers of bytes, and a line from each sender to its receivers.
+//!
+//! [`Page`] prints as a page that is complete in itself. It shows, of a paragraph's moves between two records:
+//!
+//! - each record as boxes, one below another in the order of its entries, a group round those beneath it: level and name, picture and storage, how often the
+//!   entry occurs, what it redefines, offset and length, and on a ruler of rows of 64 bytes the bytes of its first element; so a redefinition lies under the
+//!   very bytes that it redefines. A record in which each table has its greatest number of elements is drawn;
+//! - where a record is given, the values and the bytes of the first elements of each item in its box;
+//! - a line for the single moves that join the same two entries, from the sender's box to the receiver's, with what they are where the pointer rests on it;
+//! - bytes that no receiver covers, moves that may lose something, and moves of bytes that may lose their description, each marked, and listed below with
+//!   its line.
+//!
+//! What is promised is what is decided: which entries moves join ([`ends_of`]; `ends_in` of specs/Joined.antt), and by `cob_report_html` where boxes stand,
+//! which rows of a ruler bytes take, and which moves one line stands for. Which words are printed is shown by `cob_test_jobs`.
+//!
+//! # Lines and lists
+//!
+//! The lines and the lists of the page of a map.
+//!
+//! [`write_line`] writes the line of the single moves that join the same two entries, from the box of the sender to that of the receiver, with what they are
+//! where the pointer rests on it, and [`write_move`] writes their row of the list below the drawing. [`write_runs`] writes a row for each run of bytes that no
+//! receiver covers. Each marks by [`Lost`] what the moves may lose. Which words are printed is shown by `cob_test_jobs`.
+//!
+//! It takes no memory.
+#![tactic(auto)]
+
+mod joined;
+mod lines;
+mod lists;
+mod lost;
+mod page;
+mod style;
+
+pub use joined::ends_of;
+pub use lines::{Sides, write_line};
+pub use lists::{write_move, write_runs};
+pub use lost::Lost;
+pub use page::{Converted, Mapping, Page, Record, TextNames};

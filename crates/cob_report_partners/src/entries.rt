@@ -1,0 +1,261 @@
+//! The entries of a record, with what a statement needs to name them.
+
+ghost use Rattle.std.specs.Prelude.{◌≡◌, ◌+◌, ◌≤◌, [], ◌∷◌, length, OnOk};
+ghost use Rattle.cob_copybook_tree.specs.Lengths.{greatest_number};
+ghost use Rattle.cob_copybook_tree.specs.Nodes.{node, resolved_entry, tree_of};
+ghost use Rattle.cob_copybook_tree.specs.declared.node.Node.TheViews.{out-Node};
+ghost use Rattle.cob_copybook_names.specs.Listed.{texts};
+ghost use Rattle.cob_copybook_rules.specs.Areas.{is_varying};
+ghost use Rattle.cob_layout.specs.Sound.{AreNested, own_dimension};
+ghost use Rattle.cob_layout_places.specs.Places.{is_table};
+ghost use Rattle.cob_limits.specs.Limits.{most_dimensions};
+ghost use Rattle.cob_move_names.specs.Candidates.{with_table};
+ghost use Rattle.cob_report_partners.specs.Entries.{ListsBehind, draft_entries, draft_entry, entry_inside, inside, is_count, last_number, latest_behind, node_bearer, outside, record_entries, redefined_at, seen_setting, seen_source};
+
+use arrayvec::ArrayVec;
+use cob_copybook_names::{Bearer, name_of, names_beneath};
+use cob_copybook_tree::{Node, ResolvedOccurs};
+use cob_layout::{Layout, is_table, records_are_sound};
+use cob_layout_places::{Side, Table, tables};
+use cob_limits::MAX_SUBSCRIPTS;
+use std::alloc::{AllocError, Global};
+
+/// The greatest numbers of tables, one inside the other, the outermost first.
+pub type Tables = ArrayVec<u32, MAX_SUBSCRIPTS>;
+
+/// An entry of one of the two records.
+#[derive(Drop)]
+pub struct DraftEntry<'a> {
+    pub side: Side,
+    pub entry: &'a Node,
+    /// The number of the last entry beneath it, or its own where there is none.
+    pub last: usize,
+    /// The tables that hold it or that it is.
+    pub tables: Tables,
+    /// Whether none of these varies.
+    pub steady: bool,
+    /// Whether it stands in no redefinition.
+    pub own: bool,
+    /// The number of the entry that it redefines, or that the outermost redefinition redefines in which it stands.
+    pub redefined: Option<usize>,
+    /// Whether it is the count of a table of its record.
+    pub counts: bool,
+}
+
+/// An entry with its names.
+pub type DraftBearer<'a> = Bearer<'a, DraftEntry<'a>>;
+
+/// The record whose entries are listed, with its tables that vary.
+#[derive(Clone, Copy)]
+struct Source<'t> {
+    side: Side,
+    varying: &'t [Table],
+}
+
+/// Where an entry stands.
+#[derive(Drop)]
+struct Setting {
+    tables: Tables,
+    steady: bool,
+    own: bool,
+    redefined: Option<usize>,
+    /// The number of the last entry before it in its row that redefines nothing.
+    latest: Option<usize>,
+}
+
+/// Whether an entry that occurs so is a table that varies.
+fn is_varying(occurs: ResolvedOccurs) -> bool
+    ensures { result ≡ is_varying occurs }
+{
+    matches!(occurs, ResolvedOccurs::Varying { .. })
+}
+
+/// The same tables once more.
+fn copied(tables: &[u32]) -> Tables
+    requires { length tables.now ≤ most_dimensions }
+    ensures { result.items ≡ tables.now }
+{
+    let mut own = ArrayVec::new();
+    for table in tables {
+        own.push(*table);
+    }
+    own
+}
+
+/// The tables that hold an entry, and itself if it is one.
+fn tables_with(entry: &Node, holding: &[u32]) -> Tables
+    requires nested { length holding.now + own_dimension (out-Node entry.now).occurs
+        ≤ most_dimensions }
+    ensures { result.items ≡ with_table (is_table (out-Node entry.now).occurs)
+        (greatest_number (resolved_entry (out-Node entry.now))) holding.now }
+{
+    let mut tables = copied(holding);
+    if is_table(entry.occurs) {
+        tables.push(entry.occurs.most());
+    }
+    tables
+}
+
+/// Which entry an entry redefines, or the outermost redefinition in which it stands.
+fn redefined_at(outer: &Setting, entry: &Node) -> Option<usize>
+    ensures { result ≡ redefined_at outer.now.redefined (out-Node entry.now).redefines
+        outer.now.latest }
+{
+    match (outer.redefined, &entry.redefines) {
+        (Some(redefined), _) => Some(redefined),
+        (None, Some(_)) => outer.latest,
+        (None, None) => None,
+    }
+}
+
+/// The last entry of a row that redefines nothing, behind this one.
+fn latest_behind(latest: Option<usize>, entry: &Node) -> Option<usize>
+    ensures { result ≡ latest_behind latest (resolved_entry (out-Node entry.now)) }
+{
+    match entry.redefines {
+        Some(_) => latest,
+        None => Some(entry.number),
+    }
+}
+
+/// Where the entries beneath an entry stand.
+fn inside(outer: &Setting, entry: &Node) -> Setting
+    requires nested { length outer.now.tables.items + own_dimension (out-Node entry.now).occurs
+        ≤ most_dimensions }
+    ensures { seen_setting result ≡ inside (seen_setting outer.now)
+        (resolved_entry (out-Node entry.now)) }
+{
+    Setting {
+        tables: tables_with(entry, outer.tables.as_slice()),
+        steady: outer.steady && !is_varying(entry.occurs),
+        own: outer.own && entry.redefines.is_none(),
+        redefined: redefined_at(outer, entry),
+        latest: None,
+    }
+}
+
+/// Whether the entry with this number is the count of one of these tables.
+fn is_count(varying: &[Table], number: usize) -> bool
+    ensures { result ≡ is_count varying.now number }
+{
+    varying.iter().any(|table| table.count == number)
+}
+
+/// The number of the last entry beneath an entry, or its own where there is none.
+fn last_number(entry: &Node) -> usize
+    ensures { result ≡ last_number (node entry.now).top.number (node entry.now).beneath }
+{
+    let mut last = entry.number;
+    for child in entry.children.iter() {
+        last = last_number(child);
+    }
+    last
+}
+
+/// An entry that stands there.
+fn entry_inside<'a>(source: Source<'_>, outer: &Setting, entry: &'a Node) -> DraftEntry<'a>
+    requires nested { length outer.now.tables.items + own_dimension (out-Node entry.now).occurs
+        ≤ most_dimensions }
+    ensures { draft_entry result ≡ entry_inside (seen_source source.entry) (seen_setting outer.now)
+        (node entry.now) }
+{
+    let inner = inside(outer, entry);
+    DraftEntry {
+        side: source.side,
+        entry,
+        last: last_number(entry),
+        tables: inner.tables,
+        steady: inner.steady,
+        own: inner.own,
+        redefined: inner.redefined,
+        counts: is_count(source.varying, entry.number),
+    }
+}
+
+/// Puts an entry behind those that are listed.
+fn list_entry<'a>(
+    alloc: Global,
+    source: Source<'_>,
+    above: &[&'a [u8]],
+    outer: &Setting,
+    entry: &'a Node,
+    listed: &mut Vec<DraftBearer<'a>>,
+) -> Result<(), AllocError>
+    requires nested { length outer.now.tables.items + own_dimension (out-Node entry.now).occurs
+        ≤ most_dimensions }
+    ensures { OnOk result (ListsBehind listed.old.items listed.new.items
+        (node_bearer source.entry above.now outer.now entry.now ∷ [])) }
+{
+    let mut names = Vec::new(alloc);
+    names.extend_from_slice(above)?;
+    listed.push(Bearer {
+        name: name_of(&entry.name),
+        above: names,
+        entry: entry_inside(source, outer, entry),
+    })?;
+    Ok(())
+}
+
+/// Puts an entry, and then those beneath it, behind those that are listed. The names `above` are those of the groups that it stands in.
+fn list_tree<'a>(
+    alloc: Global,
+    source: Source<'_>,
+    above: &[&'a [u8]],
+    outer: &Setting,
+    entry: &'a Node,
+    listed: &mut Vec<DraftBearer<'a>>,
+) -> Result<(), AllocError>
+    requires nested { AreNested (length outer.now.tables.items) (tree_of entry.now) }
+    ensures { OnOk result (ListsBehind listed.old.items listed.new.items
+        (draft_entries (seen_source source.entry) (texts above.now) (seen_setting outer.now)
+        (tree_of entry.now))) }
+{
+    list_entry(alloc, source, above, outer, entry, listed)?;
+    if entry.children.is_empty() {
+        return Ok(());
+    }
+    let beneath = names_beneath(alloc, &entry.name, above)?;
+    let mut inner = inside(outer, entry);
+    for child in entry.children.iter() {
+        list_tree(alloc, source, beneath.as_slice(), &inner, child, listed)?;
+        inner.latest = latest_behind(inner.latest, child);
+    }
+    Ok(())
+}
+
+/// Where a record stands.
+fn outside() -> Setting
+    ensures { seen_setting result ≡ outside }
+{
+    Setting {
+        tables: ArrayVec::new(),
+        steady: true,
+        own: true,
+        redefined: None,
+        latest: None,
+    }
+}
+
+/// The entries of a record, a parent before its children.
+///
+/// # Errors
+///
+/// Where no memory is left.
+pub fn entries_of<'a>(
+    alloc: Global,
+    side: Side,
+    layout: &'a Layout,
+    listed: &mut Vec<DraftBearer<'a>>,
+) -> Result<(), AllocError>
+    ensures { OnOk result (ListsBehind listed.old.items listed.new.items
+        (record_entries side layout.now)) }
+{
+    // For what `list_tree` asks: a record description is sound.
+    records_are_sound();
+    let varying = tables(alloc, layout.root())?;
+    let source = Source {
+        side,
+        varying: varying.as_slice(),
+    };
+    list_tree(alloc, source, &[], &outside(), layout.root(), listed)
+}

@@ -1,4 +1,0 @@
-use Rattle.cob_run_to_end.proofs.running.answer_of.Goals as goal
-
-pub returns-in-Some-clause-ran : goal.returns-in-Some-clause-ran
-returns-in-Some-clause-ran g c = (_, rw c.new-told.ensures.inner at c.run-answer.ensures.ran)

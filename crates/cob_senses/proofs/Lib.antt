@@ -1,3 +1,0 @@
-pub mod ByteLemmas
-pub mod KeepingLemmas
-pub mod NumberLemmas

@@ -1,4 +1,0 @@
-pub mod Senses
-pub mod Bytes
-pub mod Keeping
-pub mod Numbers

@@ -1,0 +1,46 @@
+//! The rules that speak of lengths.
+
+ghost use Rattle.std.specs.Prelude.{IsTrue};
+ghost use Rattle.cob_copybook_tree.specs.Nodes.{forest};
+ghost use Rattle.cob_copybook_rules.specs.Areas.{ArePossible};
+
+use crate::refusal::Refusal;
+use crate::trees::record_of;
+use cob_copybook_rules::judge_lengths;
+use cob_copybook_tree::{Kind, Node};
+use cob_test_rows::{Row, RowFault};
+use std::alloc::Global;
+use std::slice;
+
+/// Judges the lengths of a record.
+fn judge(root: &Node) -> Result<(), Refusal> {
+    if !are_possible(slice::from_ref(root)) {
+        return Err(Refusal::Row(RowFault::BadRow));
+    }
+    Ok(judge_lengths(root)?)
+}
+
+/// Writes the answer to a row's question about entries.
+pub(crate) fn answer(alloc: Global, row: &Row, out: &mut String) -> Result<(), Refusal> {
+    if row.field(0)? != "fit" {
+        return Err(Refusal::Row(RowFault::BadRow));
+    }
+    judge(&record_of(alloc, row)?)?;
+    Ok(out.push_str("yes")?)
+}
+
+/// Whether the entries occur at least once, and the items have none beneath them.
+fn are_possible(nodes: &[Node]) -> bool
+    ensures { IsTrue result → ArePossible (forest nodes.now) }
+{
+    for node in nodes {
+        let is_leaf = match &node.kind {
+            Kind::Group => true,
+            Kind::Item(_) => node.children.is_empty(),
+        };
+        if !is_leaf || node.occurs.most() == 0 || !are_possible(node.children.as_slice()) {
+            return false;
+        }
+    }
+    true
+}

@@ -1,0 +1,57 @@
+//! Answers tables of rows about texts and copybooks, each asked of the crate whose subject it is: the words of texts, clauses as they are
+//! written, entries, trees, the rules that clauses keep, counts, lengths, and whole copybooks.
+//!
+//! But for words, the first field of a row is the question, and the second is mostly a text of entries, parted by bars, one a line. The
+//! answer is what was asked for, or the rule that the text breaks with its line. [`CopybookRows`] answers them. The tables stand in `data/copybooks` of
+//! `cob_test_jobs`, and what must be printed in its `stdout`, worked out by hand from the rules of COBOL.
+#![tactic(auto)]
+
+mod books;
+mod clauses;
+mod counts;
+mod entries;
+mod lengths;
+mod nodes;
+mod refusal;
+mod rules;
+mod texts;
+mod trees;
+mod words;
+
+use crate::refusal::Refusal;
+use cob_test_rows::{Family, Row, RowFault};
+use std::alloc::Global;
+use std::fmt::Write;
+
+/// The tables on copybooks.
+pub struct CopybookRows;
+
+/// Writes what comes of a row of a table.
+///
+/// # Errors
+/// That there is no answer, or a rule that the row's text breaks.
+fn answer(alloc: Global, table: &str, row: &Row, out: &mut String) -> Result<(), Refusal> {
+    match table {
+        "lines" | "literals" | "continuations" | "paragraphs" | "long_texts" => {
+            Ok(words::answer(alloc, table, row, out)?)
+        }
+        "clauses" => clauses::answer(alloc, row, out),
+        "entries" => entries::answer(alloc, row, out),
+        "trees" => trees::answer(alloc, row, out),
+        "rules" => rules::answer(alloc, row, out),
+        "counts" => counts::answer(alloc, row, out),
+        "lengths" => lengths::answer(alloc, row, out),
+        "accepted" | "refused" | "books" => books::answer(alloc, row, out),
+        _ => Err(Refusal::Row(RowFault::BadRow)),
+    }
+}
+
+impl Family for CopybookRows {
+    fn answer(alloc: Global, table: &str, row: &Row, out: &mut String) -> Result<(), RowFault> {
+        match answer(alloc, table, row, out) {
+            Ok(()) => Ok(()),
+            Err(Refusal::Row(fault)) => Err(fault),
+            Err(Refusal::Text(fault)) => Ok(write!(out, "{fault}")?),
+        }
+    }
+}

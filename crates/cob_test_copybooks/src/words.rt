@@ -1,0 +1,95 @@
+//! Source texts: their words, literals and stops.
+//!
+//! A row is a text between quotes, or of the table `long_texts` how many bytes one has, of which the words are counted.
+
+use cob_source::{Kind, SourceFault, Token, paragraph_tokens, tokens};
+use cob_test_rows::{Row, RowFault, push_text};
+use std::alloc::{AllocError, Global};
+use std::fmt::Write;
+
+/// The name of a kind of token.
+fn kind_name(kind: Kind) -> &'static str {
+    match kind {
+        Kind::Word => "word",
+        Kind::Literal => "literal",
+        Kind::Stop => "stop",
+    }
+}
+
+/// Writes a token: what it is, its line and column, and its characters.
+fn push_token(out: &mut String, token: &Token) -> Result<(), AllocError> {
+    let kind = kind_name(token.kind);
+    write!(out, "{kind} {}:{} \"", token.line, token.column)?;
+    push_text(out, token.text.as_slice())?;
+    out.push('"')
+}
+
+/// Writes tokens.
+fn push_tokens(out: &mut String, list: &[Token]) -> Result<(), AllocError> {
+    if list.is_empty() {
+        return out.push_str("nothing");
+    }
+    for token in list {
+        out.push_str(if out.is_empty() { "" } else { " | " })?;
+        push_token(out, token)?;
+    }
+    Ok(())
+}
+
+/// A text of this many bytes, with a word in column 8 of each line of 80 bytes.
+fn long_text(alloc: Global, bytes: usize) -> Result<Vec<u8>, AllocError> {
+    let mut text = Vec::new(alloc);
+    for i in 0..bytes {
+        text.push(match i % 80 {
+            7 => b'A',
+            79 => b'\n',
+            _ => b' ',
+        })?;
+    }
+    Ok(text)
+}
+
+/// The text of a row: as it stands between quotes, or in the table `long_texts` one of as many bytes as the row says.
+fn text_of(alloc: Global, table: &str, row: &Row) -> Result<Vec<u8>, RowFault> {
+    match table {
+        "long_texts" => Ok(long_text(alloc, row.number(0)?)?),
+        _ => row.quoted_text(alloc, 0),
+    }
+}
+
+/// The tokens of a text, or those of a paragraph.
+fn read(alloc: Global, is_paragraph: bool, text: &[u8]) -> Result<Vec<Token>, SourceFault> {
+    if is_paragraph {
+        paragraph_tokens(alloc, text)
+    } else {
+        tokens(alloc, text)
+    }
+}
+
+/// Writes tokens, or how many there are.
+fn push_list(out: &mut String, is_counted: bool, list: &[Token]) -> Result<(), AllocError> {
+    if is_counted {
+        write!(out, "{} tokens", list.len())
+    } else {
+        push_tokens(out, list)
+    }
+}
+
+/// Writes what the tokens of a text of this table are, or the rule that the text breaks.
+fn push_read(alloc: Global, table: &str, text: &[u8], out: &mut String) -> Result<(), AllocError> {
+    match read(alloc, table == "paragraphs", text) {
+        Ok(list) => push_list(out, table == "long_texts", list.as_slice()),
+        Err(fault) => write!(out, "{fault}"),
+    }
+}
+
+/// Writes the tokens of a row's text, of the table `paragraphs` as those of a paragraph, and of `long_texts` how many there are.
+pub(crate) fn answer(
+    alloc: Global,
+    table: &str,
+    row: &Row,
+    out: &mut String,
+) -> Result<(), RowFault> {
+    let text = text_of(alloc, table, row)?;
+    Ok(push_read(alloc, table, text.as_slice(), out)?)
+}

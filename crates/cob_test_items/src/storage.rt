@@ -1,0 +1,214 @@
+//! Kinds of storage: shapes, bytes to number and number to bytes.
+
+ghost use Rattle.std.specs.Prelude.{◌≡◌, length, IsTrue, IsSomeAnd};
+
+use crate::numbers::{number_of_text, push_number};
+use crate::pictures::quoted_picture;
+use cob_codec::{Binary, Packed, Separate, Shape, Storage, Zoned, read_digits};
+use cob_decimal::{Digits, Number};
+use cob_limits::{MAX_BINARY_DIGITS, MAX_DIGITS, MAX_SCALE, MIN_SCALE};
+use cob_picture::{Category, Picture};
+use cob_test_rows::{Row, RowFault, bytes_of, push_digits};
+use std::alloc::{AllocError, Global};
+use std::fmt::Write;
+
+/// The shape of an item, whose digits, scale and sign stand behind its kind of storage.
+fn shape_of(row: &Row) -> Result<Shape, RowFault> {
+    let digits: u8 = row.number(1)?;
+    let scale = row.number(2)?;
+    let (signed, leading) = match row.field(3)? {
+        "unsigned" => (false, false),
+        "trailing" => (true, false),
+        "leading" => (true, true),
+        _ => return Err(RowFault::BadRow),
+    };
+    if digits == 0 || usize::from(digits) > MAX_DIGITS || scale < MIN_SCALE || scale > MAX_SCALE {
+        return Err(RowFault::BadRow);
+    }
+    Ok(Shape {
+        digits,
+        scale,
+        signed,
+        leading,
+    })
+}
+
+/// Whether the sign stands in front, as a word says it.
+fn leads(word: &str) -> Result<bool, RowFault> {
+    match word {
+        "leading" => Ok(true),
+        "trailing" => Ok(false),
+        _ => Err(RowFault::BadRow),
+    }
+}
+
+/// The shape of a numeric picture.
+fn shape_by(picture: &Picture, leading: bool) -> Result<Shape, RowFault> {
+    let Category::Numeric = picture.category() else {
+        return Err(RowFault::BadRow);
+    };
+    Ok(Shape::of(picture, leading))
+}
+
+/// The shape of a picture.
+pub(crate) fn push_shape(alloc: Global, row: &Row, out: &mut String) -> Result<(), RowFault> {
+    let picture = quoted_picture(alloc, row)?;
+    let shape = shape_by(&picture, leads(row.field(1)?)?)?;
+    let sign = if shape.signed { "signed" } else { "unsigned" };
+    let place = if shape.leading { "leading" } else { "trailing" };
+    write!(out, "digits {}, scale {}, ", shape.digits, shape.scale)?;
+    Ok(write!(out, "{sign}, {place}")?)
+}
+
+/// Writes a number, or that there is none.
+fn push_found(out: &mut String, number: &Option<Number>) -> Result<(), AllocError> {
+    match number {
+        Some(number) => push_number(out, number),
+        None => out.push_str("no number"),
+    }
+}
+
+/// Writes the number that the bytes of an item represent.
+fn push_represented<S: Storage>(
+    shape: &Shape,
+    bytes: &[u8],
+    out: &mut String,
+) -> Result<(), RowFault>
+    requires { S.takes shape.now }
+{
+    if bytes.len() != usize::from(S::length(shape)) {
+        return Err(RowFault::BadRow);
+    }
+    Ok(push_found(out, &S::read(shape, bytes))?)
+}
+
+/// Writes the number that the bytes of an item of this kind represent.
+fn push_number_in(
+    kind: &str,
+    shape: &Shape,
+    bytes: &[u8],
+    out: &mut String,
+) -> Result<(), RowFault> {
+    match kind {
+        "zoned" => push_represented::<Zoned>(shape, bytes, out),
+        "separate" if shape.signed => push_represented::<Separate>(shape, bytes, out),
+        "packed" => push_represented::<Packed>(shape, bytes, out),
+        "binary" if shape.digits <= MAX_BINARY_DIGITS => {
+            push_represented::<Binary>(shape, bytes, out)
+        }
+        _ => Err(RowFault::BadRow),
+    }
+}
+
+/// The number that bytes represent.
+pub(crate) fn push_read(alloc: Global, row: &Row, out: &mut String) -> Result<(), RowFault> {
+    let shape = shape_of(row)?;
+    let bytes = row.bytes(alloc, 4)?;
+    push_number_in(row.field(0)?, &shape, bytes.as_slice(), out)
+}
+
+/// Stores a number and reads it back: it is the number that was stored, by the laws of storage alone.
+fn stored_and_read<S: Storage>(shape: &Shape, number: &Number, bytes: &mut [u8]) -> Option<Number>
+    requires taken { S.takes shape.now }
+    requires long { length bytes.old ≡ S.size shape.now }
+    requires digits { length number.now.digits ≡ shape.now.digits }
+    requires scale { number.now.scale ≡ shape.now.scale }
+    requires sign { IsTrue number.now.negative → IsTrue shape.now.signed }
+    ensures bytes { bytes.new ≡ S.stored shape.now number.now.negative number.now.digits }
+    ensures same { IsSomeAnd result (λ v.
+        (v.negative ≡ number.now.negative) × (v.digits ≡ number.now.digits)) }
+{
+    S::store(shape, number, bytes);
+    S::laws();
+    S::read(shape, bytes)
+}
+
+/// Writes the bytes that are stored for a number, and the number that they represent.
+fn push_form<S: Storage>(
+    alloc: Global,
+    shape: &Shape,
+    number: &Number,
+    out: &mut String,
+) -> Result<(), RowFault>
+    requires { S.takes shape.now }
+{
+    let aligned = number.align(shape.digits, shape.scale, shape.signed);
+    let mut bytes = vec![in alloc; 0x55u8; usize::from(S::length(shape))]?;
+    let read = stored_and_read::<S>(shape, &aligned, &mut bytes);
+    push_digits(out, bytes.as_slice())?;
+    out.push_str(", read back as ")?;
+    Ok(push_found(out, &read)?)
+}
+
+/// Writes the bytes that an item of this kind has for a number, and the number that they represent.
+fn push_form_of(
+    alloc: Global,
+    kind: &str,
+    shape: &Shape,
+    number: &Number,
+    out: &mut String,
+) -> Result<(), RowFault> {
+    match kind {
+        "zoned" => push_form::<Zoned>(alloc, shape, number, out),
+        "separate" if shape.signed => push_form::<Separate>(alloc, shape, number, out),
+        "packed" => push_form::<Packed>(alloc, shape, number, out),
+        "binary" if shape.digits <= MAX_BINARY_DIGITS => {
+            push_form::<Binary>(alloc, shape, number, out)
+        }
+        _ => Err(RowFault::BadRow),
+    }
+}
+
+/// The bytes that are stored for a number.
+pub(crate) fn push_stored(alloc: Global, row: &Row, out: &mut String) -> Result<(), RowFault> {
+    let shape = shape_of(row)?;
+    let number = number_of_text(alloc, row, 4)?;
+    push_form_of(alloc, row.field(0)?, &shape, &number, out)
+}
+
+/// The number of all bytes of a binary item.
+fn whole_number(shape: &Shape, bytes: &[u8]) -> Result<Number, RowFault> {
+    if shape.digits > MAX_BINARY_DIGITS || bytes.len() != usize::from(Binary::length(shape)) {
+        return Err(RowFault::BadRow);
+    }
+    Ok(Binary::read_whole(shape, bytes))
+}
+
+/// The number of all bytes of a row's binary item.
+pub(crate) fn push_whole(alloc: Global, row: &Row, out: &mut String) -> Result<(), RowFault> {
+    let shape = shape_of(row)?;
+    let bytes = row.bytes(alloc, 4)?;
+    if row.field(0)? != "binary" {
+        return Err(RowFault::BadRow);
+    }
+    let number = whole_number(&shape, bytes.as_slice())?;
+    Ok(push_number(out, &number)?)
+}
+
+/// Writes digits between quotes.
+fn push_quoted(out: &mut String, digits: &Digits) -> Result<(), AllocError> {
+    out.push('"')?;
+    for digit in digits.as_slice() {
+        write!(out, "{digit}")?;
+    }
+    out.push('"')
+}
+
+/// The digits that bytes are.
+fn digits_in(bytes: &[u8]) -> Result<Option<Digits>, RowFault> {
+    if bytes.len() > MAX_DIGITS {
+        return Err(RowFault::BadRow);
+    }
+    Ok(read_digits(bytes))
+}
+
+/// The digits of bytes that are digits alone.
+pub(crate) fn push_digits_read(alloc: Global, row: &Row, out: &mut String) -> Result<(), RowFault> {
+    let Some(bytes) = bytes_of(alloc, row.quoted(0)?)? else {
+        return Err(RowFault::BadRow);
+    };
+    match digits_in(bytes.as_slice())? {
+        Some(digits) => Ok(push_quoted(out, &digits)?),
+        None => Ok(out.push_str("no digits")?),
+    }
+}

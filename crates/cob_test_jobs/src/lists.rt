@@ -1,0 +1,138 @@
+//! What is listed of copybooks and of records.
+//!
+//! The first field of a row is the question, and the second one the record: the entries of its copybook, parted by bars, one a line. In an
+//! answer each bar is the end of a printed line.
+//!
+//! - `layout`, record: a line for each entry.
+//! - `part`, record, number of bytes: the same, where the output takes no more than so many, and then the fault with how many it took.
+//! - `show`, record, form `f`, `v` or `b`, bytes in hexadecimal digits: the lines of the records that the bytes hold, and then `done` and how many
+//!   there were, or the fault of the one that stopped.
+//! - `room`, with a number of bytes behind: the same, where the output takes no more than so many.
+
+ghost use Rattle.std.specs.Prelude.{IfOk};
+ghost use Rattle.cob_records.specs.Forms.{HasBlockSize};
+
+use cob_limits::MAX_BLOCK;
+use cob_records::{Form, MemSink, MemSource, RecordFault};
+use cob_report_show::{Book, BookRule, Layout, Role, ShowFault, layout_text, show};
+use cob_test_rows::{Family, Row, RowFault};
+use std::alloc::{AllocError, Global};
+use std::fmt::Write;
+
+/// How many bytes an answer may have.
+const ROOM: usize = 8_192;
+
+/// Why a row has no book.
+fn row_fault(rule: BookRule) -> RowFault {
+    match rule {
+        BookRule::Memory => RowFault::Memory,
+        _ => RowFault::BadRow,
+    }
+}
+
+/// The book of a text.
+fn read(alloc: Global, text: &[u8]) -> Result<Book, RowFault> {
+    match Book::read(alloc, Role::In, text) {
+        Ok(book) => Ok(book),
+        Err(fault) => Err(row_fault(fault.rule)),
+    }
+}
+
+/// The book of a row: its second field.
+fn book_of(alloc: Global, row: &Row) -> Result<Book, RowFault> {
+    read(alloc, row.lines(alloc, 1)?.as_slice())
+}
+
+/// The record form of a row.
+fn form_of(written: &str) -> Result<Form, RowFault>
+    ensures { IfOk result HasBlockSize }
+{
+    match written {
+        "f" => Ok(Form::Fixed),
+        "v" => Ok(Form::Variable),
+        "b" => Ok(Form::Blocked(MAX_BLOCK)),
+        _ => Err(RowFault::BadRow),
+    }
+}
+
+/// Writes printed lines, with a bar at the end of each.
+fn push_lines(out: &mut String, text: &[u8]) -> Result<(), AllocError> {
+    for byte in text {
+        out.push(if *byte == b'\n' { '|' } else { *byte as char })?;
+    }
+    Ok(())
+}
+
+/// Lists the entries of a book.
+fn list_entries(
+    alloc: Global,
+    book: &Book,
+    sink: &mut MemSink<'_>,
+) -> Result<Result<(), RecordFault>, AllocError> {
+    let layout = Layout::of(alloc, book)?;
+    Ok(layout_text(&layout, sink))
+}
+
+/// The lines of a record's entries, of which the output takes so many bytes.
+fn layout(alloc: Global, row: &Row, room: usize, out: &mut String) -> Result<(), RowFault> {
+    let book = book_of(alloc, row)?;
+    let mut room = vec![in alloc; 0u8; room]?;
+    let mut sink = MemSink::new(&mut room);
+    let answer = list_entries(alloc, &book, &mut sink)?;
+    push_lines(out, sink.taken())?;
+    match answer {
+        Ok(()) => Ok(()),
+        Err(fault) => Ok(write!(out, "{fault} after {}", fault.taken())?),
+    }
+}
+
+/// Lists the records that bytes hold.
+fn list_records(
+    alloc: Global,
+    book: &Book,
+    form: Form,
+    bytes: &[u8],
+    sink: &mut MemSink<'_>,
+) -> Result<Result<u64, ShowFault>, AllocError>
+    requires { HasBlockSize form }
+{
+    let layout = Layout::of(alloc, book)?;
+    let mut source = MemSource::new(bytes);
+    Ok(show(alloc, book, &layout, form, &mut source, sink))
+}
+
+/// Writes how many records were listed, or what stopped the list.
+fn push_ending(out: &mut String, answer: Result<u64, ShowFault>) -> Result<(), RowFault> {
+    match answer {
+        Ok(number) => Ok(write!(out, "done {number}")?),
+        Err(ShowFault::Run(fault)) => Ok(write!(out, "{fault} after {}", fault.written)?),
+        Err(ShowFault::Memory) => Err(RowFault::Memory),
+    }
+}
+
+/// The lines of records, of which the output takes so many bytes.
+fn records(alloc: Global, row: &Row, room: usize, out: &mut String) -> Result<(), RowFault> {
+    let book = book_of(alloc, row)?;
+    let form = form_of(row.field(2)?)?;
+    let bytes = row.bytes(alloc, 3)?;
+    let mut room = vec![in alloc; 0u8; room]?;
+    let mut sink = MemSink::new(&mut room);
+    let answer = list_records(alloc, &book, form, bytes.as_slice(), &mut sink)?;
+    push_lines(out, sink.taken())?;
+    push_ending(out, answer)
+}
+
+/// The tables on printed lines.
+pub(crate) struct ListRows;
+
+impl Family for ListRows {
+    fn answer(alloc: Global, _table: &str, row: &Row, out: &mut String) -> Result<(), RowFault> {
+        match row.field(0)? {
+            "layout" => layout(alloc, row, ROOM, out),
+            "part" => layout(alloc, row, row.number(2)?, out),
+            "show" => records(alloc, row, ROOM, out),
+            "room" => records(alloc, row, row.number(4)?, out),
+            _ => Err(RowFault::BadRow),
+        }
+    }
+}

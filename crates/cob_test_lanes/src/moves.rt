@@ -1,0 +1,92 @@
+//! Moves of numbers by the steps that there are.
+
+ghost use Rattle.std.specs.Prelude.{◌≤◌, length};
+
+use crate::tally::Tally;
+use cob_copybook_tree::Item;
+use cob_move_steps::{AnyNumberStep, EditStep, NumberStep, TextStep, WideEditStep, WideStep};
+use std::alloc::{AllocError, Global};
+
+/// What stands in a receiver's bytes before the move.
+pub const UNWRITTEN: u8 = 0xAA;
+
+/// Moves the number of the edited item at the end of a record to a receiver's bytes, where there is a step.
+fn deedited(
+    alloc: Global,
+    sender: &Item,
+    receiver: &Item,
+    record: &[u8],
+    to: &mut [u8],
+) -> Result<Option<bool>, AllocError>
+    requires { length to.old ≤ 32 }
+{
+    match TextStep::prepare(alloc, sender, receiver)? {
+        Some(step) => Ok(Some(step.run(record, to))),
+        None => Ok(None),
+    }
+}
+
+/// The same of any item, to an edited one of more than sixteen bytes.
+fn widely_edited(
+    alloc: Global,
+    sender: &Item,
+    receiver: &Item,
+    record: &[u8],
+    to: &mut [u8],
+) -> Result<Option<bool>, AllocError>
+    requires { length to.old ≤ 32 }
+{
+    match WideEditStep::prepare(alloc, sender, receiver)? {
+        Some(step) => Ok(Some(step.run(record, to))),
+        None => deedited(alloc, sender, receiver, record, to),
+    }
+}
+
+/// The same to any item.
+fn moved(
+    alloc: Global,
+    sender: &Item,
+    receiver: &Item,
+    record: &[u8],
+    to: &mut [u8],
+) -> Result<Option<bool>, AllocError>
+    requires { length to.old ≤ 32 }
+{
+    if to.len() > 16 {
+        return widely_edited(alloc, sender, receiver, record, to);
+    }
+    if let Some(step) = NumberStep::prepare(sender, receiver) {
+        return Ok(Some(step.run(record, to)));
+    }
+    if let Some(step) = WideStep::prepare(sender, receiver) {
+        return Ok(Some(step.run(record, to)));
+    }
+    if let Some(step) = AnyNumberStep::prepare(sender, receiver) {
+        return Ok(Some(step.run(record, to)));
+    }
+    match EditStep::prepare(alloc, sender, receiver)? {
+        Some(step) => Ok(Some(step.run(record, to))),
+        None => deedited(alloc, sender, receiver, record, to),
+    }
+}
+
+/// Moves the number at the end of a record to a receiver, and counts what came of it.
+pub fn tally_move(
+    alloc: Global,
+    sender: &Item,
+    receiver: &Item,
+    record: &[u8],
+    tally: &mut Tally,
+) -> Result<(), AllocError> {
+    let size = usize::from(receiver.size());
+    if size > 32 {
+        tally.count_none();
+        return Ok(());
+    }
+    let mut bytes = [UNWRITTEN; 32];
+    match moved(alloc, sender, receiver, record, &mut bytes[..size])? {
+        Some(moved) => tally.count(moved, &bytes[..size]),
+        None => tally.count_none(),
+    }
+    Ok(())
+}

@@ -1,0 +1,169 @@
+//! Single moves: what a receiver holds after a move, that there is no value, or the rule that refuses it.
+//!
+//! - `entry`, the sender's entries, its bytes in hexadecimal digits, and the receiver's entries.
+//! - `whole`: the same, with a binary sender read whole.
+//! - `constant`, a literal or a figurative constant, and the receiver's entries.
+//!
+//! An item and a group each stand as a record of their own.
+
+ghost use Rattle.std.specs.Prelude.{length, IsTrue};
+ghost use Rattle.cob_copybook_tree.specs.Items.{IsStorable};
+ghost use Rattle.cob_move_receive.specs.Sent.{sent, Occupies, HasAllBytes};
+
+use crate::books::book_at;
+use crate::constants::constant_of;
+use cob_codec::Reading;
+use cob_copybook::Role;
+use cob_copybook_tree::{Item, Kind, is_number, is_number_item};
+use cob_move_receive::{Refusal, SenderKind, Sent, receive, refusal_of};
+use cob_test_rows::{Row, RowFault, push_digits};
+use std::alloc::{AllocError, Global};
+
+/// What stands in a receiver's bytes before the move.
+const UNWRITTEN: u8 = 0xAA;
+
+/// Whether bytes can hold what an item describes.
+fn is_storable(item: &Item) -> bool
+    ensures { IsTrue result → IsStorable item.now }
+{
+    if is_number(item) {
+        is_number_item(item)
+    } else {
+        item.size() == item.picture.size()
+    }
+}
+
+/// Whether so many bytes are those of an item, or of a group.
+fn has_bytes(kind: &Kind, length: usize) -> bool
+    ensures { IsTrue result → Occupies kind.now length }
+{
+    match kind {
+        Kind::Group => true,
+        Kind::Item(item) => length == usize::from(item.size()) && is_storable(item),
+    }
+}
+
+/// The rule that refuses a move.
+fn rule_name(refusal: Refusal) -> &'static str {
+    match refusal {
+        Refusal::NotAllowed => "M6",
+        Refusal::Literal => "M7",
+        Refusal::TooLong => "M10",
+    }
+}
+
+/// Writes that there is no value, and whether the receiver is changed all the same.
+fn push_no_value(out: &mut String, bytes: &[u8]) -> Result<(), AllocError> {
+    out.push_str("no value")?;
+    if bytes.iter().all(|byte| *byte == UNWRITTEN) {
+        Ok(())
+    } else {
+        out.push_str(", and the receiver is changed")
+    }
+}
+
+/// Writes what a receiver holds after the move of a sender, or that there is no value.
+fn push_received(
+    given: &Sent<'_>,
+    to: &Kind,
+    bytes: &mut [u8],
+    out: &mut String,
+) -> Result<(), AllocError>
+    requires given { HasAllBytes (sent given.now) }
+    requires receiver { Occupies to.now (length bytes.old) }
+{
+    if receive(given, to, bytes) {
+        push_digits(out, bytes)
+    } else {
+        push_no_value(out, bytes)
+    }
+}
+
+/// The rule that refuses the move of a sender to a receiver, if one does.
+fn refusal_name(from: &SenderKind<'_>, to: &Kind) -> Option<&'static str> {
+    match refusal_of(from, to) {
+        Some(refusal) => Some(rule_name(refusal)),
+        None => None,
+    }
+}
+
+/// Writes what comes of the move of a sender to a receiver.
+fn push_outcome(
+    alloc: Global,
+    from: &SenderKind<'_>,
+    given: &Sent<'_>,
+    to: &Kind,
+    size: usize,
+    out: &mut String,
+) -> Result<(), RowFault>
+    requires { HasAllBytes (sent given.now) }
+{
+    if let Some(name) = refusal_name(from, to) {
+        return Ok(out.push_str(name)?);
+    }
+    if !has_bytes(to, size) {
+        return Err(RowFault::BadRow);
+    }
+    let mut bytes = vec![in alloc; UNWRITTEN; size]?;
+    Ok(push_received(given, to, &mut bytes, out)?)
+}
+
+/// Writes what comes of a move to the receiver of a field.
+fn push_move(
+    alloc: Global,
+    from: &SenderKind<'_>,
+    given: &Sent<'_>,
+    row: &Row,
+    place: usize,
+    out: &mut String,
+) -> Result<(), RowFault>
+    requires { HasAllBytes (sent given.now) }
+{
+    let book = book_at(alloc, Role::Out, row, place)?;
+    let size = usize::from(book.greatest());
+    push_outcome(alloc, from, given, &book.root().kind, size, out)
+}
+
+/// Writes what comes of the move of an entry that is read so.
+fn move_entry(
+    alloc: Global,
+    reading: Reading,
+    row: &Row,
+    out: &mut String,
+) -> Result<(), RowFault> {
+    let book = book_at(alloc, Role::Out, row, 1)?;
+    let bytes = row.bytes(alloc, 2)?;
+    let kind = &book.root().kind;
+    if bytes.len() != usize::from(book.greatest()) || !has_bytes(kind, bytes.len()) {
+        return Err(RowFault::BadRow);
+    }
+    let given = Sent::Entry {
+        kind,
+        bytes: bytes.as_slice(),
+        reading,
+    };
+    push_move(alloc, &SenderKind::Entry(kind), &given, row, 3, out)
+}
+
+/// Writes what comes of the move of a constant.
+fn move_constant(alloc: Global, row: &Row, out: &mut String) -> Result<(), RowFault> {
+    let value = constant_of(row.field(1)?)?;
+    push_move(
+        alloc,
+        &SenderKind::Constant(&value),
+        &Sent::Constant(&value),
+        row,
+        2,
+        out,
+    )
+}
+
+/// Writes the answer to a row's question about a move.
+pub(crate) fn answer(alloc: Global, row: &Row, out: &mut String) -> Result<(), RowFault> {
+    match row.field(0)? {
+        "entry" => move_entry(alloc, Reading::Pictured, row, out),
+        "whole" => move_entry(alloc, Reading::Whole, row, out),
+        "constant" => move_constant(alloc, row, out),
+        _ => Err(RowFault::BadRow),
+    }
+}

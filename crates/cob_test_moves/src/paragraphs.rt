@@ -1,0 +1,81 @@
+//! Paragraphs of MOVE statements: how statements are written, what references name, which moves there are, and the pairs of CORRESPONDING.
+//!
+//! A row is the question, the copybook of the input record and that of the output record, and the paragraph: for `read` as lines that are
+//! parted by bars, from column 8 on; for `raw` as the whole text. The answer is the number of single moves, and where steps are asked for
+//! the number of steps that they make behind it; or the rule that the paragraph breaks with its line.
+
+ghost use Rattle.std.specs.Prelude.{IfOk};
+ghost use Rattle.cob_move.specs.Among.{both};
+ghost use Rattle.cob_move.specs.Paragraphs.{IsReadyFor};
+
+use crate::books::layout_at;
+use cob_copybook::Role;
+use cob_layout::Layout;
+use cob_move::{MoveFault, MoveRule, Paragraph};
+use cob_test_rows::{Row, RowFault};
+use std::alloc::{AllocError, Global};
+use std::fmt::Write;
+
+/// The paragraph of a row.
+fn text_of(alloc: Global, row: &Row) -> Result<Vec<u8>, RowFault> {
+    match row.field(0)? {
+        "read" => row.lines(alloc, 3),
+        "raw" => row.text(alloc, 3),
+        _ => Err(RowFault::BadRow),
+    }
+}
+
+/// The paragraph of a text.
+pub(crate) fn read_paragraph(
+    alloc: Global,
+    input: &Layout,
+    output: &Layout,
+    text: &[u8],
+) -> Result<Paragraph, MoveFault>
+    ensures { IfOk result (λ p. IsReadyFor (both input.now output.now) p) }
+{
+    Paragraph::read(alloc, input, output, text)
+}
+
+/// Writes how many moves a paragraph has, and how many steps where these are asked for.
+fn push_moves(out: &mut String, paragraph: &Paragraph, has_steps: bool) -> Result<(), AllocError> {
+    write!(out, "moves {}", paragraph.moves())?;
+    if has_steps {
+        write!(out, " steps {}", paragraph.steps())?;
+    }
+    Ok(())
+}
+
+/// Writes why there is no paragraph.
+fn push_fault(out: &mut String, fault: MoveFault) -> Result<(), RowFault> {
+    if fault.rule == MoveRule::Memory {
+        return Err(RowFault::Memory);
+    }
+    Ok(write!(out, "{fault}")?)
+}
+
+/// Writes what came of a paragraph.
+fn push_read(
+    out: &mut String,
+    read: Result<Paragraph, MoveFault>,
+    has_steps: bool,
+) -> Result<(), RowFault> {
+    match read {
+        Ok(paragraph) => Ok(push_moves(out, &paragraph, has_steps)?),
+        Err(fault) => push_fault(out, fault),
+    }
+}
+
+/// Writes the answer to a row's question about a paragraph.
+pub(crate) fn answer(
+    alloc: Global,
+    row: &Row,
+    has_steps: bool,
+    out: &mut String,
+) -> Result<(), RowFault> {
+    let input = layout_at(alloc, Role::In, row, 1)?;
+    let output = layout_at(alloc, Role::Out, row, 2)?;
+    let text = text_of(alloc, row)?;
+    let read = read_paragraph(alloc, &input, &output, text.as_slice());
+    push_read(out, read, has_steps)
+}

@@ -1,0 +1,63 @@
+//! Bytes at places of a record: the place is its offset and its length.
+//!
+//! - `read`, bytes, offset, length: the bytes of the place.
+//! - `write`, `fill`, the same, with bytes behind: the whole bytes afterwards.
+
+ghost use Rattle.std.specs.Prelude.{◌≤◌, ◌+◌, IfOk};
+
+use cob_layout::{Place, field, field_mut};
+use cob_test_rows::{Row, RowFault, push_digits};
+use std::alloc::Global;
+
+/// The place of a row, which ends within so many bytes.
+fn place_of(row: &Row, bytes: usize) -> Result<Place, RowFault>
+    ensures { IfOk result (λ p. p.offset + p.length ≤ bytes) }
+{
+    let offset: u32 = row.number(2)?;
+    let length: u32 = row.number(3)?;
+    if offset as usize + length as usize > bytes {
+        return Err(RowFault::BadRow);
+    }
+    Ok(Place { offset, length })
+}
+
+/// The bytes of a place.
+fn read(alloc: Global, row: &Row, out: &mut String) -> Result<(), RowFault> {
+    let record = row.bytes(alloc, 1)?;
+    let place = place_of(row, record.len())?;
+    Ok(push_digits(out, field(record.as_slice(), place))?)
+}
+
+/// The record after bytes are written to a place.
+fn write(alloc: Global, row: &Row, out: &mut String) -> Result<(), RowFault> {
+    let mut record = row.bytes(alloc, 1)?;
+    let place = place_of(row, record.len())?;
+    let bytes = row.bytes(alloc, 4)?;
+    if bytes.len() != place.length as usize {
+        return Err(RowFault::BadRow);
+    }
+    field_mut(record.as_mut_slice(), place).copy_from_slice(bytes.as_slice());
+    Ok(push_digits(out, record.as_slice())?)
+}
+
+/// The record after a place is filled with a byte.
+fn fill(alloc: Global, row: &Row, out: &mut String) -> Result<(), RowFault> {
+    let mut record = row.bytes(alloc, 1)?;
+    let place = place_of(row, record.len())?;
+    let bytes = row.bytes(alloc, 4)?;
+    let Some(byte) = bytes.first() else {
+        return Err(RowFault::BadRow);
+    };
+    field_mut(record.as_mut_slice(), place).fill(*byte);
+    Ok(push_digits(out, record.as_slice())?)
+}
+
+/// Writes the answer to a row's question about the bytes of a place.
+pub(crate) fn answer(alloc: Global, row: &Row, out: &mut String) -> Result<(), RowFault> {
+    match row.field(0)? {
+        "read" => read(alloc, row, out),
+        "write" => write(alloc, row, out),
+        "fill" => fill(alloc, row, out),
+        _ => Err(RowFault::BadRow),
+    }
+}

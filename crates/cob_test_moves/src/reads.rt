@@ -1,0 +1,71 @@
+//! How many count items of the output record the moves of a paragraph read.
+//!
+//! A row is `reads`, the copybook of the input record and that of the output record, the paragraph as lines, and the input record's bytes; the
+//! output record begins with its initial values. The answer is how many reads there were, behind the stop if the moves stopped.
+
+ghost use Rattle.std.specs.Prelude.{◌≡◌, length};
+ghost use Rattle.cob_layout.specs.Storage.{greatest_length};
+ghost use Rattle.cob_move.specs.Among.{both};
+ghost use Rattle.cob_move.specs.Paragraphs.{IsReadyFor};
+
+use crate::books::{book_at, layout_at};
+use crate::paragraphs::read_paragraph;
+use cob_copybook::Role;
+use cob_layout::Layout;
+use cob_move::{Paragraph, Scratch, Stop, apply};
+use cob_move_initial::initial;
+use cob_test_rows::{Row, RowFault};
+use std::alloc::{AllocError, Global};
+use std::fmt::Write;
+
+/// Writes how many count items were read, behind the stop if there was one.
+fn push_reads(out: &mut String, answer: Result<(), Stop>, reads: u64) -> Result<(), AllocError> {
+    if let Err(stop) = answer {
+        write!(out, "stop at {}, ", stop.offset)?;
+    }
+    write!(out, "reads {reads}")
+}
+
+/// Carries out a paragraph, and writes how many count items of the output record were read.
+fn push_applied(
+    alloc: Global,
+    paragraph: &Paragraph,
+    records: (&Layout, &Layout),
+    input: &[u8],
+    output: &mut [u8],
+    out: &mut String,
+) -> Result<(), AllocError>
+    requires ready { IsReadyFor (both records.0.now records.1.now) paragraph.now }
+    requires input { length input.now ≡ greatest_length records.0.now }
+    requires output { length output.old ≡ greatest_length records.1.now }
+{
+    let (from, to) = records;
+    let mut scratch = Scratch::new(alloc, from, to)?;
+    let answer = apply(paragraph, from, to, input, output, &mut scratch);
+    push_reads(out, answer, scratch.reads())
+}
+
+/// Writes the answer to a row's question about the reads of a paragraph.
+pub(crate) fn answer(alloc: Global, row: &Row, out: &mut String) -> Result<(), RowFault> {
+    let from = layout_at(alloc, Role::In, row, 1)?;
+    let book = book_at(alloc, Role::Out, row, 2)?;
+    let to = Layout::of(alloc, &book)?;
+    let text = row.lines(alloc, 3)?;
+    let Ok(paragraph) = read_paragraph(alloc, &from, &to, text.as_slice()) else {
+        return Err(RowFault::BadRow);
+    };
+    let input = row.bytes(alloc, 4)?;
+    if input.len() != usize::from(from.greatest()) {
+        return Err(RowFault::BadRow);
+    }
+    let mut output = vec![in alloc; 0u8; usize::from(to.greatest())]?;
+    initial(&to, &book, &mut output);
+    Ok(push_applied(
+        alloc,
+        &paragraph,
+        (&from, &to),
+        input.as_slice(),
+        &mut output,
+        out,
+    )?)
+}
