@@ -6,7 +6,7 @@ use Rattle.cob_layout.specs.Counting.{greatest_counts}
 use Rattle.cob_layout.specs.declared.fields.Place.{Place}
 use Rattle.cob_layout_places.specs.Cover.{Occurrence, holds}
 use Rattle.cob_layout_places.specs.Lengths.{times}
-use Rattle.cob_layout_places.specs.Moves.{Entry, Literal, Records, Sender, record_of}
+use Rattle.cob_move_data.specs.Moves.{Entry, Literal, Records, Sender, record_of}
 use Rattle.cob_layout_places.specs.Places.{choose, or_else, place_of}
 use Rattle.cob_layout_places.specs.References.{Refers}
 use Rattle.cob_back_moves.specs.Singles.{SingleMove, occurrence_of}

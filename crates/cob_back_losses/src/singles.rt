@@ -2,7 +2,7 @@
 
 ghost use Rattle.std.specs.Prelude.{◌≡◌, ◌++◌, [], ◌∷◌, OnOk, IfOk, map, option_map};
 ghost use Rattle.std.specs.List.{flat_map};
-ghost use Rattle.cob_layout_places.specs.Moves.{record_of, sender_by};
+ghost use Rattle.cob_move_data.specs.Moves.{record_of, sender_by};
 ghost use Rattle.cob_back_moves.specs.Brought.{singles_in};
 ghost use Rattle.cob_back_moves.specs.Tested.{layout_records};
 ghost use Rattle.cob_back_losses.specs.Moved.{entry_in, moved, sent_of};
@@ -13,7 +13,8 @@ use crate::entries::entry_in;
 use crate::keeping::Sent;
 use cob_back_moves::{Layouts, MovesBetween};
 use cob_layout::Layout;
-use cob_layout_places::{Move, NumberedPair, PairMoves, Ref, Sender, Side, StatementMoves};
+use cob_layout_places::Ref;
+use cob_move_data::{Move, NumberedPair, PairMoves, Sender, Side, StatementMoves};
 use std::alloc::{AllocError, Global};
 
 /// What is sent, where its record has such an entry, and an occurrence of an entry of the output record that receives it.

@@ -20,9 +20,9 @@ use Rattle.cob_layout.specs.Laws.{EndInLength, OneOfNeeded}
 use Rattle.cob_layout.specs.Sound.{RecordsAreSound}
 use Rattle.cob_copybook.specs.Books.{IsRecordDescription}
 use Rattle.cob_layout.specs.Storage.{greatest_length}
-use Rattle.cob_layout_places.specs.declared.operands.Operand.{Operand}
-use Rattle.cob_layout_places.specs.declared.operands.Side.TheVariants.{In, Out}
-use Rattle.cob_layout_places.specs.Moves.{AreMoves, Entry, Literal, Move, Records, Sender}
+use Rattle.cob_move_data.specs.declared.operands.Operand.{Operand}
+use Rattle.cob_move_data.specs.declared.operands.Side.TheVariants.{In, Out}
+use Rattle.cob_move_data.specs.Moves.{AreMoves, Entry, Literal, Move, Records, Sender}
 use Rattle.cob_move_receive.specs.Sent.{Entry as SentEntry}
 use Rattle.cob_move_receive.specs.Received.{OneReceived, Received}
 use Rattle.cob_move_apply.specs.Applied.{Applied, done}

@@ -8,14 +8,14 @@ use Rattle.std.specs.List.{AllByRecursion, flat_map}
 use Rattle.std.proofs.lemmas.List.{drop_all, take-append-drop}
 use Rattle.std.proofs.lemmas.Grind.{flat_map-append}
 use Rattle.std.proofs.lemmas.List.Concat.{flat_map-cons}
-use Rattle.cob_layout_places.specs.declared.operands.Operand.{Operand}
-use Rattle.cob_layout_places.specs.declared.operands.Move as code_move
-use Rattle.cob_layout_places.specs.declared.operands.NumberedPair.{NumberedPair}
-use Rattle.cob_layout_places.specs.declared.operands.PairMoves.{PairMoves}
-use Rattle.cob_layout_places.specs.declared.operands.StatementMoves.{StatementMoves}
-use Rattle.cob_layout_places.specs.declared.operands.StatementMoves.TheVariants.{Pairs, Single}
+use Rattle.cob_move_data.specs.declared.operands.Operand.{Operand}
+use Rattle.cob_move_data.specs.declared.operands.Move as code_move
+use Rattle.cob_move_data.specs.declared.operands.NumberedPair.{NumberedPair}
+use Rattle.cob_move_data.specs.declared.operands.PairMoves.{PairMoves}
+use Rattle.cob_move_data.specs.declared.operands.StatementMoves.{StatementMoves}
+use Rattle.cob_move_data.specs.declared.operands.StatementMoves.TheVariants.{Pairs, Single}
 use Rattle.cob_layout_places.specs.declared.reference.Ref.{Ref}
-use Rattle.cob_layout_places.specs.Moves.{AreMoves, IsMove, IsOperand, Move, Records, Sender, entry_below, move_by, numbered_move_by, operand_in, sender_by, statement_moves_by}
+use Rattle.cob_move_data.specs.Moves.{AreMoves, IsMove, IsOperand, Move, Records, Sender, entry_below, move_by, numbered_move_by, operand_in, sender_by, statement_moves_by}
 use Rattle.cob_move_apply.proofs.ListLemmas.{at, below, left_first, left_more, next, past}
 use Rattle.cob_back_moves.specs.Singles.{SingleMove, all_singles, singles_from}
 use Rattle.cob_move_apply.specs.Some.{SomeOf}

@@ -24,9 +24,9 @@ use Rattle.cob_layout.proofs.GreatestLemmas.{are_greatest}
 use Rattle.cob_layout.proofs.ReferenceLemmas.{found_there, refers_has}
 use Rattle.cob_layout.proofs.StandingLemmas.{greatest_within}
 use Rattle.cob_layout_places.proofs.CountLemmas.{found_size, pairs_in}
-use Rattle.cob_layout_places.specs.declared.operands.Operand.{Operand}
-use Rattle.cob_layout_places.specs.declared.operands.Side.{Side}
-use Rattle.cob_layout_places.specs.Moves.{IsOperand}
+use Rattle.cob_move_data.specs.declared.operands.Operand.{Operand}
+use Rattle.cob_move_data.specs.declared.operands.Side.{Side}
+use Rattle.cob_move_data.specs.Moves.{IsOperand}
 use Rattle.cob_move_apply.specs.Located.{Located, StandsUnder}
 use Rattle.cob_back_moves.specs.Apart.{VaryNone}
 

@@ -6,8 +6,8 @@ use Rattle.cob_copybook_tree.specs.declared.node.Kind.TheVariants.{Item as ItemK
 use Rattle.cob_copybook_tree.specs.Forests.{Forest}
 use Rattle.cob_copybook_tree.specs.Nodes.{Resolved}
 use Rattle.cob_layout_places.specs.Cover.{Occurrence}
-use Rattle.cob_layout_places.specs.Moves.{AreMoves, Move, moves_by}
-use Rattle.cob_layout_places.specs.declared.operands.StatementMoves.{StatementMoves}
+use Rattle.cob_move_data.specs.Moves.{AreMoves, Move, moves_by}
+use Rattle.cob_move_data.specs.declared.operands.StatementMoves.{StatementMoves}
 use Rattle.cob_back_moves.specs.Returns.{IsNamedItem, IsReturned}
 use Rattle.cob_back_moves.specs.Singles.{Goes, SingleMove, all_singles}
 use Rattle.cob_back_moves.specs.Wider.{LosesNothing}

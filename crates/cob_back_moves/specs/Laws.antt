@@ -17,7 +17,7 @@ use Rattle.cob_copybook_tree.specs.Resolving.{is_number}
 use Rattle.cob_copybook.specs.Books.{IsRecordDescription}
 use Rattle.cob_layout.specs.Storage.{greatest_length}
 use Rattle.cob_layout_places.specs.Counts.{kind_in}
-use Rattle.cob_layout_places.specs.Moves.{AreMoves, Move, Records}
+use Rattle.cob_move_data.specs.Moves.{AreMoves, Move, Records}
 use Rattle.cob_move_apply.specs.Applied.{Applied, done}
 use Rattle.cob_move_receive.specs.Received.{Received}
 use Rattle.cob_move_receive.specs.Sent.{Entry}

@@ -1,6 +1,6 @@
 -- Moves there and back that lose nothing.
 use Rattle.std.specs.Prelude.{List}
-use Rattle.cob_layout_places.specs.Moves.{Move, Records}
+use Rattle.cob_move_data.specs.Moves.{Move, Records}
 use Rattle.cob_back_moves.specs.Apart.{StandsOneWay}
 use Rattle.cob_back_moves.specs.Returns.{AreTurned, Returns}
 

@@ -12,7 +12,7 @@ use Rattle.cob_layout_places.specs.Cover.{Occurrence}
 use Rattle.cob_layout_places.specs.declared.places.Found.{Found}
 use Rattle.cob_layout_places.specs.Places.{place_of}
 use Rattle.cob_layout_places.specs.References.{Refers}
-use Rattle.cob_layout_places.specs.Moves.{Move, Records}
+use Rattle.cob_move_data.specs.Moves.{Move, Records}
 use Rattle.cob_back_moves.specs.Singles.{Goes, IsElementary, IsOneOf, ReceiveOnce, SendsPictured, SingleMove, all_singles}
 use Rattle.cob_back_moves.specs.Wider.{IsSameIn, LosesNothing}
 

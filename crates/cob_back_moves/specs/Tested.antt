@@ -5,12 +5,12 @@ use Rattle.cob_copybook_entry.specs.Described.{plain_value}
 use Rattle.cob_copybook_tree.specs.Nodes.{tree_of}
 use Rattle.cob_layout.specs.Sound.{IsSound}
 use Rattle.cob_layout_places.specs.declared.reference.Ref.{Ref}
-use Rattle.cob_layout_places.specs.declared.operands.Move as code_move
-use Rattle.cob_layout_places.specs.declared.operands.Operand.{Operand}
-use Rattle.cob_layout_places.specs.declared.operands.NumberedPair.{NumberedPair}
-use Rattle.cob_layout_places.specs.declared.operands.PairMoves.{PairMoves}
-use Rattle.cob_layout_places.specs.declared.operands.StatementMoves.{StatementMoves}
-use Rattle.cob_layout_places.specs.Moves.{AreMoves, Entry, IsOperand, IsSender, Literal, Move, Records, Sender, entry_below, move_by, numbered_move_by, operand_in, record_of, sender_by, statement_moves_by}
+use Rattle.cob_move_data.specs.declared.operands.Move as code_move
+use Rattle.cob_move_data.specs.declared.operands.Operand.{Operand}
+use Rattle.cob_move_data.specs.declared.operands.NumberedPair.{NumberedPair}
+use Rattle.cob_move_data.specs.declared.operands.PairMoves.{PairMoves}
+use Rattle.cob_move_data.specs.declared.operands.StatementMoves.{StatementMoves}
+use Rattle.cob_move_data.specs.Moves.{AreMoves, Entry, IsOperand, IsSender, Literal, Move, Records, Sender, entry_below, move_by, numbered_move_by, operand_in, record_of, sender_by, statement_moves_by}
 use Rattle.cob_back_moves.specs.Returns.{BearsName}
 use Rattle.cob_back_moves.specs.Singles.{IsElementary, SendsPictured, SingleMove, all_singles, singles_from}
 use Rattle.cob_back_moves.specs.declared.single.Element.{Element}

@@ -11,7 +11,8 @@ ghost use Rattle.cob_back_moves.specs.Tested.{AreMovesBetween, AreSound, PassAll
 
 use crate::single::{Element, Layouts, Sent, Single, Test, element_of, passes, sent_of};
 use cob_copybook_tree::Node;
-use cob_layout_places::{Move, NumberedPair, PairMoves, Ref, StatementMoves};
+use cob_layout_places::Ref;
+use cob_move_data::{Move, NumberedPair, PairMoves, StatementMoves};
 
 /// The single move of a move's sender to one of its receivers.
 pub(crate) fn move_single<'a>(one: &'a Move, receiver: &'a Ref) -> Single<'a>

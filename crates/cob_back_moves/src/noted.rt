@@ -5,15 +5,16 @@
 
 ghost use Rattle.std.specs.Prelude.{◌≡◌, IfNone, IfSome};
 ghost use Rattle.cob_codec.specs.declared.reading.Reading.{Reading as Read};
-ghost use Rattle.cob_layout_places.specs.Moves.{Records, Sender};
+ghost use Rattle.cob_move_data.specs.Moves.{Records, Sender};
 ghost use Rattle.cob_back_moves.specs.Brought.{occurrence_at};
 ghost use Rattle.cob_back_moves.specs.Noting.{BeginsAt, IsNotedFirst, NotesFirst, NotesOnce};
 ghost use Rattle.cob_back_moves.specs.Received.{occurrence, singles_by, singles_by_pairs, singles_by_statement, singles_to};
 
 use crate::single::{Element, element_of};
 use cob_layout::Layout;
-use cob_layout_places::{NumberedPair, PairMoves, Ref, StatementMoves};
+use cob_layout_places::Ref;
 use cob_limits::MAX_RECORD;
+use cob_move_data::{NumberedPair, PairMoves, StatementMoves};
 
 /// How many bytes a record may have.
 pub(crate) const MOST_BYTES: usize = MAX_RECORD as usize;

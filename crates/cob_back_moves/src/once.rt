@@ -4,14 +4,15 @@ ghost use Rattle.std.specs.Prelude.{◌≡◌, IsFalse, IsTrue};
 ghost use Rattle.std.specs.Bool.{Decides};
 ghost use Rattle.std.specs.List.{AllByRecursion};
 ghost use Rattle.cob_codec.specs.declared.reading.Reading.{Reading as Read};
-ghost use Rattle.cob_layout_places.specs.Moves.{Records, Sender};
+ghost use Rattle.cob_move_data.specs.Moves.{Records, Sender};
 ghost use Rattle.cob_back_moves.specs.Singles.{ReceiveOnce};
 ghost use Rattle.cob_back_moves.specs.Brought.{singles_in};
 ghost use Rattle.cob_back_moves.specs.Received.{IsElsewhere, IsOther, OnceBefore, PairReceivesLast, ReceivesLast, Spares, occurrence, singles_by, singles_by_pairs, singles_by_statement, singles_to};
 
 use crate::noted::note_all;
 use crate::some::MovesBetween;
-use cob_layout_places::{NumberedPair, PairMoves, Ref, StatementMoves};
+use cob_layout_places::Ref;
+use cob_move_data::{NumberedPair, PairMoves, StatementMoves};
 
 /// Whether the last ones of two lists of subscripts differ.
 fn differ_at_last(subscripts: &[u32], others: &[u32]) -> bool

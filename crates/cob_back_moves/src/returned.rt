@@ -3,7 +3,7 @@
 ghost use Rattle.std.specs.Prelude.{◌≡◌, IfNone, IfSome};
 ghost use Rattle.std.specs.Bool.{Decides};
 ghost use Rattle.cob_layout_places.specs.Cover.{Occurrence as Place};
-ghost use Rattle.cob_layout_places.specs.Moves.{IsOperand, operand_in};
+ghost use Rattle.cob_move_data.specs.Moves.{IsOperand, operand_in};
 ghost use Rattle.cob_back_moves.specs.Returns.{BringsHome};
 ghost use Rattle.cob_back_moves.specs.Singles.{Goes};
 ghost use Rattle.cob_back_moves.specs.Brought.{AreLegal, Carries, IsFine, LosesNothingAs, occurrence_at, occurrence_of_item, singles_in};
@@ -16,7 +16,7 @@ use crate::single::{Element, Layouts, Sent, Single, kind_of};
 use crate::some::{Condition, MovesBetween, some_meets};
 use crate::wider::loses_nothing;
 use cob_copybook_tree::{Item, Kind};
-use cob_layout_places::Side;
+use cob_move_data::Side;
 
 /// What is noted of the receivers of moves there and of moves back: where a search for one begins.
 #[derive(Clone, Copy)]

@@ -3,7 +3,7 @@
 ghost use Rattle.std.specs.Prelude.{◌≡◌};
 ghost use Rattle.std.specs.Bool.{Decides};
 ghost use Rattle.cob_layout.specs.Sound.{IsSound};
-ghost use Rattle.cob_layout_places.specs.Moves.{IsOperand, IsSender, operand_in, sender_by};
+ghost use Rattle.cob_move_data.specs.Moves.{IsOperand, IsSender, operand_in, sender_by};
 ghost use Rattle.cob_back_moves.specs.Singles.{IsElementary, IsInputItem, IsItemKind, IsSenderReadPictured, SendsPictured};
 ghost use Rattle.cob_back_moves.specs.Tested.{AreSound, IsSingle, PassesTest, layout_records, ref_of, sender_of, single_of};
 
@@ -13,8 +13,9 @@ use arrayvec::ArrayVec;
 use cob_codec::Reading;
 use cob_copybook_tree::{Kind, Node, Value};
 use cob_layout::Layout;
-use cob_layout_places::{Ref, Sender, Side};
+use cob_layout_places::Ref;
 use cob_limits::MAX_SUBSCRIPTS;
+use cob_move_data::{Sender, Side};
 
 /// The layouts of the two records that moves go between, and how their binary items are read that are sent.
 #[derive(Clone, Copy)]

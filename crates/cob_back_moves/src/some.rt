@@ -3,7 +3,7 @@
 ghost use Rattle.std.specs.Prelude.{◌≡◌};
 ghost use Rattle.std.specs.Bool.{Decides};
 ghost use Rattle.std.specs.List.{AllByRecursion};
-ghost use Rattle.cob_layout_places.specs.Moves.{IsOperand, IsSender};
+ghost use Rattle.cob_move_data.specs.Moves.{IsOperand, IsSender};
 ghost use Rattle.cob_back_moves.specs.Singles.{SingleMove, all_singles};
 ghost use Rattle.cob_back_moves.specs.Brought.{AreLegal, moves_between, singles_in};
 ghost use Rattle.cob_move_apply.specs.Some.{SomeOf};
@@ -11,7 +11,8 @@ ghost use Rattle.cob_back_moves.specs.Tested.{AreMovesBetween, AreSound, IsSingl
 
 use crate::each::{move_single, pair_single};
 use crate::single::{Layouts, Single};
-use cob_layout_places::{Move, NumberedPair, PairMoves, Ref, StatementMoves};
+use cob_layout_places::Ref;
+use cob_move_data::{Move, NumberedPair, PairMoves, StatementMoves};
 
 /// The moves of statements, and the layouts of the records between which they are.
 #[derive(Clone, Copy)]

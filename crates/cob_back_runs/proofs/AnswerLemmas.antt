@@ -2,7 +2,7 @@
 use Rattle.std.proofs.Common.{◌≡◌, Bool, List, Option, Some, None, subst, sym}
 use Rattle.std.specs.Prelude.{IfNone, IfSome, IsTrue}
 use Rattle.std.specs.Bool.{Decides}
-use Rattle.cob_layout_places.specs.Moves.{Move, Records}
+use Rattle.cob_move_data.specs.Moves.{Move, Records}
 use Rattle.cob_convert_record.specs.Conversion.{Conversion}
 use Rattle.cob_back_moves.specs.Lossless.{IsLossless}
 use Rattle.cob_back_moves.specs.Brought.{moves_between}

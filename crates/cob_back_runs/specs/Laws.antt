@@ -3,7 +3,7 @@ use Rattle.std.specs.Prelude.{◌≡◌, ℕ, List, [], Ok}
 use Rattle.std.specs.List.{AllByRecursion}
 use Rattle.cob_records.specs.Forms.{Come, FitsForm, written_of}
 use Rattle.cob_copybook.specs.Books.{IsRecordDescription}
-use Rattle.cob_layout_places.specs.Moves.{AreMoves}
+use Rattle.cob_move_data.specs.Moves.{AreMoves}
 use Rattle.cob_convert_stream.specs.Input.{records_in}
 pub use Rattle.cob_convert_record.specs.Conversion.{HasImage}
 use Rattle.cob_convert_record.specs.Conversion.{Conversion, out_length}

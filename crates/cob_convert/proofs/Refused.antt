@@ -4,7 +4,7 @@ use Rattle.cob_copybook_tree.specs.Forests.{Forest}
 use Rattle.cob_copybook_tree.specs.Nodes.{Resolved}
 use Rattle.cob_copybook.specs.Books.{IsBookOf}
 use Rattle.cob_copybook.specs.declared.role.Role.TheVariants.{In, Out}
-use Rattle.cob_layout_places.specs.Moves.{Move}
+use Rattle.cob_move_data.specs.Moves.{Move}
 use Rattle.cob_move.specs.Paragraphs.{IsParagraphOf, IsRefusalOf}
 use Rattle.cob_move_statements.specs.declared.fault.MoveFault.{MoveFault}
 use Rattle.cob_move_statements.specs.declared.fault.MoveRule.{MoveRule}

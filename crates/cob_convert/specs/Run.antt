@@ -10,7 +10,7 @@ use Rattle.cob_records.specs.Forms.{Come, ComesFirst, ReadsInForm, records_held,
 use Rattle.cob_records.specs.Frame.{IsRecord, Puts, is_unblocked}
 use Rattle.cob_convert_record.specs.Conversion.{Conversion, in_length}
 use Rattle.cob_move_apply.specs.declared.stop.Stop.{Stop}
-use Rattle.cob_layout_places.specs.declared.operands.Side.TheVariants.{In}
+use Rattle.cob_move_data.specs.declared.operands.Side.TheVariants.{In}
 use Rattle.cob_move_apply.specs.declared.stop.StopCause.{StopCause}
 use Rattle.cob_convert_stream.specs.declared.fault.Cause.{Cause}
 use Rattle.cob_convert_stream.specs.declared.fault.Cause.TheVariants.{NoValue, Count, Subscript, Limit}

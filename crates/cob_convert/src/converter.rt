@@ -4,7 +4,7 @@ ghost use Rattle.cob_records.specs.Device.{counted, Told};
 ghost use Rattle.cob_move.specs.Paragraphs.{IsParagraphOf};
 ghost use Rattle.cob_limits.specs.Limits.{longest_record};
 ghost use Rattle.cob_convert_record.specs.Conversion.{conversion_by, in_length, out_length, Conversion as Meant, IsImage};
-ghost use Rattle.cob_layout_places.specs.Moves.{Move};
+ghost use Rattle.cob_move_data.specs.Moves.{Move};
 ghost use Rattle.cob_convert.specs.declared.fault.PrepareFault.TheVariants.{Memory};
 ghost use Rattle.cob_convert.specs.Unique.{HasBytes};
 ghost use Rattle.cob_records.specs.Forms.{FitsForm, HasBlockSize};

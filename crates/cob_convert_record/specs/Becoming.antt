@@ -6,7 +6,7 @@ use Rattle.cob_layout_places.specs.declared.counts.CountFault.{CountFault}
 use Rattle.cob_layout.specs.Counting.{CountsOf}
 use Rattle.cob_convert_stream.specs.Output.{IsOutputOf}
 use Rattle.cob_move_initial.specs.Initial.{IsInitial}
-use Rattle.cob_layout_places.specs.declared.operands.Side.TheVariants.{Out}
+use Rattle.cob_move_data.specs.declared.operands.Side.TheVariants.{Out}
 use Rattle.cob_convert_record.specs.Conversion.{Conversion}
 use Rattle.cob_move_apply.specs.declared.stop.Stop.{Stop}
 use Rattle.cob_move_apply.specs.declared.stop.StopCause.TheVariants.{Count}

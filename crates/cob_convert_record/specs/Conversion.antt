@@ -5,7 +5,7 @@ use Rattle.cob_records.specs.declared.records.Form.{Form}
 use Rattle.cob_copybook_tree.specs.Forests.{Forest}
 use Rattle.cob_copybook_tree.specs.Nodes.{Resolved}
 use Rattle.cob_layout.specs.Storage.{greatest_length}
-use Rattle.cob_layout_places.specs.Moves.{Move, Records, read_by}
+use Rattle.cob_move_data.specs.Moves.{Move, Records, read_by}
 use Rattle.cob_move_apply.specs.declared.moves.Moves.{Moves}
 use Rattle.cob_move_apply.specs.Prepared.{moves_of}
 use Rattle.cob_move_initial.specs.Initial.{IsInitial}

@@ -1,6 +1,6 @@
 -- Room for conversions.
 use Rattle.cob_layout.specs.Standing.{RoomForCounts, room_for}
-use Rattle.cob_layout_places.specs.Moves.{Records}
+use Rattle.cob_move_data.specs.Moves.{Records}
 use Rattle.cob_move_apply.specs.Room.{RoomForMoves, room_of}
 
 -- how much room there is: that for moves, and that for the counts of the input record

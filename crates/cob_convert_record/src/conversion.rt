@@ -80,7 +80,7 @@ impl Conversion {
     ghost use Rattle.cob_layout.specs.Storage.{IsStorage};
     ghost use Rattle.cob_move_initial.specs.Initial.{IsInitial};
     ghost use Rattle.cob_convert_record.specs.Conversion.{HasImage, conversion_by, conversion_for, in_length, out_length};
-    ghost use Rattle.cob_layout_places.specs.Moves.{AreMoves};
+    ghost use Rattle.cob_move_data.specs.Moves.{AreMoves};
     ghost use Rattle.cob_records.specs.Device.{Told, counted};
     ghost use Rattle.cob_convert_stream.specs.Input.{IsInputReason, IsJudged, ReadsRecord};
     ghost use Rattle.cob_convert_stream.specs.Reasons.{is_read_cause, is_refused_for, is_write_cause};

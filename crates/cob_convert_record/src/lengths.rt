@@ -1,7 +1,7 @@
 //! How far records go: whether the length of one that came is that of its counts, and how much of an output's storage is written.
 
 ghost use Rattle.std.specs.Prelude.{◌≡◌, ◌<◌, ◌≤◌, length, take, IfErr, IfOk, OnOk};
-ghost use Rattle.cob_layout_places.specs.declared.operands.Side.TheVariants.{Out};
+ghost use Rattle.cob_move_data.specs.declared.operands.Side.TheVariants.{Out};
 ghost use Rattle.cob_limits.specs.Limits.{longest_record};
 ghost use Rattle.cob_move_apply.specs.Located.{stop_at};
 ghost use Rattle.cob_layout.specs.Kept.{AreKeptOf};

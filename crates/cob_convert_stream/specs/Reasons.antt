@@ -3,7 +3,7 @@ use Rattle.std.specs.Prelude.{ℕ, Bool, false, Option, Ok, Err, Result}
 use Rattle.cob_records.specs.declared.records.RecordFault.{RecordFault}
 use Rattle.cob_records.specs.declared.records.RecordFault.TheVariants.{Length}
 use Rattle.cob_records.specs.Frame.{is_read_failure, is_write_error, is_write_fault}
-use Rattle.cob_layout_places.specs.declared.operands.Side.TheVariants.{In, Out}
+use Rattle.cob_move_data.specs.declared.operands.Side.TheVariants.{In, Out}
 use Rattle.cob_convert_stream.specs.declared.fault.Cause.{Cause}
 use Rattle.cob_convert_stream.specs.declared.fault.Cause.TheVariants.{Count, Record}
 use Rattle.cob_convert_stream.specs.declared.fault.Reason.{Reason}

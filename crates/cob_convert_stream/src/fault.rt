@@ -4,7 +4,7 @@ ghost use Rattle.std.specs.Prelude.{◌≡◌, false};
 ghost use Rattle.cob_convert_stream.specs.Reasons.{frame_reason, is_write_cause, misfit_reason, write_reason};
 
 use crate::misfit::MeasureFault;
-use cob_layout_places::Side;
+use cob_move_data::Side;
 use cob_records::RecordFault;
 use std::fmt;
 

@@ -38,7 +38,8 @@ mod whole;
 mod writing;
 
 pub use cob_layout::{Counts, Layout};
-pub use cob_layout_places::{CountFault, Side};
+pub use cob_layout_places::CountFault;
+pub use cob_move_data::Side;
 pub use fault::{Cause, Reason, RunFault};
 pub use laws::{records_are_judged_once, sized_are_storages};
 pub use misfit::{MeasureFault, is_fitting, measure, measure_by};

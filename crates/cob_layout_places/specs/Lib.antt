@@ -6,4 +6,3 @@ pub mod Needs
 pub mod Agree
 pub mod References
 pub mod Spots
-pub mod Moves

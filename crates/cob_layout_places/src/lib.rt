@@ -20,13 +20,6 @@
 //!   [`is_needed`] is its test of a table. [`needs_are_read`] says which these are in the words of COBOL, and [`one_place`] that counts that
 //!   agree on them give the entry one place.
 //!
-//! Operands of moves are plain data, which the reader of paragraphs makes and the application of moves carries out: an [`Operand`] is an
-//! entry of a record with its subscripts and what it describes; a [`Sender`] is an entry of either record, or a literal or figurative
-//! constant; a [`Move`] is a sender with the entries of the output record that receive it; [`PairMoves`] are the moves of the pairs of two
-//! groups, kept by the numbers of their entries. They don't say what their entries describe, since the records do: specs/Moves.antt has the
-//! moves that they are between two records (`moves`), and says when these are moves there: each operand refers to an entry of its record,
-//! and is of the kind that the record says (`IsMove`).
-//!
 //! What holds of the entries of every record is asked for as `EntryFits` of specs/Lengths.antt: each entry may occur, groups alone have entries
 //! beneath them, no redefinition beneath the entry is longer than its area, and the entry isn't too long. `FitsInRecord` says so of entries that
 //! stand side by side.
@@ -39,7 +32,6 @@ mod laws;
 mod lengths;
 mod naturals;
 mod needs;
-mod operands;
 mod places;
 mod reference;
 mod spots;
@@ -52,7 +44,6 @@ pub use laws::{
 };
 pub use lengths::{element_of, times_of};
 pub use needs::{is_needed, is_table, take_needed};
-pub use operands::{Move, NumberedPair, Operand, PairMoves, Sender, Side, StatementMoves};
 pub use places::{Found, seek};
 pub use reference::Ref;
 pub use spots::{Spot, put_spots};

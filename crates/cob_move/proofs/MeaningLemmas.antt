@@ -4,8 +4,8 @@ use Rattle.std.proofs.lemmas.List.{drop_all}
 use Rattle.std.proofs.lemmas.Grind.{flat_map-append}
 use Rattle.cob_copybook_tree.specs.Forests.{Forest}
 use Rattle.cob_copybook_tree.specs.Nodes.{Resolved}
-use Rattle.cob_layout_places.specs.declared.operands.StatementMoves.{StatementMoves}
-use Rattle.cob_layout_places.specs.Moves.{Move, Records, moves, statement_moves}
+use Rattle.cob_move_data.specs.declared.operands.StatementMoves.{StatementMoves}
+use Rattle.cob_move_data.specs.Moves.{Move, Records, moves, statement_moves}
 use Rattle.cob_move_statements.specs.declared.parts.Statement.{Statement}
 use Rattle.cob_move_statements.specs.Written.{WrittenStatement, written_statement, written_statements}
 use Rattle.cob_move_names.specs.Candidates.{Candidate, all_entries}

@@ -7,10 +7,10 @@ use Rattle.cob_move_apply.proofs.EntryNoRule.{no_constant, no_value}
 use Rattle.cob_copybook_tree.specs.declared.node.Kind.{Kind}
 use Rattle.cob_copybook_tree.specs.Forests.{Forest}
 use Rattle.cob_copybook_tree.specs.Nodes.{Resolved}
-use Rattle.cob_layout_places.specs.declared.operands.Side.{Side}
-use Rattle.cob_layout_places.specs.declared.operands.Side.TheVariants.{In, Out}
-use Rattle.cob_layout_places.specs.declared.operands.Operand.{Operand}
-use Rattle.cob_layout_places.specs.Moves.{Sender, Move}
+use Rattle.cob_move_data.specs.declared.operands.Side.{Side}
+use Rattle.cob_move_data.specs.declared.operands.Side.TheVariants.{In, Out}
+use Rattle.cob_move_data.specs.declared.operands.Operand.{Operand}
+use Rattle.cob_move_data.specs.Moves.{Sender, Move}
 use Rattle.cob_move_receive.specs.Table.{SenderKind}
 use Rattle.cob_move_receive.specs.Refusals.{IsAllowed, is_refused}
 use Rattle.cob_move_receive.specs.declared.refusals.Refusal.TheVariants as refusal

@@ -8,10 +8,10 @@ use Rattle.cob_move_apply.proofs.SeenLemmas.{there}
 use Rattle.cob_copybook_tree.specs.Nodes.{Resolved}
 use Rattle.cob_copybook_tree.specs.declared.node.Kind.{Kind}
 use Rattle.cob_layout_places.specs.Counts.{kind_in}
-use Rattle.cob_layout_places.specs.declared.operands.Side.{Side}
-use Rattle.cob_layout_places.specs.declared.operands.Operand.{Operand}
+use Rattle.cob_move_data.specs.declared.operands.Side.{Side}
+use Rattle.cob_move_data.specs.declared.operands.Operand.{Operand}
 use Rattle.cob_layout_places.specs.declared.reference.Ref.{Ref}
-use Rattle.cob_layout_places.specs.Moves.{IsOperand, Records, operand_in, or_group, record_of}
+use Rattle.cob_move_data.specs.Moves.{IsOperand, Records, operand_in, or_group, record_of}
 use Rattle.cob_move_statements.specs.Written.{WrittenReference}
 use Rattle.cob_move_names.specs.Candidates.{Candidate, all_entries}
 use Rattle.cob_move_names.specs.Laws.{NamedAreOperands}

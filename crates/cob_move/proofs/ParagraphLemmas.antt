@@ -14,7 +14,7 @@ use Rattle.cob_move_statements.specs.Faults.{paragraph_fault_by}
 use Rattle.cob_move_statements.specs.Written.{WrittenStatement}
 use Rattle.cob_move_statements.specs.Statements.{IsLineOf, IsParagraph}
 use Rattle.cob_move_statements.specs.Laws.{OneListOfStatements}
-use Rattle.cob_layout_places.specs.Moves.{AreMoves, Move}
+use Rattle.cob_move_data.specs.Moves.{AreMoves, Move}
 use Rattle.cob_move.specs.Meaning.{AreMeant}
 use Rattle.cob_move.specs.MeaningLaws.{MeantAreMoves, MeantBreakNoRule, OneMeant}
 use Rattle.cob_move_names.specs.Candidates.{all_entries}

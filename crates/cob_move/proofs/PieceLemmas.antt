@@ -9,8 +9,8 @@ use Rattle.cob_copybook_clauses.proofs.TableLemmas.{name_plain}
 use Rattle.cob_copybook_clauses.specs.declared.term.WordClass.TheVariants as term
 use Rattle.cob_copybook_tree.specs.Forests.{Forest}
 use Rattle.cob_copybook_tree.specs.Nodes.{Resolved}
-use Rattle.cob_layout_places.specs.declared.operands.StatementMoves.{StatementMoves}
-use Rattle.cob_layout_places.specs.Moves.{Move, moves, statement_moves}
+use Rattle.cob_move_data.specs.declared.operands.StatementMoves.{StatementMoves}
+use Rattle.cob_move_data.specs.Moves.{Move, moves, statement_moves}
 use Rattle.cob_move_names.specs.Candidates.{Candidate}
 use Rattle.cob_move_statements.specs.Statements.{FollowsStatements, IsEndedStatement, IsHeading, IsParagraph, Several}
 use Rattle.cob_move_statements.specs.Written.{WrittenStatement}

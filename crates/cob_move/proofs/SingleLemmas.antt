@@ -4,9 +4,9 @@ use Rattle.std.proofs.lemmas.List.{drop_all}
 use Rattle.std.specs.List.{AllByRecursion}
 use Rattle.cob_copybook_tree.specs.Forests.{Forest}
 use Rattle.cob_copybook_tree.specs.Nodes.{Resolved}
-use Rattle.cob_layout_places.specs.declared.operands.Side.TheVariants.{Out}
-use Rattle.cob_layout_places.specs.declared.operands.Operand.{Operand}
-use Rattle.cob_layout_places.specs.Moves.{Sender}
+use Rattle.cob_move_data.specs.declared.operands.Side.TheVariants.{Out}
+use Rattle.cob_move_data.specs.declared.operands.Operand.{Operand}
+use Rattle.cob_move_data.specs.Moves.{Sender}
 use Rattle.cob_move_statements.specs.declared.fault.MoveRule.{MoveRule}
 use Rattle.cob_move_statements.specs.declared.fault.MoveRule.TheVariants as rule
 use Rattle.cob_move_statements.specs.declared.parts.Reference.{Reference}

@@ -1,7 +1,7 @@
 -- The pairs of two groups, as they are found.
 use Rattle.std.specs.Prelude.{◌≡◌}
-use Rattle.cob_layout_places.specs.declared.operands.NumberedPair.{NumberedPair}
-use Rattle.cob_layout_places.specs.Moves.{Records}
+use Rattle.cob_move_data.specs.declared.operands.NumberedPair.{NumberedPair}
+use Rattle.cob_move_data.specs.Moves.{Records}
 use Rattle.cob_copybook_tree.specs.Nodes.{tree_of}
 use Rattle.cob_move_receive.specs.Table.{Entry as EntryOf}
 use Rattle.cob_move_receive.specs.Refusals.{IsAllowed}

@@ -1,6 +1,6 @@
 -- The entries of two records, as statements name them.
 use Rattle.std.specs.Prelude.{◌≡◌}
-use Rattle.cob_layout_places.specs.Moves.{Records}
+use Rattle.cob_move_data.specs.Moves.{Records}
 use Rattle.cob_move_names.specs.Candidates.{all_entries}
 use Rattle.cob_move_names.specs.Directory.{entries_named}
 use Rattle.cob_move.specs.declared.entries.Entries.{Entries}

@@ -6,10 +6,10 @@ use Rattle.cob_copybook_entry.specs.Described.{PlainValue}
 use Rattle.cob_copybook_entries.specs.Meaning.{IsConstantOf}
 use Rattle.cob_copybook_tree.specs.Forests.{Forest}
 use Rattle.cob_copybook_tree.specs.Nodes.{Resolved}
-use Rattle.cob_layout_places.specs.declared.operands.Side.{Side}
-use Rattle.cob_layout_places.specs.declared.operands.Side.TheVariants.{Out}
-use Rattle.cob_layout_places.specs.declared.operands.Operand.{Operand}
-use Rattle.cob_layout_places.specs.Moves.{Sender, Entry, Literal, Move}
+use Rattle.cob_move_data.specs.declared.operands.Side.{Side}
+use Rattle.cob_move_data.specs.declared.operands.Side.TheVariants.{Out}
+use Rattle.cob_move_data.specs.declared.operands.Operand.{Operand}
+use Rattle.cob_move_data.specs.Moves.{Sender, Entry, Literal, Move}
 use Rattle.cob_move_receive.specs.Table.{SenderKind, Entry as EntryOf, Literal as LiteralOf}
 use Rattle.cob_move_receive.specs.Refusals.{IsAllowed}
 use Rattle.cob_move_statements.specs.Written.{WrittenReference, WrittenSender, SentReference, SentConstant, WrittenAction, MoveTo, MoveCorresponding, WrittenStatement}

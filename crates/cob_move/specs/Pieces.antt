@@ -3,7 +3,7 @@ use Rattle.std.specs.Prelude.{◌≡◌, ℕ, Bool, List, ◌++◌}
 use Rattle.cob_source.specs.declared.ahead.WordsAhead.{WordsAhead}
 use Rattle.cob_source.specs.Ahead.{AreReadOf}
 use Rattle.cob_source.specs.Tokens.{Lexeme}
-use Rattle.cob_layout_places.specs.declared.operands.StatementMoves.{StatementMoves}
+use Rattle.cob_move_data.specs.declared.operands.StatementMoves.{StatementMoves}
 use Rattle.cob_move_statements.specs.declared.fault.MoveFault.{MoveFault}
 use Rattle.cob_move_statements.specs.declared.fault.MoveRule.TheVariants as rule
 use Rattle.cob_move_statements.specs.Statements.{IsParagraph}

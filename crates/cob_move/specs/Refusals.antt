@@ -5,10 +5,10 @@ use Rattle.cob_copybook_entries.specs.Books.{BreaksConstant, BreaksValue}
 use Rattle.cob_copybook_tree.specs.declared.node.Kind.{Kind}
 use Rattle.cob_copybook_tree.specs.Forests.{Forest}
 use Rattle.cob_copybook_tree.specs.Nodes.{Resolved}
-use Rattle.cob_layout_places.specs.declared.operands.Side.{Side}
-use Rattle.cob_layout_places.specs.declared.operands.Side.TheVariants.{Out}
-use Rattle.cob_layout_places.specs.declared.operands.Operand.{Operand}
-use Rattle.cob_layout_places.specs.Moves.{Sender}
+use Rattle.cob_move_data.specs.declared.operands.Side.{Side}
+use Rattle.cob_move_data.specs.declared.operands.Side.TheVariants.{Out}
+use Rattle.cob_move_data.specs.declared.operands.Operand.{Operand}
+use Rattle.cob_move_data.specs.Moves.{Sender}
 use Rattle.cob_move_receive.specs.Table.{SenderKind, Entry as EntryOf}
 use Rattle.cob_move_receive.specs.Refusals.{is_refused}
 use Rattle.cob_move_receive.specs.declared.refusals.Refusal.TheVariants as refusal

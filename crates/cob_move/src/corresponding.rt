@@ -17,7 +17,7 @@ ghost use Rattle.cob_move_statements.specs.Written.{written_reference};
 use crate::entries::Entries;
 use crate::single::judge;
 use cob_layout::records_are_sound;
-use cob_layout_places::{NumberedPair, Operand, PairMoves, Side};
+use cob_move_data::{NumberedPair, Operand, PairMoves, Side};
 use cob_move_initial::SenderKind;
 use cob_move_names::{
     Correspondences, EntryPair, Names, is_no_group, named_are_operands, subordinates_are_operands,

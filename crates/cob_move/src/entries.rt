@@ -1,8 +1,8 @@
 //! The entries of two records, as statements name them.
 
 ghost use Rattle.std.specs.Prelude.{◌≡◌, IfErr, IfOk};
-ghost use Rattle.cob_layout_places.specs.Moves.{IsOperand, operand_in, record_of};
-ghost use Rattle.cob_layout_places.specs.declared.operands.Side.TheVariants.{Out};
+ghost use Rattle.cob_move_data.specs.Moves.{IsOperand, operand_in, record_of};
+ghost use Rattle.cob_move_data.specs.declared.operands.Side.TheVariants.{Out};
 ghost use Rattle.cob_move_names.specs.Directory.{entries_named};
 ghost use Rattle.cob_move_names.specs.References.{BreaksReceiver, BreaksReference};
 ghost use Rattle.cob_move_statements.specs.Written.{written_reference};
@@ -11,7 +11,8 @@ ghost use Rattle.cob_move.specs.Entries.{AllMayBeNamed, records_of};
 
 use cob_copybook_tree::Kind;
 use cob_layout::{Layout, records_are_sound};
-use cob_layout_places::{Ref, Side};
+use cob_layout_places::Ref;
+use cob_move_data::Side;
 use cob_move_names::{Names, named_are_operands};
 use cob_move_statements::{MoveRule, Reference};
 

@@ -8,7 +8,7 @@
 //!   moves, in their order. They are ready for these records (`ready`). A text that is a paragraph is read, memory aside
 //!   (`only`), and a refusal names a rule that is broken, with its line (`fault`; `IsRefusalOf`): by the text, by its words, or by one of its
 //!   statements. A text says its moves in one way ([`one_paragraph`]), and then breaks no rule ([`paragraph_breaks_no_rule`]).
-//! - [`Paragraph::with_reading`] are the same moves with their binary senders read otherwise (`read_by` of cob_layout_places); a text means them
+//! - [`Paragraph::with_reading`] are the same moves with their binary senders read otherwise (`read_by` of cob_move_data); a text means them
 //!   read as their pictures say. [`Paragraph::moves`] counts single moves, each of a sender to one of its receivers, and [`Paragraph::steps`] the
 //!   steps that they make, in which plain copies that meet are joined.
 //! - [`apply`] carries the moves out on one record (`applied`; `Applied` of cob_move_apply), and [`pairs`] answers the pairs of CORRESPONDING.
@@ -53,8 +53,8 @@ pub use cob_codec::Reading;
 pub use cob_copybook::Book;
 pub use cob_copybook_tree::Node;
 pub use cob_layout::Layout;
-pub use cob_layout_places::{Side, StatementMoves};
 pub use cob_move_apply::{Moves, Scratch, Stop, StopCause};
+pub use cob_move_data::{Side, StatementMoves};
 pub use cob_move_initial::{initial, one_initial};
 pub use cob_move_names::pairs;
 pub use cob_move_statements::{MoveFault, MoveRule};

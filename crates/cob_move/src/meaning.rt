@@ -14,7 +14,7 @@ ghost use Rattle.cob_move.specs.Among.{
 };
 ghost use Rattle.cob_move.specs.Meaning.{AreMeant};
 ghost use Rattle.cob_move.specs.Refusals.{AreBroken, fault_on};
-ghost use Rattle.cob_layout_places.specs.Moves.{moves};
+ghost use Rattle.cob_move_data.specs.Moves.{moves};
 ghost use Rattle.cob_move_statements.specs.Written.{
   written_action,
   written_statement,
@@ -26,7 +26,7 @@ use crate::entries::Entries;
 use crate::meaning_laws::{meant_break_no_rule, one_meant};
 use crate::single::move_of;
 use cob_layout::Layout;
-use cob_layout_places::StatementMoves;
+use cob_move_data::StatementMoves;
 use cob_move_names::{Correspondences, Names};
 use cob_move_statements::{Action, MoveFault, MoveRule, Statement};
 use std::alloc::Global;

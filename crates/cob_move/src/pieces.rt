@@ -1,7 +1,7 @@
 //! Paragraphs that are read piece by piece, so that the words and the statements of one piece alone are held.
 
 ghost use Rattle.std.specs.Prelude.{◌≡◌, ℕ, [], ◌++◌, List, true, IfErr, IfOk, IfSome, IsTrue};
-ghost use Rattle.cob_layout_places.specs.Moves.{moves};
+ghost use Rattle.cob_move_data.specs.Moves.{moves};
 ghost use Rattle.cob_move.specs.Among.{AreMeaningsAmong, both};
 ghost use Rattle.cob_move.specs.Between.{ArePairsOf};
 ghost use Rattle.cob_move.specs.Entries.{AllMayBeNamed, records_of};
@@ -16,7 +16,7 @@ use crate::entries::Entries;
 use crate::meaning::meanings_of;
 use cob_copybook_clauses::{WordClass, is_term};
 use cob_layout::Layout;
-use cob_layout_places::StatementMoves;
+use cob_move_data::StatementMoves;
 use cob_move_names::{Correspondences, Names};
 use cob_move_statements::{MoveFault, MoveRule, Statement, statements};
 use cob_source::{SourceRule, Token, WordsAhead};

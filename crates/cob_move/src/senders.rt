@@ -7,7 +7,7 @@ ghost use Rattle.cob_copybook_entries.specs.Meaning.{IsConstantOf};
 ghost use Rattle.cob_move.specs.Among.{IsSenderAmong};
 ghost use Rattle.cob_move.specs.Meaning.{IsSenderOf};
 ghost use Rattle.cob_move.specs.Refusals.{BreaksSender};
-ghost use Rattle.cob_layout_places.specs.Moves.{IsSender, sender};
+ghost use Rattle.cob_move_data.specs.Moves.{IsSender, sender};
 ghost use Rattle.cob_move.specs.Entries.{AllMayBeNamed, records_of};
 ghost use Rattle.cob_move_names.specs.Candidates.{Candidate};
 ghost use Rattle.cob_move_names.specs.Directory.{entries_named};
@@ -17,7 +17,7 @@ use crate::entries::Entries;
 use cob_copybook_clauses::ValueClause;
 use cob_copybook_entries::value_of;
 use cob_copybook_entry::{BookRule, Value};
-use cob_layout_places::Sender;
+use cob_move_data::Sender;
 use cob_move_statements::{MoveRule, Reference, StatementSender};
 
 /// What the constant of a sender means.

@@ -14,8 +14,8 @@ ghost use Rattle.cob_move.specs.Among.{
 ghost use Rattle.cob_move.specs.Meaning.{kind_of_sender};
 ghost use Rattle.cob_move_apply.specs.Some.{SomeOf};
 ghost use Rattle.cob_move.specs.Refusals.{BreaksMove};
-ghost use Rattle.cob_layout_places.specs.declared.operands.Side.TheVariants.{Out};
-ghost use Rattle.cob_layout_places.specs.Moves.{
+ghost use Rattle.cob_move_data.specs.declared.operands.Side.TheVariants.{Out};
+ghost use Rattle.cob_move_data.specs.Moves.{
   IsOperand,
   IsSender,
   move,
@@ -35,7 +35,8 @@ ghost use Rattle.cob_move_statements.specs.Written.{
 use crate::entries::Entries;
 use crate::senders::sender_of;
 use cob_copybook_tree::Kind;
-use cob_layout_places::{Move, Ref, Sender, Side};
+use cob_layout_places::Ref;
+use cob_move_data::{Move, Sender, Side};
 use cob_move_initial::{Refusal, SenderKind, refusal_of};
 use cob_move_statements::{MoveRule, Reference, StatementSender};
 use std::alloc::Global;

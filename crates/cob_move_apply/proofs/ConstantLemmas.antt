@@ -7,10 +7,10 @@ use Rattle.cob_layout.specs.Counting.{ReadsNone, greatest_counts}
 use Rattle.cob_layout.specs.Fields.{with_field}
 use Rattle.cob_layout.specs.Placed.{placed_under}
 use Rattle.cob_layout.specs.Storage.{greatest_length}
-use Rattle.cob_layout_places.specs.declared.operands.Side.TheVariants.{Out}
-use Rattle.cob_layout_places.specs.declared.operands.Operand.{Operand}
+use Rattle.cob_move_data.specs.declared.operands.Side.TheVariants.{Out}
+use Rattle.cob_move_data.specs.declared.operands.Operand.{Operand}
 use Rattle.cob_layout_places.specs.declared.reference.Ref.{Ref}
-use Rattle.cob_layout_places.specs.Moves.{IsOperand, Literal, Move, Records, operand_in}
+use Rattle.cob_move_data.specs.Moves.{IsOperand, Literal, Move, Records, operand_in}
 use Rattle.cob_move_steps.specs.declared.constant_step.ConstantStep.{ConstantStep}
 use Rattle.cob_move_steps.proofs.PoolLemmas.{read_at}
 use Rattle.cob_move_receive.specs.Sent as sent

@@ -15,9 +15,9 @@ use Rattle.cob_layout.specs.declared.layout.PlaceFault.{PlaceFault}
 use Rattle.cob_layout.specs.Laws.{OneOfNeeded}
 use Rattle.cob_layout.specs.Sound.{IsSound}
 use Rattle.cob_layout_places.specs.declared.counts.CountFault.{CountFault}
-use Rattle.cob_layout_places.specs.declared.operands.Operand.{Operand}
+use Rattle.cob_move_data.specs.declared.operands.Operand.{Operand}
 use Rattle.cob_layout_places.specs.Counts.{tables_of}
-use Rattle.cob_layout_places.specs.Moves.{IsOperand}
+use Rattle.cob_move_data.specs.Moves.{IsOperand}
 use Rattle.cob_layout_places.specs.Needs.{NeedsAreRead, is_read, needed_tables}
 use Rattle.cob_move_apply.specs.Spent.{IsSpent, IsSpentAtStop}
 use Rattle.cob_move_apply.specs.Surveyed.{IsSurvey}

@@ -2,9 +2,9 @@
 use Rattle.std.proofs.Common.{◌≡◌, ℕ, ◌+◌, ◌<◌, ◌≤◌, List, [], ◌∷◌, ◌++◌, length, get_or, drop, map, min, refl, sym, ap, subst, ◌∙◌, arith, Option, Some, None}
 use Rattle.std.specs.Prelude.{option_map}
 use Rattle.std.proofs.lemmas.List.{drop_all, drop_more}
-use Rattle.cob_layout_places.specs.declared.operands.Operand.{Operand}
-use Rattle.cob_layout_places.specs.declared.operands.Side.TheVariants.{In, Out}
-use Rattle.cob_layout_places.specs.Moves.{Entry, Literal, Move, Records, Sender}
+use Rattle.cob_move_data.specs.declared.operands.Operand.{Operand}
+use Rattle.cob_move_data.specs.declared.operands.Side.TheVariants.{In, Out}
+use Rattle.cob_move_data.specs.Moves.{Entry, Literal, Move, Records, Sender}
 use Rattle.cob_move_apply.specs.Joined.{CopyEnds, begun, begun_by, copies_of, copy_ends, last_end, plain_copy, steps_behind, steps_in}
 use Rattle.cob_move_apply.specs.Planned.{AreMore, counted_steps, end_behind, last_step_ends, step_count, step_ends}
 use Rattle.cob_move_apply.specs.Steps.{IsSteady, alone, singles}

@@ -5,9 +5,9 @@ use Rattle.cob_copybook_tree.specs.Forests.{Forest}
 use Rattle.cob_copybook_tree.specs.Nodes.{Resolved}
 use Rattle.cob_layout.specs.declared.fields.Place.{Place}
 use Rattle.cob_layout.specs.Laws.{OneOfNeeded}
-use Rattle.cob_layout_places.specs.declared.operands.Operand.{Operand}
-use Rattle.cob_layout_places.specs.declared.operands.Side.TheVariants.{Out}
-use Rattle.cob_layout_places.specs.Moves.{Sender, Move, Records}
+use Rattle.cob_move_data.specs.declared.operands.Operand.{Operand}
+use Rattle.cob_move_data.specs.declared.operands.Side.TheVariants.{Out}
+use Rattle.cob_move_data.specs.Moves.{Sender, Move, Records}
 use Rattle.cob_move_apply.specs.Applied.{AllGet, Applied, Content, Gets, Gives, done}
 use Rattle.cob_move_apply.specs.Located.{Located}
 use Rattle.cob_move_apply.specs.Met.{HaveMet, ReceiverMet, ReceiversMet}

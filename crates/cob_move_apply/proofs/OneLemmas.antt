@@ -14,12 +14,12 @@ use Rattle.cob_layout.specs.Counting.{NeededOf}
 use Rattle.cob_layout.specs.Laws.{OneOfNeeded}
 use Rattle.cob_layout.specs.Placed.{placed}
 use Rattle.cob_move_receive.specs.Received.{Received, OneReceived}
-use Rattle.cob_layout_places.specs.declared.operands.Side.{Side}
-use Rattle.cob_layout_places.specs.declared.operands.Side.TheVariants.{Out}
-use Rattle.cob_layout_places.specs.declared.operands.Operand.{Operand}
+use Rattle.cob_move_data.specs.declared.operands.Side.{Side}
+use Rattle.cob_move_data.specs.declared.operands.Side.TheVariants.{Out}
+use Rattle.cob_move_data.specs.declared.operands.Operand.{Operand}
 use Rattle.cob_move_apply.specs.declared.stop.Stop.{Stop}
 use Rattle.cob_move_apply.specs.declared.stop.StopCause.TheVariants.{Count, Subscript}
-use Rattle.cob_layout_places.specs.Moves.{Sender, Entry, Literal, Move, Records, record_of}
+use Rattle.cob_move_data.specs.Moves.{Sender, Entry, Literal, Move, Records, record_of}
 use Rattle.cob_move_apply.specs.Located.{Located, StandsUnder, stop_at}
 use Rattle.cob_move_apply.specs.Applied.{AllGet, Applied, Content, Ending, EntryGives, Gets, Gives, IsMoved, OneEnding, content_at, done, stopped, storage_of}
 

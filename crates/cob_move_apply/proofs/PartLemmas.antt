@@ -4,15 +4,15 @@ use Rattle.std.proofs.lemmas.List.{get_or_read, length-map, take_all}
 use Rattle.std.proofs.Math.Seq.{take-append_seam}
 use Rattle.cob_codec.specs.declared.reading.Reading.{Reading}
 use Rattle.cob_codec.specs.declared.reading.Reading.TheVariants.{Pictured}
-use Rattle.cob_layout_places.specs.declared.operands.Move as code_move
-use Rattle.cob_layout_places.specs.declared.operands.NumberedPair.{NumberedPair}
-use Rattle.cob_layout_places.specs.declared.operands.PairMoves.{PairMoves}
-use Rattle.cob_layout_places.specs.declared.operands.Sender as code
-use Rattle.cob_layout_places.specs.declared.operands.Sender.TheVariants as code_sender
-use Rattle.cob_layout_places.specs.declared.operands.StatementMoves.{StatementMoves}
-use Rattle.cob_layout_places.specs.declared.operands.StatementMoves.TheVariants.{Single, Pairs}
+use Rattle.cob_move_data.specs.declared.operands.Move as code_move
+use Rattle.cob_move_data.specs.declared.operands.NumberedPair.{NumberedPair}
+use Rattle.cob_move_data.specs.declared.operands.PairMoves.{PairMoves}
+use Rattle.cob_move_data.specs.declared.operands.Sender as code
+use Rattle.cob_move_data.specs.declared.operands.Sender.TheVariants as code_sender
+use Rattle.cob_move_data.specs.declared.operands.StatementMoves.{StatementMoves}
+use Rattle.cob_move_data.specs.declared.operands.StatementMoves.TheVariants.{Single, Pairs}
 use Rattle.cob_layout_places.specs.declared.reference.Ref.{Ref}
-use Rattle.cob_layout_places.specs.Moves.{Move, Records, numbered_move, numbered_move_by, operand_in, sender_by}
+use Rattle.cob_move_data.specs.Moves.{Move, Records, numbered_move, numbered_move_by, operand_in, sender_by}
 use Rattle.cob_move_apply.specs.Applied.{Ending, IsMoved}
 use Rattle.cob_move_apply.specs.Placed.{ArePlacedReceivers, IsPlacedMove, IsPlacedSender}
 use Rattle.cob_move_apply.specs.Steps.{BeginsWith, HasPart, IsMoveOfPart, pair_at, part_of, with_some}

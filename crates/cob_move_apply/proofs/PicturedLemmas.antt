@@ -7,10 +7,10 @@ use Rattle.cob_copybook_tree.specs.declared.node.Kind.{Kind}
 use Rattle.cob_layout.specs.Fields.{field_of}
 use Rattle.cob_layout.specs.Laws.{LieInStorage}
 use Rattle.cob_layout.specs.Storage.{greatest_length, IsStorage}
-use Rattle.cob_layout_places.specs.declared.operands.Operand.{Operand}
-use Rattle.cob_layout_places.specs.declared.operands.StatementMoves.{StatementMoves}
+use Rattle.cob_move_data.specs.declared.operands.Operand.{Operand}
+use Rattle.cob_move_data.specs.declared.operands.StatementMoves.{StatementMoves}
 use Rattle.cob_layout_places.specs.declared.reference.Ref.{Ref}
-use Rattle.cob_layout_places.specs.Moves.{IsOperand, Move, Records, operand_in}
+use Rattle.cob_move_data.specs.Moves.{IsOperand, Move, Records, operand_in}
 use Rattle.cob_move_steps.specs.Pictured.{IsPicturedStep, IsReceivedPictured}
 use Rattle.cob_move_steps.specs.Pool.{MoveKinds}
 use Rattle.cob_move_steps.specs.declared.pictured.PicturedStep.{PicturedStep}
@@ -28,7 +28,7 @@ use Rattle.cob_move_apply.specs.declared.step.MovePlaces.{MovePlaces}
 use Rattle.cob_move_apply.specs.declared.step.Part.{Part}
 use Rattle.cob_move_apply.specs.declared.step.PicturedMove.{PicturedMove}
 use Rattle.cob_move_apply.specs.declared.stop.StopCause.TheVariants.{NoValue}
-use Rattle.cob_layout_places.specs.declared.operands.Side.TheVariants.{In}
+use Rattle.cob_move_data.specs.declared.operands.Side.TheVariants.{In}
 use Rattle.cob_move_apply.proofs.PlaceLemmas.{fixed}
 use Rattle.cob_move_apply.proofs.PreparedLemmas.{ends_there, fixed_move, kinds_of, last_bytes, put_back}
 use Rattle.cob_move_apply.proofs.ReceiverLemmas.{put_is}

@@ -19,9 +19,9 @@ use Rattle.cob_layout.specs.Placed.{placed}
 use Rattle.cob_layout.proofs.StorageLemmas.{found_by}
 use Rattle.cob_layout.specs.Counting.{greatest_counts, ReadsNone}
 use Rattle.cob_layout.specs.Storage.{greatest_length}
-use Rattle.cob_layout_places.specs.declared.operands.Side.{Side}
-use Rattle.cob_layout_places.specs.declared.operands.Operand.{Operand}
-use Rattle.cob_layout_places.specs.Moves.{IsOperand}
+use Rattle.cob_move_data.specs.declared.operands.Side.{Side}
+use Rattle.cob_move_data.specs.declared.operands.Operand.{Operand}
+use Rattle.cob_move_data.specs.Moves.{IsOperand}
 use Rattle.cob_move_apply.specs.declared.basis.Basis.{Basis}
 use Rattle.cob_move_apply.specs.declared.basis.Basis.TheVariants as basis
 use Rattle.cob_move_apply.specs.Located.{Located, StandsUnder, stop_of}

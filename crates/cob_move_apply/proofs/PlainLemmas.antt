@@ -10,11 +10,11 @@ use Rattle.cob_layout.specs.Laws.{LieInStorage}
 use Rattle.cob_layout.specs.Placed.{placed_under}
 use Rattle.cob_layout.specs.Storage.{greatest_length}
 use Rattle.cob_layout_places.specs.Counts.{tables_of}
-use Rattle.cob_layout_places.specs.declared.operands.Side.TheVariants.{In, Out}
-use Rattle.cob_layout_places.specs.declared.operands.Operand.{Operand}
+use Rattle.cob_move_data.specs.declared.operands.Side.TheVariants.{In, Out}
+use Rattle.cob_move_data.specs.declared.operands.Operand.{Operand}
 use Rattle.cob_layout_places.specs.declared.reference.Ref.{Ref}
 use Rattle.cob_layout_places.specs.declared.varying.Table.{Table}
-use Rattle.cob_layout_places.specs.Moves.{Entry, IsOperand, Literal, Records, Sender, operand_in}
+use Rattle.cob_move_data.specs.Moves.{Entry, IsOperand, Literal, Records, Sender, operand_in}
 use Rattle.cob_move_receive.specs.Copying.{CopiesBytes, copies_bytes}
 use Rattle.cob_move_apply.specs.Joined.{copy_between, neither_varies, plain_copy}
 use Rattle.cob_move_apply.specs.Steps.{copied_move}

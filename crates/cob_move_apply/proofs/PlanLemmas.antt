@@ -4,10 +4,10 @@ use Rattle.std.proofs.lemmas.List.{take_all, take_more, map-append, length-appen
 use Rattle.std.proofs.Math.Seq.{drop-append_seam}
 use Rattle.cob_codec.specs.declared.reading.Reading.{Reading}
 use Rattle.cob_codec.specs.declared.reading.Reading.TheVariants.{Pictured}
-use Rattle.cob_layout_places.specs.declared.operands.Operand.{Operand}
-use Rattle.cob_layout_places.specs.declared.operands.PairMoves.{PairMoves}
-use Rattle.cob_layout_places.specs.declared.operands.StatementMoves.{StatementMoves}
-use Rattle.cob_layout_places.specs.Moves.{Move, Records, Sender, moves_by, numbered_move_by, operand_in, statement_moves_by}
+use Rattle.cob_move_data.specs.declared.operands.Operand.{Operand}
+use Rattle.cob_move_data.specs.declared.operands.PairMoves.{PairMoves}
+use Rattle.cob_move_data.specs.declared.operands.StatementMoves.{StatementMoves}
+use Rattle.cob_move_data.specs.Moves.{Move, Records, Sender, moves_by, numbered_move_by, operand_in, statement_moves_by}
 use Rattle.cob_move_apply.specs.Placed.{IsPlaced, IsPlacedMove}
 use Rattle.cob_move_apply.specs.Steps.{AreMovesCut, AreSteps, BeginsWith, CarriesLocated, Gains, GainsCut, IsMoveOfPart, IsOfConstant, IsPicturedMove, IsReadyAnywhere, IsReadyConstant, IsStep, StandFor, Support, WritesFor, alone, constant_move, copied_move, pair_at, singles, support_of}
 use Rattle.cob_copybook_tree.specs.declared.node.Kind.{Kind}

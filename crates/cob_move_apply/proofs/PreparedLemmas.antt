@@ -9,10 +9,10 @@ use Rattle.cob_layout.specs.Fields.{field_of, with_field}
 use Rattle.cob_layout.specs.Laws.{LieInStorage}
 use Rattle.cob_layout.specs.Sound.{IsSound}
 use Rattle.cob_layout.specs.Storage.{IsStorage}
-use Rattle.cob_layout_places.specs.declared.operands.Side.TheVariants.{In, Out}
-use Rattle.cob_layout_places.specs.declared.operands.Operand.{Operand}
+use Rattle.cob_move_data.specs.declared.operands.Side.TheVariants.{In, Out}
+use Rattle.cob_move_data.specs.declared.operands.Operand.{Operand}
 use Rattle.cob_layout_places.specs.declared.reference.Ref.{Ref}
-use Rattle.cob_layout_places.specs.Moves.{Entry, IsOperand, Records, operand_in}
+use Rattle.cob_move_data.specs.Moves.{Entry, IsOperand, Records, operand_in}
 use Rattle.cob_move_steps.specs.Pool.{AreOccupied, IsMoveStep, IsReceived, MoveKinds}
 use Rattle.cob_move_steps.specs.declared.pool.MoveStep.{MoveStep}
 use Rattle.cob_move_steps.specs.declared.pool.MoveSteps.{MoveSteps}

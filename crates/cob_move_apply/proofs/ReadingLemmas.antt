@@ -2,13 +2,13 @@
 use Rattle.std.proofs.Common.{◌≡◌, ◌∙◌, List, [], ◌∷◌, ◌++◌, map, refl, subst, sym, ap, ap₂}
 use Rattle.std.proofs.lemmas.List.{map-append}
 use Rattle.cob_codec.specs.declared.reading.Reading.{Reading}
-use Rattle.cob_layout_places.specs.declared.operands.Sender as code
-use Rattle.cob_layout_places.specs.declared.operands.Sender.TheVariants as code_sender
-use Rattle.cob_layout_places.specs.declared.operands.NumberedPair.{NumberedPair}
-use Rattle.cob_layout_places.specs.declared.operands.PairMoves.{PairMoves}
-use Rattle.cob_layout_places.specs.declared.operands.StatementMoves.{StatementMoves}
-use Rattle.cob_layout_places.specs.declared.operands.StatementMoves.TheVariants.{Single, Pairs}
-use Rattle.cob_layout_places.specs.Moves.{AreMoves, Entry, IsMove, IsSender, Literal, Move, Records, Sender, moves_by, numbered_move_by, operand_in, read_by, sender_by, sent_by, statement_moves_by}
+use Rattle.cob_move_data.specs.declared.operands.Sender as code
+use Rattle.cob_move_data.specs.declared.operands.Sender.TheVariants as code_sender
+use Rattle.cob_move_data.specs.declared.operands.NumberedPair.{NumberedPair}
+use Rattle.cob_move_data.specs.declared.operands.PairMoves.{PairMoves}
+use Rattle.cob_move_data.specs.declared.operands.StatementMoves.{StatementMoves}
+use Rattle.cob_move_data.specs.declared.operands.StatementMoves.TheVariants.{Single, Pairs}
+use Rattle.cob_move_data.specs.Moves.{AreMoves, Entry, IsMove, IsSender, Literal, Move, Records, Sender, moves_by, numbered_move_by, operand_in, read_by, sender_by, sent_by, statement_moves_by}
 
 one_sender : (x y : Reading) (r : Records) (s : code.Sender) → sender_by x r s ≡ sent_by x (sender_by y r s)
 one_sender x y r (code_sender.Entry side entry) = refl

@@ -10,14 +10,14 @@ use Rattle.cob_copybook_tree.specs.Nodes.{Resolved}
 use Rattle.cob_layout.specs.declared.fields.Place.{Place}
 use Rattle.cob_layout.specs.Fields.{with_field, field_of}
 use Rattle.cob_move_receive.specs.Received.{Received, outcome}
-use Rattle.cob_layout_places.specs.declared.operands.Side.TheVariants.{Out}
+use Rattle.cob_move_data.specs.declared.operands.Side.TheVariants.{Out}
 use Rattle.cob_move_apply.specs.declared.stop.StopCause.TheVariants.{NoValue}
-use Rattle.cob_layout_places.specs.declared.operands.Operand.{Operand}
+use Rattle.cob_move_data.specs.declared.operands.Operand.{Operand}
 use Rattle.cob_move_apply.specs.declared.stop.Stop.{Stop}
-use Rattle.cob_layout_places.specs.declared.operands.Side.{Side}
+use Rattle.cob_move_data.specs.declared.operands.Side.{Side}
 use Rattle.cob_move_receive.specs.Sent as sent
 use Rattle.cob_move_receive.specs.Sent.{Occupies}
-use Rattle.cob_layout_places.specs.Moves.{Sender, Entry, Move, Records, record_of}
+use Rattle.cob_move_data.specs.Moves.{Sender, Entry, Move, Records, record_of}
 use Rattle.cob_move_apply.proofs.ListLemmas.{next}
 use Rattle.cob_move_apply.specs.Located.{Located, stop_at}
 use Rattle.cob_move_apply.specs.Applied.{IsMoved, storage_of, AllGet, Content, Ending, Gets, done, stopped}

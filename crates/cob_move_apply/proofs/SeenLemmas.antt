@@ -8,10 +8,10 @@ use Rattle.cob_layout_places.specs.Counts.{kind_in}
 use Rattle.cob_layout_places.specs.Cover.{AreNumbered}
 use Rattle.cob_layout_places.specs.declared.reference.Ref.{Ref}
 use Rattle.cob_layout.proofs.ReferenceLemmas.{has_below, refers_has}
-use Rattle.cob_layout_places.specs.declared.operands.Operand.{Operand}
-use Rattle.cob_layout_places.specs.declared.operands.PairMoves.{PairMoves}
-use Rattle.cob_layout_places.specs.declared.operands.NumberedPair.{NumberedPair}
-use Rattle.cob_layout_places.specs.Moves.{Entry, IsOperand, Records, entry_below, numbered_move_by, operand_in, or_group, record_of}
+use Rattle.cob_move_data.specs.declared.operands.Operand.{Operand}
+use Rattle.cob_move_data.specs.declared.operands.PairMoves.{PairMoves}
+use Rattle.cob_move_data.specs.declared.operands.NumberedPair.{NumberedPair}
+use Rattle.cob_move_data.specs.Moves.{Entry, IsOperand, Records, entry_below, numbered_move_by, operand_in, or_group, record_of}
 use Rattle.cob_move_apply.specs.Applied.{Ending, IsMoved}
 
 -- the entry of an operand is one of the record's

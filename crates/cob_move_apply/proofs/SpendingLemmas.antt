@@ -9,17 +9,17 @@ use Rattle.cob_copybook_tree.specs.Nodes.{Resolved}
 use Rattle.cob_layout.specs.declared.fields.Place.{Place}
 use Rattle.cob_layout.specs.Fields.{field_of, with_field}
 use Rattle.cob_layout.specs.Laws.{OneOfNeeded}
-use Rattle.cob_layout_places.specs.declared.operands.Move as code_move
-use Rattle.cob_layout_places.specs.declared.operands.NumberedPair.{NumberedPair}
-use Rattle.cob_layout_places.specs.declared.operands.Operand.{Operand}
-use Rattle.cob_layout_places.specs.declared.operands.PairMoves.{PairMoves}
-use Rattle.cob_layout_places.specs.declared.operands.Side.{Side}
-use Rattle.cob_layout_places.specs.declared.operands.Side.TheVariants.{In, Out}
-use Rattle.cob_layout_places.specs.declared.operands.StatementMoves.{StatementMoves}
-use Rattle.cob_layout_places.specs.declared.operands.StatementMoves.TheVariants.{Single, Pairs}
+use Rattle.cob_move_data.specs.declared.operands.Move as code_move
+use Rattle.cob_move_data.specs.declared.operands.NumberedPair.{NumberedPair}
+use Rattle.cob_move_data.specs.declared.operands.Operand.{Operand}
+use Rattle.cob_move_data.specs.declared.operands.PairMoves.{PairMoves}
+use Rattle.cob_move_data.specs.declared.operands.Side.{Side}
+use Rattle.cob_move_data.specs.declared.operands.Side.TheVariants.{In, Out}
+use Rattle.cob_move_data.specs.declared.operands.StatementMoves.{StatementMoves}
+use Rattle.cob_move_data.specs.declared.operands.StatementMoves.TheVariants.{Single, Pairs}
 use Rattle.cob_layout_places.specs.declared.reference.Ref.{Ref}
 use Rattle.cob_layout_places.specs.Counts.{tables_of}
-use Rattle.cob_layout_places.specs.Moves.{Entry, Move, Records, Sender, entry_below, moves_by, numbered_move_by, operand_in, record_of, sender_by}
+use Rattle.cob_move_data.specs.Moves.{Entry, Move, Records, Sender, entry_below, moves_by, numbered_move_by, operand_in, record_of, sender_by}
 use Rattle.cob_move_steps.specs.Pool.{IsMoveStep, MoveKinds}
 use Rattle.cob_move_steps.specs.declared.pictured.PicturedStep.{PicturedStep}
 use Rattle.cob_move_steps.specs.declared.pictured.PicturedSteps.{PicturedSteps}

@@ -1,9 +1,9 @@
 -- Steps carried out one after another: what those that are left come to.
 use Rattle.std.specs.Prelude.{ℕ, ◌+◌, ◌*◌, ◌≤◌, List, drop, length}
 use Rattle.cob_codec.specs.declared.reading.Reading.{Reading}
-use Rattle.cob_layout_places.specs.declared.operands.StatementMoves.{StatementMoves}
+use Rattle.cob_move_data.specs.declared.operands.StatementMoves.{StatementMoves}
 use Rattle.cob_layout_places.specs.Counts.{tables_of}
-use Rattle.cob_layout_places.specs.Moves.{Move, Records, moves_by}
+use Rattle.cob_move_data.specs.Moves.{Move, Records, moves_by}
 use Rattle.cob_move_apply.specs.Applied.{Applied, Ending}
 use Rattle.cob_move_apply.specs.Met.{HaveMet}
 use Rattle.cob_move_apply.specs.Spent.{allowed, kept_of}

@@ -5,9 +5,9 @@ use Rattle.cob_layout.specs.Placed.{placed_under}
 use Rattle.cob_layout.specs.declared.fields.Place.{Place}
 use Rattle.cob_layout.specs.declared.layout.PlaceFault.{PlaceFault}
 use Rattle.cob_layout_places.specs.Counts.{tables_of}
-use Rattle.cob_layout_places.specs.declared.operands.Side.TheVariants.{In, Out}
-use Rattle.cob_layout_places.specs.declared.operands.Operand.{Operand}
-use Rattle.cob_layout_places.specs.Moves.{Entry, Literal, Move, Records, Sender}
+use Rattle.cob_move_data.specs.declared.operands.Side.TheVariants.{In, Out}
+use Rattle.cob_move_data.specs.declared.operands.Operand.{Operand}
+use Rattle.cob_move_data.specs.Moves.{Entry, Literal, Move, Records, Sender}
 use Rattle.cob_move_receive.specs.Copying.{copies_bytes}
 use Rattle.cob_move_apply.specs.declared.step.MovePlaces.{MovePlaces}
 

@@ -11,8 +11,8 @@ use Rattle.cob_layout.specs.declared.finding.FindFault.{FindFault}
 use Rattle.cob_layout.specs.declared.finding.FindFault.TheVariants as finding
 use Rattle.cob_layout.specs.Placed.{placed}
 use Rattle.cob_layout.specs.Counting.{NeededOf}
-use Rattle.cob_layout_places.specs.declared.operands.Side.{Side}
-use Rattle.cob_layout_places.specs.declared.operands.Operand.{Operand}
+use Rattle.cob_move_data.specs.declared.operands.Side.{Side}
+use Rattle.cob_move_data.specs.declared.operands.Operand.{Operand}
 use Rattle.cob_move_apply.specs.declared.stop.Stop.{Stop}
 use Rattle.cob_move_apply.specs.declared.stop.StopCause.{StopCause}
 use Rattle.cob_move_apply.specs.declared.stop.StopCause.TheVariants.{Count, Subscript}

@@ -5,8 +5,8 @@ use Rattle.cob_copybook_entry.specs.Described.{PlainValue}
 use Rattle.cob_layout.specs.declared.fields.Place.{Place}
 use Rattle.cob_layout.specs.Fields.{with_field}
 use Rattle.cob_layout.specs.Storage.{greatest_length}
-use Rattle.cob_layout_places.specs.declared.operands.Side.TheVariants.{In, Out}
-use Rattle.cob_layout_places.specs.Moves.{Records, operand_in}
+use Rattle.cob_move_data.specs.declared.operands.Side.TheVariants.{In, Out}
+use Rattle.cob_move_data.specs.Moves.{Records, operand_in}
 use Rattle.cob_move_steps.specs.Pictured.{IsPicturedStep}
 use Rattle.cob_move_steps.specs.Pool.{IsMoveStep, MoveKinds}
 use Rattle.cob_move_steps.specs.declared.constant_step.ConstantStep.{ConstantStep}

@@ -4,9 +4,9 @@ use Rattle.cob_copybook_tree.specs.Forests.{Forest}
 use Rattle.cob_copybook_tree.specs.Nodes.{Resolved}
 use Rattle.cob_layout.specs.declared.fields.Place.{Place}
 use Rattle.cob_layout.specs.Storage.{greatest_length}
-use Rattle.cob_layout_places.specs.declared.operands.Side.{Side}
-use Rattle.cob_layout_places.specs.declared.operands.Operand.{Operand}
-use Rattle.cob_layout_places.specs.Moves.{IsOperand, Move, Records, Sender, Entry, Literal, record_of}
+use Rattle.cob_move_data.specs.declared.operands.Side.{Side}
+use Rattle.cob_move_data.specs.declared.operands.Operand.{Operand}
+use Rattle.cob_move_data.specs.Moves.{IsOperand, Move, Records, Sender, Entry, Literal, record_of}
 use Rattle.cob_move_receive.specs.Sent.{sent}
 use Rattle.cob_move_apply.specs.Applied.{Content}
 use Rattle.cob_move_apply.specs.Located.{Located}

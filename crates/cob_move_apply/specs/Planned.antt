@@ -9,11 +9,11 @@ use Rattle.cob_limits.specs.Limits.{longest_record}
 use Rattle.cob_layout.specs.Counting.{ReadsNone, greatest_counts}
 use Rattle.cob_layout.specs.Placed.{placed_under}
 use Rattle.cob_layout.specs.Storage.{greatest_length}
-use Rattle.cob_layout_places.specs.declared.operands.PairMoves.{PairMoves}
-use Rattle.cob_layout_places.specs.declared.operands.Sender as code_sender
-use Rattle.cob_layout_places.specs.declared.operands.StatementMoves.{StatementMoves}
+use Rattle.cob_move_data.specs.declared.operands.PairMoves.{PairMoves}
+use Rattle.cob_move_data.specs.declared.operands.Sender as code_sender
+use Rattle.cob_move_data.specs.declared.operands.StatementMoves.{StatementMoves}
 use Rattle.cob_layout_places.specs.declared.reference.Ref.{Ref}
-use Rattle.cob_layout_places.specs.Moves.{Literal, IsMove, Move, Records, numbered_move_by, operand_in, sender, sender_by}
+use Rattle.cob_move_data.specs.Moves.{Literal, IsMove, Move, Records, numbered_move_by, operand_in, sender, sender_by}
 use Rattle.cob_move_apply.specs.Joined.{CopyEnds, copies_of, copy_ends, last_end, neither_varies, steps_behind}
 use Rattle.cob_move_apply.specs.Steps.{Gains, GainsCut, HasPart, IsPicturedMove, IsPreparedMove, IsReadyAnywhere, WritesFor, alone, constant_move, copied_move, pair_at, part_of}
 use Rattle.cob_move_apply.specs.Placed.{IsPlaced}

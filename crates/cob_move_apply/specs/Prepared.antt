@@ -1,7 +1,7 @@
 -- Moves that are ready to be carried out.
 use Rattle.std.specs.Prelude.{◌≡◌, List}
 use Rattle.cob_codec.specs.declared.reading.Reading.{Reading}
-use Rattle.cob_layout_places.specs.Moves.{AreMoves, Move, Records, moves_by}
+use Rattle.cob_move_data.specs.Moves.{AreMoves, Move, Records, moves_by}
 use Rattle.cob_move_apply.specs.declared.moves.Moves.{Moves}
 use Rattle.cob_move_apply.specs.Joined.{steps_in}
 use Rattle.cob_move_apply.specs.Planned.{counted_steps}

@@ -3,8 +3,8 @@ use Rattle.std.specs.Prelude.{List, map}
 use Rattle.cob_codec.specs.declared.reading.Reading.{Reading}
 use Rattle.cob_copybook_tree.specs.Forests.{Forest}
 use Rattle.cob_copybook_tree.specs.Nodes.{Resolved}
-use Rattle.cob_layout_places.specs.declared.operands.Operand.{Operand}
-use Rattle.cob_layout_places.specs.Moves.{Sender, Entry, Records, operand_in, record_of}
+use Rattle.cob_move_data.specs.declared.operands.Operand.{Operand}
+use Rattle.cob_move_data.specs.Moves.{Sender, Entry, Records, operand_in, record_of}
 use Rattle.cob_move_apply.specs.declared.basis.PlacedOperand.{PlacedOperand}
 use Rattle.cob_move_apply.specs.declared.basis.PlacedReceivers.{PlacedReceivers}
 use Rattle.cob_move_apply.specs.declared.basis.SentEntry.{SentEntry}

@@ -4,9 +4,9 @@ use Rattle.cob_copybook_tree.specs.Forests.{Forest}
 use Rattle.cob_copybook_tree.specs.Nodes.{Resolved}
 use Rattle.cob_layout.specs.declared.fields.Place.{Place}
 use Rattle.cob_layout.specs.Kept.{kept_in, numbers_of}
-use Rattle.cob_layout_places.specs.declared.operands.Operand.{Operand}
+use Rattle.cob_move_data.specs.declared.operands.Operand.{Operand}
 use Rattle.cob_layout_places.specs.Counts.{tables_of}
-use Rattle.cob_layout_places.specs.Moves.{Move, Records}
+use Rattle.cob_move_data.specs.Moves.{Move, Records}
 use Rattle.cob_move_apply.specs.Applied.{Content}
 use Rattle.cob_move_apply.specs.Met.{HaveMet, MeetsItem, ReceiverMet, ReceiversMet}
 use Rattle.cob_move_apply.specs.declared.stop.Stop.{Stop}

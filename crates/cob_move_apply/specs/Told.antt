@@ -1,6 +1,6 @@
 -- How many moves are told.
 use Rattle.std.specs.Prelude.{ℕ, ◌+◌, List, [], ◌∷◌, length}
-use Rattle.cob_layout_places.specs.Moves.{Move}
+use Rattle.cob_move_data.specs.Moves.{Move}
 
 -- how many single moves these are: each is a sender with one of its receivers
 abbrev pub single_moves : List Move → ℕ

@@ -11,8 +11,8 @@ use Rattle.cob_layout.specs.Fields.{field_of, with_field}
 use Rattle.cob_layout.specs.Kept.{AreKeptOf}
 use Rattle.cob_layout.specs.declared.counts.StoredCount.{StoredCount}
 use Rattle.cob_layout.specs.Storage.{greatest_length, IsStorage}
-use Rattle.cob_layout_places.specs.declared.operands.Side.TheVariants.{In}
-use Rattle.cob_layout_places.specs.Moves.{Move, Records}
+use Rattle.cob_move_data.specs.declared.operands.Side.TheVariants.{In}
+use Rattle.cob_move_data.specs.Moves.{Move, Records}
 use Rattle.cob_move_steps.specs.Pool.{MoveKinds}
 use Rattle.cob_move_receive.specs.Received.{Received}
 use Rattle.cob_move_receive.specs.Sent as sent

@@ -5,12 +5,12 @@ ghost use Rattle.cob_layout.specs.Sound.{IsSound};
 ghost use Rattle.cob_layout.specs.Standing.{KeepsOf};
 ghost use Rattle.cob_layout.specs.Storage.{greatest_length, IsStorage};
 ghost use Rattle.cob_layout_places.specs.Counts.{tables_of};
-ghost use Rattle.cob_layout_places.specs.Moves.{Move as Meant, moves_by};
+ghost use Rattle.cob_move_data.specs.Moves.{Move as Meant, moves_by};
 ghost use Rattle.cob_move_apply.specs.Applied.{Applied, IsMoved, done, ending};
 ghost use Rattle.cob_move_apply.specs.Met.{HaveMet};
 ghost use Rattle.cob_move_apply.specs.Going.{Left, SpentSteps, IsBounded};
 ghost use Rattle.cob_move_apply.specs.Spent.{HaveSpent, IsSpent, MovesSpend};
-ghost use Rattle.cob_layout_places.specs.declared.operands.StatementMoves.{StatementMoves as Said};
+ghost use Rattle.cob_move_data.specs.declared.operands.StatementMoves.{StatementMoves as Said};
 ghost use Rattle.cob_move_apply.specs.Steps.{IsMoveOfPart, IsPicturedPart, IsPreparedMove, IsStep, StandFor, support_of};
 ghost use Rattle.cob_move_apply.specs.Surveyed.{HasSpace, IsWorkspace, records};
 
@@ -28,7 +28,7 @@ use crate::stop::Stop;
 use crate::workspace::Workspace;
 use cob_codec::Reading;
 use cob_layout::one_outcome_of_counts;
-use cob_layout_places::StatementMoves;
+use cob_move_data::StatementMoves;
 use cob_move_steps::MoveStep;
 
 /// Carries out a part of the moves of a statement.

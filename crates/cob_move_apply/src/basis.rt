@@ -2,11 +2,11 @@
 
 ghost use Rattle.std.specs.Prelude.{◌≡◌};
 ghost use Rattle.cob_layout.specs.Sound.{IsSound};
-ghost use Rattle.cob_layout_places.specs.Moves.{IsOperand, operand_in};
+ghost use Rattle.cob_move_data.specs.Moves.{IsOperand, operand_in};
 ghost use Rattle.cob_move_apply.specs.Seen.{operand_of};
 
 use cob_layout::{Kind, Layout, Place, Ref};
-use cob_layout_places::Side;
+use cob_move_data::Side;
 
 /// What the place of an operand rests on.
 #[derive(Clone, Copy)]

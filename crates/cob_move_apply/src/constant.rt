@@ -5,7 +5,7 @@ ghost use Rattle.cob_copybook_tree.specs.declared.node.Kind.{Kind};
 ghost use Rattle.cob_copybook_entry.specs.Described.{PlainValue};
 ghost use Rattle.cob_layout.specs.Sound.{IsSound};
 ghost use Rattle.cob_layout.specs.Storage.{greatest_length};
-ghost use Rattle.cob_layout_places.specs.Moves.{Move as Meant, operand_in};
+ghost use Rattle.cob_move_data.specs.Moves.{Move as Meant, operand_in};
 ghost use Rattle.cob_move_apply.specs.Applied.{Applied, IsMoved, done, ending};
 ghost use Rattle.cob_move_apply.specs.Made.{IsMadeConstant, ReceivesAt};
 ghost use Rattle.cob_move_apply.specs.Placed.{IsPlaced};
@@ -21,7 +21,7 @@ use crate::step::{ConstantMove, LocatedConstant, Plan};
 use crate::stop::Stop;
 use crate::workspace::Workspace;
 use cob_layout::Place;
-use cob_layout_places::Side;
+use cob_move_data::Side;
 
 /// Carries out the single move of a constant that was made ready. It is inlined, so that it costs no call.
 #[inline(always)]

@@ -63,7 +63,7 @@ pub use cob_layout::{
     field_mut, is_number_item, is_table, one_outcome_of_counts, read_number, records_are_sound,
     tables, times_of, value_of,
 };
-pub use cob_layout_places::{Move, NumberedPair, Operand, PairMoves, Sender, Side, StatementMoves};
+pub use cob_move_data::{Move, NumberedPair, Operand, PairMoves, Sender, Side, StatementMoves};
 pub use laws::one_ending;
 pub use moves::Moves;
 pub use places::stop_of;

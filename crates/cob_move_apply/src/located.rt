@@ -3,7 +3,7 @@
 ghost use Rattle.std.specs.Prelude.{◌≡◌, [], ◌∷◌, false, length, true, IfSome, IsTrue, List};
 ghost use Rattle.cob_layout.specs.Sound.{IsSound};
 ghost use Rattle.cob_layout.specs.Storage.{greatest_length, IsStorage};
-ghost use Rattle.cob_layout_places.specs.Moves.{Move as Meant, operand_in};
+ghost use Rattle.cob_move_data.specs.Moves.{Move as Meant, operand_in};
 ghost use Rattle.cob_move_apply.specs.Applied.{Applied, IsMoved, done, ending};
 ghost use Rattle.cob_move_apply.specs.Made.{StandAt};
 ghost use Rattle.cob_move_apply.specs.Placed.{IsPlaced};
@@ -23,7 +23,7 @@ use crate::stop::Stop;
 use crate::workspace::Workspace;
 use cob_codec::Reading;
 use cob_layout::places_lie_in_storage;
-use cob_layout_places::Side;
+use cob_move_data::Side;
 use cob_move_steps::CharactersStep;
 use std::slice;
 

@@ -5,7 +5,7 @@ ghost use Rattle.cob_codec.specs.declared.reading.Reading.{Reading as Read};
 ghost use Rattle.cob_layout.specs.Kept.{AreKeptOf};
 ghost use Rattle.cob_layout.specs.Storage.{greatest_length, IsStorage};
 ghost use Rattle.cob_layout_places.specs.Counts.{tables_of};
-ghost use Rattle.cob_layout_places.specs.Moves.{AreMoves, Records, moves, moves_by, read_by, statement_moves_by};
+ghost use Rattle.cob_move_data.specs.Moves.{AreMoves, Records, moves, moves_by, read_by, statement_moves_by};
 ghost use Rattle.cob_move_apply.specs.Applied.{Applied, ending};
 ghost use Rattle.cob_move_apply.specs.Joined.{steps_in};
 ghost use Rattle.cob_move_apply.specs.Met.{HaveMet};
@@ -20,7 +20,7 @@ use crate::step::{Plan, at_most_u32, counted};
 use crate::stop::Stop;
 use cob_codec::Reading;
 use cob_layout::{Layout, records_are_sound};
-use cob_layout_places::StatementMoves;
+use cob_move_data::StatementMoves;
 use std::alloc::{AllocError, Global};
 
 /// How many single moves the moves of a statement are.

@@ -4,7 +4,7 @@ ghost use Rattle.std.specs.Prelude.{◌≡◌, length, ◌≤◌, [], ◌∷◌}
 ghost use Rattle.cob_limits.specs.Limits.{most_dimensions};
 ghost use Rattle.cob_layout.specs.Sound.{IsSound};
 ghost use Rattle.cob_layout.specs.Storage.{greatest_length, IsStorage};
-ghost use Rattle.cob_layout_places.specs.Moves.{entry_below, numbered_move, numbered_move_by};
+ghost use Rattle.cob_move_data.specs.Moves.{entry_below, numbered_move, numbered_move_by};
 ghost use Rattle.cob_move_apply.specs.Applied.{IsMoved, ending};
 ghost use Rattle.cob_move_apply.specs.Placed.{IsPlacedMove};
 ghost use Rattle.cob_move_apply.specs.Spent.{MovesSpend};
@@ -17,8 +17,8 @@ use crate::stop::Stop;
 use crate::workspace::Workspace;
 use arrayvec::ArrayVec;
 use cob_layout::Ref;
-use cob_layout_places::{NumberedPair, PairMoves};
 use cob_limits::MAX_SUBSCRIPTS;
+use cob_move_data::{NumberedPair, PairMoves};
 use std::slice;
 
 /// The same subscripts once more.

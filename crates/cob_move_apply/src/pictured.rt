@@ -14,7 +14,7 @@ use crate::layouts::Layouts;
 use crate::step::PicturedMove;
 use crate::stop::{Stop, StopCause};
 use crate::workspace::Workspace;
-use cob_layout_places::Side;
+use cob_move_data::Side;
 use cob_move_steps::PicturedSteps;
 
 /// Carries out a single move that was made ready, its sender read as its picture says. It is inlined, so that it costs no call.

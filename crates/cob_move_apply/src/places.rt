@@ -3,7 +3,7 @@
 ghost use Rattle.std.specs.Prelude.{◌≡◌, ◌+◌, ◌≤◌, IfOk, IfErr, IfSome, OnOk, Ok, Err};
 ghost use Rattle.cob_layout.specs.Sound.{IsSound};
 ghost use Rattle.cob_layout.specs.Storage.{greatest_length};
-ghost use Rattle.cob_layout_places.specs.Moves.{IsOperand};
+ghost use Rattle.cob_move_data.specs.Moves.{IsOperand};
 ghost use Rattle.cob_move_receive.specs.Sent.{Occupies};
 ghost use Rattle.cob_move_apply.specs.Located.{Located, stop_of};
 ghost use Rattle.cob_move_apply.specs.Placed.{IsPlaced};
@@ -15,7 +15,8 @@ use crate::basis::{Basis, PlacedOperand};
 use crate::stop::{Stop, StopCause};
 use crate::survey::Survey;
 use cob_layout::{FindFault, Layout, Place, kept_give_needed, one_outcome_of_counts};
-use cob_layout_places::{Side, needs_are_read};
+use cob_layout_places::needs_are_read;
+use cob_move_data::Side;
 
 /// The storage of the record of one side.
 #[derive(Clone, Copy)]

@@ -2,7 +2,7 @@
 
 ghost use Rattle.std.specs.Prelude.{◌≡◌, ◌<◌, ◌+◌, ◌++◌, [], ◌∷◌, List, length, true, IfNone, IfOk, IfSome, IsFalse, OnOk, IsTrue, Some};
 ghost use Rattle.cob_codec.specs.declared.reading.Reading.{Reading};
-ghost use Rattle.cob_layout_places.specs.Moves.{
+ghost use Rattle.cob_move_data.specs.Moves.{
   AreMoves,
   Entry,
   IsMove,
@@ -21,9 +21,9 @@ ghost use Rattle.cob_layout_places.specs.Moves.{
   statement_moves,
   statement_moves_by,
 };
-ghost use Rattle.cob_layout_places.specs.declared.operands.Side.TheVariants.{In};
-ghost use Rattle.cob_layout_places.specs.declared.operands.StatementMoves.{StatementMoves as Said};
-ghost use Rattle.cob_layout_places.specs.declared.operands.StatementMoves.TheVariants.{Pairs, Single};
+ghost use Rattle.cob_move_data.specs.declared.operands.Side.TheVariants.{In};
+ghost use Rattle.cob_move_data.specs.declared.operands.StatementMoves.{StatementMoves as Said};
+ghost use Rattle.cob_move_data.specs.declared.operands.StatementMoves.TheVariants.{Pairs, Single};
 ghost use Rattle.cob_move_apply.specs.Joined.{begun, copy_ends, neither_varies, plain_copy, steps_in};
 ghost use Rattle.cob_move_apply.specs.Planned.{AlwaysCopied, AlwaysGains, AlwaysGainsCut, AlwaysLocated, AlwaysLocatedConstant, AlwaysMore, AreBetween, AreMore, AreWithinLongest, HasOneMore, IsPartIn, IsPictured, IsReady, IsStatementAt, records_between, counted_steps, entry_alone, last_step_ends, pair_alone, part_alone, single_alone, step_count, step_ends};
 ghost use Rattle.cob_move_apply.specs.Steps.{AreSteps, Gains, GainsCut, IsSteady, IsStep, StandFor, Support, alone, pair_at, singles_of, support_of};
@@ -43,7 +43,7 @@ use crate::step::{
     part_of, prepared_step,
 };
 use cob_layout::{Layout, Ref, places_lie_in_storage, records_are_sound, tables};
-use cob_layout_places::{Move, PairMoves, Sender, Side, StatementMoves};
+use cob_move_data::{Move, PairMoves, Sender, Side, StatementMoves};
 use cob_move_receive::copies_bytes;
 use cob_move_steps::{MoveSteps, PicturedSteps};
 use std::alloc::{AllocError, Global};

@@ -2,7 +2,7 @@
 
 ghost use Rattle.std.specs.Prelude.{◌≡◌, ◌++◌, ◌∷◌, List, map, true, false, OnOk};
 ghost use Rattle.std.specs.List.{AllByRecursion};
-ghost use Rattle.cob_layout_places.specs.Moves.{
+ghost use Rattle.cob_move_data.specs.Moves.{
   IsOperand,
   IsSender,
   operand_in,
@@ -18,7 +18,7 @@ ghost use Rattle.cob_move_apply.specs.declared.basis.Basis as code_basis;
 
 use crate::basis::Basis;
 use cob_layout::{Layout, Ref};
-use cob_layout_places::{Sender, Side};
+use cob_move_data::{Sender, Side};
 use std::alloc::AllocError;
 
 /// What an operand's place rests on.

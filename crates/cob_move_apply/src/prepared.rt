@@ -14,7 +14,7 @@ use crate::layouts::Layouts;
 use crate::step::MovePlaces;
 use crate::stop::{Stop, StopCause};
 use crate::workspace::Workspace;
-use cob_layout_places::Side;
+use cob_move_data::Side;
 use cob_move_steps::{CharactersStep, MoveStep, MoveSteps};
 
 /// Carries out a single move that was made ready. It is inlined, so that it costs no call.

@@ -3,7 +3,7 @@
 ghost use Rattle.std.specs.Prelude.{IfOk, IfSome};
 ghost use Rattle.cob_copybook_entry.specs.Described.{plain_value};
 ghost use Rattle.cob_layout.specs.Sound.{IsStorableKind};
-ghost use Rattle.cob_layout_places.specs.Moves.{IsMove, IsOperand, operand_in, sender};
+ghost use Rattle.cob_move_data.specs.Moves.{IsMove, IsOperand, operand_in, sender};
 ghost use Rattle.cob_move_apply.specs.Planned.{AlwaysLocated, AlwaysLocatedConstant, AlwaysPrepared, AreFixedPlaces, IsPictured, IsReady, constant_alone, entry_alone, records_between, single_alone};
 ghost use Rattle.cob_move_apply.specs.Steps.{CarriesLocated, WritesFor, alone};
 ghost use Rattle.cob_move_steps.specs.Pictured.{KeepsPictured};
@@ -15,7 +15,7 @@ use crate::planning::Between;
 use crate::preparation::basis_of;
 use crate::step::{LocatedMove, LocatedStep, MovePlaces, PicturedMove, PreparedMove};
 use cob_layout::{Kind, Place, Ref, Value, places_lie_in_storage, records_are_sound};
-use cob_layout_places::{Sender, Side};
+use cob_move_data::{Sender, Side};
 use cob_move_steps::{CharactersStep, ConstantStep, MoveSteps, PicturedSteps};
 use std::alloc::{AllocError, Global};
 

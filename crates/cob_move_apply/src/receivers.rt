@@ -15,7 +15,7 @@ use crate::places::{Stored, locate};
 use crate::stop::{Stop, StopCause};
 use crate::survey::Survey;
 use cob_layout::Layout;
-use cob_layout_places::Side;
+use cob_move_data::Side;
 use cob_move_receive::{Sent, receive};
 
 /// What a sender gives to each of its receivers, and where it lies.

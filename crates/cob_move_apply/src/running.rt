@@ -5,8 +5,8 @@
 ghost use Rattle.std.specs.Prelude.{◌≡◌, ◌∷◌, [], List, false, length, IsTrue};
 ghost use Rattle.cob_layout.specs.Sound.{IsSound};
 ghost use Rattle.cob_layout.specs.Storage.{greatest_length, IsStorage};
-ghost use Rattle.cob_layout_places.specs.declared.operands.StatementMoves.{StatementMoves as Said};
-ghost use Rattle.cob_layout_places.specs.Moves.{Move as Meant};
+ghost use Rattle.cob_move_data.specs.declared.operands.StatementMoves.{StatementMoves as Said};
+ghost use Rattle.cob_move_data.specs.Moves.{Move as Meant};
 ghost use Rattle.cob_move_apply.specs.Applied.{Applied, IsMoved, done};
 ghost use Rattle.cob_move_apply.specs.Spent.{HaveSpent, IsSpent};
 ghost use Rattle.cob_move_apply.specs.Steps.{IsPicturedPart, IsPreparedMove, IsStep, support_of};

@@ -4,8 +4,8 @@ ghost use Rattle.std.specs.Prelude.{◌≡◌, ◌+◌, ◌≤◌, [], ◌∷◌
 ghost use Rattle.cob_layout.specs.Fields.{field_of};
 ghost use Rattle.cob_layout.specs.Sound.{IsSound};
 ghost use Rattle.cob_layout.specs.Storage.{greatest_length, IsStorage};
-ghost use Rattle.cob_layout_places.specs.Moves.{Entry, sender_by};
-ghost use Rattle.cob_layout_places.specs.declared.operands.Side.TheVariants.{In, Out};
+ghost use Rattle.cob_move_data.specs.Moves.{Entry, sender_by};
+ghost use Rattle.cob_move_data.specs.declared.operands.Side.TheVariants.{In, Out};
 ghost use Rattle.cob_move_apply.specs.Applied.{IsMoved, ending};
 ghost use Rattle.cob_move_apply.specs.Placed.{ArePlacedReceivers, IsPlaced, IsPlacedSender};
 ghost use Rattle.cob_move_apply.specs.Seen.{entry_sent, operand_of, receivers_in};
@@ -19,7 +19,7 @@ use crate::receivers::{Given, receive_all};
 use crate::stop::Stop;
 use crate::workspace::Workspace;
 use cob_layout::{Place, field, places_lie_in_storage};
-use cob_layout_places::{Sender, Side};
+use cob_move_data::{Sender, Side};
 use cob_move_receive::Sent;
 
 /// Copies the bytes of a place to the front of `content`.

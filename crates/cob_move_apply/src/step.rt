@@ -4,8 +4,8 @@ ghost use Rattle.std.specs.Prelude.{◌≡◌, ◌+◌, ◌≤◌, false, length
 ghost use Rattle.cob_codec.specs.declared.reading.Reading.{Reading};
 ghost use Rattle.cob_limits.specs.Limits.{longest_record};
 ghost use Rattle.cob_layout.specs.Fields.{field_of, with_field};
-ghost use Rattle.cob_layout_places.specs.Moves.{Move as Meant, Records};
-ghost use Rattle.cob_layout_places.specs.declared.operands.StatementMoves.{StatementMoves as Said};
+ghost use Rattle.cob_move_data.specs.Moves.{Move as Meant, Records};
+ghost use Rattle.cob_move_data.specs.declared.operands.StatementMoves.{StatementMoves as Said};
 ghost use Rattle.cob_move_apply.specs.Joined.{copy_ends, meets};
 ghost use Rattle.cob_move_apply.specs.Planned.{AreWithinLongest, counted_steps, step_count, step_ends};
 ghost use Rattle.cob_move_apply.specs.Steps.{IsPreparedMove, IsStep, Support};

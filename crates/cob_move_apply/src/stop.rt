@@ -1,4 +1,4 @@
-use cob_layout_places::Side;
+use cob_move_data::Side;
 
 /// Why the moves stop at a record.
 #[derive(Clone, Copy, PartialEq, Eq)]

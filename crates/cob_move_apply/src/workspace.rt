@@ -4,7 +4,7 @@ ghost use Rattle.std.specs.Prelude.{◌≡◌, List, ℕ, IfOk};
 ghost use Rattle.cob_copybook_tree.specs.Forests.{Forest};
 ghost use Rattle.cob_copybook_tree.specs.Nodes.{Resolved};
 ghost use Rattle.cob_layout.specs.Standing.{KeepsOf};
-ghost use Rattle.cob_layout_places.specs.Moves.{Records};
+ghost use Rattle.cob_move_data.specs.Moves.{Records};
 ghost use Rattle.cob_move_apply.specs.Spent.{kept_of};
 ghost use Rattle.cob_move_apply.specs.Surveyed.{HasSpace, IsWorkspace};
 

@@ -11,8 +11,8 @@ use Rattle.cob_layout_places.specs.Places.{choose, is_table, later, or_else}
 use Rattle.cob_layout_places.specs.Counts.{kind_in}
 use Rattle.cob_layout_places.specs.Cover.{AreNumbered}
 use Rattle.cob_layout_places.specs.References.{IsSubscripted, Refers}
-use Rattle.cob_layout_places.specs.declared.operands.Operand.{Operand}
-use Rattle.cob_layout_places.specs.Moves.{IsOperand}
+use Rattle.cob_move_data.specs.declared.operands.Operand.{Operand}
+use Rattle.cob_move_data.specs.Moves.{IsOperand}
 use Rattle.cob_move_names.specs.Groups.{IsListed, SubordinatesAreOperands, entries_below, found_below, operand_below, or_bare}
 use Rattle.cob_move_names.specs.Pairs.{Subordinate, is_left_out, own_subordinate, subordinates}
 

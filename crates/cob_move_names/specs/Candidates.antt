@@ -6,8 +6,8 @@ use Rattle.cob_copybook_tree.specs.Nodes.{Resolved}
 use Rattle.cob_copybook_tree.specs.Lengths.{greatest_number}
 use Rattle.cob_copybook_names.specs.Naming.{Bearer, with_name}
 use Rattle.cob_layout_places.specs.Places.{is_table}
-use Rattle.cob_layout_places.specs.declared.operands.Side.{Side}
-use Rattle.cob_layout_places.specs.declared.operands.Side.TheVariants.{In, Out}
+use Rattle.cob_move_data.specs.declared.operands.Side.{Side}
+use Rattle.cob_move_data.specs.declared.operands.Side.TheVariants.{In, Out}
 
 -- What is known of an entry besides its names: its record, its number, the greatest number of each table that holds it or that it is, the
 -- outermost first, and what it describes.

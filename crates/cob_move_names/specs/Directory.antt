@@ -1,7 +1,7 @@
 -- The entries that a directory finds by their names.
 use Rattle.std.specs.Prelude.{◌≡◌, List, Result, map, IsOkAnd}
-use Rattle.cob_layout_places.specs.declared.operands.Operand.{Operand}
-use Rattle.cob_layout_places.specs.declared.operands.Side.{Side}
+use Rattle.cob_move_data.specs.declared.operands.Operand.{Operand}
+use Rattle.cob_move_data.specs.declared.operands.Side.{Side}
 use Rattle.cob_move_statements.specs.Written.{WrittenReference}
 use Rattle.cob_move_statements.specs.declared.fault.MoveRule.{MoveRule}
 use Rattle.cob_move_names.specs.declared.find.Named.{Named}

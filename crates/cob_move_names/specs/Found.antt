@@ -2,8 +2,8 @@
 use Rattle.std.specs.Prelude.{ℕ, List, IsSome}
 use Rattle.cob_copybook_tree.specs.Nodes.{tree_of}
 use Rattle.indexmap.specs.IndexMap.{get_by}
-use Rattle.cob_layout_places.specs.declared.operands.Side.{Side}
-use Rattle.cob_layout_places.specs.declared.operands.Side.TheVariants.{In, Out}
+use Rattle.cob_move_data.specs.declared.operands.Side.{Side}
+use Rattle.cob_move_data.specs.declared.operands.Side.TheVariants.{In, Out}
 use Rattle.cob_move_names.specs.declared.correspondences.Correspondences.{Correspondences}
 use Rattle.cob_move_names.specs.declared.sending.SendingRecord.{SendingRecord}
 use Rattle.cob_move_names.specs.Between.{entries_of, pairs_below}

@@ -10,7 +10,8 @@ use crate::correspondences::Correspondences;
 use crate::listed_groups::ListedGroups;
 use crate::pair::EntryPair;
 use crate::sending::SendingRecord;
-use cob_layout_places::{Node, Side};
+use cob_layout_places::Node;
+use cob_move_data::Side;
 use cob_move_statements::MoveRule;
 use std::alloc::Global;
 

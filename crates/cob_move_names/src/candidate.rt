@@ -14,8 +14,8 @@ ghost use Rattle.cob_move_names.specs.Listed.{ListsMore};
 use arrayvec::ArrayVec;
 use cob_copybook_names::{Bearer, name_of, names_beneath};
 use cob_layout::{Node, is_table};
-use cob_layout_places::Side;
 use cob_limits::MAX_SUBSCRIPTS;
+use cob_move_data::Side;
 use std::alloc::{AllocError, Global};
 
 /// The greatest numbers of tables, one within the other, the outermost first.

@@ -2,8 +2,8 @@
 
 ghost use Rattle.std.specs.Prelude.{◌≡◌, IfErr, IfNone, IfOk, IfSome, IsOkAnd};
 ghost use Rattle.cob_source.specs.Tokens.{lexemes};
-ghost use Rattle.cob_layout_places.specs.declared.operands.Operand.{Operand as SeenOperand};
-ghost use Rattle.cob_layout_places.specs.declared.operands.Side.TheVariants.{Out};
+ghost use Rattle.cob_move_data.specs.declared.operands.Operand.{Operand as SeenOperand};
+ghost use Rattle.cob_move_data.specs.declared.operands.Side.TheVariants.{Out};
 ghost use Rattle.cob_move_statements.specs.Written.{word_texts, written_reference};
 ghost use Rattle.cob_move_names.specs.Candidates.{all_entries};
 ghost use Rattle.cob_move_names.specs.Directory.{FindsOnly, entries_named};
@@ -16,7 +16,7 @@ use crate::subscripts::read_subscripts;
 use arrayvec::ArrayVec;
 use cob_copybook_names::Bearer;
 use cob_layout::{Layout, Ref, records_are_sound};
-use cob_layout_places::{Operand, Side};
+use cob_move_data::{Operand, Side};
 use cob_move_statements::{MoveRule, Reference};
 use cob_source::Token;
 use std::alloc::{AllocError, Global};

@@ -13,7 +13,7 @@ use Rattle.cob_records_parts.specs.declared.incoming.Incoming.{Incoming}
 use Rattle.cob_records_parts.specs.declared.incoming.Incoming.TheVariants as incoming
 use Rattle.cob_program_ends.specs.Stops.{cause_told}
 use Rattle.cob_records.specs.Progress.{kept_count}
-use Rattle.cob_layout_places.specs.declared.operands.Side.TheVariants.{In}
+use Rattle.cob_move_data.specs.declared.operands.Side.TheVariants.{In}
 use Rattle.cob_convert_stream.specs.declared.fault.Cause.{Cause}
 use Rattle.cob_convert_stream.specs.declared.fault.Cause.TheVariants.{Record, Limit as OverLimit}
 use Rattle.cob_records_parts.specs.Cut.{most_records_cut}

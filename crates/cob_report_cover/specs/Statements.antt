@@ -1,14 +1,14 @@
 -- What statements send and what receives in them, by the numbers of entries.
 use Rattle.std.specs.Prelude.{List, [], ◌∷◌, map}
 use Rattle.cob_layout_places.specs.Cover.{Occurrence}
-use Rattle.cob_layout_places.specs.declared.operands.NumberedPair.{NumberedPair}
-use Rattle.cob_layout_places.specs.declared.operands.PairMoves.{PairMoves}
-use Rattle.cob_layout_places.specs.declared.operands.Sender.{Sender}
-use Rattle.cob_layout_places.specs.declared.operands.Sender.TheVariants.{Entry, Constant}
-use Rattle.cob_layout_places.specs.declared.operands.Side.{Side}
-use Rattle.cob_layout_places.specs.declared.operands.Side.TheVariants.{In, Out}
-use Rattle.cob_layout_places.specs.declared.operands.StatementMoves.{StatementMoves}
-use Rattle.cob_layout_places.specs.declared.operands.StatementMoves.TheVariants.{Pairs, Single}
+use Rattle.cob_move_data.specs.declared.operands.NumberedPair.{NumberedPair}
+use Rattle.cob_move_data.specs.declared.operands.PairMoves.{PairMoves}
+use Rattle.cob_move_data.specs.declared.operands.Sender.{Sender}
+use Rattle.cob_move_data.specs.declared.operands.Sender.TheVariants.{Entry, Constant}
+use Rattle.cob_move_data.specs.declared.operands.Side.{Side}
+use Rattle.cob_move_data.specs.declared.operands.Side.TheVariants.{In, Out}
+use Rattle.cob_move_data.specs.declared.operands.StatementMoves.{StatementMoves}
+use Rattle.cob_move_data.specs.declared.operands.StatementMoves.TheVariants.{Pairs, Single}
 use Rattle.cob_back_moves.specs.Received.{occurrence, occurrence_by}
 
 -- the receiving entry of a pair of two groups

@@ -11,7 +11,7 @@ ghost use Rattle.cob_report_cover.specs.Statements.{group_senders, pair_receiver
 
 use cob_back_moves::MovesBetween;
 use cob_layout::{Layout, Place, PlaceFault, Ref};
-use cob_layout_places::{NumberedPair, PairMoves, Sender, Side, StatementMoves};
+use cob_move_data::{NumberedPair, PairMoves, Sender, Side, StatementMoves};
 use std::alloc::{AllocError, Global};
 
 /// The place that an answer has, if it has one.

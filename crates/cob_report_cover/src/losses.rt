@@ -1,7 +1,7 @@
 //! What single moves may lose.
 
 ghost use Rattle.std.specs.Prelude.{◌≡◌, IfNone, IfOk, IfSome, OnOk};
-ghost use Rattle.cob_layout_places.specs.declared.operands.NumberedPair.{NumberedPair as SeenPair};
+ghost use Rattle.cob_move_data.specs.declared.operands.NumberedPair.{NumberedPair as SeenPair};
 ghost use Rattle.cob_layout_places.specs.declared.reference.Ref.{Ref as SeenRef};
 ghost use Rattle.cob_move_receive.specs.Table.{sender_kind};
 ghost use Rattle.cob_report_cover.specs.Losing.{AddsEach, AddsLosses, AreAllLosses, AreLossesOf, AreLossesOfEntry, AreLossesOfPair, AreLossesTo, HasNoEntry, StandsAs, tree_of_side};
@@ -10,7 +10,8 @@ use cob_back_losses::{Losses, losses_of};
 use cob_back_moves::{Layouts, MovesBetween};
 use cob_copybook_tree::Kind;
 use cob_layout::Layout;
-use cob_layout_places::{NumberedPair, Ref, Sender, Side, StatementMoves};
+use cob_layout_places::Ref;
+use cob_move_data::{NumberedPair, Sender, Side, StatementMoves};
 use cob_move_receive::SenderKind;
 use std::alloc::{AllocError, Global};
 

@@ -5,21 +5,21 @@ use Rattle.std.specs.List.{AllByRecursion}
 use Rattle.cob_codec.specs.declared.reading.Reading.{Reading}
 use Rattle.cob_copybook_tree.specs.Forests.{Forest}
 use Rattle.cob_copybook_tree.specs.Nodes.{Resolved}
-use Rattle.cob_layout_places.specs.declared.operands.Operand.{Operand}
-use Rattle.cob_layout_places.specs.declared.operands.Side.{Side}
+use Rattle.cob_move_data.specs.declared.operands.Operand.{Operand}
+use Rattle.cob_move_data.specs.declared.operands.Side.{Side}
 use Rattle.cob_layout_places.specs.declared.reference.Ref.{Ref}
-use Rattle.cob_layout_places.specs.declared.operands.NumberedPair.{NumberedPair}
-use Rattle.cob_layout_places.specs.declared.operands.PairMoves.{PairMoves}
-use Rattle.cob_layout_places.specs.declared.operands.Move as code_move
-use Rattle.cob_layout_places.specs.declared.operands.StatementMoves.{StatementMoves}
-use Rattle.cob_layout_places.specs.declared.operands.StatementMoves.TheVariants.{Single as SingleMoves}
-use Rattle.cob_layout_places.specs.declared.operands.Sender as code
-use Rattle.cob_layout_places.specs.declared.operands.Sender.TheVariants as code_sender
-use Rattle.cob_layout_places.specs.Moves.{IsMove, IsOperand, IsSender, Records, Sender, Entry, entry_below, numbered_move_by, operand_in, record_of, sender_by}
+use Rattle.cob_move_data.specs.declared.operands.NumberedPair.{NumberedPair}
+use Rattle.cob_move_data.specs.declared.operands.PairMoves.{PairMoves}
+use Rattle.cob_move_data.specs.declared.operands.Move as code_move
+use Rattle.cob_move_data.specs.declared.operands.StatementMoves.{StatementMoves}
+use Rattle.cob_move_data.specs.declared.operands.StatementMoves.TheVariants.{Single as SingleMoves}
+use Rattle.cob_move_data.specs.declared.operands.Sender as code
+use Rattle.cob_move_data.specs.declared.operands.Sender.TheVariants as code_sender
+use Rattle.cob_move_data.specs.Moves.{IsMove, IsOperand, IsSender, Records, Sender, Entry, entry_below, numbered_move_by, operand_in, record_of, sender_by}
 use Rattle.cob_layout.specs.declared.fields.Place.{Place}
 use Rattle.cob_layout.specs.Fields.{field_of}
 use Rattle.cob_copybook_tree.specs.declared.node.Kind.{Kind}
-use Rattle.cob_layout_places.specs.declared.operands.Side.TheVariants.{Out}
+use Rattle.cob_move_data.specs.declared.operands.Side.TheVariants.{Out}
 use borrow.Rule.Slice.PartMut.{put_mid}
 use Rattle.cob_move_receive.specs.Received.{Received, outcome}
 use Rattle.cob_move_receive.specs.Sent as sent

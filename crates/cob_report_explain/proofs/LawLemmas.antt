@@ -4,12 +4,12 @@ use Rattle.std.proofs.lemmas.List.{drop_all, map-append}
 use Rattle.cob_codec.specs.declared.reading.Reading.{Reading}
 use Rattle.cob_copybook_tree.specs.Forests.{Forest}
 use Rattle.cob_copybook_tree.specs.Nodes.{Resolved}
-use Rattle.cob_layout_places.specs.declared.operands.NumberedPair.{NumberedPair}
-use Rattle.cob_layout_places.specs.declared.operands.PairMoves.{PairMoves}
-use Rattle.cob_layout_places.specs.declared.operands.StatementMoves.{StatementMoves}
-use Rattle.cob_layout_places.specs.declared.operands.StatementMoves.TheVariants.{Single as SingleMoves, Pairs}
+use Rattle.cob_move_data.specs.declared.operands.NumberedPair.{NumberedPair}
+use Rattle.cob_move_data.specs.declared.operands.PairMoves.{PairMoves}
+use Rattle.cob_move_data.specs.declared.operands.StatementMoves.{StatementMoves}
+use Rattle.cob_move_data.specs.declared.operands.StatementMoves.TheVariants.{Single as SingleMoves, Pairs}
 use Rattle.cob_layout_places.specs.declared.reference.Ref.{Ref}
-use Rattle.cob_layout_places.specs.Moves.{AreMoves, IsMove, Move, Records, moves_by, numbered_move_by, operand_in, statement_moves_by}
+use Rattle.cob_move_data.specs.Moves.{AreMoves, IsMove, Move, Records, moves_by, numbered_move_by, operand_in, statement_moves_by}
 use Rattle.cob_move_apply.specs.Applied.{AllGet, Applied, Content, Gets, IsMoved}
 use Rattle.cob_move_apply.proofs.ListLemmas.{next, read_is}
 use Rattle.cob_report_explain.specs.declared.single.AskedStop.{AskedStop}

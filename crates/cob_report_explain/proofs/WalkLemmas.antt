@@ -2,8 +2,8 @@
 use Rattle.std.proofs.Common.{◌≡◌, ◌∙◌, ℕ, List, sym, ap, subst, inl, inr}
 use Rattle.cob_codec.specs.declared.reading.Reading.{Reading}
 use Rattle.cob_layout.specs.Storage.{IsStorage, greatest_length}
-use Rattle.cob_layout_places.specs.declared.operands.StatementMoves.{StatementMoves}
-use Rattle.cob_layout_places.specs.Moves.{AreMoves, Move, Records, moves_by}
+use Rattle.cob_move_data.specs.declared.operands.StatementMoves.{StatementMoves}
+use Rattle.cob_move_data.specs.Moves.{AreMoves, Move, Records, moves_by}
 use Rattle.cob_move_apply.specs.declared.moves.Moves.{Moves}
 use Rattle.cob_move_apply.specs.declared.stop.Stop.{Stop}
 use Rattle.cob_move_apply.specs.Applied.{Applied, Ending, done, stopped}

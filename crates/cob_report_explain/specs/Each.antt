@@ -6,14 +6,14 @@ use Rattle.cob_copybook_tree.specs.Nodes.{Resolved}
 use Rattle.cob_layout.specs.declared.fields.Place.{Place}
 use Rattle.cob_layout.specs.Fields.{with_field}
 use Rattle.cob_layout_places.specs.declared.reference.Ref.{Ref}
-use Rattle.cob_layout_places.specs.declared.operands.Sender as code
-use Rattle.cob_layout_places.specs.declared.operands.Sender.TheVariants as code_sender
-use Rattle.cob_layout_places.specs.declared.operands.NumberedPair.{NumberedPair}
-use Rattle.cob_layout_places.specs.declared.operands.PairMoves.{PairMoves}
-use Rattle.cob_layout_places.specs.declared.operands.StatementMoves.{StatementMoves}
-use Rattle.cob_layout_places.specs.declared.operands.StatementMoves.TheVariants.{Single as SingleMoves, Pairs}
-use Rattle.cob_layout_places.specs.declared.operands.Side.TheVariants.{Out}
-use Rattle.cob_layout_places.specs.Moves.{Move, Records, Sender, entry_below, operand_in, sender_by}
+use Rattle.cob_move_data.specs.declared.operands.Sender as code
+use Rattle.cob_move_data.specs.declared.operands.Sender.TheVariants as code_sender
+use Rattle.cob_move_data.specs.declared.operands.NumberedPair.{NumberedPair}
+use Rattle.cob_move_data.specs.declared.operands.PairMoves.{PairMoves}
+use Rattle.cob_move_data.specs.declared.operands.StatementMoves.{StatementMoves}
+use Rattle.cob_move_data.specs.declared.operands.StatementMoves.TheVariants.{Single as SingleMoves, Pairs}
+use Rattle.cob_move_data.specs.declared.operands.Side.TheVariants.{Out}
+use Rattle.cob_move_data.specs.Moves.{Move, Records, Sender, entry_below, operand_in, sender_by}
 use Rattle.cob_move_receive.specs.Received.{Received}
 use Rattle.cob_move_apply.specs.declared.stop.Stop.{Stop}
 use Rattle.cob_move_apply.specs.declared.stop.StopCause.TheVariants.{NoValue}

@@ -2,7 +2,7 @@
 use Rattle.std.specs.Prelude.{◌≡◌, length}
 use Rattle.cob_layout.specs.Standing.{IsRoomFor}
 use Rattle.cob_layout.specs.Storage.{greatest_length}
-use Rattle.cob_layout_places.specs.Moves.{Records}
+use Rattle.cob_move_data.specs.Moves.{Records}
 use Rattle.cob_report_explain.specs.declared.room.EachRoom.{EachRoom}
 
 -- there is room for the counts of either record, and for the bytes of a sender that lies in the output record

@@ -5,11 +5,11 @@ use Rattle.cob_copybook_tree.specs.Nodes.{Resolved}
 use Rattle.cob_move_apply.specs.Applied.{Content}
 use Rattle.cob_move_receive.specs.Sent.{sent}
 use Rattle.cob_layout_places.specs.declared.reference.Ref.{Ref}
-use Rattle.cob_layout_places.specs.declared.operands.NumberedPair.{NumberedPair}
-use Rattle.cob_layout_places.specs.declared.operands.PairMoves.{PairMoves}
-use Rattle.cob_layout_places.specs.declared.operands.Side.TheVariants.{In, Out}
-use Rattle.cob_layout_places.specs.declared.operands.StatementMoves.{StatementMoves}
-use Rattle.cob_layout_places.specs.Moves.{Entry, Move, Records, Sender, moves_by, numbered_move_by, operand_in}
+use Rattle.cob_move_data.specs.declared.operands.NumberedPair.{NumberedPair}
+use Rattle.cob_move_data.specs.declared.operands.PairMoves.{PairMoves}
+use Rattle.cob_move_data.specs.declared.operands.Side.TheVariants.{In, Out}
+use Rattle.cob_move_data.specs.declared.operands.StatementMoves.{StatementMoves}
+use Rattle.cob_move_data.specs.Moves.{Entry, Move, Records, Sender, moves_by, numbered_move_by, operand_in}
 use Rattle.cob_report_explain.specs.Each.{AreOfMove, AreOfMoves, AreSentBy, AreSingles, EachEnding, IsSingleTo, LacksFor, NumberedMove, Sees, Single, append_singles, each_ending, numbered_moves, numbered_of_pair, numbered_of_pairs, numbered_of_statement, stop_of}
 use Rattle.cob_report_explain.specs.declared.single.AskedStop.{AskedStop}
 use Rattle.cob_report_explain.specs.declared.single.MoveStop.{MoveStop}

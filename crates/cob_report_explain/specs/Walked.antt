@@ -4,7 +4,7 @@ use Rattle.cob_copybook_tree.specs.Forests.{Forest}
 use Rattle.cob_copybook_tree.specs.Nodes.{Resolved}
 use Rattle.cob_layout.specs.Standing.{IsRoomFor}
 use Rattle.cob_layout.specs.Storage.{IsStorage}
-use Rattle.cob_layout_places.specs.Moves.{Records}
+use Rattle.cob_move_data.specs.Moves.{Records}
 use Rattle.cob_move_apply.specs.declared.stop.Stop.{Stop}
 use Rattle.cob_report_explain.specs.Room.{HasEachRoom}
 use Rattle.cob_report_explain.specs.declared.walk.RecordStop.{RecordStop}

@@ -5,7 +5,7 @@ ghost use Rattle.std.specs.List.{AllByRecursion};
 ghost use Rattle.cob_layout.specs.Sound.{IsSound};
 ghost use Rattle.cob_layout.specs.Storage.{greatest_length};
 ghost use Rattle.cob_layout.specs.Standing.{IsRoomFor};
-ghost use Rattle.cob_layout_places.specs.Moves.{IsOperand, operand_in};
+ghost use Rattle.cob_move_data.specs.Moves.{IsOperand, operand_in};
 ghost use Rattle.cob_move_receive.specs.Sent.{HasAllBytes, sent};
 ghost use Rattle.cob_report_explain.specs.Each.{GetsAt, LacksFor, asked_stop, each_ending, stop_of};
 ghost use Rattle.cob_move_apply.specs.Located.{stop_at};
@@ -20,8 +20,8 @@ use crate::single::{
 };
 use crate::watcher::Watcher;
 use cob_layout::{Counts, Layout, Place, Ref};
-use cob_layout_places::Side;
 use cob_move_apply::{Stop, StopCause};
+use cob_move_data::Side;
 use cob_move_receive::receive;
 
 /// What is told of a sender that has no value that a receiver asks for.

@@ -6,7 +6,7 @@ use crate::single::SingleMove;
 use crate::values::HeldText;
 use crate::watcher::Watcher;
 use cob_layout::Place;
-use cob_layout_places::Side;
+use cob_move_data::Side;
 use cob_move_receive::Sent;
 use cob_report_faults::{Occurrence, Qualifying, SentText};
 use std::fmt;

@@ -4,13 +4,13 @@ ghost use Rattle.std.specs.Prelude.{◌≡◌, ◌+◌, ◌≤◌, length, IfOk}
 ghost use Rattle.cob_layout.specs.Sound.{IsSound};
 ghost use Rattle.cob_layout.specs.Storage.{greatest_length};
 ghost use Rattle.cob_layout.specs.Standing.{IsRoomFor};
-ghost use Rattle.cob_layout_places.specs.Moves.{IsOperand, operand_in};
+ghost use Rattle.cob_move_data.specs.Moves.{IsOperand, operand_in};
 ghost use Rattle.cob_move_receive.specs.Sent.{Occupies};
 ghost use Rattle.cob_move_apply.specs.Located.{Located};
 
 use cob_layout::{Counts, Kind, Layout, Place, Ref};
-use cob_layout_places::Side;
 use cob_move_apply::{Stop, stop_of};
+use cob_move_data::Side;
 
 /// The storage of the record of one side.
 #[derive(Clone, Copy)]

@@ -4,8 +4,8 @@ ghost use Rattle.std.specs.Prelude.{◌≡◌, ◌≤◌, length, map, take};
 ghost use Rattle.std.specs.List.{AllByRecursion};
 ghost use Rattle.cob_layout.specs.Sound.{IsSound};
 ghost use Rattle.cob_layout.specs.Storage.{greatest_length, IsStorage};
-ghost use Rattle.cob_layout_places.specs.Moves.{Entry, IsOperand, IsSender, operand_in, sender_by};
-ghost use Rattle.cob_layout_places.specs.declared.operands.Side.TheVariants.{In, Out};
+ghost use Rattle.cob_move_data.specs.Moves.{Entry, IsOperand, IsSender, operand_in, sender_by};
+ghost use Rattle.cob_move_data.specs.declared.operands.Side.TheVariants.{In, Out};
 ghost use Rattle.cob_report_explain.specs.Each.{each_ending};
 ghost use Rattle.cob_report_explain.specs.Room.{HasEachRoom};
 ghost use Rattle.cob_report_explain.specs.Seen.{SeesFromInput, SeesMove, SeesWithinOutput, move_of, records_of_layouts};
@@ -16,7 +16,7 @@ use crate::room::{EachRoom, RecordLayouts};
 use crate::single::{Given, MoveParts, MoveStop, sender_stop};
 use crate::watcher::Watcher;
 use cob_layout::{Ref, field, places_lie_in_storage};
-use cob_layout_places::{Sender, Side};
+use cob_move_data::{Sender, Side};
 use cob_move_receive::Sent;
 
 /// Keeps bytes in front of `content`.

@@ -6,8 +6,8 @@ ghost use Rattle.cob_report_explain.specs.Seen.{move_of};
 ghost use Rattle.cob_report_explain.specs.declared.single.Asked.TheVariants as asked;
 
 use cob_layout::{Place, Ref};
-use cob_layout_places::{Sender, Side};
 use cob_move_apply::Stop;
+use cob_move_data::{Sender, Side};
 use cob_move_receive::Sent;
 
 /// Which single move of a paragraph it is.

@@ -4,7 +4,7 @@ ghost use Rattle.std.specs.Prelude.{◌≡◌, ◌≤◌, length, map};
 ghost use Rattle.cob_limits.specs.Limits.{most_dimensions};
 ghost use Rattle.cob_layout.specs.Sound.{IsSound};
 ghost use Rattle.cob_layout.specs.Storage.{greatest_length, IsStorage};
-ghost use Rattle.cob_layout_places.specs.Moves.{AreMoves, IsMove, entry_below, numbered_move_by, statement_moves_by};
+ghost use Rattle.cob_move_data.specs.Moves.{AreMoves, IsMove, entry_below, numbered_move_by, statement_moves_by};
 ghost use Rattle.cob_report_explain.specs.Each.{each_ending};
 ghost use Rattle.cob_report_explain.specs.Room.{HasEachRoom};
 ghost use Rattle.cob_report_explain.specs.Seen.{SeesGroup, SeesPair, SeesStatement, moves_of_group, records_of_layouts};
@@ -15,8 +15,8 @@ use crate::single::{MoveParts, MoveStop};
 use crate::watcher::Watcher;
 use arrayvec::ArrayVec;
 use cob_layout::Ref;
-use cob_layout_places::{NumberedPair, PairMoves, Sender, StatementMoves};
 use cob_limits::MAX_SUBSCRIPTS;
+use cob_move_data::{NumberedPair, PairMoves, Sender, StatementMoves};
 use std::slice;
 
 /// The same subscripts once more.

@@ -4,7 +4,7 @@ use crate::moves::{bytes_at, line_at};
 use crate::single::{Asked, MoveStop, SingleNumber};
 use cob_convert_record::{Conversion, Side, Stop, StopCause};
 use cob_layout::Layout;
-use cob_layout_places::{PairMoves, StatementMoves};
+use cob_move_data::{PairMoves, StatementMoves};
 use cob_report_faults::{
     Asker, AskingMove, CountTable, Occurrence, Qualifying, SentText, StopCase, StopText, counted_at,
 };

@@ -3,7 +3,7 @@
 ghost use Rattle.std.specs.Prelude.{◌≡◌, length};
 ghost use Rattle.cob_layout.specs.Sound.{IsSound};
 ghost use Rattle.cob_layout.specs.Storage.{greatest_length, IsStorage};
-ghost use Rattle.cob_layout_places.specs.Moves.{AreMoves, moves_by};
+ghost use Rattle.cob_move_data.specs.Moves.{AreMoves, moves_by};
 ghost use Rattle.cob_move_apply.specs.Applied.{Applied};
 ghost use Rattle.cob_report_explain.specs.Each.{each_ending, plain_ending_of};
 ghost use Rattle.cob_report_explain.specs.Room.{HasEachRoom};
@@ -14,7 +14,7 @@ use crate::single::MoveStop;
 use crate::statements::walk_statement;
 use crate::watcher::Watcher;
 use cob_layout::records_are_sound;
-use cob_layout_places::StatementMoves;
+use cob_move_data::StatementMoves;
 
 /// Carries out the moves of statements in order, and hands each single move out.
 fn walk_all<W: Watcher>(

@@ -1,7 +1,7 @@
 //! What to do where an item has no value, by what its bytes look like.
 
 use cob_copybook_tree::{Item, Usage};
-use cob_layout_places::Side;
+use cob_move_data::Side;
 use cob_picture::Category;
 
 /// What bytes look like that give no value.

@@ -1,7 +1,8 @@
 //! Occurrences of entries and constants, as they are told.
 
 use cob_copybook_tree::{Item, Kind, Name, Node, Value};
-use cob_layout_places::{Ref, Sender, Side};
+use cob_layout_places::Ref;
+use cob_move_data::{Sender, Side};
 use cob_report_words::{ConstantText, Named, entry_of, write_subscripts};
 use std::fmt;
 

@@ -7,7 +7,7 @@ use crate::occurrences::{Occurrence, SentText};
 use crate::words::FlawText;
 use cob_codec::Reading;
 use cob_copybook_tree::{Item, Usage, is_number_item, read_sent};
-use cob_layout_places::Side;
+use cob_move_data::Side;
 use cob_picture::Category;
 use cob_report_words::ItemText;
 use std::fmt;

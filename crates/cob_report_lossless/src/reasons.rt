@@ -7,7 +7,7 @@ use crate::storage::first_otherwise;
 use cob_back_moves::{Loss, MovesBetween, Way};
 use cob_copybook_tree::{Item, Kind, Name, Node, Usage, Value};
 use cob_layout::Layout;
-use cob_layout_places::Side;
+use cob_move_data::Side;
 use cob_report_words::{Named, entry_of};
 use std::alloc::{AllocError, Global};
 

@@ -1,7 +1,8 @@
 //! The single moves of a paragraph, one behind another, each with the line of its statement.
 
 use cob_copybook_tree::Value;
-use cob_layout_places::{Move, PairMoves, Ref, Sender, Side, StatementMoves};
+use cob_layout_places::Ref;
+use cob_move_data::{Move, PairMoves, Sender, Side, StatementMoves};
 use std::alloc::{AllocError, Global};
 
 /// An occurrence of an entry of a record: the number of the entry, and its subscripts.

@@ -4,7 +4,7 @@ use crate::lacks::{Lack, digits_before};
 use crate::reasons::{Position, Reason, ToldLoss};
 use cob_back_moves::Way;
 use cob_copybook_tree::Item;
-use cob_layout_places::Side;
+use cob_move_data::Side;
 use cob_picture::Category;
 use cob_report_words::{Named, PictureText};
 use std::fmt;

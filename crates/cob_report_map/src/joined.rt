@@ -4,7 +4,8 @@ ghost use Rattle.std.specs.Prelude.{◌≡◌, ◌++◌, IfOk, OnOk, map};
 ghost use Rattle.cob_report_map.specs.Joined.{ends_in, ends_with, pair_ends, sender_origin, side_origin, statement_ends};
 
 use cob_back_losses::Unkept;
-use cob_layout_places::{NumberedPair, Ref, Sender, Side, StatementMoves};
+use cob_layout_places::Ref;
+use cob_move_data::{NumberedPair, Sender, Side, StatementMoves};
 use cob_report_html::{Ends, Origin};
 use indexmap::IndexMap;
 use std::alloc::{AllocError, Global};

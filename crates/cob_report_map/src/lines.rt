@@ -1,7 +1,7 @@
 //! The lines between the boxes of senders and of receivers.
 
 use crate::lost::Lost;
-use cob_layout_places::Side;
+use cob_move_data::Side;
 use cob_report_boxes::{Drawn, EscapedConstant};
 use cob_report_html::Line;
 use cob_report_lossless::{Element, Sent, Single};

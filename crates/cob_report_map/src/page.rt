@@ -14,7 +14,7 @@ use crate::style::{
 };
 use cob_back_losses::{Losses, Unkept};
 use cob_layout::{Layout, Spot};
-use cob_layout_places::StatementMoves;
+use cob_move_data::StatementMoves;
 use cob_report_boxes::{Contents, Drawn, draw, write_boxes};
 use cob_report_html::{Escaped, SHEET, counts_of};
 use cob_report_lossless::{Sent, Single, singles_of};

@@ -14,7 +14,7 @@ use Rattle.cob_copybook_names.specs.Listed.{bearer_by, texts}
 use Rattle.cob_copybook_names.specs.Naming.{Bearer, with_name}
 use Rattle.cob_layout_places.specs.Counts.{tables_of}
 use Rattle.cob_layout_places.specs.Places.{is_table}
-use Rattle.cob_layout_places.specs.declared.operands.Side.{Side}
+use Rattle.cob_move_data.specs.declared.operands.Side.{Side}
 use Rattle.cob_layout_places.specs.declared.varying.Table.{Table}
 use Rattle.cob_move_names.specs.Candidates.{with_table}
 use Rattle.cob_report_partners.specs.declared.entries.DraftEntry.{DraftEntry as ListedEntry}

@@ -6,8 +6,8 @@ use Rattle.cob_copybook_names.specs.Listed.{texts}
 use Rattle.cob_copybook_names.specs.Naming.{Bearer}
 use Rattle.cob_copybook_tree.specs.declared.node.Kind.{Kind}
 use Rattle.cob_copybook_tree.specs.declared.node.Kind.TheVariants.{Group, Item as ItemKind}
-use Rattle.cob_layout_places.specs.declared.operands.Side.{Side}
-use Rattle.cob_layout_places.specs.declared.operands.Side.TheVariants.{In, Out}
+use Rattle.cob_move_data.specs.declared.operands.Side.{Side}
+use Rattle.cob_move_data.specs.declared.operands.Side.TheVariants.{In, Out}
 use Rattle.cob_move_names.specs.Pairs.{same_names}
 use Rattle.cob_picture.specs.Positions.{shows_number}
 use Rattle.cob_report_partners.specs.Entries.{DraftEntry, draft_entry, listed_bearer}

@@ -16,8 +16,9 @@ use arrayvec::ArrayVec;
 use cob_copybook_names::{Bearer, name_of, names_beneath};
 use cob_copybook_tree::{Node, ResolvedOccurs};
 use cob_layout::{Layout, is_table, records_are_sound};
-use cob_layout_places::{Side, Table, tables};
+use cob_layout_places::{Table, tables};
 use cob_limits::MAX_SUBSCRIPTS;
+use cob_move_data::Side;
 use std::alloc::{AllocError, Global};
 
 /// The greatest numbers of tables, one inside the other, the outermost first.

@@ -12,7 +12,7 @@ use crate::groups::{is_below, names_there};
 use crate::names::{below_record, same_names, share_name};
 use crate::records::BothRecords;
 use cob_copybook_tree::Kind;
-use cob_layout_places::Side;
+use cob_move_data::Side;
 use std::alloc::{AllocError, Global};
 
 /// Which entries of the input record are sought for an item of the output record.

@@ -2,7 +2,7 @@
 
 ghost use Rattle.std.specs.Prelude.{◌≡◌, ◌<◌, filter, length, map, slice_get, IfOk, IfSome};
 ghost use Rattle.cob_copybook_names.specs.Listed.{texts};
-ghost use Rattle.cob_layout_places.specs.declared.operands.Side.TheVariants.{In, Out};
+ghost use Rattle.cob_move_data.specs.declared.operands.Side.TheVariants.{In, Out};
 ghost use Rattle.cob_report_partners.specs.Entries.{listed_bearer, record_entries};
 ghost use Rattle.cob_report_partners.specs.Groups.{AreGroups, below_record, has_group, shared_above};
 
@@ -10,7 +10,7 @@ use crate::entries::{DraftBearer, entries_of};
 use crate::groups::{GroupNames, names_there};
 use crate::names::below_record;
 use cob_layout::Layout;
-use cob_layout_places::Side;
+use cob_move_data::Side;
 use std::alloc::{AllocError, Global};
 
 /// The entries of both records, and what is found out of them once.

@@ -15,7 +15,7 @@ ghost use Rattle.cob_records.specs.Forms.{HasBlockSize};
 ghost use Rattle.cob_records.specs.Frame.{IsRecord, is_write_error, is_write_fault};
 ghost use Rattle.cob_report_show.specs.Records.{stopped_by, HoldsAny, HoldsRecord, IsStop, IsShowFault};
 ghost use Rattle.cob_report_show.specs.declared.records.ShowFault.TheVariants.{Memory, Run};
-ghost use Rattle.cob_layout_places.specs.declared.operands.Side.TheVariants.{In};
+ghost use Rattle.cob_move_data.specs.declared.operands.Side.TheVariants.{In};
 ghost use Rattle.cob_convert_stream.specs.declared.fault.Cause.TheVariants.{Limit};
 
 use crate::elements::{Contents, put_items};

@@ -1,5 +1,5 @@
 use Rattle.std.proofs.Common.{arith, [], ◌∷◌, ◌++◌, ap, get_or, map, ◌∙◌}
-use Rattle.cob_layout_places.specs.declared.operands.NumberedPair.{NumberedPair}
+use Rattle.cob_move_data.specs.declared.operands.NumberedPair.{NumberedPair}
 use Rattle.cob_back_moves.specs.Tested.{layout_records}
 use Rattle.cob_back_losses.specs.Moved.{Moved}
 use Rattle.cob_back_losses.specs.Seen.{moved_pair, seen}

@@ -1,7 +1,7 @@
 use Rattle.std.proofs.Common.{true, List, rules}
 use Rattle.std.specs.List.{AllByRecursion}
-use Rattle.cob_layout_places.specs.declared.operands.StatementMoves.{StatementMoves}
-use Rattle.cob_layout_places.specs.Moves.{AreMoves, statement_moves_by}
+use Rattle.cob_move_data.specs.declared.operands.StatementMoves.{StatementMoves}
+use Rattle.cob_move_data.specs.Moves.{AreMoves, statement_moves_by}
 use Rattle.cob_back_moves.specs.Tested.{PassAll, PassesTest, layout_records}
 use Rattle.cob_back_moves.proofs.EachLemmas.{moves_each, of_statements}
 use Rattle.cob_back_moves.proofs.LeftLemmas.{cuts_each, decides_by, each_at, left_fails, left_next, left_none, never}

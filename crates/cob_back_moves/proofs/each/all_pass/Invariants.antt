@@ -1,7 +1,7 @@
 use Rattle.std.proofs.Common.{List}
 use Rattle.std.specs.List.{AllByRecursion}
-use Rattle.cob_layout_places.specs.declared.operands.StatementMoves.{StatementMoves}
-use Rattle.cob_layout_places.specs.Moves.{statement_moves_by}
+use Rattle.cob_move_data.specs.declared.operands.StatementMoves.{StatementMoves}
+use Rattle.cob_move_data.specs.Moves.{statement_moves_by}
 use Rattle.cob_back_moves.specs.Tested.{PassAll, layout_records}
 use Rattle.cob_back_moves.proofs.LeftLemmas.{Left}
 use Rattle.cob_back_moves.proofs.each.all_pass.Given as goal

@@ -1,8 +1,8 @@
 use Rattle.std.proofs.Common.{true, List, get_or, map, sym, subst, rules}
 use Rattle.std.specs.Bool.{Decides}
 use Rattle.std.specs.List.{AllByRecursion}
-use Rattle.cob_layout_places.specs.declared.operands.NumberedPair.{NumberedPair}
-use Rattle.cob_layout_places.specs.Moves.{AreMoves, numbered_move_by}
+use Rattle.cob_move_data.specs.declared.operands.NumberedPair.{NumberedPair}
+use Rattle.cob_move_data.specs.Moves.{AreMoves, numbered_move_by}
 use Rattle.cob_back_moves.specs.Singles.{SingleMove}
 use Rattle.cob_back_moves.specs.Tested.{PassesTest, pair_single, layout_records}
 use Rattle.cob_move_apply.proofs.ListLemmas.{read_is}

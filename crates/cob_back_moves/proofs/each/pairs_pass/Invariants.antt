@@ -1,6 +1,6 @@
 use Rattle.std.proofs.Common.{List}
 use Rattle.std.specs.List.{AllByRecursion}
-use Rattle.cob_layout_places.specs.declared.operands.NumberedPair.{NumberedPair}
+use Rattle.cob_move_data.specs.declared.operands.NumberedPair.{NumberedPair}
 use Rattle.cob_back_moves.specs.Tested.{PassesTest, pair_single}
 use Rattle.cob_back_moves.proofs.LeftLemmas.{Left}
 use Rattle.cob_back_moves.proofs.each.pairs_pass.Given as goal

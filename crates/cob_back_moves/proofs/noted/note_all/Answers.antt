@@ -1,5 +1,5 @@
 use Rattle.std.proofs.Common.{List, refl, rules}
-use Rattle.cob_layout_places.specs.declared.operands.StatementMoves.{StatementMoves}
+use Rattle.cob_move_data.specs.declared.operands.StatementMoves.{StatementMoves}
 use Rattle.cob_back_moves.specs.Received.{singles_by, singles_by_statement}
 use Rattle.cob_back_moves.proofs.EachLemmas.{cut_singles}
 use Rattle.cob_back_moves.proofs.NotedLemmas.{noted_all, noted_next, unless_some}

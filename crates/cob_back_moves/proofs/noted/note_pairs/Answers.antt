@@ -1,5 +1,5 @@
 use Rattle.std.proofs.Common.{◌≡◌, List, [], ◌∷◌, get_or, refl, rules}
-use Rattle.cob_layout_places.specs.declared.operands.NumberedPair.{NumberedPair}
+use Rattle.cob_move_data.specs.declared.operands.NumberedPair.{NumberedPair}
 use Rattle.cob_move_apply.proofs.ListLemmas.{read_is}
 use Rattle.cob_back_moves.specs.Received.{singles_by_pairs}
 use Rattle.cob_back_moves.proofs.EachLemmas.{none, of_pair}

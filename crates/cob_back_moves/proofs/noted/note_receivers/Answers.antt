@@ -1,5 +1,5 @@
 use Rattle.std.proofs.Common.{List, [], ◌∷◌, refl, rules, subst}
-use Rattle.cob_layout_places.specs.Moves.{operand_in}
+use Rattle.cob_move_data.specs.Moves.{operand_in}
 use Rattle.cob_layout_places.specs.declared.reference.Ref.{Ref}
 use Rattle.cob_back_moves.specs.Singles.{SingleMove}
 use Rattle.cob_back_moves.specs.Noting.{NotesFirst}

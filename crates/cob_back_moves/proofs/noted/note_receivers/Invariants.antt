@@ -1,5 +1,5 @@
 use Rattle.std.proofs.Common.{List}
-use Rattle.cob_layout_places.specs.Moves.{Records, Sender}
+use Rattle.cob_move_data.specs.Moves.{Records, Sender}
 use Rattle.cob_layout_places.specs.declared.reference.Ref.{Ref}
 use Rattle.cob_back_moves.specs.Received.{singles_to}
 use Rattle.cob_back_moves.proofs.NotedLemmas.{Noted}

@@ -1,4 +1,4 @@
-use Rattle.cob_layout_places.specs.Moves.{sender_by}
+use Rattle.cob_move_data.specs.Moves.{sender_by}
 use Rattle.cob_back_moves.proofs.NotedLemmas.{if_none_then, pairs_noted, single_noted}
 use Rattle.cob_back_moves.proofs.noted.note_statement.Goals as goal
 

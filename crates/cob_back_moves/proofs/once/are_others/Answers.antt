@@ -1,6 +1,6 @@
 use Rattle.std.proofs.Common.{List, get_or, rules}
 use Rattle.std.specs.List.{AllByRecursion}
-use Rattle.cob_layout_places.specs.declared.operands.NumberedPair.{NumberedPair}
+use Rattle.cob_move_data.specs.declared.operands.NumberedPair.{NumberedPair}
 use Rattle.cob_back_moves.specs.Received.{IsOther}
 use Rattle.cob_move_apply.proofs.ListLemmas.{read_is}
 use Rattle.cob_back_moves.proofs.EachLemmas.{none}

@@ -1,6 +1,6 @@
 use Rattle.std.proofs.Common.{List}
 use Rattle.std.specs.List.{AllByRecursion}
-use Rattle.cob_layout_places.specs.declared.operands.NumberedPair.{NumberedPair}
+use Rattle.cob_move_data.specs.declared.operands.NumberedPair.{NumberedPair}
 use Rattle.cob_back_moves.specs.Received.{IsOther}
 use Rattle.cob_back_moves.proofs.LeftLemmas.{Left}
 use Rattle.cob_back_moves.proofs.once.are_others.Given as goal

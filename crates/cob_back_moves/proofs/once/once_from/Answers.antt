@@ -1,7 +1,7 @@
 use Rattle.std.proofs.Common.{List, ◌++◌, subst}
 use Rattle.std.proofs.lemmas.Bool.Decides.{not_from_Decides}
-use Rattle.cob_layout_places.specs.declared.operands.StatementMoves.{StatementMoves}
-use Rattle.cob_layout_places.specs.Moves.{moves_by}
+use Rattle.cob_move_data.specs.declared.operands.StatementMoves.{StatementMoves}
+use Rattle.cob_move_data.specs.Moves.{moves_by}
 use Rattle.cob_back_moves.specs.Singles.{ReceiveOnce, all_singles}
 use Rattle.cob_back_moves.proofs.OnceLemmas.{once_behind}
 use Rattle.cob_back_moves.proofs.SomeLemmas.{parts}

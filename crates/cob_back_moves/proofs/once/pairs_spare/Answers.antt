@@ -1,7 +1,7 @@
 use Rattle.std.proofs.Common.{◌≡◌, List, ℕ, refl, subst, rules}
 use Rattle.std.specs.Bool.{Decides}
 use Rattle.std.specs.List.{AllByRecursion}
-use Rattle.cob_layout_places.specs.declared.operands.NumberedPair.{NumberedPair}
+use Rattle.cob_move_data.specs.declared.operands.NumberedPair.{NumberedPair}
 use Rattle.cob_back_moves.specs.Received.{IsOther}
 use Rattle.cob_back_moves.proofs.LeftLemmas.{decides_by}
 use Rattle.cob_back_moves.proofs.OnceLemmas.{other_list, spares_others, spares_pairs}

@@ -1,6 +1,6 @@
 use Rattle.std.proofs.Common.{List, rules}
-use Rattle.cob_layout_places.specs.declared.operands.StatementMoves.{StatementMoves}
-use Rattle.cob_layout_places.specs.Moves.{moves_by}
+use Rattle.cob_move_data.specs.declared.operands.StatementMoves.{StatementMoves}
+use Rattle.cob_move_data.specs.Moves.{moves_by}
 use Rattle.cob_back_moves.specs.Singles.{ReceiveOnce, all_singles}
 use Rattle.cob_back_moves.proofs.LeftLemmas.{never, rest_fails, rest_next, rest_none}
 use Rattle.cob_back_moves.proofs.OnceLemmas.{LastStatement, cuts_once}

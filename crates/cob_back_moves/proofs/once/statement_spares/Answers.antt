@@ -2,8 +2,8 @@ use Rattle.std.proofs.Common.{List, subst, sym}
 use Rattle.std.specs.Bool.{Decides}
 use Rattle.std.specs.List.{AllByRecursion}
 use Rattle.cob_layout_places.specs.declared.reference.Ref.{Ref}
-use Rattle.cob_layout_places.specs.declared.operands.StatementMoves.{StatementMoves}
-use Rattle.cob_layout_places.specs.Moves.{sender_by}
+use Rattle.cob_move_data.specs.declared.operands.StatementMoves.{StatementMoves}
+use Rattle.cob_move_data.specs.Moves.{sender_by}
 use Rattle.cob_back_moves.specs.Received.{IsElsewhere, Spares, occurrence}
 use Rattle.cob_back_moves.proofs.EachLemmas.{of_statement}
 use Rattle.cob_back_moves.proofs.LeftLemmas.{decides_by}

@@ -1,5 +1,5 @@
 use Rattle.std.proofs.Common.{◌∙◌, sym}
-use Rattle.cob_layout_places.specs.Moves.{operand_in}
+use Rattle.cob_move_data.specs.Moves.{operand_in}
 use Rattle.cob_back_moves.specs.Tested.{ref_of}
 use Rattle.cob_back_moves.proofs.ReturnedLemmas.{group_loses, item_loses}
 use Rattle.cob_back_moves.proofs.returned.loses_nothing_at.Goals as goal

@@ -1,4 +1,4 @@
-use Rattle.cob_layout_places.specs.Moves.{statement_moves_by}
+use Rattle.cob_move_data.specs.Moves.{statement_moves_by}
 use Rattle.cob_back_moves.specs.Tested.{layout_records}
 use Rattle.cob_back_moves.proofs.SomeLemmas.{legal_in_two, met_behind, met_else, parts}
 use Rattle.cob_back_moves.proofs.some.some_meets.Goals as goal

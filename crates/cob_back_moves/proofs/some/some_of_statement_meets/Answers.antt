@@ -1,8 +1,8 @@
 use Rattle.std.proofs.Common.{List, map, subst, sym}
 use Rattle.std.specs.List.{AllByRecursion}
 use Rattle.cob_layout_places.specs.declared.reference.Ref.{Ref}
-use Rattle.cob_layout_places.specs.declared.operands.NumberedPair.{NumberedPair}
-use Rattle.cob_layout_places.specs.Moves.{AreMoves, IsOperand, numbered_move_by, operand_in}
+use Rattle.cob_move_data.specs.declared.operands.NumberedPair.{NumberedPair}
+use Rattle.cob_move_data.specs.Moves.{AreMoves, IsOperand, numbered_move_by, operand_in}
 use Rattle.cob_back_moves.specs.Tested.{layout_records}
 use Rattle.cob_back_moves.proofs.SomeLemmas.{pairs_decided, pairs_legal, single_decided, single_legal}
 use Rattle.cob_back_moves.proofs.some.some_of_statement_meets.Goals as goal

@@ -1,5 +1,5 @@
 use Rattle.std.proofs.Common.{arith}
-use Rattle.cob_layout_places.specs.Moves.{statement_moves_by}
+use Rattle.cob_move_data.specs.Moves.{statement_moves_by}
 use Rattle.cob_back_moves.specs.Tested.{layout_records}
 use Rattle.cob_back_moves.proofs.SomeLemmas.{legal_next, statement_met, statement_unmet, statements_none}
 use Rattle.cob_back_moves.proofs.some.some_of_these_meets.Goals as goal

@@ -1,5 +1,5 @@
 use Rattle.std.proofs.Common.{drop}
-use Rattle.cob_layout_places.specs.Moves.{AreMoves}
+use Rattle.cob_move_data.specs.Moves.{AreMoves}
 use Rattle.cob_back_moves.specs.Singles.{all_singles}
 use Rattle.cob_back_moves.specs.Brought.{moves_between}
 use Rattle.cob_move_apply.specs.Some.{SomeOf}

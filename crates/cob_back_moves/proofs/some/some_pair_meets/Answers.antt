@@ -1,5 +1,5 @@
 use Rattle.std.proofs.Common.{◌≡◌, arith, get_or}
-use Rattle.cob_layout_places.specs.declared.operands.NumberedPair.{NumberedPair}
+use Rattle.cob_move_data.specs.declared.operands.NumberedPair.{NumberedPair}
 use Rattle.cob_move_apply.proofs.ListLemmas.{read_is}
 use Rattle.cob_back_moves.specs.Tested.{pair_single, layout_records, single_of}
 use Rattle.cob_back_moves.proofs.EachLemmas.{is_single}

@@ -1,5 +1,5 @@
 use Rattle.std.proofs.Common.{arith}
-use Rattle.cob_layout_places.specs.Moves.{sender_by}
+use Rattle.cob_move_data.specs.Moves.{sender_by}
 use Rattle.cob_back_moves.specs.Tested.{move_single, layout_records, single_of}
 use Rattle.cob_back_moves.proofs.EachLemmas.{is_single}
 use Rattle.cob_back_moves.proofs.SomeLemmas.{receiver_legal, receiver_met, receiver_unmet, receivers_left, receivers_none}

@@ -1,5 +1,5 @@
 use Rattle.std.proofs.Common.{◌≡◌, ◌∙◌, ap, subst, sym}
-use Rattle.cob_layout_places.specs.Moves.{AreMoves, Records, moves_by}
+use Rattle.cob_move_data.specs.Moves.{AreMoves, Records, moves_by}
 use Rattle.cob_back_runs.proofs.converters.carried.Goals as goal
 
 pub returns-clause-moves : goal.returns-clause-moves

@@ -1,6 +1,6 @@
 use Rattle.std.proofs.Common.{List, subst}
 use Rattle.std.proofs.lemmas.Result.{err_from_is_err_and}
-use Rattle.cob_layout_places.specs.Moves.{Records}
+use Rattle.cob_move_data.specs.Moves.{Records}
 use Rattle.cob_copybook_tree.specs.Nodes.{tree_of}
 use Rattle.cob_move_names.specs.Candidates.{Candidate}
 use Rattle.cob_move_names.specs.Directory.{entries_named}

@@ -1,5 +1,5 @@
 use Rattle.std.proofs.lemmas.Result.{err_from_is_err_and}
-use Rattle.cob_layout_places.specs.Moves.{moves}
+use Rattle.cob_move_data.specs.Moves.{moves}
 use Rattle.cob_move_names.specs.Candidates.{all_entries}
 use Rattle.cob_move_statements.specs.Written.{written_statements}
 use Rattle.cob_move.proofs.meaning.all_meant.Goals as goal

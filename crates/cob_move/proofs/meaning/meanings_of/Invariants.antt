@@ -4,7 +4,7 @@ use Rattle.cob_move.specs.Entries.{records_of}
 use Rattle.cob_move.specs.Meaning.{AreMeanings}
 use Rattle.cob_move_apply.specs.Some.{SomeOf}
 use Rattle.cob_move.specs.Refusals.{BreaksOn}
-use Rattle.cob_layout_places.specs.Moves.{Move, moves}
+use Rattle.cob_move_data.specs.Moves.{Move, moves}
 use Rattle.cob_move_names.specs.Directory.{entries_named}
 use Rattle.cob_move_statements.specs.declared.fault.MoveFault.{MoveFault}
 use Rattle.cob_move_statements.specs.Written.{written_statements}

@@ -1,5 +1,5 @@
 use Rattle.std.proofs.lemmas.Result.{err_from_is_err_and}
-use Rattle.cob_layout_places.specs.Moves.{sender}
+use Rattle.cob_move_data.specs.Moves.{sender}
 use Rattle.cob_move.specs.Entries.{records_of}
 use Rattle.cob_move_names.specs.Directory.{entries_named}
 use Rattle.cob_move_statements.specs.Written.{written_references, written_sender}

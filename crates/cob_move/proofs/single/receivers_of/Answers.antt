@@ -2,8 +2,8 @@ use Rattle.std.proofs.Common.{inr, map}
 use Rattle.std.proofs.lemmas.Result.{err_from_is_err_and}
 use Rattle.cob_move.specs.Meaning.{kind_of_sender}
 use Rattle.cob_move.specs.Refusals.{BreaksReceipt}
-use Rattle.cob_layout_places.specs.declared.operands.Operand.{Operand}
-use Rattle.cob_layout_places.specs.Moves.{operand_in, sender}
+use Rattle.cob_move_data.specs.declared.operands.Operand.{Operand}
+use Rattle.cob_move_data.specs.Moves.{operand_in, sender}
 use Rattle.cob_move.specs.Entries.{records_of}
 use Rattle.cob_move.proofs.OwnLemmas.{pushed}
 use Rattle.cob_move_receive.specs.Refusals.{IsAllowed}

@@ -1,5 +1,5 @@
 use Rattle.std.proofs.Common.{List, arith, subst, sym}
-use Rattle.cob_layout_places.specs.Moves.{Records, moves_by}
+use Rattle.cob_move_data.specs.Moves.{Records, moves_by}
 use Rattle.cob_move_apply.specs.Steps.{StandFor, Support, support_of}
 use Rattle.cob_move_apply.specs.declared.step.Step.{Step}
 use Rattle.cob_move_apply.specs.Surveyed.{records}

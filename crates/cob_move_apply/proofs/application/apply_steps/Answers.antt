@@ -1,6 +1,6 @@
 use Rattle.std.proofs.Common.{◌∙◌, ◌∷◌, List, arith, refl, subst}
 use Rattle.std.proofs.lemmas.Result.{err_from_is_err_and}
-use Rattle.cob_layout_places.specs.Moves.{Records}
+use Rattle.cob_move_data.specs.Moves.{Records}
 use Rattle.cob_move_apply.specs.Going.{Left, SpentSteps}
 use Rattle.cob_move_apply.specs.Steps.{Support, support_of}
 use Rattle.cob_move_apply.specs.declared.step.Step.{Step}

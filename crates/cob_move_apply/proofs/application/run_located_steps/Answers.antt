@@ -1,5 +1,5 @@
 use Rattle.std.proofs.Common.{◌∙◌, ◌∷◌, List, ap, arith, length, refl, subst}
-use Rattle.cob_layout_places.specs.Moves.{Records}
+use Rattle.cob_move_data.specs.Moves.{Records}
 use Rattle.cob_move_apply.specs.Going.{Left, SpentSteps}
 use Rattle.cob_move_apply.specs.Steps.{IsStep, Support, support_of}
 use Rattle.cob_move_apply.specs.declared.step.Step.{Step}

@@ -1,5 +1,5 @@
 use Rattle.std.proofs.Common.{◌≡◌, ◌≤◌, ℕ, List, length}
-use Rattle.cob_layout_places.specs.declared.operands.StatementMoves.{StatementMoves}
+use Rattle.cob_move_data.specs.declared.operands.StatementMoves.{StatementMoves}
 use Rattle.cob_move_apply.specs.Going.{Left, SpentSteps}
 use Rattle.cob_move_apply.specs.Steps.{support_of}
 use Rattle.cob_move_apply.specs.Surveyed.{IsWorkspace, records}

@@ -1,4 +1,4 @@
-use Rattle.cob_layout_places.specs.Moves.{operand_in}
+use Rattle.cob_move_data.specs.Moves.{operand_in}
 use Rattle.cob_move_apply.proofs.SeenLemmas.{there}
 use Rattle.cob_move_apply.proofs.basis.placed_operand.Goals as goal
 

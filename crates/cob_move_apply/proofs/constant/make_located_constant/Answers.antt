@@ -1,7 +1,7 @@
 use Rattle.std.proofs.Common.{ℕ, Ok, Err, subst, sym, true}
-use Rattle.cob_layout_places.specs.declared.operands.Operand.{Operand}
-use Rattle.cob_layout_places.specs.declared.operands.Side.TheVariants.{Out}
-use Rattle.cob_layout_places.specs.Moves.{operand_in}
+use Rattle.cob_move_data.specs.declared.operands.Operand.{Operand}
+use Rattle.cob_move_data.specs.declared.operands.Side.TheVariants.{Out}
+use Rattle.cob_move_data.specs.Moves.{operand_in}
 use Rattle.cob_move_receive.specs.Sent.{Occupies}
 use Rattle.cob_move_apply.specs.Applied.{done, stopped}
 use Rattle.cob_move_apply.specs.Located.{Located}

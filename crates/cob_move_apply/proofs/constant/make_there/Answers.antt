@@ -1,4 +1,4 @@
-use Rattle.cob_layout_places.specs.Moves.{operand_in}
+use Rattle.cob_move_data.specs.Moves.{operand_in}
 use Rattle.cob_move_apply.specs.Surveyed.{records}
 use Rattle.cob_move_apply.proofs.ConstantLemmas.{constant_has_spent, constant_moved, constant_there}
 use Rattle.cob_move_apply.proofs.constant.make_there.Goals as goal

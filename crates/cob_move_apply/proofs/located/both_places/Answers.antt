@@ -1,6 +1,6 @@
 use Rattle.std.proofs.Common.{Ok, false, subst, true}
-use Rattle.cob_layout_places.specs.declared.operands.Operand.{Operand}
-use Rattle.cob_layout_places.specs.declared.operands.Side.TheVariants.{In, Out}
+use Rattle.cob_move_data.specs.declared.operands.Operand.{Operand}
+use Rattle.cob_move_data.specs.declared.operands.Side.TheVariants.{In, Out}
 use Rattle.cob_move_receive.specs.Sent.{Occupies}
 use Rattle.cob_move_apply.specs.Located.{Located}
 use Rattle.cob_move_apply.proofs.located.both_places.Goals as goal

@@ -1,5 +1,5 @@
 use Rattle.std.proofs.Common.{ℕ, Ok, refl}
-use Rattle.cob_layout_places.specs.Moves.{operand_in}
+use Rattle.cob_move_data.specs.Moves.{operand_in}
 use Rattle.cob_move_apply.specs.Applied.{done}
 use Rattle.cob_move_apply.specs.Surveyed.{records}
 use Rattle.cob_move_apply.specs.declared.step.LocatedStep.TheVariants.{Always, Characters, Pictured}

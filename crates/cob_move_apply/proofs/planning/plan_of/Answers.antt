@@ -1,5 +1,5 @@
 use Rattle.std.proofs.Common.{[], refl}
-use Rattle.cob_layout_places.specs.Moves.{Records}
+use Rattle.cob_move_data.specs.Moves.{Records}
 use Rattle.cob_move_apply.proofs.PlanLemmas.{more_all, more_statement, some_statement, stand_all, stand_more}
 use Rattle.cob_move_apply.proofs.StatementLemmas.{moves_at}
 use Rattle.cob_move_apply.specs.Steps.{support_of}

@@ -1,6 +1,6 @@
 use Rattle.std.proofs.Common.{take, []}
 use Rattle.cob_codec.specs.declared.reading.Reading.{Reading}
-use Rattle.cob_layout_places.specs.Moves.{moves_by}
+use Rattle.cob_move_data.specs.Moves.{moves_by}
 use Rattle.cob_move_apply.specs.Planned.{AreMore}
 use Rattle.cob_move_apply.specs.Steps.{StandFor, support_of}
 use Rattle.cob_move_apply.proofs.planning.plan_of.Given as goal

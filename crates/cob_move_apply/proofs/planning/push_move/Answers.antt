@@ -2,7 +2,7 @@ use Rattle.std.proofs.Common.{◌∙◌, [], ◌∷◌, List, ap, arith, length,
 use Rattle.std.proofs.lemmas.List.{length-map}
 use Rattle.std.proofs.lemmas.Result.{on_ok_weaker}
 use Rattle.cob_layout_places.specs.declared.reference.Ref.{Ref}
-use Rattle.cob_layout_places.specs.Moves.{Records, move_by, operand_in}
+use Rattle.cob_move_data.specs.Moves.{Records, move_by, operand_in}
 use Rattle.cob_move_apply.specs.Planned.{records_between}
 use Rattle.cob_move_apply.specs.Steps.{Gains, singles_of}
 use Rattle.cob_move_apply.proofs.CutLemmas.{cut_selves, cut_singles}

@@ -1,7 +1,7 @@
 use Rattle.std.proofs.Common.{◌≡◌, [], ◌∷◌, List, get_or, subst, sym}
 use Rattle.std.proofs.lemmas.Result.{on_ok_weaker}
 use Rattle.cob_layout_places.specs.declared.reference.Ref.{Ref}
-use Rattle.cob_layout_places.specs.Moves.{Records}
+use Rattle.cob_move_data.specs.Moves.{Records}
 use Rattle.cob_move_apply.specs.Planned.{IsReady, part_alone, records_between}
 use Rattle.cob_move_apply.specs.Written.{IsFixedConstant}
 use Rattle.cob_move_apply.proofs.InLemmas.{move_with, one_of}

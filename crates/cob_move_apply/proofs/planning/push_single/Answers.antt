@@ -1,7 +1,7 @@
 use Rattle.std.proofs.Common.{◌≡◌, [], ◌∷◌, List, get_or, subst, sym}
 use Rattle.std.proofs.lemmas.Result.{on_ok_weaker}
 use Rattle.cob_layout_places.specs.declared.reference.Ref.{Ref}
-use Rattle.cob_layout_places.specs.Moves.{Records, operand_in, sender_by}
+use Rattle.cob_move_data.specs.Moves.{Records, operand_in, sender_by}
 use Rattle.cob_move_apply.specs.Planned.{AreMore, records_between, meant}
 use Rattle.cob_move_apply.specs.Steps.{support_of}
 use Rattle.cob_move_apply.specs.Written.{AreCopied}

@@ -1,7 +1,7 @@
 use Rattle.std.proofs.Common.{◌≡◌, ◌<◌, [], ◌∷◌, List, get_or, length, map, refl, subst}
-use Rattle.cob_layout_places.specs.declared.operands.Operand.{Operand}
+use Rattle.cob_move_data.specs.declared.operands.Operand.{Operand}
 use Rattle.cob_layout_places.specs.declared.reference.Ref.{Ref}
-use Rattle.cob_layout_places.specs.Moves.{Records, operand_in, sender_by}
+use Rattle.cob_move_data.specs.Moves.{Records, operand_in, sender_by}
 use Rattle.cob_move_apply.specs.Planned.{AreMore, records_between}
 use Rattle.cob_move_apply.specs.Steps.{Gains, singles}
 use Rattle.cob_move_apply.proofs.InLemmas.{in_single, move_with}

@@ -1,6 +1,6 @@
 use Rattle.std.proofs.Common.{map, take}
 use Rattle.cob_codec.specs.declared.reading.Reading.{Reading}
-use Rattle.cob_layout_places.specs.Moves.{operand_in, sender_by}
+use Rattle.cob_move_data.specs.Moves.{operand_in, sender_by}
 use Rattle.cob_move_apply.specs.Planned.{AreMore, records_between}
 use Rattle.cob_move_apply.specs.Steps.{Gains, singles}
 use Rattle.cob_move_apply.proofs.planning.push_singles.Given as goal

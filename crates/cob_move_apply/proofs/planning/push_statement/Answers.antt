@@ -1,7 +1,7 @@
 use Rattle.std.proofs.Common.{◌∙◌, subst, sym}
 use Rattle.std.proofs.lemmas.Result.{on_ok_weaker}
-use Rattle.cob_layout_places.specs.declared.operands.StatementMoves.{StatementMoves}
-use Rattle.cob_layout_places.specs.Moves.{Records, statement_moves_by}
+use Rattle.cob_move_data.specs.declared.operands.StatementMoves.{StatementMoves}
+use Rattle.cob_move_data.specs.Moves.{Records, statement_moves_by}
 use Rattle.cob_move_apply.specs.Planned.{AreMore, records_between}
 use Rattle.cob_move_apply.specs.Steps.{Gains, GainsCut}
 use Rattle.cob_move_apply.proofs.CutLemmas.{cut_selves}

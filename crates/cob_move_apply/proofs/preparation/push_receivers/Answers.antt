@@ -1,6 +1,6 @@
 use Rattle.std.proofs.Common.{List, map}
-use Rattle.cob_layout_places.specs.declared.operands.Operand.{Operand}
-use Rattle.cob_layout_places.specs.Moves.{IsOperand, operand_in}
+use Rattle.cob_move_data.specs.declared.operands.Operand.{Operand}
+use Rattle.cob_move_data.specs.Moves.{IsOperand, operand_in}
 use Rattle.cob_move_apply.proofs.BasisLemmas.{noted_all, noted_more, noted_none}
 use Rattle.cob_move_apply.proofs.ListLemmas.{at, below, left_first, left_more, past}
 use Rattle.cob_move_apply.proofs.preparation.push_receivers.Goals as goal

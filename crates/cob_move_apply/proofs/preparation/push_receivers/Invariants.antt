@@ -1,6 +1,6 @@
 use Rattle.std.proofs.Common.{drop, map}
 use Rattle.std.specs.List.{AllByRecursion}
-use Rattle.cob_layout_places.specs.Moves.{IsOperand, operand_in}
+use Rattle.cob_move_data.specs.Moves.{IsOperand, operand_in}
 use Rattle.cob_move_apply.proofs.BasisLemmas.{NotedTo}
 use Rattle.cob_move_apply.proofs.preparation.push_receivers.Given as goal
 

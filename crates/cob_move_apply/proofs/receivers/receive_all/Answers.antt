@@ -2,8 +2,8 @@ use Rattle.std.proofs.Common.{◌∙◌, ℕ, true, Err, List, Ok, refl, subst, 
 use Rattle.std.proofs.lemmas.Result.{err_from_is_err_and}
 use Rattle.cob_copybook_tree.specs.Forests.{Forest}
 use Rattle.cob_copybook_tree.specs.Nodes.{Resolved}
-use Rattle.cob_layout_places.specs.declared.operands.Operand.{Operand}
-use Rattle.cob_layout_places.specs.Moves.{operand_in}
+use Rattle.cob_move_data.specs.declared.operands.Operand.{Operand}
+use Rattle.cob_move_data.specs.Moves.{operand_in}
 use Rattle.cob_move_apply.specs.Applied.{Content, Gets}
 use Rattle.cob_move_apply.specs.Met.{ReceiverMet}
 use Rattle.cob_move_apply.specs.Placed.{IsPlaced, content_of}

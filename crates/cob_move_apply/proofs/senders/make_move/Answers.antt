@@ -1,8 +1,8 @@
 use Rattle.std.proofs.Common.{Ok, refl, subst, sym}
 use Rattle.cob_copybook_entry.specs.Described.{plain_value}
-use Rattle.cob_layout_places.specs.declared.operands.Sender as code
-use Rattle.cob_layout_places.specs.declared.operands.Side.TheVariants.{Out}
-use Rattle.cob_layout_places.specs.Moves.{sender_by}
+use Rattle.cob_move_data.specs.declared.operands.Sender as code
+use Rattle.cob_move_data.specs.declared.operands.Side.TheVariants.{Out}
+use Rattle.cob_move_data.specs.Moves.{sender_by}
 use Rattle.cob_move_receive.specs.Sent as sent
 use Rattle.cob_move_apply.specs.Applied.{Content, Gives}
 use Rattle.cob_move_apply.specs.Seen.{receivers_in}

@@ -1,11 +1,11 @@
 use Rattle.std.proofs.Common.{◌≡◌, ◌∙◌, [], ◌∷◌, ap, arith, length, take}
 use Rattle.std.proofs.lemmas.Result.{err_from_is_err_and}
-use Rattle.cob_layout_places.specs.declared.operands.Side.TheVariants.{Out}
+use Rattle.cob_move_data.specs.declared.operands.Side.TheVariants.{Out}
 use Rattle.cob_move_apply.specs.Applied.{ending}
 use Rattle.cob_move_apply.specs.Surveyed.{records}
 use Rattle.cob_move_apply.proofs.ReceiverLemmas.{front_is, stops_first, moved}
 use Rattle.cob_move_apply.specs.Seen.{operand_of, receivers_in}
-use Rattle.cob_layout_places.specs.Moves.{Entry, Move}
+use Rattle.cob_move_data.specs.Moves.{Entry, Move}
 use Rattle.cob_move_apply.proofs.SpendingLemmas.{entry_spends, spends_after, stopped_spends}
 use Rattle.cob_move_apply.proofs.senders.move_within_output.Goals as goal
 

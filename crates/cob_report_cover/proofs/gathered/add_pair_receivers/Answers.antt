@@ -1,5 +1,5 @@
 use Rattle.std.proofs.Common.{arith, get_or}
-use Rattle.cob_layout_places.specs.declared.operands.NumberedPair.{NumberedPair}
+use Rattle.cob_move_data.specs.declared.operands.NumberedPair.{NumberedPair}
 use Rattle.cob_move_apply.proofs.ListLemmas.{read_is}
 use Rattle.cob_report_cover.specs.Statements.{pair_receiver}
 use Rattle.cob_report_cover.proofs.GatherLemmas.{joins_all, joins_next, joins_none}

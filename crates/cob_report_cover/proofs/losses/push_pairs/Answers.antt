@@ -1,6 +1,6 @@
 use Rattle.std.proofs.Common.{arith, get_or}
 use Rattle.std.proofs.lemmas.List.{get_or_default}
-use Rattle.cob_layout_places.specs.declared.operands.NumberedPair.{NumberedPair}
+use Rattle.cob_move_data.specs.declared.operands.NumberedPair.{NumberedPair}
 use Rattle.cob_report_cover.specs.Losing.{AreLossesOfPair}
 use Rattle.cob_report_cover.proofs.LosingLemmas.{each_begun, each_done, each_more}
 use Rattle.cob_report_cover.proofs.losses.push_pairs.Goals as goal

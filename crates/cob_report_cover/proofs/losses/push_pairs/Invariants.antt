@@ -1,5 +1,5 @@
 use Rattle.std.proofs.Common.{List, ◌++◌, drop}
-use Rattle.cob_layout_places.specs.declared.operands.NumberedPair.{NumberedPair}
+use Rattle.cob_move_data.specs.declared.operands.NumberedPair.{NumberedPair}
 use Rattle.cob_back_losses.specs.declared.losses.Losses.{Losses}
 use Rattle.cob_report_cover.specs.Losing.{AddsEach, AreEach, AreLossesOfPair}
 use Rattle.cob_report_cover.proofs.losses.push_pairs.Given as goal

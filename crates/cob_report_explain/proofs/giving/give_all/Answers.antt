@@ -1,6 +1,6 @@
 use Rattle.std.proofs.Common.{◌∙◌, refl}
 use Rattle.std.proofs.lemmas.Result.{err_from_is_err_and}
-use Rattle.cob_layout_places.specs.Moves.{IsOperand, operand_in}
+use Rattle.cob_move_data.specs.Moves.{IsOperand, operand_in}
 use Rattle.cob_report_explain.specs.Seen.{given_content, move_of}
 use Rattle.cob_report_explain.proofs.EachLemmas.{give_all, give_more, give_none, give_stops, operand_at}
 use Rattle.cob_report_explain.proofs.giving.give_all.Goals as goal

@@ -2,7 +2,7 @@ use Rattle.std.proofs.Common.{◌≡◌, ◌∙◌, None, Option, ap, length}
 use Rattle.std.proofs.lemmas.List.{length-replicate}
 use Rattle.cob_layout.specs.declared.counts.StoredCount.{StoredCount}
 use Rattle.cob_layout.specs.Standing.{forgotten, room_in}
-use Rattle.cob_layout_places.specs.Moves.{operand_in}
+use Rattle.cob_move_data.specs.Moves.{operand_in}
 use Rattle.cob_move_apply.proofs.PlaceLemmas.{filled_at, found_at, nowhere}
 use Rattle.cob_report_explain.proofs.places.locate.Goals as goal
 

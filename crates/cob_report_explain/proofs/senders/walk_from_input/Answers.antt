@@ -1,5 +1,5 @@
-use Rattle.cob_layout_places.specs.declared.operands.Side.TheVariants.{In}
-use Rattle.cob_layout_places.specs.Moves.{Entry, operand_in}
+use Rattle.cob_move_data.specs.declared.operands.Side.TheVariants.{In}
+use Rattle.cob_move_data.specs.Moves.{Entry, operand_in}
 use Rattle.cob_report_explain.specs.Seen.{move_of, records_of_layouts}
 use Rattle.cob_report_explain.proofs.EachLemmas.{complete_by, sender_lacks}
 use Rattle.cob_report_explain.proofs.senders.walk_from_input.Goals as goal

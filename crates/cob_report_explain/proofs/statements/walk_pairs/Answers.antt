@@ -1,7 +1,7 @@
 use Rattle.std.proofs.Common.{◌∙◌, [], ◌∷◌, List, map, refl, subst, sym}
 use Rattle.std.proofs.lemmas.Result.{err_from_is_err_and}
-use Rattle.cob_layout_places.specs.declared.operands.NumberedPair.{NumberedPair}
-use Rattle.cob_layout_places.specs.Moves.{AreMoves, numbered_move_by}
+use Rattle.cob_move_data.specs.declared.operands.NumberedPair.{NumberedPair}
+use Rattle.cob_move_data.specs.Moves.{AreMoves, numbered_move_by}
 use Rattle.cob_report_explain.specs.Each.{AreOfMoves, Sees, all_done, numbered_of_pair, numbered_of_pairs, stopped_at}
 use Rattle.cob_report_explain.specs.Seen.{records_of_layouts}
 use Rattle.cob_report_explain.proofs.EachLemmas.{moves_all, moves_more, moves_none, moves_stop, one_done, one_stops}

@@ -1,5 +1,5 @@
 use Rattle.std.proofs.Common.{rules, arith, ◌≡◌, ◌+◌, ◌∙◌, ℕ, ap, take, Err}
-use Rattle.cob_layout_places.specs.declared.operands.Side.TheVariants.{In}
+use Rattle.cob_move_data.specs.declared.operands.Side.TheVariants.{In}
 use Rattle.cob_convert_stream.specs.declared.fault.Cause.TheVariants.{Limit}
 use Rattle.cob_report_show.specs.declared.records.ShowFault.{ShowFault}
 use Rattle.cob_report_show.specs.declared.records.ShowFault.TheVariants.{Run}

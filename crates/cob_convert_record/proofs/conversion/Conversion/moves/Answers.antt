@@ -1,5 +1,5 @@
 use Rattle.std.proofs.Common.{◌≡◌, refl, subst}
-use Rattle.cob_layout_places.specs.Moves.{AreMoves}
+use Rattle.cob_move_data.specs.Moves.{AreMoves}
 use Rattle.cob_move_apply.specs.Prepared.{moves_of}
 use Rattle.cob_convert_record.specs.Conversion.{Conversion, HasImage}
 use Rattle.cob_convert_record.proofs.conversion.Conversion.moves.Goals as goal

@@ -1,5 +1,5 @@
 use Rattle.std.proofs.Common.{ap, List, ◌∙◌}
-use Rattle.cob_layout_places.specs.Moves.{Move, Records}
+use Rattle.cob_move_data.specs.Moves.{Move, Records}
 use Rattle.cob_convert_record.specs.Conversion.{Conversion, conversion_by}
 use Rattle.cob_convert_record.proofs.conversion.Conversion.with_reading.Goals as goal
 

@@ -1,6 +1,6 @@
 use Rattle.std.proofs.Common.{◌∙◌, List, refl, subst, sym}
 use Rattle.std.proofs.lemmas.Result.{err_from_is_err_and}
-use Rattle.cob_layout_places.specs.Moves.{Move, Records, moves}
+use Rattle.cob_move_data.specs.Moves.{Move, Records, moves}
 use Rattle.cob_move.specs.Paragraphs.{IsParagraphOf}
 use Rattle.cob_move.proofs.ParagraphLemmas.{are_moves}
 use Rattle.cob_move.proofs.paragraph.Paragraph.read.Goals as goal

@@ -1,6 +1,6 @@
 use Rattle.std.proofs.Common.{◌≤◌, ◌+◌, ◌*◌, ℕ, List, length, subst, sym}
-use Rattle.cob_layout_places.specs.declared.operands.StatementMoves.{StatementMoves}
-use Rattle.cob_layout_places.specs.Moves.{Records, moves_by}
+use Rattle.cob_move_data.specs.declared.operands.StatementMoves.{StatementMoves}
+use Rattle.cob_move_data.specs.Moves.{Records, moves_by}
 use Rattle.cob_move_apply.specs.Steps.{StandFor, support_of}
 use Rattle.cob_layout_places.specs.Counts.{tables_of}
 use Rattle.cob_move_apply.specs.Met.{HaveMet}

@@ -1,7 +1,7 @@
 use Rattle.std.proofs.Common.{◌≡◌, List, subst}
 use Rattle.cob_codec.specs.declared.reading.Reading.TheVariants.{Pictured}
-use Rattle.cob_layout_places.specs.declared.operands.StatementMoves.{StatementMoves}
-use Rattle.cob_layout_places.specs.Moves.{Records, moves_by}
+use Rattle.cob_move_data.specs.declared.operands.StatementMoves.{StatementMoves}
+use Rattle.cob_move_data.specs.Moves.{Records, moves_by}
 use Rattle.cob_move_apply.specs.Joined.{steps_in}
 use Rattle.cob_move_apply.specs.Planned.{counted_steps}
 use Rattle.cob_move_apply.specs.Steps.{StandFor, support_of}

@@ -1,6 +1,6 @@
 use Rattle.std.proofs.Common.{◌∙◌, List, ap, min, arith}
-use Rattle.cob_layout_places.specs.declared.operands.StatementMoves.{StatementMoves}
-use Rattle.cob_layout_places.specs.Moves.{moves_by}
+use Rattle.cob_move_data.specs.declared.operands.StatementMoves.{StatementMoves}
+use Rattle.cob_move_data.specs.Moves.{moves_by}
 use Rattle.cob_move_apply.specs.Told.{most_moves_told, single_moves}
 use Rattle.cob_move_apply.proofs.CountLemmas.{counted_all, counted_on}
 use Rattle.cob_move_apply.proofs.moves.Moves.single_moves.Goals as goal

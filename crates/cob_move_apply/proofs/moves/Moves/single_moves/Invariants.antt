@@ -1,6 +1,6 @@
 use Rattle.std.proofs.Common.{◌≡◌, ◌+◌, drop, min}
 use Rattle.cob_codec.specs.declared.reading.Reading.{Reading}
-use Rattle.cob_layout_places.specs.Moves.{Records, moves_by}
+use Rattle.cob_move_data.specs.Moves.{Records, moves_by}
 use Rattle.cob_move_apply.specs.Told.{most_moves_told, single_moves}
 use Rattle.cob_move_apply.proofs.moves.Moves.single_moves.Given as goal
 

@@ -2,7 +2,7 @@ use Rattle.std.proofs.Common.{Bor, ap, sym, ◌∙◌}
 use Rattle.cob_copybook_tree.specs.Forests.{Forest}
 use Rattle.cob_copybook_tree.specs.declared.node.Node.{Node}
 use Rattle.cob_copybook_tree.specs.Nodes.{Resolved, tree_of}
-use Rattle.cob_layout_places.specs.declared.operands.Side.{Side}
+use Rattle.cob_move_data.specs.declared.operands.Side.{Side}
 use Rattle.cob_move_names.specs.Between.{entries_of, pairs_below}
 use Rattle.cob_move_names.specs.Pairs.{AreOnce}
 use Rattle.cob_move_names.proofs.KeptLemmas.{moved}

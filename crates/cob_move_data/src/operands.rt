@@ -1,7 +1,7 @@
 //! What is moved between the entries of two records, and which entries receive it.
 
-use crate::reference::Ref;
 use cob_copybook_tree::{Kind, Value};
+use cob_layout_places::Ref;
 
 /// The record in which an entry or a fault stands.
 #[derive(Clone, Copy, Debug, PartialEq, Eq)]
