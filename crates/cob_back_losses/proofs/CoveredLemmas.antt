@@ -13,7 +13,7 @@ use Rattle.cob_layout_places.specs.Cover.{Occurrence, holds}
 use Rattle.cob_layout_places.specs.References.{Refers}
 use Rattle.cob_layout_places.specs.declared.places.Found.{Found}
 use Rattle.cob_layout_places.specs.declared.reference.Ref.{Ref}
-use Rattle.cob_back_moves.specs.Received.{occurrence, occurrence_by}
+use Rattle.cob_move_data.specs.Singles.{occurrence, occurrence_by}
 use Rattle.cob_back_losses.specs.Keeping.{IsMarked, KeepsDescription}
 use Rattle.cob_back_losses.specs.declared.keeping.Unkept.{Unkept}
 use Rattle.cob_back_losses.proofs.KeepingLemmas.{keeps_as, tells_as}

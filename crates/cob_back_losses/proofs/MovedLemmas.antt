@@ -11,7 +11,7 @@ use Rattle.cob_move_data.specs.declared.operands.PairMoves.{PairMoves}
 use Rattle.cob_move_data.specs.declared.operands.StatementMoves.{StatementMoves}
 use Rattle.cob_move_data.specs.declared.operands.StatementMoves.TheVariants.{Pairs, Single}
 use Rattle.cob_layout_places.specs.declared.reference.Ref.{Ref}
-use Rattle.cob_back_moves.specs.Singles.{all_singles, singles_from}
+use Rattle.cob_move_data.specs.Singles.{all_singles, singles_from}
 use Rattle.cob_back_moves.proofs.EachLemmas.{cut_singles, one_move}
 use Rattle.cob_back_losses.specs.Moved.{Moved, moved, sent_of}
 use Rattle.cob_back_losses.specs.Seen.{moved_by, moved_pair, moved_to}

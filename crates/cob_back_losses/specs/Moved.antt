@@ -9,7 +9,7 @@ use Rattle.cob_layout_places.specs.Lengths.{times}
 use Rattle.cob_move_data.specs.Moves.{Entry, Literal, Records, Sender, record_of}
 use Rattle.cob_layout_places.specs.Places.{choose, or_else, place_of}
 use Rattle.cob_layout_places.specs.References.{Refers}
-use Rattle.cob_back_moves.specs.Singles.{SingleMove, occurrence_of}
+use Rattle.cob_move_data.specs.Singles.{SingleMove, occurrence_of}
 use Rattle.cob_back_losses.specs.Keeping.{Constant, Element, KeepsDescription, Sent, Tells}
 use Rattle.cob_back_losses.specs.declared.keeping.Unkept.{Unkept}
 

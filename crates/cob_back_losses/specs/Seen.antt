@@ -11,7 +11,7 @@ use Rattle.cob_move_data.specs.declared.operands.PairMoves.{PairMoves}
 use Rattle.cob_move_data.specs.declared.operands.StatementMoves.{StatementMoves}
 use Rattle.cob_move_data.specs.declared.operands.StatementMoves.TheVariants as statement
 use Rattle.cob_layout_places.specs.declared.reference.Ref.{Ref}
-use Rattle.cob_back_moves.specs.Received.{occurrence, occurrence_by}
+use Rattle.cob_move_data.specs.Singles.{occurrence, occurrence_by}
 use Rattle.cob_back_losses.specs.Keeping.{Element, IsMarked, KeepsDescription, Sent, Tells, sent}
 use Rattle.cob_back_losses.specs.declared.keeping.Unkept.{Unkept}
 use Rattle.cob_back_losses.specs.declared.singles.Single.{Single}

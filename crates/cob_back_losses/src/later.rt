@@ -5,7 +5,7 @@ ghost use Rattle.cob_copybook_tree.specs.Lengths.{greatest_number, sum_of};
 ghost use Rattle.cob_layout.specs.declared.fields.Place.{Place as SeenPlace};
 ghost use Rattle.cob_layout_places.specs.Cover.{holds};
 ghost use Rattle.cob_layout_places.specs.References.{Refers};
-ghost use Rattle.cob_back_moves.specs.Received.{occurrence, occurrence_by};
+ghost use Rattle.cob_move_data.specs.Singles.{occurrence, occurrence_by};
 ghost use Rattle.cob_back_losses.specs.Moved.{StandsAt};
 ghost use Rattle.cob_back_losses.specs.Seen.{AreMarks};
 

@@ -9,7 +9,7 @@ use Rattle.cob_move_data.specs.declared.operands.NumberedPair.{NumberedPair}
 use Rattle.cob_move_data.specs.declared.operands.PairMoves.{PairMoves}
 use Rattle.cob_move_data.specs.declared.operands.StatementMoves.{StatementMoves}
 use Rattle.cob_move_data.specs.Moves.{AreMoves, Entry, IsMove, IsOperand, IsSender, Move, Records, Sender, entry_below, moves_by, numbered_move_by, operand_in, record_of, statement_moves_by}
-use Rattle.cob_back_moves.specs.Singles.{SingleMove, all_singles, singles_from}
+use Rattle.cob_move_data.specs.Singles.{SingleMove, all_singles, singles_from}
 use Rattle.cob_back_moves.specs.declared.single.Layouts.{Layouts}
 use Rattle.cob_back_moves.specs.declared.single.Single.{Single}
 use Rattle.cob_back_moves.specs.Tested.{IsSingle, layout_records, single_of}

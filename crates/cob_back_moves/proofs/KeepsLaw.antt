@@ -31,7 +31,8 @@ use Rattle.cob_copybook_same.specs.Same.{IsSameRecord, told_name, unnamed}
 use Rattle.cob_back_moves.specs.Apart.{OccurrencesApart, StandsOneWay}
 use Rattle.cob_back_moves.specs.Laws.{IsSoundItem, ItemsAreSound, ItemsFill, ItemsReturn, ReturnsKeep}
 use Rattle.cob_back_moves.specs.Wider.{IsReadPictured, IsSameIn, LosesNothing}
-use Rattle.cob_back_moves.specs.Singles.{Goes, IsElementary, IsOneOf, ReceiveOnce, Receives, SendsPictured, SingleMove, occurrence_of, all_singles}
+use Rattle.cob_move_data.specs.Singles.{SingleMove, occurrence_of, all_singles}
+use Rattle.cob_back_moves.specs.Singles.{Goes, IsElementary, IsOneOf, ReceiveOnce, Receives, SendsPictured}
 use Rattle.cob_back_moves.specs.Returns.{AreTurned, HoldsAgain, BearsName, IsNamedItem, IsReturned, Returns}
 use Rattle.cob_back_moves.proofs.SteadyLemmas.{IsSteady, steady}
 use Rattle.cob_back_moves.proofs.MoveLemmas.{Gained, Ground, IsGood, Puts, all_good, from_puts, goes_through, holds, one_good, puts_length, to_puts}

@@ -14,10 +14,9 @@ use Rattle.cob_layout_places.specs.References.{Refers}
 use Rattle.cob_layout.proofs.EndLemmas.{numbered}
 use Rattle.cob_layout.proofs.ReferenceLemmas.{refers_has}
 use Rattle.cob_back_moves.specs.Returns.{BearsName, IsReturned}
-use Rattle.cob_back_moves.specs.Singles.{SingleMove}
+use Rattle.cob_move_data.specs.Singles.{SingleMove, occurrence}
 use Rattle.cob_back_moves.proofs.ApartLaw.{is_same, own_kind, passed, past}
 use Rattle.cob_back_moves.specs.Brought.{AllReturned, IsLostItem}
-use Rattle.cob_back_moves.specs.Received.{occurrence}
 use Rattle.cob_back_moves.specs.Walk.{AllFine, HasItem, IsLostEntry}
 
 bears_has : (r : ℕ) (f : Forest Resolved) → BearsName r f → Has r f

@@ -33,7 +33,8 @@ use Rattle.cob_codec.specs.declared.reading.Reading.{Reading}
 use Rattle.cob_back_moves.specs.Apart.{AreApart, OccurrencesApart, StandsOneWay}
 use Rattle.cob_back_moves.specs.Laws.{IsSoundItem, ItemsAreSound, ItemsFill}
 use Rattle.cob_back_moves.specs.Wider.{IsReadPictured}
-use Rattle.cob_back_moves.specs.Singles.{IsElementary, IsInputItem, IsItemKind, IsKindReadPictured, IsOneOf, IsSenderReadPictured, ReceiveOnce, Receives, SendsPictured, SingleMove, occurrence_of, all_singles, singles_from}
+use Rattle.cob_move_data.specs.Singles.{SingleMove, occurrence_of, all_singles, singles_from}
+use Rattle.cob_back_moves.specs.Singles.{IsElementary, IsInputItem, IsItemKind, IsKindReadPictured, IsOneOf, IsSenderReadPictured, ReceiveOnce, Receives, SendsPictured}
 use Rattle.cob_back_moves.proofs.SteadyLemmas.{IsSteady, steady}
 
 -- ---- single moves, one after another

@@ -22,9 +22,10 @@ use Rattle.cob_layout_places.specs.declared.places.Found.{Found}
 use Rattle.cob_layout_places.specs.declared.reference.Ref.{Ref}
 use Rattle.cob_move_data.specs.Moves.{Records, move_by, sender_by}
 use Rattle.cob_move_apply.proofs.ListLemmas.{next}
-use Rattle.cob_back_moves.specs.Singles.{ReceiveOnce, SingleMove, occurrence_of}
+use Rattle.cob_move_data.specs.Singles.{SingleMove, occurrence, occurrence_of}
+use Rattle.cob_back_moves.specs.Singles.{ReceiveOnce}
 use Rattle.cob_back_moves.specs.Noting.{BeginsAt, IsNotedAt, NotesFirst, NotesOnce, ReceiveFirst}
-use Rattle.cob_back_moves.specs.Received.{occurrence, singles_by_pairs, singles_by_statement, singles_to}
+use Rattle.cob_back_moves.specs.Received.{singles_by_pairs, singles_by_statement, singles_to}
 use Rattle.cob_back_moves.proofs.EachLemmas.{one_move}
 
 -- ---- where an occurrence begins

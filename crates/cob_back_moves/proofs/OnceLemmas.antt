@@ -11,8 +11,9 @@ use Rattle.cob_move_data.specs.declared.operands.StatementMoves.{StatementMoves}
 use Rattle.cob_move_data.specs.Moves.{Move, Records, Sender, moves_by, numbered_move_by, operand_in}
 use Rattle.cob_copybook_tree.specs.Forests.{Forest}
 use Rattle.cob_copybook_tree.specs.Nodes.{Resolved}
-use Rattle.cob_back_moves.specs.Singles.{ReceiveOnce, SingleMove, all_singles, occurrence_of, singles_from}
-use Rattle.cob_back_moves.specs.Received.{IsElsewhere, IsOther, OnceBefore, Spares, occurrence}
+use Rattle.cob_move_data.specs.Singles.{SingleMove, all_singles, occurrence, occurrence_of, singles_from}
+use Rattle.cob_back_moves.specs.Singles.{ReceiveOnce}
+use Rattle.cob_back_moves.specs.Received.{IsElsewhere, IsOther, OnceBefore, Spares}
 use Rattle.cob_back_moves.proofs.LeftLemmas.{Both, Cuts}
 use Rattle.cob_back_moves.proofs.EachLemmas.{cut_singles, of_pair, of_statement, one_move}
 

@@ -11,7 +11,8 @@ use Rattle.cob_move_data.specs.declared.operands.Operand.{Operand}
 use Rattle.cob_move_data.specs.declared.operands.Side.TheVariants.{In, Out}
 use Rattle.cob_move_data.specs.Moves.{Entry, Literal, operand_in}
 use Rattle.cob_back_moves.specs.Returns.{BringsHome, IsReturned}
-use Rattle.cob_back_moves.specs.Singles.{Goes, IsOneOf, SingleMove, occurrence_of}
+use Rattle.cob_move_data.specs.Singles.{SingleMove, occurrence_of}
+use Rattle.cob_back_moves.specs.Singles.{Goes, IsOneOf}
 use Rattle.cob_back_moves.specs.Wider.{LosesNothing}
 use Rattle.cob_back_moves.specs.Brought.{IsCarried, LosesNothingAs, occurrence_at}
 use Rattle.cob_move_apply.specs.Some.{SomeOf}

@@ -17,7 +17,7 @@ use Rattle.cob_move_data.specs.declared.operands.StatementMoves.TheVariants.{Pai
 use Rattle.cob_layout_places.specs.declared.reference.Ref.{Ref}
 use Rattle.cob_move_data.specs.Moves.{AreMoves, IsMove, IsOperand, Move, Records, Sender, entry_below, move_by, numbered_move_by, operand_in, sender_by, statement_moves_by}
 use Rattle.cob_move_apply.proofs.ListLemmas.{at, below, left_first, left_more, next, past}
-use Rattle.cob_back_moves.specs.Singles.{SingleMove, all_singles, singles_from}
+use Rattle.cob_move_data.specs.Singles.{SingleMove, all_singles, singles_from}
 use Rattle.cob_move_apply.specs.Some.{SomeOf}
 use Rattle.cob_back_moves.proofs.EachLemmas.{one_move, singles_behind}
 use Rattle.cob_back_moves.proofs.LeftLemmas.{Both}

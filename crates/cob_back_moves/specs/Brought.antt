@@ -9,9 +9,9 @@ use Rattle.cob_layout_places.specs.Cover.{Occurrence}
 use Rattle.cob_move_data.specs.Moves.{AreMoves, Move, moves_by}
 use Rattle.cob_move_data.specs.declared.operands.StatementMoves.{StatementMoves}
 use Rattle.cob_back_moves.specs.Returns.{IsNamedItem, IsReturned}
-use Rattle.cob_back_moves.specs.Singles.{Goes, SingleMove, all_singles}
+use Rattle.cob_move_data.specs.Singles.{SingleMove, all_singles, occurrence}
+use Rattle.cob_back_moves.specs.Singles.{Goes}
 use Rattle.cob_back_moves.specs.Wider.{LosesNothing}
-use Rattle.cob_back_moves.specs.Received.{occurrence}
 use Rattle.cob_back_moves.specs.Tested.{AreSound, layout_records}
 use Rattle.cob_back_moves.specs.declared.returned.Carried.{Carried}
 use Rattle.cob_back_moves.specs.declared.returned.ItemElement.{ItemElement}

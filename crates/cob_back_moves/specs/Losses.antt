@@ -6,7 +6,8 @@ use Rattle.cob_copybook_tree.specs.Nodes.{Resolved}
 use Rattle.cob_back_moves.specs.Apart.{StandsOneWay}
 use Rattle.cob_back_moves.specs.Lossless.{IsLossless}
 use Rattle.cob_back_moves.specs.Returns.{AreTurned, BearsName, Returns}
-use Rattle.cob_back_moves.specs.Singles.{IsElementary, ReceiveOnce, SendsPictured, SingleMove}
+use Rattle.cob_move_data.specs.Singles.{SingleMove}
+use Rattle.cob_back_moves.specs.Singles.{IsElementary, ReceiveOnce, SendsPictured}
 use Rattle.cob_back_moves.specs.Brought.{AllReturned, IsLostItem, moves_between, singles_in}
 use Rattle.cob_back_moves.specs.Tested.{layout_records}
 use Rattle.cob_back_moves.specs.declared.lossless.Loss.{Loss}

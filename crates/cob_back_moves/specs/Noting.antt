@@ -7,7 +7,8 @@ use Rattle.cob_layout_places.specs.Cover.{Occurrence}
 use Rattle.cob_layout_places.specs.Lengths.{times}
 use Rattle.cob_layout_places.specs.Places.{place_of}
 use Rattle.cob_layout_places.specs.declared.places.Found.{Found}
-use Rattle.cob_back_moves.specs.Singles.{ReceiveOnce, SingleMove}
+use Rattle.cob_move_data.specs.Singles.{SingleMove}
+use Rattle.cob_back_moves.specs.Singles.{ReceiveOnce}
 use Rattle.cob_back_moves.specs.Received.{Spares}
 
 -- The occurrence begins at this byte of the record, where each table has its greatest number of elements.

@@ -7,15 +7,8 @@ use Rattle.cob_move_data.specs.declared.operands.NumberedPair.{NumberedPair}
 use Rattle.cob_move_data.specs.declared.operands.PairMoves.{PairMoves}
 use Rattle.cob_move_data.specs.declared.operands.StatementMoves.{StatementMoves}
 use Rattle.cob_layout_places.specs.declared.reference.Ref.{Ref}
-use Rattle.cob_back_moves.specs.Singles.{Receives, SingleMove, all_singles, occurrence_of, singles_from}
-
--- the occurrence of the entry with this number under these subscripts
-abbrev pub occurrence : ℕ → List ℕ → Occurrence
-occurrence number subscripts = record { number = number; subscripts = subscripts }
-
--- the occurrence that a reference names
-abbrev pub occurrence_by : Ref → Occurrence
-occurrence_by r = occurrence r.node r.subscripts.items
+use Rattle.cob_move_data.specs.Singles.{SingleMove, all_singles, occurrence, occurrence_by, occurrence_of, singles_from}
+use Rattle.cob_back_moves.specs.Singles.{Receives}
 
 -- the reference is to another occurrence
 abbrev pub IsElsewhere : Occurrence → Ref → Type 0

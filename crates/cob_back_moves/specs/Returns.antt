@@ -13,7 +13,8 @@ use Rattle.cob_layout_places.specs.declared.places.Found.{Found}
 use Rattle.cob_layout_places.specs.Places.{place_of}
 use Rattle.cob_layout_places.specs.References.{Refers}
 use Rattle.cob_move_data.specs.Moves.{Move, Records}
-use Rattle.cob_back_moves.specs.Singles.{Goes, IsElementary, IsOneOf, ReceiveOnce, SendsPictured, SingleMove, all_singles}
+use Rattle.cob_move_data.specs.Singles.{SingleMove, all_singles}
+use Rattle.cob_back_moves.specs.Singles.{Goes, IsElementary, IsOneOf, ReceiveOnce, SendsPictured}
 use Rattle.cob_back_moves.specs.Wider.{IsSameIn, LosesNothing}
 
 -- the entry with this number has a name

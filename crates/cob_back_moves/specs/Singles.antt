@@ -1,33 +1,14 @@
--- Single moves, each of a sender to one of its receivers.
-use Rattle.std.specs.Prelude.{◌≡◌, ◌⊎◌, ℕ, List, [], ◌∷◌, ◌++◌}
-use Rattle.std.specs.List.{AllByRecursion}
+-- What is asked of single moves, each of a sender to one of its receivers.
+use Rattle.std.specs.Prelude.{◌≡◌, ◌⊎◌, List, [], ◌∷◌}
 use Rattle.cob_codec.specs.declared.reading.Reading.{Reading}
 use Rattle.cob_copybook_tree.specs.declared.node.Kind.{Kind}
 use Rattle.cob_copybook_tree.specs.declared.node.Kind.TheVariants.{Group, Item as ItemKind}
 use Rattle.cob_layout_places.specs.Cover.{Occurrence}
 use Rattle.cob_move_data.specs.declared.operands.Operand.{Operand}
 use Rattle.cob_move_data.specs.declared.operands.Side.TheVariants.{In, Out}
-use Rattle.cob_move_data.specs.Moves.{Entry, Literal, Move, Sender}
+use Rattle.cob_move_data.specs.Moves.{Entry, Literal, Sender}
+use Rattle.cob_move_data.specs.Singles.{SingleMove, occurrence_of}
 use Rattle.cob_back_moves.specs.Wider.{IsReadPictured}
-
--- a sender and one of its receivers
-pub record SingleMove : Type 0 where
-  pub sender : Sender
-  pub receiver : Operand
-
--- the single moves of a sender to these receivers
-abbrev pub singles_from : Sender → List Operand → List SingleMove
-singles_from s [] = []
-singles_from s (o ∷ os) = record { sender = s; receiver = o } ∷ singles_from s os
-
--- the single moves of moves, in their order
-abbrev pub all_singles : List Move → List SingleMove
-all_singles [] = []
-all_singles (m ∷ ms) = singles_from m.sender m.receivers ++ all_singles ms
-
--- the occurrence of an entry that an operand is
-abbrev pub occurrence_of : Operand → Occurrence
-occurrence_of o = record { number = o.entry.node; subscripts = o.entry.subscripts.items }
 
 -- an elementary item
 abbrev pub IsItemKind : Kind → Type 0

@@ -12,7 +12,8 @@ use Rattle.cob_move_data.specs.declared.operands.PairMoves.{PairMoves}
 use Rattle.cob_move_data.specs.declared.operands.StatementMoves.{StatementMoves}
 use Rattle.cob_move_data.specs.Moves.{AreMoves, Entry, IsOperand, IsSender, Literal, Move, Records, Sender, entry_below, move_by, numbered_move_by, operand_in, record_of, sender_by, statement_moves_by}
 use Rattle.cob_back_moves.specs.Returns.{BearsName}
-use Rattle.cob_back_moves.specs.Singles.{IsElementary, SendsPictured, SingleMove, all_singles, singles_from}
+use Rattle.cob_move_data.specs.Singles.{SingleMove, all_singles, singles_from}
+use Rattle.cob_back_moves.specs.Singles.{IsElementary, SendsPictured}
 use Rattle.cob_back_moves.specs.declared.single.Element.{Element}
 use Rattle.cob_back_moves.specs.declared.single.Layouts.{Layouts}
 use Rattle.cob_back_moves.specs.declared.single.Sent.{Sent}

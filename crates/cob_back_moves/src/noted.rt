@@ -8,7 +8,8 @@ ghost use Rattle.cob_codec.specs.declared.reading.Reading.{Reading as Read};
 ghost use Rattle.cob_move_data.specs.Moves.{Records, Sender};
 ghost use Rattle.cob_back_moves.specs.Brought.{occurrence_at};
 ghost use Rattle.cob_back_moves.specs.Noting.{BeginsAt, IsNotedFirst, NotesFirst, NotesOnce};
-ghost use Rattle.cob_back_moves.specs.Received.{occurrence, singles_by, singles_by_pairs, singles_by_statement, singles_to};
+ghost use Rattle.cob_move_data.specs.Singles.{occurrence};
+ghost use Rattle.cob_back_moves.specs.Received.{singles_by, singles_by_pairs, singles_by_statement, singles_to};
 
 use crate::single::{Element, element_of};
 use cob_layout::Layout;

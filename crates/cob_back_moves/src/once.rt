@@ -7,7 +7,8 @@ ghost use Rattle.cob_codec.specs.declared.reading.Reading.{Reading as Read};
 ghost use Rattle.cob_move_data.specs.Moves.{Records, Sender};
 ghost use Rattle.cob_back_moves.specs.Singles.{ReceiveOnce};
 ghost use Rattle.cob_back_moves.specs.Brought.{singles_in};
-ghost use Rattle.cob_back_moves.specs.Received.{IsElsewhere, IsOther, OnceBefore, PairReceivesLast, ReceivesLast, Spares, occurrence, singles_by, singles_by_pairs, singles_by_statement, singles_to};
+ghost use Rattle.cob_move_data.specs.Singles.{occurrence};
+ghost use Rattle.cob_back_moves.specs.Received.{IsElsewhere, IsOther, OnceBefore, PairReceivesLast, ReceivesLast, Spares, singles_by, singles_by_pairs, singles_by_statement, singles_to};
 
 use crate::noted::note_all;
 use crate::some::MovesBetween;

@@ -7,7 +7,7 @@ ghost use Rattle.cob_move_data.specs.Moves.{IsOperand, operand_in};
 ghost use Rattle.cob_back_moves.specs.Returns.{BringsHome};
 ghost use Rattle.cob_back_moves.specs.Singles.{Goes};
 ghost use Rattle.cob_back_moves.specs.Brought.{AreLegal, Carries, IsFine, LosesNothingAs, occurrence_at, occurrence_of_item, singles_in};
-ghost use Rattle.cob_back_moves.specs.Received.{occurrence};
+ghost use Rattle.cob_move_data.specs.Singles.{occurrence};
 ghost use Rattle.cob_back_moves.specs.Tested.{AreSound, IsSingle, ref_of, single_of};
 
 use crate::noted::noted_for;

@@ -4,7 +4,7 @@ ghost use Rattle.std.specs.Prelude.{◌≡◌};
 ghost use Rattle.std.specs.Bool.{Decides};
 ghost use Rattle.std.specs.List.{AllByRecursion};
 ghost use Rattle.cob_move_data.specs.Moves.{IsOperand, IsSender};
-ghost use Rattle.cob_back_moves.specs.Singles.{SingleMove, all_singles};
+ghost use Rattle.cob_move_data.specs.Singles.{SingleMove, all_singles};
 ghost use Rattle.cob_back_moves.specs.Brought.{AreLegal, moves_between, singles_in};
 ghost use Rattle.cob_move_apply.specs.Some.{SomeOf};
 ghost use Rattle.cob_back_moves.specs.Tested.{AreMovesBetween, AreSound, IsSingle, layout_records, operands_between, moves_of_pairs, sender_between, single_of, singles_between, moves_of_statement};

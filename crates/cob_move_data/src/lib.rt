@@ -6,9 +6,24 @@
 //! two records (`moves`), and says when these are moves there: each operand refers to an entry of its record, and is of the kind that the record says
 //! (`IsMove`).
 //!
+//! Who asks for single moves need not know in which form a statement keeps its moves:
+//!
+//! - [`Singles`] gives the single moves of a paragraph's statements one behind another, each as a [`SingleMove`]: what is sent, and one occurrence that
+//!   receives it (`singles_of` of specs/Singles.antt). [`single_at`] gives one of a statement. The law [`singles_of_moves`] says that they are those of the
+//!   moves that the statements mean: each sender of these with each of its receivers.
+//! - [`Senders`] gives what the moves send, each move once (`senders_of`). The law [`senders_of_moves`] says so.
+//!
 //! It takes no memory.
 #![tactic(auto)]
 
+mod laws;
 mod operands;
+mod senders;
+mod single;
+mod singles;
 
+pub use laws::{senders_of_moves, singles_of_moves};
 pub use operands::{Move, NumberedPair, Operand, PairMoves, Sender, Side, StatementMoves};
+pub use senders::Senders;
+pub use single::{Element, Sent, SingleMove, single_at};
+pub use singles::Singles;

@@ -15,7 +15,7 @@ use Rattle.cob_move_data.specs.declared.operands.StatementMoves.{StatementMoves}
 use Rattle.cob_move_data.specs.declared.operands.StatementMoves.TheVariants.{Pairs, Single}
 use Rattle.cob_layout_places.specs.declared.reference.Ref.{Ref}
 use Rattle.cob_layout.specs.declared.fields.Place.{Place}
-use Rattle.cob_back_moves.specs.Received.{occurrence, occurrence_by}
+use Rattle.cob_move_data.specs.Singles.{occurrence, occurrence_by}
 use Rattle.cob_report_cover.specs.Gathered.{Joins}
 use Rattle.cob_report_cover.specs.Statements.{group_senders, if_input, pair_receiver, pair_sender, receivers_by, sender_occurrence, senders_by}
 use Rattle.cob_report_cover.proofs.PlaceLemmas.{on_ok_as}

@@ -11,7 +11,7 @@ use Rattle.cob_layout.specs.Counting.{greatest_counts}
 use Rattle.cob_layout.specs.Placed.{element_under, placed, placed_under}
 use Rattle.cob_layout.specs.declared.fields.Place.{Place}
 use Rattle.cob_layout.specs.declared.layout.PlaceFault.{PlaceFault}
-use Rattle.cob_back_moves.specs.Received.{occurrence, occurrence_by}
+use Rattle.cob_move_data.specs.Singles.{occurrence, occurrence_by}
 use Rattle.cob_report_cover.specs.Gathered.{HasPlace, Joins, answered}
 use Rattle.cob_report_cover.proofs.GatherLemmas.{found_at, joins_one, place_at, same_some}
 

@@ -18,8 +18,7 @@ use Rattle.cob_move_data.specs.declared.operands.Side.TheVariants.{In, Out}
 use Rattle.cob_move_data.specs.declared.operands.StatementMoves.{StatementMoves}
 use Rattle.cob_move_data.specs.declared.operands.StatementMoves.TheVariants.{Pairs, Single}
 use Rattle.cob_layout_places.specs.declared.reference.Ref.{Ref}
-use Rattle.cob_back_moves.specs.Received.{occurrence_by}
-use Rattle.cob_back_moves.specs.Singles.{occurrence_of}
+use Rattle.cob_move_data.specs.Singles.{occurrence_by, occurrence_of}
 use Rattle.cob_report_cover.specs.Gathered.{input_of, received_in, receivers_of, sent_in}
 use Rattle.cob_report_cover.specs.Statements.{if_input, pair_receiver, pair_sender, receivers_by, sender_occurrence, senders_by}
 

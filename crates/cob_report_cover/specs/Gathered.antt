@@ -13,7 +13,7 @@ use Rattle.cob_layout.specs.Counting.{greatest_counts}
 use Rattle.cob_layout.specs.declared.fields.Place.{Place}
 use Rattle.cob_layout.specs.declared.layout.PlaceFault.{PlaceFault}
 use Rattle.cob_move_apply.specs.Some.{SomeOf}
-use Rattle.cob_back_moves.specs.Singles.{occurrence_of}
+use Rattle.cob_move_data.specs.Singles.{occurrence_of}
 
 -- The occurrence stands at this place of the record where each table has its greatest number of elements.
 pub record HasPlace (tree : Forest Resolved) (x : Occurrence) (p : Place) : Type 0 where

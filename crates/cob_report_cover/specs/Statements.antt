@@ -9,7 +9,7 @@ use Rattle.cob_move_data.specs.declared.operands.Side.{Side}
 use Rattle.cob_move_data.specs.declared.operands.Side.TheVariants.{In, Out}
 use Rattle.cob_move_data.specs.declared.operands.StatementMoves.{StatementMoves}
 use Rattle.cob_move_data.specs.declared.operands.StatementMoves.TheVariants.{Pairs, Single}
-use Rattle.cob_back_moves.specs.Received.{occurrence, occurrence_by}
+use Rattle.cob_move_data.specs.Singles.{occurrence, occurrence_by}
 
 -- the receiving entry of a pair of two groups
 abbrev pub pair_receiver : PairMoves → NumberedPair → Occurrence

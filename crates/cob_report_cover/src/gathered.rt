@@ -5,7 +5,7 @@ ghost use Rattle.std.specs.List.{flat_map};
 ghost use Rattle.cob_layout.specs.declared.fields.Place.{Place as SeenPlace};
 ghost use Rattle.cob_layout_places.specs.References.{Refers};
 ghost use Rattle.cob_back_moves.specs.Brought.{moves_between};
-ghost use Rattle.cob_back_moves.specs.Received.{occurrence, occurrence_by};
+ghost use Rattle.cob_move_data.specs.Singles.{occurrence, occurrence_by};
 ghost use Rattle.cob_report_cover.specs.Gathered.{Gathers, HasPlace, Joins, answered, received_in, sent_in};
 ghost use Rattle.cob_report_cover.specs.Statements.{group_senders, pair_receiver, pair_sender, receivers_by, sender_occurrence, senders_by};
 

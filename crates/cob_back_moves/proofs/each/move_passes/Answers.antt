@@ -3,7 +3,7 @@ use Rattle.std.specs.Bool.{Decides}
 use Rattle.std.specs.List.{AllByRecursion}
 use Rattle.cob_layout_places.specs.declared.reference.Ref.{Ref}
 use Rattle.cob_move_data.specs.Moves.{IsOperand, operand_in, sender_by}
-use Rattle.cob_back_moves.specs.Singles.{SingleMove}
+use Rattle.cob_move_data.specs.Singles.{SingleMove}
 use Rattle.cob_back_moves.specs.Tested.{PassesTest, move_single, layout_records}
 use Rattle.cob_back_moves.proofs.EachLemmas.{is_single, of_move, receiver_at}
 use Rattle.cob_back_moves.proofs.LeftLemmas.{cuts_each, decides_by, left_fails, left_next, left_none, never}

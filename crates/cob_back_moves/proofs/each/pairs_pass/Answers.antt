@@ -3,7 +3,7 @@ use Rattle.std.specs.Bool.{Decides}
 use Rattle.std.specs.List.{AllByRecursion}
 use Rattle.cob_move_data.specs.declared.operands.NumberedPair.{NumberedPair}
 use Rattle.cob_move_data.specs.Moves.{AreMoves, numbered_move_by}
-use Rattle.cob_back_moves.specs.Singles.{SingleMove}
+use Rattle.cob_move_data.specs.Singles.{SingleMove}
 use Rattle.cob_back_moves.specs.Tested.{PassesTest, pair_single, layout_records}
 use Rattle.cob_move_apply.proofs.ListLemmas.{read_is}
 use Rattle.cob_back_moves.proofs.EachLemmas.{none, is_single, of_pairs, pair_at}

@@ -1,6 +1,6 @@
 use Rattle.std.proofs.Common.{List, ℕ, subst}
 use Rattle.cob_back_moves.specs.Noting.{BeginsAt}
-use Rattle.cob_back_moves.specs.Received.{occurrence}
+use Rattle.cob_move_data.specs.Singles.{occurrence}
 use Rattle.cob_back_moves.proofs.NotedLemmas.{if_none_then}
 use Rattle.cob_back_moves.proofs.noted.note.Goals as goal
 

@@ -1,9 +1,9 @@
 use Rattle.std.proofs.Common.{List, [], ◌∷◌, refl, rules, subst}
 use Rattle.cob_move_data.specs.Moves.{operand_in}
 use Rattle.cob_layout_places.specs.declared.reference.Ref.{Ref}
-use Rattle.cob_back_moves.specs.Singles.{SingleMove}
+use Rattle.cob_move_data.specs.Singles.{SingleMove, occurrence_by}
 use Rattle.cob_back_moves.specs.Noting.{NotesFirst}
-use Rattle.cob_back_moves.specs.Received.{occurrence_by, singles_to}
+use Rattle.cob_back_moves.specs.Received.{singles_to}
 use Rattle.cob_back_moves.proofs.NotedLemmas.{noted_all, noted_next, noted_step, unless_some}
 use Rattle.cob_back_moves.proofs.noted.note_receivers.Goals as goal
 

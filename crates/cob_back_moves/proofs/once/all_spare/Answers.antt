@@ -1,8 +1,8 @@
 use Rattle.std.proofs.Common.{List, rules}
 use Rattle.cob_move_data.specs.declared.operands.StatementMoves.{StatementMoves}
 use Rattle.cob_move_data.specs.Moves.{moves_by}
-use Rattle.cob_back_moves.specs.Singles.{all_singles}
-use Rattle.cob_back_moves.specs.Received.{Spares, occurrence}
+use Rattle.cob_move_data.specs.Singles.{all_singles, occurrence}
+use Rattle.cob_back_moves.specs.Received.{Spares}
 use Rattle.cob_back_moves.proofs.EachLemmas.{of_statement}
 use Rattle.cob_back_moves.proofs.LeftLemmas.{left_fails, left_next, left_none, never}
 use Rattle.cob_back_moves.proofs.OnceLemmas.{cuts_spares}

@@ -1,7 +1,8 @@
 use Rattle.std.proofs.Common.{List, rules}
 use Rattle.std.specs.List.{AllByRecursion}
 use Rattle.cob_layout_places.specs.declared.reference.Ref.{Ref}
-use Rattle.cob_back_moves.specs.Received.{IsElsewhere, occurrence}
+use Rattle.cob_move_data.specs.Singles.{occurrence}
+use Rattle.cob_back_moves.specs.Received.{IsElsewhere}
 use Rattle.cob_back_moves.proofs.LeftLemmas.{cuts_each, left_fails, left_next, left_none, never}
 use Rattle.cob_back_moves.proofs.once.are_elsewhere.Goals as goal
 

@@ -2,7 +2,8 @@ use Rattle.std.proofs.Common.{List, ◌++◌, subst}
 use Rattle.std.proofs.lemmas.Bool.Decides.{not_from_Decides}
 use Rattle.cob_move_data.specs.declared.operands.StatementMoves.{StatementMoves}
 use Rattle.cob_move_data.specs.Moves.{moves_by}
-use Rattle.cob_back_moves.specs.Singles.{ReceiveOnce, all_singles}
+use Rattle.cob_move_data.specs.Singles.{all_singles}
+use Rattle.cob_back_moves.specs.Singles.{ReceiveOnce}
 use Rattle.cob_back_moves.proofs.OnceLemmas.{once_behind}
 use Rattle.cob_back_moves.proofs.SomeLemmas.{parts}
 use Rattle.cob_back_moves.proofs.once.once_from.Goals as goal

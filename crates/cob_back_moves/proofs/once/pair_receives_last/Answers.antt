@@ -1,8 +1,8 @@
 use Rattle.std.proofs.Common.{List, ℕ, subst, rules}
 use Rattle.std.specs.Bool.{Decides}
 use Rattle.cob_move_data.specs.Moves.{moves_by}
-use Rattle.cob_back_moves.specs.Singles.{all_singles}
-use Rattle.cob_back_moves.specs.Received.{Spares, occurrence}
+use Rattle.cob_move_data.specs.Singles.{all_singles, occurrence}
+use Rattle.cob_back_moves.specs.Received.{Spares}
 use Rattle.cob_back_moves.proofs.LeftLemmas.{never}
 use Rattle.cob_back_moves.proofs.OnceLemmas.{LastPair, pair_again, pair_spared}
 use Rattle.cob_back_moves.proofs.once.pair_receives_last.Goals as goal

@@ -1,7 +1,7 @@
 use Rattle.std.proofs.Common.{List, map, rules}
 use Rattle.cob_move_data.specs.declared.operands.NumberedPair.{NumberedPair}
 use Rattle.cob_move_data.specs.Moves.{moves_by, numbered_move_by}
-use Rattle.cob_back_moves.specs.Singles.{all_singles}
+use Rattle.cob_move_data.specs.Singles.{all_singles}
 use Rattle.cob_back_moves.specs.Received.{OnceBefore}
 use Rattle.cob_back_moves.proofs.LeftLemmas.{never, rest_fails, rest_next, rest_none}
 use Rattle.cob_back_moves.proofs.OnceLemmas.{LastPair, cuts_pairs}

@@ -1,7 +1,8 @@
 use Rattle.std.proofs.Common.{List, rules}
 use Rattle.cob_move_data.specs.declared.operands.StatementMoves.{StatementMoves}
 use Rattle.cob_move_data.specs.Moves.{moves_by}
-use Rattle.cob_back_moves.specs.Singles.{ReceiveOnce, all_singles}
+use Rattle.cob_move_data.specs.Singles.{all_singles}
+use Rattle.cob_back_moves.specs.Singles.{ReceiveOnce}
 use Rattle.cob_back_moves.proofs.LeftLemmas.{never, rest_fails, rest_next, rest_none}
 use Rattle.cob_back_moves.proofs.OnceLemmas.{LastStatement, cuts_once}
 use Rattle.cob_back_moves.proofs.once.receive_once.Goals as goal

@@ -1,7 +1,8 @@
 use Rattle.std.proofs.Common.{length}
 use Rattle.cob_codec.specs.declared.reading.Reading.{Reading}
 use Rattle.cob_move_data.specs.Moves.{Records, moves_by}
-use Rattle.cob_back_moves.specs.Singles.{ReceiveOnce, all_singles}
+use Rattle.cob_move_data.specs.Singles.{all_singles}
+use Rattle.cob_back_moves.specs.Singles.{ReceiveOnce}
 use Rattle.cob_back_moves.proofs.LeftLemmas.{Both}
 use Rattle.cob_back_moves.proofs.once.receive_once.Given as goal
 

@@ -1,7 +1,7 @@
 use Rattle.std.proofs.Common.{List, map, rules}
 use Rattle.cob_layout_places.specs.declared.reference.Ref.{Ref}
 use Rattle.cob_move_data.specs.Moves.{moves_by, operand_in}
-use Rattle.cob_back_moves.specs.Singles.{all_singles, singles_from}
+use Rattle.cob_move_data.specs.Singles.{all_singles, singles_from}
 use Rattle.cob_back_moves.specs.Received.{OnceBefore}
 use Rattle.cob_back_moves.proofs.LeftLemmas.{never, rest_fails, rest_next, rest_none}
 use Rattle.cob_back_moves.proofs.OnceLemmas.{LastReceiver, cuts_receivers}

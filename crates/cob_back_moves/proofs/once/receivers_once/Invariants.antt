@@ -1,7 +1,7 @@
 use Rattle.std.proofs.Common.{length, map}
 use Rattle.cob_codec.specs.declared.reading.Reading.{Reading}
 use Rattle.cob_move_data.specs.Moves.{Records, Sender, moves_by, operand_in}
-use Rattle.cob_back_moves.specs.Singles.{all_singles, singles_from}
+use Rattle.cob_move_data.specs.Singles.{all_singles, singles_from}
 use Rattle.cob_back_moves.specs.Received.{OnceBefore}
 use Rattle.cob_back_moves.proofs.LeftLemmas.{Both}
 use Rattle.cob_back_moves.proofs.once.receivers_once.Given as goal

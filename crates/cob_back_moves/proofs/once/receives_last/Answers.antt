@@ -2,8 +2,8 @@ use Rattle.std.proofs.Common.{List, ℕ, subst, rules}
 use Rattle.std.specs.Bool.{Decides}
 use Rattle.std.specs.List.{AllByRecursion}
 use Rattle.cob_move_data.specs.Moves.{moves_by}
-use Rattle.cob_back_moves.specs.Singles.{all_singles}
-use Rattle.cob_back_moves.specs.Received.{IsElsewhere, Spares, occurrence}
+use Rattle.cob_move_data.specs.Singles.{all_singles, occurrence}
+use Rattle.cob_back_moves.specs.Received.{IsElsewhere, Spares}
 use Rattle.cob_back_moves.proofs.LeftLemmas.{never}
 use Rattle.cob_back_moves.proofs.OnceLemmas.{LastReceiver, receiver_again, receiver_spared}
 use Rattle.cob_back_moves.proofs.once.receives_last.Goals as goal

@@ -3,7 +3,7 @@ use Rattle.std.specs.Bool.{Decides}
 use Rattle.cob_layout_places.specs.declared.reference.Ref.{Ref}
 use Rattle.cob_move_data.specs.declared.operands.StatementMoves.{StatementMoves}
 use Rattle.cob_move_data.specs.Moves.{moves_by, operand_in, sender_by}
-use Rattle.cob_back_moves.specs.Singles.{all_singles, singles_from}
+use Rattle.cob_move_data.specs.Singles.{all_singles, singles_from}
 use Rattle.cob_back_moves.specs.Received.{OnceBefore}
 use Rattle.cob_back_moves.proofs.EachLemmas.{of_statement}
 use Rattle.cob_back_moves.proofs.LeftLemmas.{decides_by}

@@ -4,7 +4,8 @@ use Rattle.std.specs.List.{AllByRecursion}
 use Rattle.cob_layout_places.specs.declared.reference.Ref.{Ref}
 use Rattle.cob_move_data.specs.declared.operands.StatementMoves.{StatementMoves}
 use Rattle.cob_move_data.specs.Moves.{sender_by}
-use Rattle.cob_back_moves.specs.Received.{IsElsewhere, Spares, occurrence}
+use Rattle.cob_move_data.specs.Singles.{occurrence}
+use Rattle.cob_back_moves.specs.Received.{IsElsewhere, Spares}
 use Rattle.cob_back_moves.proofs.EachLemmas.{of_statement}
 use Rattle.cob_back_moves.proofs.LeftLemmas.{decides_by}
 use Rattle.cob_back_moves.proofs.OnceLemmas.{spares_move}

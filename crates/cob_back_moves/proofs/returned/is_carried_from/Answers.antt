@@ -1,6 +1,6 @@
 use Rattle.std.proofs.Common.{rules}
 use Rattle.cob_back_moves.specs.Brought.{occurrence_at}
-use Rattle.cob_back_moves.specs.Received.{occurrence}
+use Rattle.cob_move_data.specs.Singles.{occurrence}
 use Rattle.cob_back_moves.specs.Tested.{single_of}
 use Rattle.cob_back_moves.proofs.ReturnedLemmas.{carried, not_carried}
 use Rattle.cob_back_moves.proofs.returned.is_carried_from.Goals as goal

@@ -1,5 +1,5 @@
 use Rattle.cob_back_moves.specs.Brought.{singles_in}
-use Rattle.cob_back_moves.specs.Received.{occurrence}
+use Rattle.cob_move_data.specs.Singles.{occurrence}
 use Rattle.cob_back_moves.proofs.ReturnedLemmas.{returned}
 use Rattle.cob_back_moves.proofs.returned.is_returned.Goals as goal
 

@@ -1,6 +1,6 @@
 use Rattle.std.proofs.Common.{drop}
 use Rattle.cob_move_data.specs.Moves.{AreMoves}
-use Rattle.cob_back_moves.specs.Singles.{all_singles}
+use Rattle.cob_move_data.specs.Singles.{all_singles}
 use Rattle.cob_back_moves.specs.Brought.{moves_between}
 use Rattle.cob_move_apply.specs.Some.{SomeOf}
 use Rattle.cob_back_moves.specs.Tested.{layout_records}

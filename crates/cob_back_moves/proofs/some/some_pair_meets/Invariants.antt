@@ -1,6 +1,6 @@
 use Rattle.std.proofs.Common.{drop, map}
 use Rattle.cob_move_data.specs.Moves.{AreMoves, numbered_move_by}
-use Rattle.cob_back_moves.specs.Singles.{all_singles}
+use Rattle.cob_move_data.specs.Singles.{all_singles}
 use Rattle.cob_move_apply.specs.Some.{SomeOf}
 use Rattle.cob_back_moves.specs.Tested.{layout_records}
 use Rattle.cob_back_moves.proofs.LeftLemmas.{Both}

@@ -1,7 +1,7 @@
 use Rattle.std.proofs.Common.{drop, map}
 use Rattle.std.specs.List.{AllByRecursion}
 use Rattle.cob_move_data.specs.Moves.{IsOperand, operand_in, sender_by}
-use Rattle.cob_back_moves.specs.Singles.{singles_from}
+use Rattle.cob_move_data.specs.Singles.{singles_from}
 use Rattle.cob_move_apply.specs.Some.{SomeOf}
 use Rattle.cob_back_moves.specs.Tested.{layout_records}
 use Rattle.cob_back_moves.proofs.LeftLemmas.{Both}

@@ -1,4 +1,4 @@
-use Rattle.cob_back_moves.specs.Received.{occurrence}
+use Rattle.cob_move_data.specs.Singles.{occurrence}
 use Rattle.cob_report_cover.proofs.GatherLemmas.{joins_nowhere}
 use Rattle.cob_report_cover.proofs.PlaceLemmas.{joins_pushed, on_ok_as}
 use Rattle.cob_report_cover.proofs.gathered.add.Goals as goal

@@ -1,5 +1,5 @@
 use Rattle.std.proofs.Common.{arith}
-use Rattle.cob_back_moves.specs.Received.{occurrence_by}
+use Rattle.cob_move_data.specs.Singles.{occurrence_by}
 use Rattle.cob_report_cover.proofs.GatherLemmas.{joins_all, joins_next, joins_none}
 use Rattle.cob_report_cover.proofs.gathered.add_receivers.Goals as goal
 

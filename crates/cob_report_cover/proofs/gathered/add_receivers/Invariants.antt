@@ -1,5 +1,5 @@
 use Rattle.std.proofs.Common.{map, take}
-use Rattle.cob_back_moves.specs.Received.{occurrence_by}
+use Rattle.cob_move_data.specs.Singles.{occurrence_by}
 use Rattle.cob_report_cover.specs.Gathered.{Joins}
 use Rattle.cob_report_cover.proofs.gathered.add_receivers.Given as goal
 

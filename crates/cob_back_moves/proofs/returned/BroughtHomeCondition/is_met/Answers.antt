@@ -1,5 +1,5 @@
 use Rattle.cob_back_moves.specs.Brought.{occurrence_at, singles_in}
-use Rattle.cob_back_moves.specs.Received.{occurrence}
+use Rattle.cob_move_data.specs.Singles.{occurrence}
 use Rattle.cob_back_moves.specs.Tested.{single_of}
 use Rattle.cob_back_moves.proofs.ReturnedLemmas.{home, never_home}
 use Rattle.cob_back_moves.proofs.returned.BroughtHomeCondition.is_met.Goals as goal

@@ -1,5 +1,5 @@
 use Rattle.cob_back_moves.specs.Brought.{occurrence_at}
-use Rattle.cob_back_moves.specs.Received.{occurrence}
+use Rattle.cob_move_data.specs.Singles.{occurrence}
 use Rattle.cob_back_moves.specs.Tested.{single_of}
 use Rattle.cob_back_moves.proofs.ReturnedLemmas.{never_carried}
 use Rattle.cob_back_moves.proofs.returned.CarriedCondition.is_met.Goals as goal
