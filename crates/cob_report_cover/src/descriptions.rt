@@ -6,7 +6,8 @@ use crate::occurrences::occurrence_with;
 use cob_back_losses::{Gets, Unkept};
 use cob_back_moves::Layouts;
 use cob_copybook_tree::Value;
-use cob_report_lossless::{Sent, Single};
+use cob_move_data::Sent;
+use cob_report_lossless::LinedSingle;
 use cob_report_words::{ConstantText, DescribedText, GotText, Named};
 use std::fmt;
 
@@ -14,7 +15,7 @@ use std::fmt;
 #[derive(Clone, Copy)]
 pub(crate) struct Undescribed<'a> {
     pub(crate) layouts: Layouts<'a>,
-    pub(crate) single: Single<'a>,
+    pub(crate) single: LinedSingle<'a>,
     pub(crate) unkept: Unkept,
 }
 
@@ -61,7 +62,7 @@ impl Undescribed<'_> {
 
 impl fmt::Display for Undescribed<'_> {
     fn fmt<W: fmt::Write>(&self, f: &mut fmt::Formatter<W>) -> fmt::Result {
-        let Single {
+        let LinedSingle {
             line,
             sent,
             receiver,

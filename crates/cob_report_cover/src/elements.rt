@@ -3,8 +3,7 @@
 use cob_back_moves::Layouts;
 use cob_copybook_tree::Value;
 use cob_layout::Layout;
-use cob_move_data::Side;
-use cob_report_lossless::{Element, Sent};
+use cob_move_data::{Element, Sent, Side};
 use cob_report_words::{ConstantText, DescribedText, Named, PictureText};
 use std::fmt;
 

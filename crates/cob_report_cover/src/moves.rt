@@ -3,20 +3,21 @@
 use crate::elements::{layout_of, write_pictured};
 use cob_back_losses::Losses;
 use cob_back_moves::Layouts;
-use cob_report_lossless::{Sent, Single};
+use cob_move_data::Sent;
+use cob_report_lossless::LinedSingle;
 use std::fmt;
 
 /// A single move that may lose something.
 #[derive(Clone, Copy)]
 pub(crate) struct Losing<'a> {
     pub(crate) layouts: Layouts<'a>,
-    pub(crate) single: Single<'a>,
+    pub(crate) single: LinedSingle<'a>,
     pub(crate) losses: Losses,
 }
 
 impl fmt::Display for Losing<'_> {
     fn fmt<W: fmt::Write>(&self, f: &mut fmt::Formatter<W>) -> fmt::Result {
-        let Single {
+        let LinedSingle {
             line,
             sent,
             receiver,

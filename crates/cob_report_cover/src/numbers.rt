@@ -7,7 +7,8 @@ ghost use Rattle.cob_report_cover.specs.Numbers.{MayHaveNoNumber, has_characters
 use crate::elements::{layout_of, write_element, write_sent};
 use cob_back_moves::Layouts;
 use cob_copybook_tree::Kind;
-use cob_report_lossless::{Sent, Single};
+use cob_move_data::Sent;
+use cob_report_lossless::LinedSingle;
 use cob_report_words::entry_of;
 use std::fmt;
 
@@ -15,7 +16,7 @@ use std::fmt;
 #[derive(Clone, Copy)]
 pub(crate) struct Numberless<'a> {
     layouts: Layouts<'a>,
-    single: Single<'a>,
+    single: LinedSingle<'a>,
 }
 
 /// Whether an entry of this kind is an item that shows a number.
@@ -48,7 +49,7 @@ fn may_have_no_number(from: &Kind, to: &Kind) -> bool
 /// What is told of a single move that may have no number.
 pub(crate) fn told_numberless<'a>(
     layouts: &Layouts<'a>,
-    single: &Single<'a>,
+    single: &LinedSingle<'a>,
 ) -> Option<Numberless<'a>> {
     let Sent::Entry { side, entry } = single.sent else {
         return None;
@@ -66,7 +67,7 @@ pub(crate) fn told_numberless<'a>(
 
 impl fmt::Display for Numberless<'_> {
     fn fmt<W: fmt::Write>(&self, f: &mut fmt::Formatter<W>) -> fmt::Result {
-        let Single {
+        let LinedSingle {
             line,
             sent,
             receiver,

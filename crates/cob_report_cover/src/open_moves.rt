@@ -5,14 +5,14 @@ use crate::losses::losses_in;
 use crate::moves::Losing;
 use crate::numbers::told_numberless;
 use cob_back_losses::descriptions_lost;
-use cob_report_lossless::{LinedMoves, Single, singles_of};
+use cob_report_lossless::{LinedMoves, LinedSingle, singles_of};
 use std::alloc::{AllocError, Global};
 
 /// Adds a line for each single move that may lose digits, characters or a sign.
 fn push_losing(
     alloc: Global,
     moves: &LinedMoves<'_>,
-    singles: &[Single<'_>],
+    singles: &[LinedSingle<'_>],
     text: &mut String,
 ) -> Result<(), AllocError> {
     let losses = losses_in(alloc, &moves.moves)?;
@@ -34,7 +34,7 @@ fn push_losing(
 fn push_undescribed(
     alloc: Global,
     moves: &LinedMoves<'_>,
-    singles: &[Single<'_>],
+    singles: &[LinedSingle<'_>],
     text: &mut String,
 ) -> Result<(), AllocError> {
     let lost = descriptions_lost(alloc, &moves.moves)?;
@@ -56,7 +56,7 @@ fn push_undescribed(
 fn push_numberless(
     alloc: Global,
     moves: &LinedMoves<'_>,
-    singles: &[Single<'_>],
+    singles: &[LinedSingle<'_>],
     text: &mut String,
 ) -> Result<(), AllocError> {
     for single in singles {

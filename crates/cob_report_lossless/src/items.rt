@@ -1,9 +1,10 @@
 //! Why an occurrence of an item doesn't come back.
 
 use crate::lacks::{Lack, lack_of};
-use crate::singles::{Element, Sent, Single, is_moved, is_sent, receiving};
+use crate::singles::{LinedSingle, is_moved, is_sent, receiving};
 use cob_copybook_tree::{Item, Node};
 use cob_limits::MAX_RECORD;
+use cob_move_data::{Element, Sent};
 use cob_report_words::{Subscripts, advance, first_subscripts, item_of, tables_over};
 
 /// Why an occurrence of an item doesn't come back.
@@ -15,13 +16,13 @@ pub(crate) enum Stay<'a> {
     NotReceived,
     /// It receives this one back, which receives something else there, or nothing.
     Other {
-        home: Single<'a>,
+        home: LinedSingle<'a>,
         away: Element<'a>,
-        out: Option<Single<'a>>,
+        out: Option<LinedSingle<'a>>,
     },
     /// It is moved by this single move to an item that lacks something.
     Lacking {
-        out: Single<'a>,
+        out: LinedSingle<'a>,
         lack: Lack,
     },
 }
@@ -29,13 +30,13 @@ pub(crate) enum Stay<'a> {
 /// The single moves there and back, and the output record there.
 #[derive(Clone, Copy)]
 pub(crate) struct Ways<'s, 'a> {
-    pub(crate) there: &'s [Single<'a>],
-    pub(crate) back: &'s [Single<'a>],
+    pub(crate) there: &'s [LinedSingle<'a>],
+    pub(crate) back: &'s [LinedSingle<'a>],
     pub(crate) output: &'a Node,
 }
 
 /// What the receiver of a single move lacks to lose nothing of an item.
-fn lacking<'a>(output: &Node, item: &Item, out: Single<'a>) -> Option<Stay<'a>> {
+fn lacking<'a>(output: &Node, item: &Item, out: LinedSingle<'a>) -> Option<Stay<'a>> {
     let other = item_of(output, out.receiver.number)?;
     let lack = lack_of(item, other)?;
     Some(Stay::Lacking { out, lack })

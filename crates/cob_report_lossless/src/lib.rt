@@ -22,6 +22,6 @@ mod storage;
 mod words;
 
 pub use lacks::{Lack, lack_of};
-pub use lines::lines_of;
+pub use lines::{line_at, lines_of};
 pub use reasons::{LinedMoves, Position, Reason, ToldLoss, told_loss};
-pub use singles::{Element, Sent, Single, singles_of};
+pub use singles::{LinedSingle, singles_of};

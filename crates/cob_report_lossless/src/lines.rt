@@ -32,3 +32,11 @@ pub fn lines_of(alloc: Global, text: &[u8]) -> Result<Vec<u32>, MoveFault>
     let lines = first_lines(alloc, statements.as_slice())?;
     Ok(lines)
 }
+
+/// The line of the statement with this number, from 0.
+pub fn line_at(lines: &[u32], statement: usize) -> u32 {
+    match lines.get(statement) {
+        Some(line) => *line,
+        None => 0,
+    }
+}

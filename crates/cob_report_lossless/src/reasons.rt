@@ -2,12 +2,12 @@
 
 use crate::items::{Stay, Ways, first_stay};
 use crate::lacks::Lack;
-use crate::singles::{Element, Sent, Single, singles_of, twice};
+use crate::singles::{LinedSingle, singles_of, twice};
 use crate::storage::first_otherwise;
 use cob_back_moves::{Loss, MovesBetween, Way};
 use cob_copybook_tree::{Item, Kind, Name, Node, Usage, Value};
 use cob_layout::Layout;
-use cob_move_data::Side;
+use cob_move_data::{Element, Sent, Side};
 use cob_report_words::{Named, entry_of};
 use std::alloc::{AllocError, Global};
 
@@ -137,7 +137,7 @@ fn told_storage<'a>(moves: &MovesBetween<'a>, way: Way) -> Option<ToldLoss<'a>> 
 }
 
 /// Why what a single move sends is no item of the input record.
-fn told_sender<'a>(moves: &MovesBetween<'a>, single: &Single<'a>) -> Option<Reason<'a>> {
+fn told_sender<'a>(moves: &MovesBetween<'a>, single: &LinedSingle<'a>) -> Option<Reason<'a>> {
     match single.sent {
         Sent::Constant(Value::Figurative(_)) => Some(Reason::Figurative(named_in(
             moves.layouts.output,
@@ -161,7 +161,7 @@ fn told_sender<'a>(moves: &MovesBetween<'a>, single: &Single<'a>) -> Option<Reas
 }
 
 /// Why a single move isn't elementary.
-fn told_operand<'a>(moves: &MovesBetween<'a>, single: &Single<'a>) -> Option<Reason<'a>> {
+fn told_operand<'a>(moves: &MovesBetween<'a>, single: &LinedSingle<'a>) -> Option<Reason<'a>> {
     if let Some(reason) = told_sender(moves, single) {
         return Some(reason);
     }
@@ -172,7 +172,7 @@ fn told_operand<'a>(moves: &MovesBetween<'a>, single: &Single<'a>) -> Option<Rea
 }
 
 /// Why a single move may read more than its sender's picture says.
-fn told_reading<'a>(moves: &MovesBetween<'a>, single: &Single<'a>) -> Option<Reason<'a>> {
+fn told_reading<'a>(moves: &MovesBetween<'a>, single: &LinedSingle<'a>) -> Option<Reason<'a>> {
     let Sent::Entry { entry, .. } = single.sent else {
         return None;
     };
@@ -184,7 +184,7 @@ fn told_reading<'a>(moves: &MovesBetween<'a>, single: &Single<'a>) -> Option<Rea
 }
 
 /// Why the receiver of a single move has no name.
-fn told_name<'a>(moves: &MovesBetween<'a>, single: &Single<'a>) -> Option<Reason<'a>> {
+fn told_name<'a>(moves: &MovesBetween<'a>, single: &LinedSingle<'a>) -> Option<Reason<'a>> {
     let entry = entry_of(moves.layouts.output.root(), single.receiver.number)?;
     if entry.name.is_some() {
         return None;
@@ -207,7 +207,7 @@ enum Asked {
 fn told_single<'a>(
     asked: Asked,
     moves: &MovesBetween<'a>,
-    singles: &[Single<'a>],
+    singles: &[LinedSingle<'a>],
     way: Way,
 ) -> Option<ToldLoss<'a>> {
     for single in singles {
@@ -226,7 +226,7 @@ fn told_single<'a>(
 /// Which occurrence receives twice in these single moves.
 fn told_twice<'a>(
     moves: &MovesBetween<'a>,
-    singles: &[Single<'a>],
+    singles: &[LinedSingle<'a>],
     way: Way,
 ) -> Option<ToldLoss<'a>> {
     let (first, again) = twice(singles)?;
@@ -242,11 +242,11 @@ fn told_other<'a>(
     moves: &MovesBetween<'a>,
     item: Named<'a>,
     away: Element<'a>,
-    out: Option<Single<'a>>,
+    out: Option<LinedSingle<'a>>,
 ) -> Reason<'a> {
     let other = match out {
         Some(
-            Single {
+            LinedSingle {
                 sent: Sent::Entry { entry, .. },
                 ..
             },
@@ -264,7 +264,7 @@ fn told_other<'a>(
 fn told_lack<'a>(
     moves: &MovesBetween<'a>,
     item: Named<'a>,
-    out: Single<'a>,
+    out: LinedSingle<'a>,
     lack: Lack,
 ) -> Option<ToldLoss<'a>> {
     let own = item.item()?;
@@ -307,8 +307,8 @@ fn told_stay<'a>(
 /// Why the first occurrence of an item doesn't come back that doesn't.
 fn told_item<'a>(
     moves: &MovesBetween<'a>,
-    there: &[Single<'a>],
-    back: &[Single<'a>],
+    there: &[LinedSingle<'a>],
+    back: &[LinedSingle<'a>],
     number: usize,
 ) -> Option<ToldLoss<'a>> {
     let root: &'a Node = moves.layouts.input.root();

@@ -1,10 +1,10 @@
 //! The lines between the boxes of senders and of receivers.
 
 use crate::lost::Lost;
-use cob_move_data::Side;
+use cob_move_data::{Element, Sent, Side};
 use cob_report_boxes::{Drawn, EscapedConstant};
 use cob_report_html::Line;
-use cob_report_lossless::{Element, Sent, Single};
+use cob_report_lossless::LinedSingle;
 use cob_report_words::Named;
 use std::fmt;
 
@@ -53,7 +53,7 @@ impl fmt::Display for EscapedSent<'_, '_> {
 }
 
 /// The receiver of a single move.
-pub(crate) fn receiver_of<'a>(sides: &'a Sides<'_>, single: Single<'_>) -> Named<'a> {
+pub(crate) fn receiver_of<'a>(sides: &'a Sides<'_>, single: LinedSingle<'_>) -> Named<'a> {
     named_in(sides, Side::Out, single.receiver)
 }
 
@@ -89,7 +89,7 @@ fn write_losses<W: fmt::Write>(f: &mut fmt::Formatter<W>, lost: Lost) -> fmt::Re
 fn write_title<'a, W: fmt::Write>(
     f: &mut fmt::Formatter<W>,
     sides: &Sides<'a>,
-    single: Single<'a>,
+    single: LinedSingle<'a>,
     count: usize,
     lost: Lost,
 ) -> fmt::Result {
@@ -172,7 +172,7 @@ fn write_constant<W: fmt::Write>(
 fn write_shape<'a, W: fmt::Write>(
     f: &mut fmt::Formatter<W>,
     sides: &Sides<'a>,
-    single: Single<'a>,
+    single: LinedSingle<'a>,
 ) -> fmt::Result {
     let to = sides.output.middle(single.receiver.number);
     match single.sent {
@@ -195,7 +195,7 @@ fn write_shape<'a, W: fmt::Write>(
 pub fn write_line<'a, W: fmt::Write>(
     f: &mut fmt::Formatter<W>,
     sides: &Sides<'a>,
-    single: Single<'a>,
+    single: LinedSingle<'a>,
     count: usize,
     lost: Lost,
 ) -> fmt::Result {

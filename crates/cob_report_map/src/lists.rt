@@ -5,7 +5,7 @@ use crate::lost::Lost;
 use cob_layout::{Kind, Node};
 use cob_report_boxes::{Drawn, spot_of, told_length};
 use cob_report_html::bare_length;
-use cob_report_lossless::Single;
+use cob_report_lossless::LinedSingle;
 use cob_report_words::Named;
 use std::fmt;
 
@@ -13,7 +13,7 @@ use std::fmt;
 pub fn write_move<'a, W: fmt::Write>(
     f: &mut fmt::Formatter<W>,
     sides: &Sides<'a>,
-    single: Single<'a>,
+    single: LinedSingle<'a>,
     count: usize,
     lost: Lost,
 ) -> fmt::Result {

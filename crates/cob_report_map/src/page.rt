@@ -14,10 +14,10 @@ use crate::style::{
 };
 use cob_back_losses::{Losses, Unkept};
 use cob_layout::{Layout, Spot};
-use cob_move_data::StatementMoves;
+use cob_move_data::{Sent, StatementMoves};
 use cob_report_boxes::{Contents, Drawn, draw, write_boxes};
 use cob_report_html::{Escaped, SHEET, counts_of};
-use cob_report_lossless::{Sent, Single, singles_of};
+use cob_report_lossless::{LinedSingle, singles_of};
 use cob_report_words::Named;
 use std::alloc::{AllocError, Global};
 use std::fmt;
@@ -69,7 +69,7 @@ pub struct Mapping<'a> {
 /// description.
 #[derive(Drop)]
 struct Joins<'a> {
-    singles: Vec<Single<'a>>,
+    singles: Vec<LinedSingle<'a>>,
     counts: Vec<Option<usize>>,
     undescribed: Vec<bool>,
 }
@@ -180,7 +180,7 @@ fn write_one<'a, W: fmt::Write>(
     f: &mut fmt::Formatter<W>,
     page: &Page<'a>,
     writing: Writing,
-    single: Single<'a>,
+    single: LinedSingle<'a>,
     count: usize,
     lost: Lost,
 ) -> fmt::Result {
