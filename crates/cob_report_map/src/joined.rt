@@ -1,11 +1,11 @@
 //! What the single moves of statements join.
 
-ghost use Rattle.std.specs.Prelude.{◌≡◌, ◌++◌, IfOk, OnOk, map};
-ghost use Rattle.cob_report_map.specs.Joined.{ends_in, ends_with, pair_ends, sender_origin, side_origin, statement_ends};
+ghost use Rattle.std.specs.Prelude.{◌≡◌, IfOk};
+ghost use Rattle.cob_move_data.specs.Singles.{plain_sent, plain_single};
+ghost use Rattle.cob_report_map.specs.Joined.{ends_in, sent_origin, side_origin, single_ends};
 
 use cob_back_losses::Unkept;
-use cob_layout_places::Ref;
-use cob_move_data::{NumberedPair, Sender, Side, StatementMoves};
+use cob_move_data::{Sent, Side, SingleMove, Singles, StatementMoves};
 use cob_report_html::{Ends, Origin};
 use indexmap::IndexMap;
 use std::alloc::{AllocError, Global};
@@ -20,55 +20,23 @@ fn side_origin(side: Side, number: usize) -> Origin
     }
 }
 
-/// What a sender of the statement with this place is.
-fn sender_origin(sender: &Sender, statement: usize) -> Origin
-    ensures { result ≡ sender_origin statement sender.now }
+/// What is sent in the statement with this place.
+fn sent_origin(sent: Sent<'_>, statement: usize) -> Origin
+    ensures { result ≡ sent_origin statement (plain_sent sent.entry) }
 {
-    match sender {
-        Sender::Entry { side, entry } => side_origin(*side, entry.node),
-        Sender::Constant(_) => Origin::Constant(statement),
+    match sent {
+        Sent::Entry { side, entry } => side_origin(side, entry.number),
+        Sent::Constant(_) => Origin::Constant(statement),
     }
 }
 
-/// Adds what a sender and each of its receivers join.
-fn push_receivers(from: Origin, receivers: &[Ref], ends: &mut Vec<Ends>) -> Result<(), AllocError>
-    ensures { OnOk result (ends.new.items ≡ ends.old.items ++ map (ends_with from) receivers.now) }
+/// What a single move joins.
+fn single_ends(single: SingleMove<'_>) -> Ends
+    ensures { result ≡ single_ends (plain_single single.entry) }
 {
-    for receiver in receivers {
-        ends.push(Ends {
-            from,
-            to: receiver.node,
-        })?;
-    }
-    Ok(())
-}
-
-/// Adds what pairs of two groups join.
-fn push_pairs(side: Side, pairs: &[NumberedPair], ends: &mut Vec<Ends>) -> Result<(), AllocError>
-    ensures { OnOk result (ends.new.items ≡ ends.old.items ++ map (pair_ends side) pairs.now) }
-{
-    for pair in pairs {
-        ends.push(Ends {
-            from: side_origin(side, pair.from),
-            to: pair.to,
-        })?;
-    }
-    Ok(())
-}
-
-/// Adds what the moves of the statement with this place join.
-fn push_statement(
-    statement: &StatementMoves,
-    place: usize,
-    ends: &mut Vec<Ends>,
-) -> Result<(), AllocError>
-    ensures { OnOk result (ends.new.items ≡ ends.old.items ++ statement_ends place statement.now) }
-{
-    match statement {
-        StatementMoves::Single(one) => {
-            push_receivers(sender_origin(&one.sender, place), &one.receivers, ends)
-        }
-        StatementMoves::Pairs(group) => push_pairs(group.side, &group.pairs, ends),
+    Ends {
+        from: sent_origin(single.sent, single.statement),
+        to: single.receiver.number,
     }
 }
 
@@ -81,8 +49,8 @@ pub fn ends_of(alloc: Global, statements: &[StatementMoves]) -> Result<Vec<Ends>
     ensures { IfOk result (λ ends. ends.items ≡ ends_in statements.now) }
 {
     let mut ends = Vec::new(alloc);
-    for (place, statement) in statements.iter().enumerate() {
-        push_statement(statement, place, &mut ends)?;
+    for single in Singles::new(statements) {
+        ends.push(single_ends(single))?;
     }
     Ok(ends)
 }

@@ -1,6 +1,6 @@
-use Rattle.std.proofs.Common.{◌≡◌, ◌++◌, drop}
-use Rattle.cob_report_map.specs.Joined.{ends_from, ends_in}
+use Rattle.std.proofs.Common.{◌≡◌, ◌++◌, map}
+use Rattle.cob_report_map.specs.Joined.{ends_in, single_ends}
 use Rattle.cob_report_map.proofs.joined.ends_of.Given as goal
 
-abbrev pub invariant-loop-place : goal.invariant-loop-place
-invariant-loop-place l = l.ends.items ++ ends_from l.place (drop l.place l.statements) ≡ ends_in l.statements
+abbrev pub invariant-loop-single : goal.invariant-loop-single
+invariant-loop-single l = l.ends.items ++ map single_ends l.single-iterator ≡ ends_in l.statements
