@@ -1,17 +1,19 @@
 -- Places that come to others.
-use Rattle.std.proofs.Common.{◌≡◌, ◌⊎◌, ℕ, ◌+◌, ◌<◌, ◌≤◌, Bool, true, List, [], ◌∷◌, ◌++◌, length, get_or, take, map, sym, ap, subst, ◌∙◌, inl, inr, append-nil, append_assoc}
+use Rattle.std.proofs.Common.{◌≡◌, ◌⊎◌, ℕ, Bool, true, List, [], ◌∷◌, ◌++◌, sym, ap, subst, ◌∙◌, inl, inr, append-nil, append_assoc}
 use Rattle.std.specs.Prelude.{Some}
-use Rattle.std.specs.List.{flat_map}
-use Rattle.std.proofs.lemmas.Grind.{flat_map-append}
-use Rattle.std.proofs.lemmas.List.Concat.{flat_map-cons}
-use Rattle.std.proofs.lemmas.List.{map-append, take_all, take_more}
 use Rattle.cob_copybook_tree.specs.Forests.{Forest}
 use Rattle.cob_copybook_tree.specs.Nodes.{Resolved}
 use Rattle.cob_layout_places.specs.Cover.{Occurrence}
 use Rattle.cob_layout_places.specs.declared.places.Found.{Found}
 use Rattle.cob_layout.specs.declared.fields.Place.{Place}
 use Rattle.cob_move_apply.specs.Some.{SomeOf}
-use Rattle.cob_report_cover.specs.Gathered.{Gathers, HasPlace, HasPlaceWhere, IsPassed, Joins}
+use Rattle.cob_move_data.specs.declared.operands.Side.{Side}
+use Rattle.cob_move_data.specs.declared.operands.Side.TheVariants.{In}
+use Rattle.cob_move_data.specs.Singles.{plain_element, plain_sent}
+use Rattle.cob_move_data.specs.declared.single.Element.{Element}
+use Rattle.cob_move_data.specs.declared.single.Sent.{Sent}
+use Rattle.cob_move_data.specs.declared.single.Sent.TheVariants as code
+use Rattle.cob_report_cover.specs.Gathered.{Gathers, HasPlace, HasPlaceWhere, IsPassed, Joins, input_occurrence}
 
 some_front : {A : Type 0} (P : A → Type 0) (xs ys : List A) → SomeOf P xs → SomeOf P (xs ++ ys)
 some_front P [] ys h = absurd h
@@ -88,39 +90,11 @@ pub joins_more : (tree : Forest Resolved) (old now after : List Place) (xs ys : 
 joins_more tree old now after xs ys first second before gathers =
     subst (λ (zs : List Occurrence). Gathers tree after zs) (append_assoc before xs ys) (second (before ++ xs) (first before gathers))
 
--- ---- elements of lists
-
-next_of : {A : Type 0} (f : A → Occurrence) (xs : List A) (i : ℕ) (x : A) → i < length xs → x ≡ get_or xs i x → map f (take (i + 1) xs) ≡ map f (take i xs) ++ f x ∷ []
-next_of {A} f xs i x lt is = ap (map f) (take_more xs i x lt) ∙ map-append f (take i xs) (get_or xs i x ∷ []) ∙ ap (λ (y : A). map f (take i xs) ++ f y ∷ []) (sym is)
-
--- the next element's occurrence came
-pub joins_next : {A : Type 0} (tree : Forest Resolved) (f : A → Occurrence) (xs : List A) (i : ℕ) (x : A) (old now after : List Place) → i < length xs → x ≡ get_or xs i x
-    → Joins tree now after (f x ∷ []) → Joins tree old now (map f (take i xs)) → Joins tree old after (map f (take (i + 1) xs))
-joins_next tree f xs i x old now after lt is more before =
-    subst (λ (ys : List Occurrence). Joins tree old after ys) (sym (next_of f xs i x lt is)) (joins_more tree old now after (map f (take i xs)) (f x ∷ []) before more)
-
-each_next : {A : Type 0} (f : A → List Occurrence) (xs : List A) (i : ℕ) (x : A) → i < length xs → x ≡ get_or xs i x
-    → flat_map f (take (i + 1) xs) ≡ flat_map f (take i xs) ++ f x
-each_next f xs i x lt is = ap (flat_map f) (take_more xs i x lt) ∙ flat_map-append f (take i xs) (get_or xs i x ∷ []) ∙ ap (λ (ys : List Occurrence). flat_map f (take i xs) ++ ys) (flat_map-cons f (get_or xs i x) [] ∙ append-nil (f (get_or xs i x)) ∙ ap f (sym is))
-
--- the next element's occurrences came
-pub joins_each : {A : Type 0} (tree : Forest Resolved) (f : A → List Occurrence) (xs : List A) (i : ℕ) (x : A) (old now after : List Place) → i < length xs → x ≡ get_or xs i x
-    → Joins tree now after (f x) → Joins tree old now (flat_map f (take i xs)) → Joins tree old after (flat_map f (take (i + 1) xs))
-joins_each tree f xs i x old now after lt is more before =
-    subst (λ (ys : List Occurrence). Joins tree old after ys) (sym (each_next f xs i x lt is)) (joins_more tree old now after (flat_map f (take i xs)) (f x) before more)
+-- ---- all that come
 
 -- those of nothing
 pub gathers_none : (tree : Forest Resolved) → Gathers tree [] []
 gathers_none tree test = (λ h. absurd h, λ h. absurd h)
-
--- all elements' occurrences came
-pub joins_all : {A : Type 0} (tree : Forest Resolved) (f : A → Occurrence) (xs : List A) (i : ℕ) (old now : List Place) → length xs ≤ i
-    → Joins tree old now (map f (take i xs)) → Joins tree old now (map f xs)
-joins_all {A} tree f xs i old now le all = subst (λ (ys : List A). Joins tree old now (map f ys)) (take_all i xs le) all
-
-pub joins_all_each : {A : Type 0} (tree : Forest Resolved) (f : A → List Occurrence) (xs : List A) (i : ℕ) (old now : List Place) → length xs ≤ i
-    → Joins tree old now (flat_map f (take i xs)) → Joins tree old now (flat_map f xs)
-joins_all_each {A} tree f xs i old now le all = subst (λ (ys : List A). Joins tree old now (flat_map f ys)) (take_all i xs le) all
 
 -- what came to nothing is all that there is
 pub gathers_all : (tree : Forest Resolved) (now : List Place) (xs : List Occurrence) → Joins tree [] now xs → Gathers tree now xs
@@ -128,3 +102,21 @@ gathers_all tree now xs all = all [] (gathers_none tree)
 
 pub gathers_as : (tree : Forest Resolved) (now : List Place) (xs ys : List Occurrence) → ys ≡ xs → Gathers tree now xs → Gathers tree now ys
 gathers_as tree now xs ys is all = subst (λ (zs : List Occurrence). Gathers tree now zs) (sym is) all
+
+-- whatever comes with the rest comes with all, once those of the next one came
+pub left_next : (tree : Forest Resolved) (all rest later xs : List Occurrence) (places now : List Place) → rest ≡ xs ++ later → Joins tree places now xs
+    → ((after : List Place) → Joins tree places after rest → Joins tree [] after all) → (after : List Place) → Joins tree now after later → Joins tree [] after all
+left_next tree all rest later xs places now is came so_far after more =
+    so_far after (subst (λ (ys : List Occurrence). Joins tree places after ys) (sym is) (joins_more tree places now after xs later came more))
+
+-- no more come
+pub left_done : (tree : Forest Resolved) (all rest : List Occurrence) (places : List Place) → rest ≡ []
+    → ((after : List Place) → Joins tree places after rest → Joins tree [] after all) → Gathers tree places all
+left_done tree all rest places is so_far =
+    gathers_all tree places all (so_far places (subst (λ (ys : List Occurrence). Joins tree places places ys) (sym is) (joins_none tree places)))
+
+-- ---- what is sent of the input record
+
+pub input_sent : (s : Sent) (side : Side) (x : Element) → s ≡ code.Entry side x → side ≡ In → plain_element x ∷ [] ≡ input_occurrence (plain_sent s)
+input_sent s side x so input =
+    ap (λ (a : Side). input_occurrence (plain_sent (code.Entry a x))) (sym input) ∙ ap (λ (t : Sent). input_occurrence (plain_sent t)) (sym so)

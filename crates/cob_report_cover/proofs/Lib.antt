@@ -1,6 +1,5 @@
 mod LosingLemmas
 pub mod GatherLemmas
-pub mod JoinLemmas
 pub mod PlaceLemmas
 pub mod StatementLemmas
 pub mod MeetLemmas

@@ -1,29 +1,22 @@
 -- What is said of single moves, one behind another.
-use Rattle.std.proofs.Common.{◌≡◌, ◌∙◌, ℕ, ◌+◌, ◌<◌, ◌≤◌, List, [], ◌∷◌, ◌++◌, length, drop, get_or, slice_get, refl, sym, ap, subst, arith, append_assoc, append-nil, None, Some}
-use Rattle.std.proofs.lemmas.List.{drop_all, drop_more}
+use Rattle.std.proofs.Common.{◌≡◌, ◌∙◌, ℕ, ◌<◌, ◌≤◌, List, [], ◌∷◌, ◌++◌, length, get_or, slice_get, refl, sym, ap, subst, arith, append_assoc, append-nil, None, Some}
 use Rattle.std.proofs.lemmas.Option.{none-some, same_Some, slice_get_past, slice_get_read, slice_get_within}
-use Rattle.cob_copybook_entry.specs.Described.{plain_value}
-use Rattle.cob_copybook_entry.specs.declared.value.Value.{Value}
 use Rattle.cob_copybook_tree.specs.Forests.{Forest, entries_in}
 use Rattle.cob_copybook_tree.specs.Nodes.{Resolved}
 use Rattle.cob_copybook_tree.specs.declared.node.Kind.{Kind}
 use Rattle.cob_layout.specs.Counting.{greatest_counts}
 use Rattle.cob_layout_places.proofs.SpotLemmas.{length_spots}
 use Rattle.cob_layout_places.specs.Lengths.{times}
-use Rattle.cob_move_data.specs.declared.operands.Move.{Move}
-use Rattle.cob_move_data.specs.declared.operands.NumberedPair.{NumberedPair}
-use Rattle.cob_move_data.specs.declared.operands.PairMoves.{PairMoves}
-use Rattle.cob_move_data.specs.declared.operands.Sender.{Sender}
-use Rattle.cob_move_data.specs.declared.operands.Sender.TheVariants as sender
-use Rattle.cob_move_data.specs.declared.operands.Side.{Side}
-use Rattle.cob_move_data.specs.declared.operands.StatementMoves.{StatementMoves}
-use Rattle.cob_move_data.specs.declared.operands.StatementMoves.TheVariants.{Pairs, Single}
-use Rattle.cob_layout_places.specs.declared.reference.Ref.{Ref}
 use Rattle.cob_layout_places.specs.declared.spots.Spot.{Spot}
 use Rattle.cob_back_moves.specs.declared.single.Layouts.{Layouts}
-use Rattle.cob_move_receive.specs.Table.{Entry, Literal, SenderKind}
+use Rattle.cob_move_data.specs.declared.operands.Side.{Side}
+use Rattle.cob_move_data.specs.Singles.{PlainSingle, plain_sent}
+use Rattle.cob_move_data.specs.declared.single.Element.{Element}
+use Rattle.cob_move_data.specs.declared.single.Sent.{Sent}
+use Rattle.cob_move_data.specs.declared.single.Sent.TheVariants as code
+use Rattle.cob_move_receive.specs.Table.{Entry, SenderKind}
 use Rattle.cob_back_losses.specs.declared.losses.Losses.{Losses}
-use Rattle.cob_report_cover.specs.Losing.{AddsEach, AddsLosses, AreAllLosses, AreEach, AreLossesIn, AreLossesOf, AreLossesOfEntry, AreLossesOfPair, AreLossesTo, HasNoEntry, StandsAs, Tells, greatest_spots, tree_of_side}
+use Rattle.cob_report_cover.specs.Losing.{AreLossesFrom, AreLossesOf, AreLossesOfEach, AreLossesOfEntry, AreLossesTo, HasNoEntry, StandsAs, Tells, greatest_spots, tree_of_side}
 
 -- ---- entries by their numbers
 
@@ -67,57 +60,23 @@ told_from input from output to kind n losses stands told other bytes others =
     subst (λ (k : Kind). AreLossesTo (Entry k) bytes output to losses) (one_kind input from kind other n bytes stands others)
     (subst (λ (m : ℕ). AreLossesTo (Entry kind) m output to losses) (one_length input from kind other n bytes stands others) told)
 
--- what is told of a sender that is an entry, or a constant
-pub of_entry : (layouts : Layouts) (from : Sender) (side : Side) (entry receiver : Ref) (losses : Losses) → from ≡ sender.Entry side entry
-    → AreLossesOfEntry (tree_of_side layouts side) entry.node layouts.output.now receiver.node losses → AreLossesOf layouts from receiver losses
-of_entry layouts from side entry receiver losses is told = subst (λ (s : Sender). AreLossesOf layouts s receiver losses) (sym is) told
-
-pub of_constant : (layouts : Layouts) (from : Sender) (value : Value) (receiver : Ref) (losses : Losses) → from ≡ sender.Constant value
-    → AreLossesTo (Literal (plain_value value)) 0 layouts.output.now receiver.node losses → AreLossesOf layouts from receiver losses
-of_constant layouts from value receiver losses is told = subst (λ (s : Sender). AreLossesOf layouts s receiver losses) (sym is) told
+-- what is told of what is sent, which is an entry
+pub of_entry : (layouts : Layouts) (from : Sent) (side : Side) (x : Element) (to : ℕ) (losses : Losses) → from ≡ code.Entry side x
+    → AreLossesOfEntry (tree_of_side layouts side) x.number layouts.output.now to losses → AreLossesFrom layouts (plain_sent from) to losses
+of_entry layouts from side x to losses is told = subst (λ (s : Sent). AreLossesFrom layouts (plain_sent s) to losses) (sym is) told
 
 -- ---- all of them
 
--- whatever is said of the rest
-pub each_begun : {X : Type 0} (P : X → Losses → Type 0) (xs : List X) (before : List Losses) → (rest : List Losses) → AreEach P xs rest → AddsEach P xs before (before ++ rest)
-each_begun P xs before rest each = (rest, refl, each)
+-- whatever is said of the rest, with what is said of the next one
+pub each_more : (layouts : Layouts) (all now later : List PlainSingle) (s : PlainSingle) (one : Losses) (items pushed : List Losses) → now ≡ s ∷ later
+    → AreLossesOf layouts s one → pushed ≡ items ++ one ∷ [] → ((rest : List Losses) → AreLossesOfEach layouts now rest → AreLossesOfEach layouts all (items ++ rest))
+    → (rest : List Losses) → AreLossesOfEach layouts later rest → AreLossesOfEach layouts all (pushed ++ rest)
+each_more layouts all now later s one items pushed is said push so_far rest each =
+    subst (AreLossesOfEach layouts all) (sym (append_assoc items (one ∷ []) rest) ∙ ap (λ (l : List Losses). l ++ rest) (sym push))
+    (so_far (one ∷ rest) (subst (λ (ss : List PlainSingle). AreLossesOfEach layouts ss (one ∷ rest)) (sym is) (one, rest, refl, said, each)))
 
--- and what is said of the next one
-pub each_more : {X : Type 0} (P : X → Losses → Type 0) (xs : List X) (i : ℕ) (x : X) (one : Losses) (before items pushed : List Losses) → i < length xs → x ≡ get_or xs i x
-    → P x one → pushed ≡ items ++ one ∷ [] → ((rest : List Losses) → AreEach P (drop i xs) rest → AddsEach P xs before (items ++ rest))
-    → (rest : List Losses) → AreEach P (drop (i + 1) xs) rest → AddsEach P xs before (pushed ++ rest)
-each_more P xs i x one before items pushed within is said push so_far rest each =
-    subst (AddsEach P xs before) (sym (append_assoc items (one ∷ []) rest) ∙ ap (λ (l : List Losses). l ++ rest) (sym push))
-    (so_far (one ∷ rest) (subst (λ (ys : List _). AreEach P ys (one ∷ rest)) (sym (drop_more xs i x within)) (one, rest, refl, subst (λ y. P y one) is said, each)))
-
-pub each_done : {X : Type 0} (P : X → Losses → Type 0) (xs : List X) (i : ℕ) (before items : List Losses) → length xs ≤ i
-    → ((rest : List Losses) → AreEach P (drop i xs) rest → AddsEach P xs before (items ++ rest)) → AddsEach P xs before items
-each_done P xs i before items end so_far =
-    subst (AddsEach P xs before) (append-nil items) (so_far [] (subst (λ (ys : List _). AreEach P ys []) (sym (drop_all i xs end)) refl))
-
--- ---- statements
-
-pub single_adds : (layouts : Layouts) (statement : StatementMoves) (m : Move) (receivers : List Ref) (before now : List Losses) → receivers ≡ m.receivers.items
-    → statement ≡ Single m → AddsEach (λ (r : Ref) one. AreLossesOf layouts m.sender r one) receivers before now → AddsLosses layouts statement before now
-single_adds layouts statement m receivers before now same is adds =
-    subst (λ (s : StatementMoves). AddsLosses layouts s before now) (sym is)
-    (subst (λ (rs : List Ref). AddsEach (λ (r : Ref) one. AreLossesOf layouts m.sender r one) rs before now) same adds)
-
-pub pairs_add : (layouts : Layouts) (statement : StatementMoves) (g : PairMoves) (pairs : List NumberedPair) (before now : List Losses) → pairs ≡ g.pairs.items
-    → statement ≡ Pairs g → AddsEach (λ (p : NumberedPair) one. AreLossesOfPair layouts g.side p one) pairs before now → AddsLosses layouts statement before now
-pairs_add layouts statement g pairs before now same is adds =
-    subst (λ (s : StatementMoves). AddsLosses layouts s before now) (sym is)
-    (subst (λ (ps : List NumberedPair). AddsEach (λ (p : NumberedPair) one. AreLossesOfPair layouts g.side p one) ps before now) same adds)
-
-pub statements_more : (layouts : Layouts) (xs : List StatementMoves) (i : ℕ) (x : StatementMoves) (items now : List Losses) → i < length xs → x ≡ get_or xs i x
-    → AddsLosses layouts x items now → ((rest : List Losses) → AreAllLosses layouts (drop i xs) rest → AreAllLosses layouts xs (items ++ rest))
-    → (rest : List Losses) → AreAllLosses layouts (drop (i + 1) xs) rest → AreAllLosses layouts xs (now ++ rest)
-statements_more layouts xs i x items now within at (added, is, said) so_far rest all =
-    subst (AreAllLosses layouts xs) (sym (append_assoc items added rest) ∙ ap (λ (l : List Losses). l ++ rest) (sym is))
-    (so_far (added ++ rest) (subst (λ (ys : List StatementMoves). AreAllLosses layouts ys (added ++ rest)) (sym (drop_more xs i x within))
-    (added, rest, refl, subst (λ (s : StatementMoves). AreLossesIn layouts s added) at said, all)))
-
-pub statements_done : (layouts : Layouts) (xs : List StatementMoves) (i : ℕ) (items : List Losses) → length xs ≤ i
-    → ((rest : List Losses) → AreAllLosses layouts (drop i xs) rest → AreAllLosses layouts xs (items ++ rest)) → AreAllLosses layouts xs items
-statements_done layouts xs i items end so_far =
-    subst (AreAllLosses layouts xs) (append-nil items) (so_far [] (subst (λ (ys : List StatementMoves). AreAllLosses layouts ys []) (sym (drop_all i xs end)) refl))
+-- nothing is left
+pub each_done : (layouts : Layouts) (all now : List PlainSingle) (items : List Losses) → now ≡ []
+    → ((rest : List Losses) → AreLossesOfEach layouts now rest → AreLossesOfEach layouts all (items ++ rest)) → AreLossesOfEach layouts all items
+each_done layouts all now items is so_far =
+    subst (AreLossesOfEach layouts all) (append-nil items) (so_far [] (subst (λ (ss : List PlainSingle). AreLossesOfEach layouts ss []) (sym is) refl))

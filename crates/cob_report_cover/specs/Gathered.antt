@@ -13,7 +13,8 @@ use Rattle.cob_layout.specs.Counting.{greatest_counts}
 use Rattle.cob_layout.specs.declared.fields.Place.{Place}
 use Rattle.cob_layout.specs.declared.layout.PlaceFault.{PlaceFault}
 use Rattle.cob_move_apply.specs.Some.{SomeOf}
-use Rattle.cob_move_data.specs.Singles.{occurrence_of}
+use Rattle.cob_move_data.specs.Singles.{PlainSent, occurrence_of}
+use Rattle.cob_move_data.specs.Singles as sent
 
 -- The occurrence stands at this place of the record where each table has its greatest number of elements.
 pub record HasPlace (tree : Forest Resolved) (x : Occurrence) (p : Place) : Type 0 where
@@ -53,6 +54,12 @@ abbrev pub input_of : Sender → List Occurrence
 input_of (Entry In reading o) = occurrence_of o ∷ []
 input_of (Entry Out reading o) = []
 input_of (Literal c) = []
+
+-- what is sent of the input record, if it is an occurrence of its entries
+abbrev pub input_occurrence : PlainSent → List Occurrence
+input_occurrence (sent.Entry In x) = x ∷ []
+input_occurrence (sent.Entry Out x) = []
+input_occurrence (sent.Literal c) = []
 
 -- the occurrences that receive in moves
 abbrev pub received_in : List Move → List Occurrence

@@ -1,6 +1,5 @@
 pub mod Losing
 pub mod Gathered
-pub mod Statements
 pub mod Covered
 pub mod Reaches
 pub mod Numbers

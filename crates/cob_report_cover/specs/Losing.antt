@@ -1,7 +1,6 @@
 -- What single moves of statements may lose.
-use Rattle.std.specs.Prelude.{◌≡◌, ◌++◌, ℕ, List, [], ◌∷◌, Some, slice_get}
+use Rattle.std.specs.Prelude.{◌≡◌, ℕ, List, [], ◌∷◌, Some, slice_get}
 use Rattle.std.specs.Bool.{Decides}
-use Rattle.cob_copybook_entry.specs.Described.{plain_value}
 use Rattle.cob_copybook_tree.specs.Forests.{Forest}
 use Rattle.cob_copybook_tree.specs.Nodes.{Resolved}
 use Rattle.cob_copybook_tree.specs.declared.node.Kind.{Kind}
@@ -9,15 +8,12 @@ use Rattle.cob_layout.specs.Counting.{greatest_counts}
 use Rattle.cob_layout_places.specs.Counts.{kind_in}
 use Rattle.cob_layout_places.specs.Lengths.{times}
 use Rattle.cob_layout_places.specs.Spots.{spots_of}
-use Rattle.cob_move_data.specs.declared.operands.NumberedPair.{NumberedPair}
-use Rattle.cob_move_data.specs.declared.operands.Sender.{Sender}
-use Rattle.cob_move_data.specs.declared.operands.Sender.TheVariants as sender
 use Rattle.cob_move_data.specs.declared.operands.Side.{Side}
 use Rattle.cob_move_data.specs.declared.operands.Side.TheVariants.{In, Out}
 use Rattle.cob_move_data.specs.declared.operands.StatementMoves.{StatementMoves}
-use Rattle.cob_move_data.specs.declared.operands.StatementMoves.TheVariants.{Pairs, Single}
-use Rattle.cob_layout_places.specs.declared.reference.Ref.{Ref}
 use Rattle.cob_layout_places.specs.declared.spots.Spot.{Spot}
+use Rattle.cob_move_data.specs.Singles.{PlainSent, PlainSingle, singles_of}
+use Rattle.cob_move_data.specs.Singles as sent
 use Rattle.cob_back_moves.specs.declared.single.Layouts.{Layouts}
 use Rattle.cob_move_receive.specs.Table.{Entry, Literal, SenderKind}
 use Rattle.cob_back_losses.specs.Losses.{LosesBefore, LosesBehind, LosesCharacters, LosesSign}
@@ -61,39 +57,22 @@ abbrev pub AreLossesOfEntry : (input : Forest Resolved) (from : ℕ) (output : F
 AreLossesOfEntry input from output to losses =
     (kind : Kind) (bytes : ℕ) → StandsAs input from kind bytes → AreLossesTo (Entry kind) bytes output to losses
 
--- They are said of the move of a sender to a receiver, which stands in the output record. How many characters a constant has stands in its text.
-abbrev pub AreLossesOf : Layouts → Sender → Ref → Losses → Type 0
-AreLossesOf layouts (sender.Entry side entry) receiver losses = AreLossesOfEntry (tree_of_side layouts side) entry.node layouts.output.now receiver.node losses
-AreLossesOf layouts (sender.Constant value) receiver losses = AreLossesTo (Literal (plain_value value)) 0 layouts.output.now receiver.node losses
+-- They are said of the move of what is sent to the entry with this number of the output record. How many characters a constant has stands in its text.
+abbrev pub AreLossesFrom : Layouts → PlainSent → ℕ → Losses → Type 0
+AreLossesFrom layouts (sent.Entry side x) to losses = AreLossesOfEntry (tree_of_side layouts side) x.number layouts.output.now to losses
+AreLossesFrom layouts (sent.Literal c) to losses = AreLossesTo (Literal c) 0 layouts.output.now to losses
 
--- and of the move of a pair's sending entry to its receiving one
-abbrev pub AreLossesOfPair : Layouts → Side → NumberedPair → Losses → Type 0
-AreLossesOfPair layouts side pair losses = AreLossesOfEntry (tree_of_side layouts side) pair.from layouts.output.now pair.to losses
+-- they are said of a single move
+abbrev pub AreLossesOf : Layouts → PlainSingle → Losses → Type 0
+AreLossesOf layouts s losses = AreLossesFrom layouts s.sent s.receiver.number losses
 
 -- ---- all of them
 
--- of each there is one that is so
-abbrev pub AreEach : {X : Type 0} → (X → Losses → Type 0) → List X → List Losses → Type 0
-AreEach P [] all = all ≡ []
-AreEach P (x ∷ xs) all = (one : Losses) × (later : List Losses) × (all ≡ one ∷ later) × P x one × AreEach P xs later
-
--- what is said of the single moves of a statement
-abbrev pub AreLossesIn : Layouts → StatementMoves → List Losses → Type 0
-AreLossesIn layouts (Single m) all = AreEach (λ (r : Ref) one. AreLossesOf layouts m.sender r one) m.receivers.items all
-AreLossesIn layouts (Pairs g) all = AreEach (λ (p : NumberedPair) one. AreLossesOfPair layouts g.side p one) g.pairs.items all
+-- of each of these single moves there is one that is so, in their order
+abbrev pub AreLossesOfEach : Layouts → List PlainSingle → List Losses → Type 0
+AreLossesOfEach layouts [] all = all ≡ []
+AreLossesOfEach layouts (s ∷ later) all = (one : Losses) × (rest : List Losses) × (all ≡ one ∷ rest) × AreLossesOf layouts s one × AreLossesOfEach layouts later rest
 
 -- what is said of the single moves of statements, in their order
 abbrev pub AreAllLosses : Layouts → List StatementMoves → List Losses → Type 0
-AreAllLosses layouts [] all = all ≡ []
-AreAllLosses layouts (statement ∷ statements) all =
-    (front : List Losses) × (later : List Losses) × (all ≡ front ++ later) × AreLossesIn layouts statement front × AreAllLosses layouts statements later
-
--- ---- in steps
-
--- behind those that stood there stands one for each that is so
-abbrev pub AddsEach : {X : Type 0} → (X → Losses → Type 0) → List X → (before now : List Losses) → Type 0
-AddsEach P xs before now = (added : List Losses) × (now ≡ before ++ added) × AreEach P xs added
-
--- behind them stand those of a statement
-abbrev pub AddsLosses : Layouts → StatementMoves → (before now : List Losses) → Type 0
-AddsLosses layouts statement before now = (added : List Losses) × (now ≡ before ++ added) × AreLossesIn layouts statement added
+AreAllLosses layouts statements all = AreLossesOfEach layouts (singles_of statements) all

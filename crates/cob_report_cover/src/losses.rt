@@ -1,17 +1,15 @@
 //! What single moves may lose.
 
-ghost use Rattle.std.specs.Prelude.{◌≡◌, IfNone, IfOk, IfSome, OnOk};
-ghost use Rattle.cob_move_data.specs.declared.operands.NumberedPair.{NumberedPair as SeenPair};
-ghost use Rattle.cob_layout_places.specs.declared.reference.Ref.{Ref as SeenRef};
+ghost use Rattle.std.specs.Prelude.{◌≡◌, IfNone, IfOk, IfSome};
+ghost use Rattle.cob_move_data.specs.Singles.{plain_single};
 ghost use Rattle.cob_move_receive.specs.Table.{sender_kind};
-ghost use Rattle.cob_report_cover.specs.Losing.{AddsEach, AddsLosses, AreAllLosses, AreLossesOf, AreLossesOfEntry, AreLossesOfPair, AreLossesTo, HasNoEntry, StandsAs, tree_of_side};
+ghost use Rattle.cob_report_cover.specs.Losing.{AreAllLosses, AreLossesOf, AreLossesOfEntry, AreLossesTo, HasNoEntry, StandsAs, tree_of_side};
 
 use cob_back_losses::{Losses, losses_of};
 use cob_back_moves::{Layouts, MovesBetween};
 use cob_copybook_tree::Kind;
 use cob_layout::Layout;
-use cob_layout_places::Ref;
-use cob_move_data::{NumberedPair, Sender, Side, StatementMoves};
+use cob_move_data::{Sent, Side, SingleMove, Singles};
 use cob_move_receive::SenderKind;
 use std::alloc::{AllocError, Global};
 
@@ -82,77 +80,14 @@ fn entry_losses(layouts: &Layouts<'_>, side: Side, from: usize, to: usize) -> Lo
     }
 }
 
-/// What the move of a sender to a receiver may lose.
-fn single_losses(layouts: &Layouts<'_>, sender: &Sender, receiver: &Ref) -> Losses
-    ensures { AreLossesOf layouts.now sender.now receiver.now result }
+/// What a single move may lose.
+fn single_losses(layouts: &Layouts<'_>, single: &SingleMove<'_>) -> Losses
+    ensures { AreLossesOf layouts.now (plain_single single.now) result }
 {
-    match sender {
-        Sender::Entry { side, entry } => { entry_losses(layouts, *side, entry.node, receiver.node) }
-        Sender::Constant(value) => {
-            losses_to(
-                &SenderKind::Constant(value),
-                0,
-                layouts.output,
-                receiver.node,
-            )
-        }
-    }
-}
-
-/// Adds what the moves of a sender to its receivers may lose.
-fn push_receivers(
-    layouts: &Layouts<'_>,
-    sender: &Sender,
-    receivers: &[Ref],
-    losses: &mut Vec<Losses>,
-) -> Result<(), AllocError>
-    ensures { OnOk result (AddsEach (λ (r : SeenRef) one. AreLossesOf layouts.now sender.now r one)
-        receivers.now losses.old.items losses.new.items) }
-{
-    for receiver in receivers {
-        losses.push(single_losses(layouts, sender, receiver))?;
-    }
-    Ok(())
-}
-
-/// What the move of a pair's sending entry, which stands on this side, to its receiving one may lose.
-fn pair_losses(layouts: &Layouts<'_>, side: Side, pair: &NumberedPair) -> Losses
-    ensures { AreLossesOfPair layouts.now side pair.now result }
-{
-    entry_losses(layouts, side, pair.from, pair.to)
-}
-
-/// Adds what the moves of pairs of two groups may lose, whose sending entries stand on this side.
-fn push_pairs(
-    layouts: &Layouts<'_>,
-    side: Side,
-    pairs: &[NumberedPair],
-    losses: &mut Vec<Losses>,
-) -> Result<(), AllocError>
-    ensures { OnOk result (AddsEach (λ (p : SeenPair) one. AreLossesOfPair layouts.now side p one)
-        pairs.now losses.old.items losses.new.items) }
-{
-    for pair in pairs {
-        losses.push(pair_losses(layouts, side, pair))?;
-    }
-    Ok(())
-}
-
-/// Adds what the single moves of a statement may lose.
-fn push_statement(
-    layouts: &Layouts<'_>,
-    statement: &StatementMoves,
-    losses: &mut Vec<Losses>,
-) -> Result<(), AllocError>
-    ensures { OnOk result (AddsLosses layouts.now statement.now losses.old.items losses.new.items) }
-{
-    match statement {
-        StatementMoves::Single(one) => {
-            push_receivers(layouts, &one.sender, one.receivers.as_slice(), losses)
-        }
-        StatementMoves::Pairs(group) => {
-            push_pairs(layouts, group.side, group.pairs.as_slice(), losses)
-        }
+    let to = single.receiver.number;
+    match single.sent {
+        Sent::Entry { side, entry } => entry_losses(layouts, side, entry.number, to),
+        Sent::Constant(value) => losses_to(&SenderKind::Constant(value), 0, layouts.output, to),
     }
 }
 
@@ -166,8 +101,8 @@ pub fn losses_in(alloc: Global, moves: &MovesBetween<'_>) -> Result<Vec<Losses>,
         AreAllLosses moves.now.layouts moves.now.statements.now losses.items) }
 {
     let mut losses = Vec::new(alloc);
-    for statement in moves.statements {
-        push_statement(&moves.layouts, statement, &mut losses)?;
+    for single in Singles::new(moves.statements) {
+        losses.push(single_losses(&moves.layouts, &single))?;
     }
     Ok(losses)
 }

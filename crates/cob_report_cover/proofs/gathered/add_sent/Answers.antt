@@ -1,8 +1,13 @@
-use Rattle.cob_report_cover.proofs.JoinLemmas.{joins_as, pairs_sent, single_sent}
+use Rattle.std.proofs.Common.{[], ◌∷◌, List, subst}
+use Rattle.cob_layout_places.specs.Cover.{Occurrence}
+use Rattle.cob_move_data.specs.Singles.{plain_element, plain_sent}
+use Rattle.cob_report_cover.specs.Gathered.{Joins, input_occurrence}
+use Rattle.cob_report_cover.proofs.GatherLemmas.{input_sent}
+use Rattle.cob_report_cover.proofs.PlaceLemmas.{on_ok_as}
 use Rattle.cob_report_cover.proofs.gathered.add_sent.Goals as goal
 
-pub returns-in-Single : goal.returns-in-Single
-returns-in-Single c = joins_as c.add_sender.result c.args.layout.now c.args.places.now.items c.add_sender.new.places.items _ _ (single_sent c.args.statement.now c.in-Single.one c.in-Single.is) c.add_sender.ensures
-
-pub returns-in-Pairs : goal.returns-in-Pairs
-returns-in-Pairs c = joins_as c.add_group_senders.result c.args.layout.now c.args.places.now.items c.add_group_senders.new.places.items _ _ (pairs_sent c.args.statement.now c.in-Pairs.group c.in-Pairs.is) c.add_group_senders.ensures
+pub returns-in-In : goal.returns-in-In
+returns-in-In c =
+    let joins = Joins c.args.layout.now c.args.places.now.items c.add.new.places.items in
+    on_ok_as c.add.result (joins (plain_element c.in-Entry.entry ∷ [])) (joins (input_occurrence (plain_sent c.args.sent)))
+    (subst (λ (xs : List Occurrence). joins xs) (input_sent c.args.sent c.in-Entry.side c.in-Entry.entry c.in-Entry.is c.in-In.is)) c.add.ensures

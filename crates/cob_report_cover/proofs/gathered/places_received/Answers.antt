@@ -1,20 +1,18 @@
-use Rattle.std.proofs.Common.{List, [], arith, subst, sym}
-use Rattle.std.specs.List.{flat_map}
-use Rattle.cob_layout.specs.declared.fields.Place.{Place}
-use Rattle.cob_report_cover.specs.Gathered.{Joins}
-use Rattle.cob_report_cover.specs.Statements.{receivers_by}
-use Rattle.cob_report_cover.proofs.GatherLemmas.{gathers_all, joins_all_each, joins_each, joins_none}
+use Rattle.std.proofs.Common.{[], ◌∷◌, ap, map}
+use Rattle.cob_layout_places.specs.Cover.{Occurrence}
+use Rattle.cob_move_data.specs.Singles.{PlainSingle, plain_single, singles_of}
+use Rattle.cob_report_cover.proofs.GatherLemmas.{left_done, left_next}
 use Rattle.cob_report_cover.proofs.gathered.places_received.Goals as goal
 
-pub loop-statement-init : goal.loop-statement-init
-loop-statement-init c = subst (λ (ps : List Place). Joins c.args.layout.now [] ps []) (sym c.new-places.ensures.items) (joins_none c.args.layout.now [])
+abbrev receiver : PlainSingle → Occurrence
+receiver s = s.receiver
 
-pub loop-statement-preserved : goal.loop-statement-preserved
-loop-statement-preserved c =
-    joins_each c.args.layout.now receivers_by c.args.statements.now c.loop-statement.statement-index c.statement-item.result [] c.loop-statement.places.items c.add_received.new.places.items c.loop-statement-test.true c.statement-item.is c.in_ok-add_received.ensures
-    c.loop-statement.invariant
+pub loop-single-preserved : goal.loop-single-preserved
+loop-single-preserved c =
+    left_next c.args.layout.now (map receiver (singles_of c.args.statements.now)) (map receiver c.loop-single.single-iterator) (map receiver c.next.new.self)
+    (receiver (plain_single c.in-Some.single) ∷ []) c.loop-single.places.items c.add.new.places.items (ap (map receiver) c.in-Some.ensures.steps) c.in_ok-add.ensures c.loop-single.invariant
 
 pub returns : goal.returns
 returns c =
-    gathers_all c.args.layout.now c.loop-statement.places.items (flat_map receivers_by c.args.statements.now)
-    (joins_all_each c.args.layout.now receivers_by c.args.statements.now c.loop-statement.statement-index [] c.loop-statement.places.items (omega (arith, c.loop-statement-test.false)) c.loop-statement.invariant)
+    left_done c.args.layout.now (map receiver (singles_of c.args.statements.now)) (map receiver c.loop-single.single-iterator) c.loop-single.places.items
+    (ap (map receiver) c.in-None.ensures.steps.0) c.loop-single.invariant

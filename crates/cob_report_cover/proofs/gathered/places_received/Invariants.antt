@@ -1,8 +1,10 @@
-use Rattle.std.proofs.Common.{[], take}
-use Rattle.std.specs.List.{flat_map}
+use Rattle.std.proofs.Common.{List, [], map}
+use Rattle.cob_layout.specs.declared.fields.Place.{Place}
+use Rattle.cob_move_data.specs.Singles.{singles_of}
 use Rattle.cob_report_cover.specs.Gathered.{Joins}
-use Rattle.cob_report_cover.specs.Statements.{receivers_by}
 use Rattle.cob_report_cover.proofs.gathered.places_received.Given as goal
 
-abbrev pub invariant-loop-statement : goal.invariant-loop-statement
-invariant-loop-statement l = Joins l.layout [] l.places.items (flat_map receivers_by (take l.statement-index l.statements))
+abbrev pub invariant-loop-single : goal.invariant-loop-single
+invariant-loop-single l =
+    (after : List Place) → Joins l.layout l.places.items after (map (λ s. s.receiver) l.single-iterator)
+    → Joins l.layout [] after (map (λ s. s.receiver) (singles_of l.statements))

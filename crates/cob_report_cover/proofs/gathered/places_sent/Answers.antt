@@ -1,20 +1,20 @@
-use Rattle.std.proofs.Common.{List, [], arith, subst, sym}
+use Rattle.std.proofs.Common.{◌∙◌, ap}
 use Rattle.std.specs.List.{flat_map}
-use Rattle.cob_layout.specs.declared.fields.Place.{Place}
-use Rattle.cob_report_cover.specs.Gathered.{Joins}
-use Rattle.cob_report_cover.specs.Statements.{senders_by}
-use Rattle.cob_report_cover.proofs.GatherLemmas.{gathers_all, joins_all_each, joins_each, joins_none}
+use Rattle.std.proofs.lemmas.List.Concat.{flat_map-cons}
+use Rattle.cob_move_data.specs.Singles.{plain_sent, senders_of}
+use Rattle.cob_report_cover.specs.Gathered.{input_occurrence}
+use Rattle.cob_report_cover.proofs.GatherLemmas.{left_done, left_next}
 use Rattle.cob_report_cover.proofs.gathered.places_sent.Goals as goal
 
-pub loop-statement-init : goal.loop-statement-init
-loop-statement-init c = subst (λ (ps : List Place). Joins c.args.layout.now [] ps []) (sym c.new-places.ensures.items) (joins_none c.args.layout.now [])
-
-pub loop-statement-preserved : goal.loop-statement-preserved
-loop-statement-preserved c =
-    joins_each c.args.layout.now senders_by c.args.statements.now c.loop-statement.statement-index c.statement-item.result [] c.loop-statement.places.items c.add_sent.new.places.items c.loop-statement-test.true c.statement-item.is c.in_ok-add_sent.ensures
-    c.loop-statement.invariant
+pub loop-sent-preserved : goal.loop-sent-preserved
+loop-sent-preserved c =
+    let all = flat_map input_occurrence in
+    left_next c.args.layout.now (all (senders_of c.args.statements.now)) (all c.loop-sent.sent-iterator) (all c.next.new.self)
+    (input_occurrence (plain_sent c.in-Some.sent)) c.loop-sent.places.items c.add_sent.new.places.items
+    (ap all c.in-Some.ensures.steps ∙ flat_map-cons input_occurrence (plain_sent c.in-Some.sent) c.next.new.self) c.in_ok-add_sent.ensures c.loop-sent.invariant
 
 pub returns : goal.returns
 returns c =
-    gathers_all c.args.layout.now c.loop-statement.places.items (flat_map senders_by c.args.statements.now)
-    (joins_all_each c.args.layout.now senders_by c.args.statements.now c.loop-statement.statement-index [] c.loop-statement.places.items (omega (arith, c.loop-statement-test.false)) c.loop-statement.invariant)
+    let all = flat_map input_occurrence in
+    left_done c.args.layout.now (all (senders_of c.args.statements.now)) (all c.loop-sent.sent-iterator) c.loop-sent.places.items
+    (ap all c.in-None.ensures.steps.0) c.loop-sent.invariant

@@ -1,8 +1,11 @@
-use Rattle.std.proofs.Common.{[], take}
+use Rattle.std.proofs.Common.{List, []}
 use Rattle.std.specs.List.{flat_map}
-use Rattle.cob_report_cover.specs.Gathered.{Joins}
-use Rattle.cob_report_cover.specs.Statements.{senders_by}
+use Rattle.cob_layout.specs.declared.fields.Place.{Place}
+use Rattle.cob_move_data.specs.Singles.{senders_of}
+use Rattle.cob_report_cover.specs.Gathered.{Joins, input_occurrence}
 use Rattle.cob_report_cover.proofs.gathered.places_sent.Given as goal
 
-abbrev pub invariant-loop-statement : goal.invariant-loop-statement
-invariant-loop-statement l = Joins l.layout [] l.places.items (flat_map senders_by (take l.statement-index l.statements))
+abbrev pub invariant-loop-sent : goal.invariant-loop-sent
+invariant-loop-sent l =
+    (after : List Place) → Joins l.layout l.places.items after (flat_map input_occurrence l.sent-iterator)
+    → Joins l.layout [] after (flat_map input_occurrence (senders_of l.statements))

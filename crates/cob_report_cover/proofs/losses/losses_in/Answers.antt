@@ -1,13 +1,13 @@
-use Rattle.std.proofs.Common.{arith}
-use Rattle.cob_report_cover.proofs.LosingLemmas.{statements_done, statements_more}
+use Rattle.cob_move_data.specs.Singles.{plain_single, singles_of}
+use Rattle.cob_report_cover.proofs.LosingLemmas.{each_done, each_more}
 use Rattle.cob_report_cover.proofs.losses.losses_in.Goals as goal
 
-pub loop-statement-preserved : goal.loop-statement-preserved
-loop-statement-preserved c =
-    statements_more c.args.moves.now.layouts c.args.moves.now.statements.now c.loop-statement.statement-index c.statement-item.result c.loop-statement.losses.items
-    c.push_statement.new.losses.items c.loop-statement-test.true c.statement-item.is c.in_ok-push_statement.ensures c.loop-statement.invariant
+pub loop-single-preserved : goal.loop-single-preserved
+loop-single-preserved c =
+    each_more c.args.moves.now.layouts (singles_of c.args.moves.now.statements.now) c.loop-single.single-iterator c.next.new.self (plain_single c.in-Some.single)
+    c.single_losses.result c.loop-single.losses.items c.push.new.self.items c.in-Some.ensures.steps c.single_losses.ensures c.in_ok-push.ensures.items c.loop-single.invariant
 
 pub returns : goal.returns
 returns c =
-    statements_done c.args.moves.now.layouts c.args.moves.now.statements.now c.loop-statement.statement-index c.loop-statement.losses.items
-    (omega (arith, c.loop-statement-test.false)) c.loop-statement.invariant
+    each_done c.args.moves.now.layouts (singles_of c.args.moves.now.statements.now) c.loop-single.single-iterator c.loop-single.losses.items
+    c.in-None.ensures.steps.0 c.loop-single.invariant

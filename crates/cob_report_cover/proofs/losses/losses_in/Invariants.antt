@@ -1,9 +1,10 @@
-use Rattle.std.proofs.Common.{List, ◌++◌, drop}
+use Rattle.std.proofs.Common.{List, ◌++◌}
 use Rattle.cob_back_losses.specs.declared.losses.Losses.{Losses}
-use Rattle.cob_report_cover.specs.Losing.{AreAllLosses}
+use Rattle.cob_move_data.specs.Singles.{singles_of}
+use Rattle.cob_report_cover.specs.Losing.{AreLossesOfEach}
 use Rattle.cob_report_cover.proofs.losses.losses_in.Given as goal
 
-abbrev pub invariant-loop-statement : goal.invariant-loop-statement
-invariant-loop-statement l =
-    (rest : List Losses) → AreAllLosses l.moves.layouts (drop l.statement-index l.moves.statements.now) rest
-    → AreAllLosses l.moves.layouts l.moves.statements.now (l.losses.items ++ rest)
+abbrev pub invariant-loop-single : goal.invariant-loop-single
+invariant-loop-single l =
+    (rest : List Losses) → AreLossesOfEach l.moves.layouts l.single-iterator rest
+    → AreLossesOfEach l.moves.layouts (singles_of l.moves.statements.now) (l.losses.items ++ rest)
