@@ -1,16 +1,19 @@
-use Rattle.std.proofs.Common.{arith, map}
+use Rattle.std.proofs.Common.{[], ◌∷◌, ap, map, ◌∙◌}
+use Rattle.std.proofs.lemmas.List.{map-append}
 use Rattle.cob_back_moves.specs.Tested.{layout_records}
+use Rattle.cob_move_data.proofs.SingleLemmas.{mapped_done, mapped_more}
+use Rattle.cob_move_data.specs.Singles.{plain_single, singles_of}
 use Rattle.cob_back_losses.specs.Seen.{moved_by, seen}
-use Rattle.cob_back_losses.proofs.MovedLemmas.{each_all, each_next}
 use Rattle.cob_back_losses.proofs.singles.singles_by.Goals as goal
 
-pub loop-statement-preserved : goal.loop-statement-preserved
-loop-statement-preserved c =
-    let l = c.args.layouts.now in
-    each_next (moved_by l.reading (layout_records l)) c.args.statements.now c.loop-statement.statement-index c.statement-item.result (map seen c.loop-statement.singles.items) (map seen c.push_statement.new.singles.items)
-    c.loop-statement-test.true c.statement-item.is c.loop-statement.invariant c.in_ok-push_statement.ensures
+pub loop-single-preserved : goal.loop-single-preserved
+loop-single-preserved c =
+    let moved = moved_by (layout_records c.args.layouts.now) in
+    mapped_more moved (map moved (singles_of c.args.statements.now)) c.loop-single.single-iterator c.next.new.self (plain_single c.in-Some.single) (seen c.single_by.result)
+    (map seen c.loop-single.singles.items) (map seen c.push.new.self.items) c.in-Some.ensures.steps c.single_by.ensures
+    (ap (map seen) c.in_ok-push.ensures.items ∙ map-append seen c.loop-single.singles.items (c.single_by.result ∷ [])) c.loop-single.invariant
 
 pub returns : goal.returns
 returns c =
-    let l = c.args.layouts.now in
-    each_all (moved_by l.reading (layout_records l)) c.args.statements.now c.loop-statement.statement-index (map seen c.loop-statement.singles.items) (omega (arith, c.loop-statement-test.false)) c.loop-statement.invariant
+    let moved = moved_by (layout_records c.args.layouts.now) in
+    mapped_done moved (map moved (singles_of c.args.statements.now)) c.loop-single.single-iterator (map seen c.loop-single.singles.items) c.in-None.ensures.steps.0 c.loop-single.invariant
