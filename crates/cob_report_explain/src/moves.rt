@@ -9,15 +9,8 @@ use cob_layout::Place;
 use cob_move_data::Side;
 use cob_move_receive::Sent;
 use cob_report_faults::{Occurrence, Qualifying, SentText};
+use cob_report_lossless::line_at;
 use std::fmt;
-
-/// The line of the statement with this number, from 0.
-pub(crate) fn line_at(lines: &[u32], statement: usize) -> u32 {
-    match lines.get(statement) {
-        Some(line) => *line,
-        None => 0,
-    }
-}
 
 /// The bytes of a place of a storage; none where it ends past it.
 pub(crate) fn bytes_at(storage: &[u8], offset: usize, length: usize) -> &[u8] {

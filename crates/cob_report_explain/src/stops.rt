@@ -1,13 +1,14 @@
 //! Why single moves stop, in words.
 
-use crate::moves::{bytes_at, line_at};
+use crate::moves::bytes_at;
 use crate::single::{Asked, MoveStop, SingleNumber};
 use cob_convert_record::{Conversion, Side, Stop, StopCause};
 use cob_layout::Layout;
-use cob_move_data::{PairMoves, StatementMoves};
+use cob_move_data::{Sent, single_at};
 use cob_report_faults::{
     Asker, AskingMove, CountTable, Occurrence, Qualifying, SentText, StopCase, StopText, counted_at,
 };
+use cob_report_lossless::line_at;
 use std::alloc::{AllocError, Global};
 
 /// A conversion and what is known of one record.
@@ -24,44 +25,34 @@ pub struct Scene<'a> {
     pub content: &'a [u8],
 }
 
-/// The single move of the pair of two groups with this number, whose statement stands on this line.
-fn pair_asking<'a>(
-    scene: &Scene<'a>,
-    group: &'a PairMoves,
-    number: SingleNumber,
-) -> Option<AskingMove<'a>> {
-    let pair = group.pairs.get(number.pair)?;
-    Some(AskingMove {
-        line: line_at(scene.lines, number.statement),
-        sender: SentText::Entry(Occurrence {
-            records: scene.records,
-            side: group.side,
-            number: pair.from,
-            subscripts: group.from.subscripts.as_slice(),
+/// What a single move sends.
+fn sent_text<'a>(records: Qualifying<'a>, sent: Sent<'a>) -> SentText<'a> {
+    match sent {
+        Sent::Constant(value) => SentText::Constant(value),
+        Sent::Entry { side, entry } => SentText::Entry(Occurrence {
+            records,
+            side,
+            number: entry.number,
+            subscripts: entry.subscripts,
         }),
+    }
+}
+
+/// The single move with this number. One of two groups has a pair's number, and one of a single sender has a receiver's; the other number is 0.
+fn asking<'a>(scene: &Scene<'a>, number: SingleNumber) -> Option<AskingMove<'a>> {
+    let statement = scene.conversion.moves().statements().get(number.statement)?;
+    let place = number.pair.saturating_add(number.receiver);
+    let single = single_at(number.statement, statement, place)?;
+    Some(AskingMove {
+        line: line_at(scene.lines, single.statement),
+        sender: sent_text(scene.records, single.sent),
         receiver: Occurrence {
             records: scene.records,
             side: Side::Out,
-            number: pair.to,
-            subscripts: group.to.subscripts.as_slice(),
+            number: single.receiver.number,
+            subscripts: single.receiver.subscripts,
         },
     })
-}
-
-/// The single move with this number.
-fn asking<'a>(scene: &Scene<'a>, number: SingleNumber) -> Option<AskingMove<'a>> {
-    let statements = scene.conversion.moves().statements();
-    match statements.get(number.statement)? {
-        StatementMoves::Single(single) => {
-            let receiver = single.receivers.get(number.receiver)?;
-            Some(AskingMove {
-                line: line_at(scene.lines, number.statement),
-                sender: SentText::of(scene.records, &single.sender),
-                receiver: Occurrence::of(scene.records, Side::Out, receiver),
-            })
-        }
-        StatementMoves::Pairs(group) => pair_asking(scene, group, number),
-    }
 }
 
 /// The layout and the storage of a side.
