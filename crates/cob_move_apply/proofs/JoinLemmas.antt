@@ -6,7 +6,7 @@ use Rattle.cob_move_data.specs.declared.operands.Operand.{Operand}
 use Rattle.cob_move_data.specs.declared.operands.Side.TheVariants.{In, Out}
 use Rattle.cob_move_data.specs.Moves.{Entry, Literal, Move, Records, Sender}
 use Rattle.cob_move_apply.specs.Joined.{CopyEnds, begun, begun_by, copies_of, copy_ends, last_end, plain_copy, steps_behind, steps_in}
-use Rattle.cob_move_apply.specs.Planned.{AreMore, counted_steps, end_behind, last_step_ends, step_count, step_ends}
+use Rattle.cob_move_apply.specs.Planned.{AreMore, HasOneMoveMore, counted_steps, end_behind, last_step_ends, step_count, step_ends}
 use Rattle.cob_move_apply.specs.Steps.{IsSteady, alone, singles}
 use Rattle.cob_move_apply.specs.declared.step.MovePlaces.{MovePlaces}
 use Rattle.cob_move_apply.specs.declared.step.Part.{Part}
@@ -69,6 +69,14 @@ pub more_other : (r : Records) (s : Sender) (o : Operand) (t : Step) (a b : List
 more_other r s o t a b is added one nowhere = record {
   counts = omega (arith, ap counted_steps added, counted_behind a t, one, ap (λ (x : Option MovePlaces). begun (last_step_ends a) x) is, begun_none (last_step_ends a));
   last = ap last_step_ends added ∙ ends_behind a t ∙ nowhere ∙ ap (λ (x : Option MovePlaces). option_map copy_ends x) is;
+}
+
+-- a single move that is a copy where it was made ready as one
+pub more_alone : (r : Records) (s : Sender) (o : Operand) (places : Option MovePlaces) (a b : List Step) → places ≡ plain_copy r s o → HasOneMoveMore places a b → AreMore r (alone s o ∷ []) a b
+more_alone r s o None a b is (t, added, one, nowhere) = more_other r s o t a b is added one nowhere
+more_alone r s o (Some places) a b is (counts, last) = record {
+  counts = omega (arith, counts, ap (λ (x : Option MovePlaces). begun (last_step_ends a) x) is);
+  last = last ∙ ap (λ (x : Option MovePlaces). option_map copy_ends x) is;
 }
 
 -- ---- a move

@@ -14,7 +14,7 @@ use Rattle.cob_move_data.specs.declared.operands.Sender as code_sender
 use Rattle.cob_move_data.specs.declared.operands.StatementMoves.{StatementMoves}
 use Rattle.cob_layout_places.specs.declared.reference.Ref.{Ref}
 use Rattle.cob_move_data.specs.Moves.{Literal, IsMove, Move, Records, numbered_move_by, operand_in, sender, sender_by}
-use Rattle.cob_move_apply.specs.Joined.{CopyEnds, copies_of, copy_ends, last_end, neither_varies, steps_behind}
+use Rattle.cob_move_apply.specs.Joined.{CopyEnds, begun, copies_of, copy_ends, last_end, neither_varies, steps_behind}
 use Rattle.cob_move_apply.specs.Steps.{Gains, GainsCut, HasPart, IsPicturedMove, IsPreparedMove, IsReadyAnywhere, WritesFor, alone, constant_move, copied_move, pair_at, part_of}
 use Rattle.cob_move_apply.specs.Placed.{IsPlaced}
 use Rattle.cob_move_apply.specs.Written.{AreCopied, IsFixedConstant}
@@ -28,6 +28,8 @@ use Rattle.cob_move_steps.specs.declared.pool.MoveSteps.{MoveSteps}
 use Rattle.cob_move_apply.specs.declared.step.MovePlaces.{MovePlaces}
 use Rattle.cob_move_apply.specs.declared.step.Step.{Step}
 use Rattle.cob_move_apply.specs.declared.step.Step.TheVariants as step
+use Rattle.cob_move_apply.specs.declared.ready.Ready.{Ready}
+use Rattle.cob_move_apply.specs.declared.ready.Ready.TheVariants as ready
 use Rattle.cob_move_apply.specs.declared.planning.Between.{Between}
 use Rattle.cob_move_apply.specs.declared.ready.ReadyConstant.{ReadyConstant}
 use Rattle.cob_move_apply.specs.declared.ready.ReadyLocatedConstant.{ReadyLocatedConstant}
@@ -126,6 +128,12 @@ pub record AreMore (r : Records) (ms : List Move) (before now : List Step) : Typ
 abbrev pub HasOneMore : List Step → List Step → Type 0
 HasOneMore before now = (s : Step) × (now ≡ before ++ s ∷ []) × (step_count s ≡ 1) × (step_ends s ≡ None)
 
+-- steps became these by one move more: a copy is joined to the last of them or stands behind it, and anything else is one step more
+abbrev pub HasOneMoveMore : Option MovePlaces → List Step → List Step → Type 0
+HasOneMoveMore None before now = HasOneMore before now
+HasOneMoveMore (Some places) before now =
+    (counted_steps now ≡ counted_steps before + begun (last_step_ends before) (Some places)) × (last_step_ends now ≡ Some (copy_ends places))
+
 -- ---- whatever the reading
 
 -- the move of a part, by itself
@@ -185,3 +193,23 @@ IsReady r one ms = (constant : PlainValue) × (to : Kind) × IsConstantStep cons
 abbrev pub AlwaysLocatedConstant : Records → ReadyLocatedConstant → (Reading → List Move) → Type 0
 AlwaysLocatedConstant r one ms = (constant : PlainValue) × IsPlaced r.output true (operand_in r.output one.receiver) one.to
     × WritesFor constant (operand_in r.output one.receiver).kind one.step × ((reading : Reading) → ms reading ≡ constant_move r constant one.receiver ∷ [])
+
+-- Whatever the reading, moves are a single one that was made ready so, by one of these steps where it needs one.
+abbrev pub AreReadyAs : Between → MoveSteps → PicturedSteps → Ready → (Reading → List Move) → Type 0
+AreReadyAs b steps pictured (ready.Copy places) ms = AlwaysCopied b places ms × AreWithinLongest places
+AreReadyAs b steps pictured (ready.Prepared one) ms = AlwaysPrepared b steps one ms
+AreReadyAs b steps pictured (ready.Pictured one) ms = IsPictured b pictured one ms
+AreReadyAs b steps pictured (ready.Constant one) ms = IsReady (records_between b) one ms
+AreReadyAs b steps pictured (ready.Located one) ms = AlwaysLocated (records_between b) steps pictured one ms
+AreReadyAs b steps pictured (ready.LocatedConstant one) ms = AlwaysLocatedConstant (records_between b) one ms
+AreReadyAs b steps pictured ready.Nothing ms = Unit {0}
+
+-- the places between which bytes are copied where that was made ready
+abbrev pub copied_by : Ready → Option MovePlaces
+copied_by (ready.Copy places) = Some places
+copied_by (ready.Prepared one) = None
+copied_by (ready.Pictured one) = None
+copied_by (ready.Constant one) = None
+copied_by (ready.Located one) = None
+copied_by (ready.LocatedConstant one) = None
+copied_by ready.Nothing = None

@@ -25,9 +25,11 @@ ghost use Rattle.cob_move_data.specs.declared.operands.Side.TheVariants.{In};
 ghost use Rattle.cob_move_data.specs.declared.operands.StatementMoves.{StatementMoves as Said};
 ghost use Rattle.cob_move_data.specs.declared.operands.StatementMoves.TheVariants.{Pairs, Single};
 ghost use Rattle.cob_move_apply.specs.Joined.{begun, copy_ends, neither_varies, plain_copy, steps_in};
-ghost use Rattle.cob_move_apply.specs.Planned.{AlwaysCopied, AlwaysGains, AlwaysGainsCut, AlwaysLocated, AlwaysLocatedConstant, AlwaysMore, AreBetween, AreMore, AreWithinLongest, HasOneMore, IsPartIn, IsPictured, IsReady, IsStatementAt, records_between, counted_steps, entry_alone, last_step_ends, pair_alone, part_alone, single_alone, step_count, step_ends};
-ghost use Rattle.cob_move_apply.specs.Steps.{AreSteps, Gains, GainsCut, IsSteady, IsStep, StandFor, Support, alone, pair_at, singles_of, support_of};
+ghost use Rattle.cob_move_apply.specs.Planned.{AreReadyAs, HasOneMoveMore, copied_by, AlwaysCopied, AlwaysGains, AlwaysGainsCut, AlwaysLocated, AlwaysLocatedConstant, AlwaysMore, AreBetween, AreMore, AreWithinLongest, HasOneMore, IsPartIn, IsPictured, IsReady, IsStatementAt, records_between, counted_steps, entry_alone, last_step_ends, pair_alone, part_alone, single_alone, step_count, step_ends};
+ghost use Rattle.cob_move_apply.specs.Steps.{AreSteps, Gains, GainsCut, IsPreparedMove, IsSteady, IsStep, StandFor, Support, alone, pair_at, singles_of, support_of};
 ghost use Rattle.cob_move_apply.specs.Written.{AreCopied};
+ghost use Rattle.cob_move_steps.specs.Pictured.{KeepsPictured};
+ghost use Rattle.cob_move_steps.specs.Pool.{KeepsSteps};
 ghost use Rattle.cob_move_apply.specs.declared.step.Part as code_part;
 ghost use Rattle.cob_move_apply.specs.declared.step.Step.TheVariants.{Part as StepPart};
 
@@ -35,12 +37,12 @@ use crate::basis::entry_kind;
 use crate::pairs::entry_below;
 use crate::preparation::push_bases;
 use crate::ready::{
-    ReadyConstant, ReadyLocatedConstant, constant_of, located_constant_of, located_of, pictured_of,
-    prepared_of,
+    Ready, ReadyConstant, ReadyLocatedConstant, constant_of, located_constant_of, located_of,
+    pictured_of, prepared_of,
 };
 use crate::step::{
-    ConstantMove, LocatedConstant, LocatedMove, MovePlaces, PicturedMove, Plan, Step, both_copies,
-    part_of, prepared_step,
+    ConstantMove, LocatedConstant, LocatedMove, MovePlaces, PicturedMove, Plan, PreparedMove, Step,
+    both_copies, part_of, prepared_step,
 };
 use cob_layout::{Layout, Ref, places_lie_in_storage, records_are_sound, tables};
 use cob_move_data::{Move, PairMoves, Sender, Side, StatementMoves};
@@ -217,6 +219,21 @@ fn push_part(
     Ok(())
 }
 
+/// Puts the step of a single move that was made ready at its fixed places behind those so far.
+///
+/// # Errors
+///
+/// Where no memory is left.
+fn push_prepared(one: PreparedMove, plan: &mut Plan) -> Result<(), AllocError>
+    ensures gains { OnOk result ((reading : Reading) (r : Records) (given : List Said)
+        (own : List Meant) → IsPreparedMove reading r plan.old.prepared one own
+        → Gains reading r given own plan.old plan.new) }
+    ensures added { OnOk result (HasOneMore plan.old.steps.items plan.new.steps.items) }
+{
+    plan.steps.push(prepared_step(one))?;
+    Ok(())
+}
+
 /// Puts the step of the move of a constant that was made ready behind those so far.
 ///
 /// # Errors
@@ -276,82 +293,6 @@ fn push_located_constant(one: ReadyLocatedConstant, plan: &mut Plan) -> Result<(
     Ok(())
 }
 
-/// Puts the step of a single move of which no entry is sent that was made ready behind those so far: of a constant made ready wherever its receiver stands,
-/// if something carries it out then, and else as a part.
-///
-/// # Errors
-///
-/// Where no memory is left.
-fn push_last(
-    given: &[StatementMoves],
-    part: &StatementPart<'_>,
-    both: &Between<'_>,
-    plan: &mut Plan,
-) -> Result<(), AllocError>
-    requires part { IsPartIn (records_between both.now) given.now part.now }
-    requires one { length part.now.receivers.now ≡ 1 }
-    ensures gains { OnOk result (AlwaysGains both.now given.now
-        (part_alone both.now part.now) plan.old plan.new) }
-    ensures added { OnOk result (HasOneMore plan.old.steps.items plan.new.steps.items) }
-{
-    let receiver = &part.receivers[0];
-    match located_constant_of(part.sender, receiver, both)? {
-        Some(one) => push_located_constant(one, plan),
-        None => push_part(given, part, both, plan),
-    }
-}
-
-/// Puts the step of a single move whose operands have no fixed places behind those so far: made ready wherever these stand, if something carries it out
-/// then, and else as a part.
-///
-/// # Errors
-///
-/// Where no memory is left.
-fn push_anywhere(
-    given: &[StatementMoves],
-    part: &StatementPart<'_>,
-    both: &Between<'_>,
-    plan: &mut Plan,
-) -> Result<(), AllocError>
-    requires part { IsPartIn (records_between both.now) given.now part.now }
-    requires one { length part.now.receivers.now ≡ 1 }
-    ensures gains { OnOk result (AlwaysGains both.now given.now
-        (part_alone both.now part.now) plan.old plan.new) }
-    ensures added { OnOk result (HasOneMore plan.old.steps.items plan.new.steps.items) }
-{
-    let receiver = &part.receivers[0];
-    let prepared = &mut plan.prepared;
-    match located_of(part.sender, receiver, both, prepared, &mut plan.pictured)? {
-        Some(one) => push_located(one, plan),
-        None => push_last(given, part, both, plan),
-    }
-}
-
-/// Puts the step of a single move of which no sender's bytes are read ahead behind those so far: of a constant made ready, if something carries it
-/// out, and else like moves whose operands have no fixed places.
-///
-/// # Errors
-///
-/// Where no memory is left.
-fn push_rest(
-    given: &[StatementMoves],
-    part: &StatementPart<'_>,
-    both: &Between<'_>,
-    plan: &mut Plan,
-) -> Result<(), AllocError>
-    requires part { IsPartIn (records_between both.now) given.now part.now }
-    requires one { length part.now.receivers.now ≡ 1 }
-    ensures gains { OnOk result (AlwaysGains both.now given.now
-        (part_alone both.now part.now) plan.old plan.new) }
-    ensures added { OnOk result (HasOneMore plan.old.steps.items plan.new.steps.items) }
-{
-    let receiver = &part.receivers[0];
-    match constant_of(part.sender, receiver, both)? {
-        Some(one) => push_constant(one, plan),
-        None => push_anywhere(given, part, both, plan),
-    }
-}
-
 /// Puts a part behind the steps so far that was made ready where senders are read as their pictures say.
 ///
 /// # Errors
@@ -383,55 +324,81 @@ fn push_pictured(
     Ok(())
 }
 
-/// Puts the step of a single move that nothing carries out whatever the reading behind those so far: made ready where senders are read as their
-/// pictures say, if something carries it out then, and else like others.
+/// What is made ready of a single move, the first of these that carries it out: a copy of bytes, a step at fixed places whatever the reading, one where senders
+/// are read as their pictures say, a constant at a fixed place, a step wherever its items stand, a constant wherever its receiver stands.
 ///
 /// # Errors
 ///
 /// Where no memory is left.
-fn push_read(
-    given: &[StatementMoves],
-    part: &StatementPart<'_>,
+fn ready_of(
+    given: &Sender,
+    receiver: &Ref,
     both: &Between<'_>,
-    plan: &mut Plan,
-) -> Result<(), AllocError>
-    requires part { IsPartIn (records_between both.now) given.now part.now }
-    requires one { length part.now.receivers.now ≡ 1 }
-    ensures gains { OnOk result (AlwaysGains both.now given.now
-        (part_alone both.now part.now) plan.old plan.new) }
-    ensures added { OnOk result (HasOneMore plan.old.steps.items plan.new.steps.items) }
+    prepared: &mut MoveSteps,
+    pictured: &mut PicturedSteps,
+) -> Result<Ready, AllocError>
+    requires both { AreBetween both.now }
+    requires legal { IsMove (records_between both.now)
+        (alone (sender (records_between both.now) given.now)
+        (operand_in both.now.output.now receiver.now)) }
+    ensures ready { IfOk result (λ ready. AreReadyAs both.now prepared.new pictured.new ready
+        (single_alone both.now given.now receiver.now)) }
+    ensures copies { IfOk result (λ ready. (reading : Reading) → copied_by ready
+        ≡ plain_copy (records_between both.now) (sender_by reading (records_between both.now) given.now)
+        (operand_in both.now.output.now receiver.now)) }
+    ensures prepared { KeepsSteps prepared.old prepared.new }
+    ensures pictured { KeepsPictured pictured.old pictured.new }
 {
-    let receiver = &part.receivers[0];
-    match pictured_of(part.sender, receiver, both, &mut plan.pictured)? {
-        Some(one) => push_pictured(given, part, one, both, plan),
-        None => push_rest(given, part, both, plan),
+    if let Some(places) = copy_of(given, receiver, both) {
+        return Ok(Ready::Copy(places));
     }
+    if let Some(one) = prepared_of(given, receiver, both, prepared)? {
+        return Ok(Ready::Prepared(one));
+    }
+    if let Some(one) = pictured_of(given, receiver, both, pictured)? {
+        return Ok(Ready::Pictured(one));
+    }
+    if let Some(one) = constant_of(given, receiver, both)? {
+        return Ok(Ready::Constant(one));
+    }
+    if let Some(one) = located_of(given, receiver, both, prepared, pictured)? {
+        return Ok(Ready::Located(one));
+    }
+    if let Some(one) = located_constant_of(given, receiver, both)? {
+        return Ok(Ready::LocatedConstant(one));
+    }
+    Ok(Ready::Nothing)
 }
 
-/// Puts the step of a single move that is no plain copy behind those so far: made ready, where something carries it out, and else as a part.
+/// Puts the step of a single move behind those so far, by what was made ready of it.
 ///
 /// # Errors
 ///
 /// Where no memory is left.
-fn push_other(
+fn push_ready(
     given: &[StatementMoves],
     part: &StatementPart<'_>,
+    ready: Ready,
     both: &Between<'_>,
     plan: &mut Plan,
 ) -> Result<(), AllocError>
     requires part { IsPartIn (records_between both.now) given.now part.now }
     requires one { length part.now.receivers.now ≡ 1 }
+    requires ready { AreReadyAs both.now plan.old.prepared plan.old.pictured ready
+        (part_alone both.now part.now) }
     ensures gains { OnOk result (AlwaysGains both.now given.now
         (part_alone both.now part.now) plan.old plan.new) }
-    ensures added { OnOk result (HasOneMore plan.old.steps.items plan.new.steps.items) }
+    ensures added { OnOk result (HasOneMoveMore (copied_by ready)
+        plan.old.steps.items plan.new.steps.items) }
 {
-    let receiver = &part.receivers[0];
-    match prepared_of(part.sender, receiver, both, &mut plan.prepared)? {
-        Some(one) => {
-            plan.steps.push(prepared_step(one))?;
-            Ok(())
-        }
-        None => push_read(given, part, both, plan),
+    match ready {
+        Ready::Copy(places) => push_copy(places, &mut plan.steps),
+        Ready::Prepared(one) => push_prepared(one, plan),
+        Ready::Pictured(one) => push_pictured(given, part, one, both, plan),
+        Ready::Constant(one) => push_constant(one, plan),
+        Ready::Located(one) => push_located(one, plan),
+        Ready::LocatedConstant(one) => push_located_constant(one, plan),
+        Ready::Nothing => push_part(given, part, both, plan),
     }
 }
 
@@ -454,10 +421,15 @@ fn push_single(
     ensures more { OnOk result (AlwaysMore both.now (part_alone both.now part.now)
         plan.old.steps.items plan.new.steps.items) }
 {
-    match copy_of(part.sender, &part.receivers[0], both) {
-        Some(places) => push_copy(places, &mut plan.steps),
-        None => push_other(given, part, both, plan),
-    }
+    let receiver = &part.receivers[0];
+    let ready = ready_of(
+        part.sender,
+        receiver,
+        both,
+        &mut plan.prepared,
+        &mut plan.pictured,
+    )?;
+    push_ready(given, part, ready, both, plan)
 }
 
 /// Puts the steps of a move's single moves behind those so far.

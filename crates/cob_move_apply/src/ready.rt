@@ -38,6 +38,25 @@ pub(crate) struct ReadyLocatedConstant {
     pub(crate) step: ConstantStep,
 }
 
+/// What is made ready of a single move, and so how its step carries it out.
+#[derive(Drop)]
+pub(crate) enum Ready {
+    /// Bytes are copied from one fixed place to another.
+    Copy(MovePlaces),
+    /// A step between fixed places, however senders are read.
+    Prepared(PreparedMove),
+    /// A step between fixed places, where senders are read as their pictures say.
+    Pictured(PicturedMove),
+    /// A constant is written to a fixed place.
+    Constant(ReadyConstant),
+    /// A step between items wherever they stand.
+    Located(LocatedMove),
+    /// A constant is written to an item wherever this stands.
+    LocatedConstant(ReadyLocatedConstant),
+    /// Nothing: it is carried out as a part of its statement, whose places and categories are looked at then.
+    Nothing,
+}
+
 /// The places of an entry of the input record and of one of the output record; None where one of them doesn't stand at one place in every storage.
 fn fixed_places(sent: &Ref, receiver: &Ref, both: &Between<'_>) -> Option<MovePlaces>
     requires sent { IsOperand both.now.input.now (operand_in both.now.input.now sent.now) }
