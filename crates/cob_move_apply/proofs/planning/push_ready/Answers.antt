@@ -17,7 +17,7 @@ returns-in-Copy-clause-gains c =
 pub returns-in-Prepared-clause-gains : goal.returns-in-Prepared-clause-gains
 returns-in-Prepared-clause-gains c =
     let ready = rw c.in-Prepared.is at c.requires.ready in
-    on_ok_weaker c.push_prepared.result (λ so x. so x (records_between c.args.both.now) c.args.given.now (meant x (records_between c.args.both.now) c.args.part.now ∷ []) (ready x)) c.push_prepared.ensures.gains
+    on_ok_weaker c.push_prepared.result (λ so x. so x (records_between c.args.both.now) c.args.given.now (part_alone c.args.both.now c.args.part.now) ready) c.push_prepared.ensures.gains
 
 pub push_pictured-requires-clause-pictured : goal.push_pictured-requires-clause-pictured
 push_pictured-requires-clause-pictured c = rw c.in-Pictured.is at c.requires.ready
