@@ -64,8 +64,7 @@ abbrev pub aside_fault : AsideFault → CommandFault
 aside_fault (aside.Stopped stopped) = fault.Stopped stopped
 aside_fault (aside.NotSetAside number cause written) = fault.NotSetAside number cause
 
--- The status of each fault: a file that is not opened or not read is a device's, and a run that rejected records ends as one that a record
--- stopped.
+-- The status of each fault: a file that is not opened or not read is a device's.
 abbrev pub status_of : CommandFault → Status
 status_of (fault.CannotOpen name) = status.Device
 status_of (fault.CannotRead name) = status.Device
@@ -79,7 +78,6 @@ status_of (fault.OneFileAside name) = status.Malformed
 status_of (fault.Unflushed last) = status.Device
 status_of (fault.NotSetAside number cause) = status.Device
 status_of (fault.UnflushedAside last) = status.Device
-status_of (fault.SetAside converted rejected) = status.Stopped
 status_of fault.NotRenamed = status.Device
 status_of fault.NotRenamedAside = status.Device
 status_of fault.Unprinted = status.Device

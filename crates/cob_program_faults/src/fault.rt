@@ -103,12 +103,6 @@ pub enum CommandFault {
     UnflushedAside {
         last: u64,
     },
-    /// So many records were converted, and these were rejected and set aside.
-    #[error("done {converted} rejected {rejected}")]
-    SetAside {
-        converted: u64,
-        rejected: u64,
-    },
     /// The system did not give the output, which is written whole under the name of its part, its own name.
     #[error("cannot rename out")]
     NotRenamed,
@@ -213,7 +207,6 @@ impl CommandFault {
             | CommandFault::OtherLength { .. } => Status::Refused,
             CommandFault::OneFile(_) | CommandFault::OneFileAside(_) => Status::Malformed,
             CommandFault::Stopped(fault) => Status::of_stop(fault.cause),
-            CommandFault::SetAside { .. } => Status::Stopped,
             CommandFault::Memory => Status::Memory,
         }
     }

@@ -21,6 +21,8 @@
 //! - [`CommandFault`] is why a command is not done: its words are those of the line that is told, and [`CommandFault::status`] is how the program
 //!   ends then. What the refusals of lower crates become is said by specs/Faults.antt, one definition for each: want of memory is told as that
 //!   alone.
+//! - [`CommandDone`] is what a command came to that converts and is done, with the words of the line that is told and its status: that of a run which a
+//!   record stopped, where some were rejected and set aside (`status_of_done` of specs/Done.antt).
 //! - [`tell_fault`] prints such a line, and [`printed`] says how a command ends whose last line was printed or was not: as it came out, or as where a
 //!   device failed (`EndsAs` of specs/Ends.antt).
 //! - [`text_of`] reads the text in the file that an option names, and [`Texts`] the three texts of a conversion, in the order of the options; which
@@ -33,6 +35,7 @@
 //! Which words tell a fault, and what a terminal is, is shown by `cob_test_jobs` and `tools/try_files`.
 #![tactic(auto)]
 
+mod done;
 mod ends;
 mod fault;
 mod identity;
@@ -43,6 +46,7 @@ mod terminals;
 mod texts;
 mod whole_text;
 
+pub use done::CommandDone;
 pub use ends::{printed, tell_fault};
 pub use fault::{CommandFault, FileName};
 pub use identity::{FileIdentity, lead_to_one_file, loses};

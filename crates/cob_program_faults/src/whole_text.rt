@@ -1,7 +1,7 @@
 ghost use Rattle.std.specs.Prelude.{◌≡◌, ◌≤◌, ◌<◌, ◌+◌, ◌^◌, ◌++◌, ℕ, List, length, take, drop, vec_len, IfOk, IfErr, is_err};
 ghost use Rattle.std.specs.Io.KnownBytes.{IsAtEnd};
 ghost use Rattle.cob_records.specs.Device.{counted};
-ghost use Rattle.cob_program_faults.specs.WholeTexts.{IsReadOf, IsReadingFault, IsWhole, is_failed_read};
+ghost use Rattle.cob_program_faults.specs.WholeTexts.{IsPieceOf, IsReadOf, IsReadingFault, IsWhole, is_failed_read};
 ghost use Rattle.cob_program_faults.specs.declared.whole_text.TextFault.TheVariants.{Memory, NotRead};
 
 use cob_limits::MAX_TEXT_BYTES;
@@ -61,12 +61,14 @@ fn read_behind<S: Source>(
 /// Reads once, behind the bytes that were read before, and says how many bytes there are now; as many as before only at the source's end.
 fn read_piece<S: Source>(source: &mut S, bytes: &mut Vec<u8>) -> Result<usize, TextFault>
     requires room { vec_len bytes.old < 2 ^ 62 }
-    ensures bytes { IfOk result (λ now. (piece : List ℕ) × (bytes.new.items ≡ bytes.old.items ++ piece)
-        × IsReadOf (S.coming source.old) (S.coming source.new) piece) }
-    ensures now { IfOk result (λ now. (now ≡ vec_len bytes.new) × (now ≤ vec_len bytes.old + 65536)) }
+    ensures bytes { IfOk result (λ _. IsPieceOf
+        (S.coming source.old) (S.coming source.new) bytes.old.items bytes.new.items) }
+    ensures now { IfOk result (λ now.
+        (now ≡ vec_len bytes.new) × (now ≤ vec_len bytes.old + 65536)) }
     ensures end { IfOk result (λ now. now ≡ vec_len bytes.old → IsAtEnd (S.coming source.new)) }
     ensures kind { IfErr result IsReadingFault }
-    ensures cause { S.failures source.new ≡ counted (is_failed_read result) (S.failures source.old) }
+    ensures cause { S.failures source.new
+        ≡ counted (is_failed_read result) (S.failures source.old) }
 {
     let before = bytes.len();
     bytes.resize(before + PIECE, 0u8)?;
@@ -87,12 +89,14 @@ pub fn read_whole<S: Source>(
 ) -> Result<Vec<u8>, TextFault>
     requires most { most ≤ 2 ^ 32 }
     // What was read is what the source gave, and nothing of it is left out.
-    ensures bytes { IfOk result (λ text. IsReadOf (S.coming source.old) (S.coming source.new) text.items) }
+    ensures bytes { IfOk result (λ text.
+        IsReadOf (S.coming source.old) (S.coming source.new) text.items) }
     ensures whole { IfOk result (λ text. IsWhole most (S.coming source.new) text.items) }
     // An endless source is left soon.
     ensures bound { IfOk result (λ text. vec_len text ≤ most + 65536) }
     ensures kind { IfErr result IsReadingFault }
-    ensures cause { S.failures source.new ≡ counted (is_failed_read result) (S.failures source.old) }
+    ensures cause { S.failures source.new
+        ≡ counted (is_failed_read result) (S.failures source.old) }
 {
     let mut bytes = Vec::new(alloc);
     let mut came: usize = 0;
