@@ -1,5 +1,5 @@
 -- What is told where the records that a command reads are not there.
-use Rattle.std.specs.Prelude.{◌≡◌, ◌⊎◌, ◌+◌, ◌-◌, ℕ, false, None, Some, Option}
+use Rattle.std.specs.Prelude.{◌≡◌, ◌⊎◌, ◌+◌, ℕ, false, None, Some, Option}
 use Rattle.cob_move_data.specs.declared.operands.Side.TheVariants.{In}
 use Rattle.cob_records.specs.Progress.{kept_count}
 use Rattle.cob_records.specs.declared.records.RecordFault.TheVariants.{ReadFailed}
@@ -14,6 +14,7 @@ use Rattle.cob_program_faults.specs.declared.fault.FileName.TheVariants as name
 use Rattle.cob_program_faults.specs.declared.fault.CommandFault.{CommandFault}
 use Rattle.cob_program_faults.specs.declared.fault.CommandFault.TheVariants as fault
 use Rattle.cob_program_faults.specs.Texts.{LacksFile}
+use Rattle.cob_program_ends.specs.Counted.{number_from}
 
 -- the frame of a record can't be read
 abbrev pub LacksFrame : CommandFault → Type 0
@@ -28,7 +29,7 @@ LacksRecords told = LacksFile name.In told ⊎ LacksFrame told
 -- of its records were jumped over before.
 abbrev pub stop_told : (first jumped : ℕ) → Stopped → CommandFault
 stop_told first jumped stop = fault.Stopped (record {
-  number = kept_count (kept_count (stop.number + jumped) + (first - 1));
+  number = number_from first (kept_count (stop.number + jumped));
   side = In;
   offset = 0;
   cause = cause.Record stop.fault;

@@ -22,8 +22,8 @@
 //! that are read, by whatever name: so a record that is passed over and can't be read leaves no output, and nothing that is read is lost.
 //! [`open_aside_ends`] makes behind these the file for rejected records too, or its part, and not where either is one of the files that are read, or the
 //! output; where the part is not made, that of the output does not stay. [`Inputs`] are the files that are read, and [`is_standard_output`] says whether
-//! a file is standard output by another name. [`first_of`] is the number of the first record that is converted, [`counted_from`] counts the records of a
-//! fault from it, and [`telling_piece`] says how a run tells how far it is.
+//! a file is standard output by another name. [`first_of`] is the number of the first record that is converted, [`counted_on`] counts a record from it and
+//! [`counted_from`] those of a fault, and [`telling_piece`] says how a run tells how far it is.
 //!
 //! What is promised:
 //!
@@ -39,8 +39,8 @@ mod inputs;
 mod records;
 mod stops;
 
-pub use aside::{AsideEnds, Parts, open_aside_ends};
-pub use counted::{counted_from, first_of};
+pub use aside::{AsideEnds, Names, open_aside_ends};
+pub use counted::{counted_from, counted_on, first_of};
 pub use ends::{Ends, open_ends, telling_piece};
 pub use inputs::{Inputs, is_standard_output};
 pub use records::{Wanted, open_records};

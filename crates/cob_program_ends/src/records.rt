@@ -124,7 +124,8 @@ pub fn open_records<R: AllocGlobal + Files + Input>(
     requires low { 0 < wanted.greatest }
     requires high { wanted.greatest ≤ longest_record }
     // They are those of the part behind the records that are jumped over, and none but the chosen ones.
-    ensures gives { IfOk result (GivesWanted wanted.entry.form wanted.entry.greatest wanted.entry.choice.records) }
+    ensures gives { IfOk result
+        (GivesWanted wanted.entry.form wanted.entry.greatest wanted.entry.choice.records) }
     // Those before the chosen ones are jumped over or passed over.
     ensures skips { IfOk result (SkipsWanted wanted.entry) }
     ensures lacks { IfErr result LacksRecords }

@@ -5,6 +5,7 @@ ghost use Rattle.cob_records.specs.Frame.{is_write_fault};
 ghost use Rattle.cob_records_parts.specs.Gives.{IfStopped};
 ghost use Rattle.cob_program_ends.specs.Stops.{LacksRecords, cause_told, stop_told, unchosen};
 
+use crate::counted::counted_on;
 use cob_convert_stream::{Cause, RunFault, Side};
 use cob_program_faults::CommandFault;
 use cob_records::RecordFault;
@@ -17,7 +18,7 @@ fn stopped_at(first: u64, jumped: u64, stop: Stopped) -> CommandFault
 {
     let number = stop.number.saturating_add(jumped);
     CommandFault::Stopped(RunFault {
-        number: number.saturating_add(first.saturating_sub(1)),
+        number: counted_on(first, number),
         side: Side::In,
         offset: 0,
         cause: Cause::Record(stop.fault),
