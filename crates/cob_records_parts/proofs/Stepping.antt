@@ -63,7 +63,7 @@ taken_more form greatest skip number left after chosen body bytes mid rest come 
 
 -- ---- from what a reading of the next record says
 
-read_one : (form : Form) (greatest left : ℕ) (slice : List ℕ) (count after : ℕ) (bytes rest : List ℕ) → ReadsInForm form greatest left slice (Ok (Some count)) after bytes rest
+pub read_one : (form : Form) (greatest left : ℕ) (slice : List ℕ) (count after : ℕ) (bytes rest : List ℕ) → ReadsInForm form greatest left slice (Ok (Some count)) after bytes rest
     → IsRecord form greatest (take count slice) × ComesFirst form left (take count slice) bytes after rest
 read_one Fixed greatest left slice count after bytes rest ((within, is, frame), same) = (is, (frame, same))
 read_one Variable greatest left slice count after bytes rest ((within, is, frame), same) = (is, (frame, same))

@@ -2,9 +2,8 @@
 use Rattle.std.specs.Prelude.{◌≡◌, ℕ, List, [], None, Option, option_map}
 use Rattle.cob_records.specs.declared.records.Form.{Form}
 use Rattle.cob_records_parts.specs.Choices.{last_chosen}
-use Rattle.cob_records_parts.specs.Comings.{coming_of}
+use Rattle.cob_records_parts.specs.Comings.{coming_of, given_by}
 use Rattle.cob_records_parts.specs.Gives.{HasGiven, IsPassedTo}
-use Rattle.cob_records_parts.specs.StillGiven.{given_of}
 use Rattle.cob_records_parts.specs.declared.choice.Choice.{Choice}
 use Rattle.cob_records_parts.specs.declared.chosen.Chosen.{Chosen}
 use Rattle.cob_records_parts.specs.declared.incoming.Incoming.{Incoming}
@@ -21,7 +20,7 @@ pub record GivesAllBehind {R : Type 0} (form : Form) (greatest : ℕ) (choice : 
   pub passed : IsPassedTo first now source
   pub runs : source.stopped ≡ None
   pub unfailed : source.failures ≡ 0
-  pub comes : coming_of now source ≡ option_map (given_of form greatest choice.skip (last_chosen choice) 0) first
+  pub comes : coming_of now source ≡ option_map (given_by form greatest choice) first
 
 -- it gives just the records of this choice
 abbrev pub GivesChosen : {R : Type 0} → (R → Option (List ℕ)) → Form → (greatest : ℕ) → Choice → (first : Option (List ℕ)) → Incoming R → Type 0

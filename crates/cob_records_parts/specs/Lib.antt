@@ -8,6 +8,7 @@ pub mod Fronts
 pub mod Gives
 pub mod Helds
 pub mod Incomings
+pub mod Numbering
 pub mod Parts
 pub mod Rests
 pub mod StillGiven

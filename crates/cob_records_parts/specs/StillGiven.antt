@@ -67,6 +67,10 @@ Gives part before now coming left = Told coming left (λ bytes rest. given_behin
 abbrev pub GivesNone : Walk → (coming left : Option (List ℕ)) → Type 0
 GivesNone before coming left = Told coming left (λ bytes rest. given_behind before bytes ≡ [])
 
+-- where the first record that is chosen has come, what is given of one of these bytes is this record by itself
+abbrev pub GivesRecord : List ℕ → Walk → Walk → (coming left : Option (List ℕ)) → Type 0
+GivesRecord body before now coming left = before.skip ≤ before.number → Gives (framed_alone before.form body) before now coming left
+
 -- where no read failed, the mark of the fault at which it stopped is what is given
 abbrev pub GivesMark : Stopped → Walk → (coming left : Option (List ℕ)) → Type 0
 GivesMark stop before coming left =

@@ -37,9 +37,8 @@ pub struct Chosen<R> {
 
 impl<R: Source + Drop> Chosen<R> {
     ghost use Rattle.cob_records_parts.specs.Choices.{last_chosen};
-    ghost use Rattle.cob_records_parts.specs.Comings.{chosen_coming};
+    ghost use Rattle.cob_records_parts.specs.Comings.{chosen_coming, given_by};
     ghost use Rattle.cob_records_parts.specs.Gives.{HasGiven, IfStopped, IsPassedTo, StopsPassing, chosen_failures, chosen_inner, chosen_stop, chosen_walk};
-    ghost use Rattle.cob_records_parts.specs.StillGiven.{given_of};
 
     /// A source that gives the records of this choice of another, which stand in this form and have at most this length: 1 to 32,752. Those before
     /// the chosen ones are passed over at once, as far as there are so many.
@@ -62,16 +61,20 @@ impl<R: Source + Drop> Chosen<R> {
         ensures skip { IfOk result (λ source. (chosen_walk source).skip ≡ choice.skip) }
         ensures last { IfOk result (λ source. (chosen_walk source).last ≡ last_chosen choice) }
         // Nothing is given yet, and those before the chosen ones have passed, or it is at its end.
-        ensures none { IfOk result (λ source. HasGiven (R.coming inner) (R.coming (chosen_inner source)) [] source) }
-        ensures passed { IfOk result (λ source. IsPassedTo (R.coming inner) (R.coming (chosen_inner source)) source) }
+        ensures none { IfOk result (λ source.
+            HasGiven (R.coming inner) (R.coming (chosen_inner source)) [] source) }
+        ensures passed { IfOk result (λ source.
+            IsPassedTo (R.coming inner) (R.coming (chosen_inner source)) source) }
         ensures runs { IfOk result (λ source. chosen_stop source ≡ None) }
         ensures failures { IfOk result (λ source. chosen_failures source ≡ 0) }
-        ensures reads { IfOk result (λ source. R.failures (chosen_inner source) ≡ R.failures inner) }
+        ensures reads { IfOk result (λ source.
+            R.failures (chosen_inner source) ≡ R.failures inner) }
         // What comes of it is what is given of all that was to come.
         ensures coming { IfOk result (λ source. chosen_coming R.coming source
-            ≡ option_map (given_of form greatest choice.skip (last_chosen choice) 0) (R.coming inner)) }
+            ≡ option_map (given_by form greatest choice) (R.coming inner)) }
         ensures stops { IfErr result (StopsPassing form greatest choice.skip (R.coming inner)) }
-        ensures kind { IfErr result (λ fault. IfStopped fault (λ stop. is_write_fault stop.fault ≡ false)) }
+        ensures kind { IfErr result (λ fault.
+            IfStopped fault (λ stop. is_write_fault stop.fault ≡ false)) }
     {
         let Ok(mut held) = Held::new(alloc, greatest) else {
             return Err(ChoiceFault::Memory);
@@ -161,7 +164,8 @@ impl<R: Source> Chosen<R> {
     // Holds the next record that is chosen, where none is held and there is one.
     fn refilled(&mut self) -> Result<(), DeviceFault>
         requires { chosen_stop self.old ≡ None }
-        ensures cause { chosen_failures self.new ≡ counted (is_err result) (chosen_failures self.old) }
+        ensures cause { chosen_failures self.new
+            ≡ counted (is_err result) (chosen_failures self.old) }
         ensures same { IsSameChoice (chosen_walk self.old) (chosen_walk self.new) }
         ensures gives { OnOk result (GivesBehind R.coming [] self.old self.new) }
         ensures over { OnOk result (IsRefilled R.coming self.old self.new) }
@@ -169,7 +173,8 @@ impl<R: Source> Chosen<R> {
         ensures stops { OnErr result (StopsGiving R.coming self.old self.new) }
         ensures reads { CountsInnerReads R.failures self.old self.new }
         ensures coming { chosen_coming R.coming self.new ≡ chosen_coming R.coming self.old }
-        ensures end { OnOk result (length (held_bytes self.new.held) ≡ 0 → IsAtEnd (chosen_coming R.coming self.new)) }
+        ensures end { OnOk result (length (held_bytes self.new.held) ≡ 0
+            → IsAtEnd (chosen_coming R.coming self.new)) }
     {
         if !self.held.is_empty() {
             return Ok(());
@@ -203,17 +208,23 @@ impl<R: Source> Source for Chosen<R> {
             ≡ prepend_known (take n piece.new) (chosen_coming R.coming self.new)) }
         ensures end { IfOk result (λ n. n ≡ 0 → 0 < length piece.new
             → IsAtEnd (chosen_coming R.coming self.old)) }
-        ensures kept { OnErr result (chosen_coming R.coming self.new ≡ chosen_coming R.coming self.old) }
-        ensures cause { chosen_failures self.new ≡ counted (is_err result) (chosen_failures self.old) }
+        ensures kept { OnErr result
+            (chosen_coming R.coming self.new ≡ chosen_coming R.coming self.old) }
+        ensures cause { chosen_failures self.new
+            ≡ counted (is_err result) (chosen_failures self.old) }
         // The same records are chosen, and what it gave stands behind what it had given; where it gave nothing, it is over.
         ensures same { IsSameChoice (chosen_walk self.old) (chosen_walk self.new) }
-        ensures gives { IfOk result (λ n. GivesBehind R.coming (take n piece.new) self.old self.new) }
-        ensures over { IfOk result (λ n. n ≡ 0 → 0 < length piece.new → IsDrained R.coming self.old self.new) }
+        ensures gives { IfOk result (λ n.
+            GivesBehind R.coming (take n piece.new) self.old self.new) }
+        ensures over { IfOk result (λ n. n ≡ 0 → 0 < length piece.new
+            → IsDrained R.coming self.old self.new) }
         // It fails where a frame can't be read, and from then on; a read of the source inside failed exactly where that is why.
         ensures runs { OnOk result (chosen_stop self.new ≡ None) }
-        ensures stops { OnErr result (chosen_stop self.old ≡ None → StopsGiving R.coming self.old self.new) }
+        ensures stops { OnErr result (chosen_stop self.old ≡ None
+            → StopsGiving R.coming self.old self.new) }
         ensures stays { IfSome (chosen_stop self.old) (λ _. self.new.stopped ≡ self.old.stopped) }
-        ensures reads { chosen_stop self.old ≡ None → CountsInnerReads R.failures self.old self.new }
+        ensures reads { chosen_stop self.old ≡ None
+            → CountsInnerReads R.failures self.old self.new }
     {
         if self.stopped.is_some() {
             self.failures = self.failures.wrapping_add(1);

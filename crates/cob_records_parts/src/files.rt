@@ -80,7 +80,8 @@ pub fn open_part<R: AllocGlobal + Files + Input>(
     // It is over standard input just where the name is `-`, and then over all of it.
     ensures which { IfOk result (λ source.
         is_standard (take_inner (reader_inner (source_reader source))) ≡ names_standard name.now) }
-    ensures whole { names_standard name.now ≡ true → IfOk result (λ _. (from ≡ 0) × (bytes ≡ None)) }
+    ensures whole { names_standard name.now ≡ true
+        → IfOk result (λ _. (from ≡ 0) × (bytes ≡ None)) }
 {
     let is_all = from == 0 && bytes.is_none();
     let Some(opened) = opened_at(rt, name, from, is_all) else {

@@ -40,9 +40,11 @@ pub fn choose<R: Source + Drop>(
     requires low { 0 < greatest }
     requires high { greatest ≤ longest_record }
     ensures all { chooses_all choice ≡ true → result ≡ Ok (incoming.All source) }
-    ensures some { chooses_all choice ≡ false → IfOk result (GivesChosen R.coming form greatest choice (R.coming source)) }
+    ensures some { chooses_all choice ≡ false
+        → IfOk result (GivesChosen R.coming form greatest choice (R.coming source)) }
     ensures stops { IfErr result (StopsPassing form greatest choice.skip (R.coming source)) }
-    ensures kind { IfErr result (λ fault. IfStopped fault (λ stop. is_write_fault stop.fault ≡ false)) }
+    ensures kind { IfErr result (λ fault.
+        IfStopped fault (λ stop. is_write_fault stop.fault ≡ false)) }
 {
     if choice.is_all() {
         return Ok(Incoming::All(source));

@@ -1,4 +1,4 @@
-//! Parts of a stream of records: pieces that are converted each for itself, and records chosen by their places.
+//! Parts of a stream of records: pieces that are converted each for itself, records chosen by their places, and the record with a number.
 //!
 //! # Pieces
 //!
@@ -37,6 +37,12 @@
 //! - [`whole_records`] says how many records of one length may be passed over by a seek: by arithmetic on the size of a file.
 //!
 //! One buffer is made for all records.
+//!
+//! # The record with a number
+//!
+//! [`find_record`] reads the record with a number, behind as many as stand before it, which are passed over by their frames alone. What is promised
+//! (`FindsNumbered` of specs/Numbering.antt): it is the one behind so many that came whole, and just up to its end was read; or only fewer come; or a frame up
+//! to its own can't be read, and the number of its record is told. A read failed exactly where that is why.
 #![tactic(auto)]
 
 mod ahead;
@@ -49,6 +55,7 @@ mod foretold;
 mod held;
 mod incoming;
 mod laws;
+mod numbered;
 mod part;
 mod piece;
 mod refill;
@@ -64,6 +71,7 @@ pub use files::{PartSource, open_part};
 pub use fixed::pieces_of_size;
 pub use incoming::{Incoming, choose};
 pub use laws::{given_are_chosen, rest_is_behind};
+pub use numbered::{Numbered, find_record};
 pub use part::Part;
 pub use piece::{Piece, PiecesFault};
 pub use rest::Rest;

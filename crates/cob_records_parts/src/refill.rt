@@ -4,6 +4,7 @@ ghost use Rattle.std.specs.Prelude.{◌≡◌, ◌⊎◌, ◌+◌, ◌<◌, ◌�
 ghost use Rattle.cob_records.specs.Device.{counted};
 ghost use Rattle.cob_records.specs.Frame.{is_write_fault};
 ghost use Rattle.cob_records_parts.specs.Choices.{stops_by_read};
+ghost use Rattle.cob_records_parts.specs.Numbering.{OnlyPassed};
 ghost use Rattle.cob_records_parts.specs.StillGiven.{Gives, GivesMark, GivesNone};
 ghost use Rattle.cob_records_parts.specs.Helds.{IsSpent, held_bytes};
 ghost use Rattle.cob_records_parts.specs.Walks.{EndsAt, IsSameChoice, IsThrough, PassesOver, ReachesFirst, StopsWalkAt, TakesChosen};
@@ -34,8 +35,12 @@ pub(crate) fn pass_over<R: Source>(
     ensures behind { IfOk result (λ all. IsTrue all → walk.new.skip ≤ walk.new.number) }
     ensures ends { IfOk result (λ all. IsFalse all
         → EndsAt walk.old walk.new (R.coming source.old) (R.coming source.new)) }
+    ensures only { IfOk result (λ all. IsFalse all
+        → OnlyPassed walk.old walk.new (R.coming source.old) (R.coming source.new)) }
+    ensures fewer { IfOk result (λ all. IsFalse all → walk.new.number < walk.new.skip) }
     ensures stops { IfErr result (λ stop. StopsWalkAt stop walk.old
         (R.coming source.old) (R.coming source.new)) }
+    ensures before { IfErr result (λ stop. stop.number ≤ walk.old.skip) }
     ensures gives { IfOk result (λ _.
         Gives [] walk.old walk.new (R.coming source.old) (R.coming source.new)) }
     ensures none { IfOk result (λ all. IsFalse all

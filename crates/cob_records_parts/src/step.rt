@@ -3,9 +3,9 @@
 ghost use Rattle.std.specs.Prelude.{◌≡◌, ◌+◌, ◌<◌, ◌≤◌, [], false, true, length, take, IfErr, IfNone, IfOk};
 ghost use Rattle.cob_records.specs.Device.{counted};
 ghost use Rattle.cob_records.specs.Frame.{is_write_fault};
-ghost use Rattle.cob_records.specs.Alone.{framed_alone};
 ghost use Rattle.cob_records_parts.specs.Choices.{stops_by_read};
-ghost use Rattle.cob_records_parts.specs.StillGiven.{Gives, GivesMark, GivesNone};
+ghost use Rattle.cob_records_parts.specs.Numbering.{OnlyPassed};
+ghost use Rattle.cob_records_parts.specs.StillGiven.{Gives, GivesMark, GivesNone, GivesRecord};
 ghost use Rattle.cob_records_parts.specs.Walks.{EndsAt, IfFound, IsSameChoice, PassesOver, StopsWalkAt, TakesRecord};
 
 use crate::choice::Stopped;
@@ -35,15 +35,17 @@ pub(crate) fn next_body<R: Source>(
     ensures counts { IfFound result (λ _. walk.new.number ≡ walk.old.number + 1) }
     ensures ends { IfOk result (λ found. IfNone found
         (EndsAt walk.old walk.new (R.coming source.old) (R.coming source.new))) }
+    ensures only { IfOk result (λ found. IfNone found
+        (OnlyPassed walk.old walk.new (R.coming source.old) (R.coming source.new))) }
     ensures stays { IfOk result (λ found. IfNone found (walk.new.number ≡ walk.old.number)) }
+    ensures names { IfErr result (λ stop. stop.number ≡ walk.old.number + 1) }
     ensures stops { IfErr result (λ stop. StopsWalkAt stop walk.old
         (R.coming source.old) (R.coming source.new)) }
     // What is given of all that comes: of a record that is passed over nothing, of one that is taken this one, nothing at the end, the mark of a fault.
     ensures over { IfFound result (λ _. walk.old.number < walk.old.skip
         → Gives [] walk.old walk.new (R.coming source.old) (R.coming source.new)) }
-    ensures next { IfFound result (λ count. walk.old.skip ≤ walk.old.number
-        → Gives (framed_alone walk.old.form (take count body.new)) walk.old walk.new
-        (R.coming source.old) (R.coming source.new)) }
+    ensures next { IfFound result (λ count.
+        GivesRecord (take count body.new) walk.old walk.new (R.coming source.old) (R.coming source.new)) }
     ensures none { IfOk result (λ found. IfNone found
         (GivesNone walk.old (R.coming source.old) (R.coming source.new))) }
     ensures still { IfOk result (λ found. IfNone found

@@ -60,7 +60,8 @@ fn next_frame<R: Source>(
         (Finds form greatest left.old result left.new) }
     ensures most { IfOk result (λ next. next_size next ≤ longest_record + 8) }
     ensures kind { IfErr result (λ fault. is_write_fault fault ≡ false) }
-    ensures cause { R.failures source.new ≡ counted (is_failed_next result) (R.failures source.old) }
+    ensures cause { R.failures source.new
+        ≡ counted (is_failed_next result) (R.failures source.old) }
 {
     let before = *left;
     match next_in_form(source, form, greatest, slot, left) {

@@ -1,5 +1,6 @@
 use Rattle.std.proofs.Common.{refl}
 use Rattle.cob_records_parts.proofs.Foretelling.{told_mark, told_next, told_none, told_over, told_still}
+use Rattle.cob_records_parts.proofs.Numbering.{told_only}
 use Rattle.cob_records_parts.proofs.Stepping.{told_passed, told_taken}
 use Rattle.cob_records_parts.proofs.step.next_body.Goals as goal
 
@@ -28,6 +29,12 @@ returns-in-Ok-Some-clause-next g c = λ behind.
     told_next walk.form walk.greatest walk.skip walk.last walk.number walk.left c.next_in_form.new.left c.in-Ok-Some.count c.next_in_form.new.slot
     (g.R.Source.coming c.args.source.now) (g.R.Source.coming c.next_in_form.new.source) walk.block walk.low walk.high c.requires.more behind
     (rw c.in-Ok-Some.field-0-is at c.in-Ok-Some.ensures.frame)
+
+pub returns-in-Ok-None-clause-only : goal.returns-in-Ok-None-clause-only
+returns-in-Ok-None-clause-only g c =
+    let walk = c.args.walk.now in
+    told_only walk.form walk.greatest walk.skip walk.number walk.left c.next_in_form.new.left c.next_in_form.new.slot
+    (g.R.Source.coming c.args.source.now) (g.R.Source.coming c.next_in_form.new.source) (rw c.in-Ok-None.field-0-is at c.in-Ok-None.ensures.frame)
 
 pub returns-in-Ok-None-clause-none : goal.returns-in-Ok-None-clause-none
 returns-in-Ok-None-clause-none g c =
