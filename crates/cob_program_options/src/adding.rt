@@ -33,7 +33,8 @@ fn with_option<'a>(
     command: Command<'a>,
     option: &OptionDefinition<'a>,
 ) -> Result<Command<'a>, AllocError>
-    ensures { Makes (with_option (app_of command.entry) option.now.name.now (kind_of option.now.standing)) result }
+    ensures { Makes (with_option (app_of command.entry)
+        option.now.name.now (kind_of option.now.standing)) result }
 {
     command.arg(argument(alloc, option))
 }

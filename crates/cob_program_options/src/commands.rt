@@ -1,4 +1,4 @@
-//! The commands of the program, as `clap` takes them.
+//! The commands of the program with what help says of them, as `clap` takes them.
 
 ghost use Rattle.std.specs.Prelude.{◌≡◌, [], ◌∷◌, ◌++◌, codes};
 ghost use Rattle.clap.specs.Words.{app_of, new_app, with_subcommand};
@@ -9,10 +9,7 @@ ghost use Rattle.cob_program_options.specs.Program.{Makes, bare_app, program_app
 
 use crate::adding::with_groups;
 use crate::definition::CommandDefinition;
-use crate::help::{
-    CHECK_NOTES, CONVERT_NOTES, CONVERT_USAGE, DRAFT_NOTES, EXPLAIN_NOTES, EXPLAIN_USAGE,
-    LOSSLESS_NOTES, LOSSLESS_USAGE, MAP_NOTES, PIECES_NOTES, PROGRAM_NOTES, VERSION,
-};
+use crate::help::VERSION;
 use crate::options::{
     ATOMIC, BOOK, BOOKS, BOTH_WAYS, CHOICE, COVER, CUT, ENDS, EXPLAINED_RECORDS, FORM, FORMS,
     LISTING, LRECL, MAPPED_RECORDS, MOVES, PIECE, PIECES, PROGRESS, RECORD, REJECTS, SHARED,
@@ -20,6 +17,98 @@ use crate::options::{
 };
 use clap::Command;
 use std::alloc::{AllocError, Global};
+
+// How the words of `convert` stand, in two lines.
+const CONVERT_USAGE: &str = "cobconv convert [OPTIONS] --in-book <FILE> --out-book <FILE>
+                       --moves <FILE> --in <FILE> --out <FILE>";
+
+// What stands behind the options of each command.
+const PROGRAM_NOTES: &str = "Example:
+  cobconv convert --in-book old.cpy --out-book new.cpy --moves moves.cbl \\
+    --in old.dat --out new.dat";
+
+const CONVERT_NOTES: &str = "Example:
+  cobconv convert --in-book old.cpy --out-book new.cpy --moves moves.cbl \\
+    --in old.dat --out new.dat --in-form v";
+
+const CHECK_NOTES: &str =
+    "Example: cobconv check --in-book old.cpy --out-book new.cpy --moves moves.cbl
+
+What is refused in a text:
+  T1 to T6  the reference format, by columns
+In a copybook:
+  B1   no data entry
+  B2   the grammar of entries: levels, clauses and periods
+  B3   level numbers, items and groups
+  B4   the picture, by P1 to P7
+  B5   a usage that its group or its picture does not allow
+  B6   SIGN on an item that is no signed DISPLAY number
+  B7   REDEFINES: no such entry in its area, or longer than the area
+  B8   OCCURS: at level 01, too many tables in one another, or a bad number
+  B9   DEPENDING ON: no entry or several of this name, or one that can't count
+  B10  VALUE: a literal that the item does not hold
+  B11  JUSTIFIED or BLANK WHEN ZERO on an item that can't have it
+  B12  a word or a level that is left out by name
+  B13  a name that isn't one, or is reserved
+  B14  a record of over 32,752 bytes
+  B15  over 2,000 entries
+In a paragraph:
+  M1   the grammar of statements
+  M2   no entry has this name with these qualifiers
+  M3   several entries have it
+  M4   not one subscript for each OCCURS, or one outside of its table
+  M5   a receiver in the input record
+  M6   a move that the table of categories does not have
+  M7   a literal that its receiver can't take
+  M8   CORRESPONDING with an item
+  M9   CORRESPONDING in which an item is in two pairs
+  M10  an alphanumeric sender of over 31 characters to a number
+
+The statuses: 0 done, 1 something is open and --strict was given, 2 the command
+line is malformed, 3 a text is refused, 4 a device failed, 5 memory was refused";
+
+// What a line of `pieces` holds.
+const PIECES_NOTES: &str =
+    "A line for each piece: its offset, its bytes, the number of its first record.
+Pieces are whole records, in form b whole blocks, of nearly equal size.
+
+Example: cobconv pieces --book old.cpy --in old.dat --form v --pieces 8";
+
+// How the words of `lossless` stand, in two lines.
+const LOSSLESS_USAGE: &str = "cobconv lossless [OPTIONS] --in-book <FILE> --out-book <FILE>
+                        --there <FILE> --back <FILE>";
+
+const LOSSLESS_NOTES: &str = "Example:
+  cobconv lossless --in-book old.cpy --out-book new.cpy --there there.cbl \\
+    --back back.cbl
+
+yes  each named item comes back with its value, in every record that the
+     paragraph of --there converts
+no   that is not shown: something may be lost";
+
+// How the words of `explain` stand, in two lines.
+const EXPLAIN_USAGE: &str = "cobconv explain [OPTIONS] --in-book <FILE> --out-book <FILE>
+                       --moves <FILE> --in <FILE>";
+
+const EXPLAIN_NOTES: &str =
+    "Two lines for each single move of the record: its statement, what is sent with
+its place, bytes and value, and what receives it.
+
+Example:
+  cobconv explain --in-book old.cpy --out-book new.cpy --moves moves.cbl \\
+    --in old.dat --record 17";
+
+const DRAFT_NOTES: &str =
+    "A MOVE for each item of the output record that has a partner of its name, where
+there is such a move and nothing is cut; what is left stands as comments.
+
+Example: cobconv draft --in-book old.cpy --out-book new.cpy";
+
+const MAP_NOTES: &str = "One page of HTML on standard output, complete in itself.
+
+Example:
+  cobconv map --in-book old.cpy --out-book new.cpy --moves moves.cbl \\
+    --in old.dat --record 17 > map.html";
 
 // The commands that help tells of.
 const COMMANDS: [CommandDefinition<'static>; 9] = [
@@ -131,7 +220,8 @@ fn described<'a>(alloc: Global, definition: &CommandDefinition<'a>) -> Command<'
 
 // A command with its options.
 fn command<'a>(alloc: Global, definition: &CommandDefinition<'a>) -> Result<Command<'a>, AllocError>
-    ensures { let defined = command_of definition.now in Makes (command_app defined.0 defined.1) result }
+    ensures { let defined = command_of definition.now in
+        Makes (command_app defined.0 defined.1) result }
 {
     with_groups(alloc, described(alloc, definition), definition.groups)
 }
@@ -169,7 +259,8 @@ fn with_hidden<'a>(
     program: Command<'a>,
     name: &'a str,
 ) -> Result<Command<'a>, AllocError>
-    ensures { Makes (with_subcommand (app_of program.entry) (command_app name.entry.now help_options).top) result }
+    ensures { Makes (with_subcommand (app_of program.entry)
+        (command_app name.entry.now help_options).top) result }
 {
     program.subcommand(Command::new(alloc, name).hide(true))
 }
