@@ -14,6 +14,7 @@ pub record First : Type 0 where
   pub after : ℕ
   pub rest : List ℕ
 
+-- what comes first, by its parts
 abbrev pub first : Result (Option ℕ) RecordFault → List ℕ → ℕ → List ℕ → First
 first answer body after rest = record { answer = answer; body = body; after = after; rest = rest }
 

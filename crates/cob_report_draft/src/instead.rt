@@ -32,6 +32,20 @@ fn only_words(to: &DraftBearer<'_>) -> &'static str {
     }
 }
 
+/// Whether an item with a name stands beneath a group of the output record.
+fn has_items(outputs: &[DraftBearer<'_>], group: &DraftBearer<'_>) -> bool {
+    let first = number_of(group).saturating_add(1);
+    for number in first..outputs.len() {
+        if number > group.entry.last {
+            break;
+        }
+        if is_own_item(&outputs[number]) {
+            return true;
+        }
+    }
+    false
+}
+
 /// Why an item of the output record has no partner.
 fn missing_words(records: &Records<'_>, to: &DraftBearer<'_>) -> &'static str {
     if has_namesake(records.both.inputs(), to) {
@@ -98,8 +112,11 @@ impl Progress {
         records: &Records<'_>,
         group: &Pair<'_, '_>,
     ) -> Result<(), AllocError> {
-        self.lines.push_remark("Its items one by one:")?;
         let outputs = records.both.outputs();
+        if !has_items(outputs, group.to) {
+            return self.lines.push_remark("No item of it has a name.");
+        }
+        self.lines.push_remark("Its items one by one:")?;
         let mut left = Vec::new(self.alloc);
         let receiving = group.to;
         let first = number_of(receiving).saturating_add(1);

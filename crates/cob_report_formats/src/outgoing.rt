@@ -3,13 +3,14 @@
 ghost use Rattle.std.specs.Prelude.{◌≡◌, OnOk};
 ghost use Rattle.std.specs.Io.KnownBytes.{append_known};
 
+use cob_limits::MAX_RECORD;
 use cob_records::{RecordFault, Sink};
 use cob_report_show::put;
 use std::io;
 use std::io::{ErrorKind, Write};
 
-/// How many bytes go to a sink at once.
-const PIECE: usize = 32_752;
+/// How many bytes go to a sink at once: as many as the longest record has.
+const PIECE: usize = MAX_RECORD as usize;
 
 /// Writes a text, all of it. To what was sent so far it adds how many bytes the sink took, up to the greatest number.
 pub(crate) fn put_text<W: Sink>(
