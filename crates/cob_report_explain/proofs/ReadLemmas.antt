@@ -1,17 +1,18 @@
--- A record that was read holds a record of the layout.
-use Rattle.std.proofs.Common.{◌≡◌, ℕ, List, Option, Some, None, subst, sym}
-use Rattle.std.specs.Prelude.{IfSome}
+-- Why a record that was read is none of its layout.
+use Rattle.std.proofs.Common.{◌≡◌, ◌∙◌, ap, false, refl, List, ℕ}
 use Rattle.cob_copybook_tree.specs.Forests.{Forest}
 use Rattle.cob_copybook_tree.specs.Nodes.{Resolved}
 use Rattle.cob_records.specs.declared.records.Form.{Form}
-use Rattle.cob_convert_stream.specs.Input.{IsJudged}
-use Rattle.cob_convert_stream.specs.Laws.{SizedAreStorages}
-use Rattle.cob_report_explain.specs.declared.reading.Found.{Found}
-use Rattle.cob_report_explain.specs.Walked.{HoldsFound, found_or_only}
+use Rattle.cob_convert_stream.specs.Reasons.{is_write_cause, misfit_reason}
+use Rattle.cob_convert_stream.specs.Whole.{IsMisfitReason}
+use Rattle.cob_convert_stream.specs.declared.fault.Reason.{Reason}
+use Rattle.cob_convert_stream.specs.declared.misfit.MeasureFault.{MeasureFault}
+use Rattle.cob_convert_stream.specs.declared.misfit.MeasureFault.TheVariants.{Count, Length}
 
-holds_found : SizedAreStorages → (form : Form) (tree : Forest Resolved) (slice : List ℕ) (o : Option ℕ) (records : ℕ) → IfSome o (IsJudged form tree slice) → HoldsFound tree slice (found_or_only o records)
-holds_found law form tree slice None records h = tt
-holds_found law form tree slice (Some count) records h = (h.within, law form tree _ h.sized)
+misfit_kind : (misfit : MeasureFault) → is_write_cause (misfit_reason misfit).cause ≡ false
+misfit_kind (Count offset) = refl
+misfit_kind Length = refl
 
-pub holds : SizedAreStorages → (form : Form) (tree : Forest Resolved) (slice : List ℕ) (o : Option ℕ) (records : ℕ) (f : Found) → f ≡ found_or_only o records → IfSome o (IsJudged form tree slice) → HoldsFound tree slice f
-holds law form tree slice o records f is h = subst (HoldsFound tree slice) (sym is) (holds_found law form tree slice o records h)
+-- it is no fault of writing
+pub misfit_is_read : (form : Form) (tree : Forest Resolved) (input : List ℕ) (why : Reason) → IsMisfitReason form tree input why → is_write_cause why.cause ≡ false
+misfit_is_read form tree input why (misfit, is, reason) = ap (λ (r : Reason). is_write_cause r.cause) reason ∙ misfit_kind misfit

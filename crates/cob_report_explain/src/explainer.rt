@@ -11,7 +11,7 @@ ghost use Rattle.cob_report_explain.specs.Explained.{IsExplanation};
 ghost use Rattle.cob_report_explain.specs.Walked.{HasWalkRoom};
 
 use crate::moves::{Teller, Watching};
-use crate::reading::{Found, Refused, find_record};
+use crate::reading::{Refused, input_record};
 use crate::stops::{Scene, count_words, move_words};
 use crate::walk::{RecordStop, WalkRoom, walk_record};
 use cob_convert_record::{Cause, Conversion, Room, Side, Stop, StopCause};
@@ -20,6 +20,7 @@ use cob_copybook::{Book, Role};
 use cob_layout::Layout;
 use cob_move_initial::initial;
 use cob_records::Source;
+use cob_records_parts::Numbered;
 use cob_report_faults::{Asker, Qualifying, frame_words};
 use cob_report_lossless::lines_of;
 use std::alloc::{AllocError, Global};
@@ -243,9 +244,9 @@ fn explained_from<R: Source, T: Teller>(
     ensures { IfOk result IsExplanation }
 {
     let mut room = Room::new(alloc, conversion)?;
-    match find_record(conversion, source, number, slot, &mut room) {
+    match input_record(conversion, source, number, slot, &mut room) {
         Ok(found) => match found {
-            Found::Record(count) => explained(
+            Numbered::Record(count) => explained(
                 alloc,
                 conversion,
                 lines,
@@ -254,7 +255,7 @@ fn explained_from<R: Source, T: Teller>(
                 output,
                 teller,
             ),
-            Found::Only(records) => Ok(Explanation::Missing { records }),
+            Numbered::Fewer(records) => Ok(Explanation::Missing { records }),
         },
         Err(refused) => refused_at(alloc, conversion, refused, slot),
     }
