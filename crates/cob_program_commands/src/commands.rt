@@ -28,8 +28,8 @@ fn do_conversion<R: AllocGlobal + Files + Input + Print + Eprint + Clock>(
     rt: &R,
     line: &ConvertLine<'_>,
 ) -> Status
-    requires in_block { HasBlockSize line.now.in_form }
-    requires out_block { HasBlockSize line.now.out_form }
+    requires in_block { HasBlockSize line.now.forms.input }
+    requires out_block { HasBlockSize line.now.forms.output }
     ensures { EndsConvert line.now.rejects line.now.atomic result }
 {
     match line.rejects {
@@ -43,8 +43,8 @@ fn do_conversion_explained<R: AllocGlobal + Files + Input + Print + Eprint + Clo
     rt: &R,
     line: &ConvertLine<'_>,
 ) -> Status
-    requires in_block { HasBlockSize line.now.in_form }
-    requires out_block { HasBlockSize line.now.out_form }
+    requires in_block { HasBlockSize line.now.forms.input }
+    requires out_block { HasBlockSize line.now.forms.output }
     ensures { EndsConvert line.now.rejects line.now.atomic result }
 {
     match line.rejects {
@@ -59,8 +59,8 @@ fn do_asked_conversion<R: AllocGlobal + Files + Input + Print + Eprint + Clock>(
     line: &ConvertLine<'_>,
     explain: bool,
 ) -> Status
-    requires in_block { HasBlockSize line.now.in_form }
-    requires out_block { HasBlockSize line.now.out_form }
+    requires in_block { HasBlockSize line.now.forms.input }
+    requires out_block { HasBlockSize line.now.forms.output }
     ensures { EndsConvert line.now.rejects line.now.atomic result }
 {
     if explain {

@@ -62,7 +62,7 @@ fn convert_into<R: AllocGlobal + Files + Input + Print + Eprint + Clock>(
     part: &str,
     converter: &mut Converter,
 ) -> Result<u64, CommandFault>
-    requires { HasBlockSize line.now.in_form }
+    requires { HasBlockSize line.now.forms.input }
     ensures { IfErr result (MayEndConvert line.now.atomic) }
 {
     let greatest = converter.in_length();
@@ -71,13 +71,13 @@ fn convert_into<R: AllocGlobal + Files + Input + Print + Eprint + Clock>(
             tell_uneven(
                 rt,
                 line.input,
-                line.in_form,
+                line.forms.input,
                 greatest,
                 line.from,
                 line.bytes,
             );
             let telling = telling_piece(rt, line);
-            let ending = run_to_end(rt, line.in_form, telling, converter, source, &mut sink);
+            let ending = run_to_end(rt, line.forms.input, telling, converter, source, &mut sink);
             let run = ending.finished();
             let outcome = placed_run(rt, line.atomic, run, sink, part, line.output);
             told_counted_from(first_of(line), outcome)
@@ -92,7 +92,7 @@ fn convert_by<R: AllocGlobal + Files + Input + Print + Eprint + Clock>(
     line: &ConvertLine<'_>,
     converter: &mut Converter,
 ) -> Result<u64, CommandFault>
-    requires { HasBlockSize line.now.in_form }
+    requires { HasBlockSize line.now.forms.input }
     ensures { IfErr result (MayEndConvert line.now.atomic) }
 {
     if !line.atomic {
@@ -116,16 +116,22 @@ pub fn convert<R: AllocGlobal + Files + Input + Print + Eprint + Clock>(
     rt: &R,
     line: &ConvertLine<'_>,
 ) -> Result<u64, CommandFault>
-    requires in_block { HasBlockSize line.now.in_form }
-    requires out_block { HasBlockSize line.now.out_form }
+    requires in_block { HasBlockSize line.now.forms.input }
+    requires out_block { HasBlockSize line.now.forms.output }
     ensures { IfErr result (MayEndConvert line.now.atomic) }
 {
     let texts = Texts {
-        in_book: line.in_book,
-        out_book: line.out_book,
-        moves: line.moves,
+        in_book: line.texts.in_book,
+        out_book: line.texts.out_book,
+        moves: line.texts.moves,
     };
-    match texts.prepared(rt, line.in_form, line.out_form, line.reading, line.lrecl) {
+    match texts.prepared(
+        rt,
+        line.forms.input,
+        line.forms.output,
+        line.forms.reading,
+        line.lrecl,
+    ) {
         Ok(mut converter) => convert_by(rt, line, &mut converter),
         Err(fault) => Err(fault),
     }
@@ -152,8 +158,8 @@ pub fn do_convert<R: AllocGlobal + Files + Input + Print + Eprint + Clock>(
     rt: &R,
     line: &ConvertLine<'_>,
 ) -> Status
-    requires in_block { HasBlockSize line.now.in_form }
-    requires out_block { HasBlockSize line.now.out_form }
+    requires in_block { HasBlockSize line.now.forms.input }
+    requires out_block { HasBlockSize line.now.forms.output }
     ensures { EndsAmong (MayEndConvert line.now.atomic) result }
 {
     let beside = is_standard_output(rt, line.output);

@@ -64,11 +64,11 @@ fn aside_told_from(first: u64, outcome: Result<u64, CommandFault>) -> Result<u64
 
 /// How a command line wants a run done.
 fn how_of<R: Files>(rt: &R, line: &ConvertLine<'_>) -> How
-    ensures form { result.form ≡ line.now.in_form }
+    ensures form { result.form ≡ line.now.forms.input }
     ensures most { result.most ≡ most_of line.now.most_rejects }
 {
     How {
-        form: line.in_form,
+        form: line.forms.input,
         telling: telling_piece(rt, line),
         most: line.most_rejects.unwrap_or(u64::MAX),
     }
@@ -102,7 +102,7 @@ fn convert_into<R: AllocGlobal + Files + Input + Print + Eprint + Clock>(
     parts: Names<'_>,
     converter: &mut Converter,
 ) -> Result<u64, CommandFault>
-    requires { HasBlockSize line.now.in_form }
+    requires { HasBlockSize line.now.forms.input }
     ensures { IfErr result (MayEndAside line.now.atomic) }
 {
     let greatest = converter.in_length();
@@ -117,7 +117,7 @@ fn convert_into<R: AllocGlobal + Files + Input + Print + Eprint + Clock>(
             tell_uneven(
                 rt,
                 line.input,
-                line.in_form,
+                line.forms.input,
                 greatest,
                 line.from,
                 line.bytes,
@@ -141,7 +141,7 @@ fn convert_by<R: AllocGlobal + Files + Input + Print + Eprint + Clock>(
     rejects: &str,
     converter: &mut Converter,
 ) -> Result<u64, CommandFault>
-    requires { HasBlockSize line.now.in_form }
+    requires { HasBlockSize line.now.forms.input }
     ensures { IfErr result (MayEndAside line.now.atomic) }
 {
     let names = Names {
@@ -174,16 +174,22 @@ pub fn convert_aside<R: AllocGlobal + Files + Input + Print + Eprint + Clock>(
     line: &ConvertLine<'_>,
     rejects: &str,
 ) -> Result<u64, CommandFault>
-    requires in_block { HasBlockSize line.now.in_form }
-    requires out_block { HasBlockSize line.now.out_form }
+    requires in_block { HasBlockSize line.now.forms.input }
+    requires out_block { HasBlockSize line.now.forms.output }
     ensures { IfErr result (MayEndAside line.now.atomic) }
 {
     let texts = Texts {
-        in_book: line.in_book,
-        out_book: line.out_book,
-        moves: line.moves,
+        in_book: line.texts.in_book,
+        out_book: line.texts.out_book,
+        moves: line.texts.moves,
     };
-    match texts.prepared(rt, line.in_form, line.out_form, line.reading, line.lrecl) {
+    match texts.prepared(
+        rt,
+        line.forms.input,
+        line.forms.output,
+        line.forms.reading,
+        line.lrecl,
+    ) {
         Ok(mut converter) => convert_by(rt, line, rejects, &mut converter),
         Err(fault) => Err(fault),
     }
@@ -234,8 +240,8 @@ pub fn do_convert_aside<R: AllocGlobal + Files + Input + Print + Eprint + Clock>
     line: &ConvertLine<'_>,
     rejects: &str,
 ) -> Status
-    requires in_block { HasBlockSize line.now.in_form }
-    requires out_block { HasBlockSize line.now.out_form }
+    requires in_block { HasBlockSize line.now.forms.input }
+    requires out_block { HasBlockSize line.now.forms.output }
     ensures { EndsAmong (MayEndAside line.now.atomic) result }
 {
     let beside = is_standard_output(rt, line.output) || is_standard_output(rt, rejects);

@@ -127,7 +127,7 @@ pub fn open_aside_ends<'a, R: AllocGlobal + Files + Input + Print>(
     AsideEnds<Incoming<PartSource<R::File, R::Reader>>, FileSink<R::File, Printer<'a, R>>>,
     CommandFault,
 >
-    requires block { HasBlockSize line.now.in_form }
+    requires block { HasBlockSize line.now.forms.input }
     requires low { 0 < greatest }
     requires high { greatest ≤ longest_record }
     ensures { IfErr result LacksAsideEnds }

@@ -63,7 +63,7 @@ pub fn choice_of(line: &ConvertLine<'_>) -> Choice
 
 /// Which records a conversion reads, of at most this length.
 fn wanted_by<'a>(line: &ConvertLine<'a>, greatest: u16) -> Wanted<'a>
-    ensures form { result.form ≡ line.now.in_form }
+    ensures form { result.form ≡ line.now.forms.input }
     ensures greatest { result.greatest ≡ greatest }
     ensures from { result.from ≡ line.now.from }
     ensures bytes { result.bytes ≡ line.now.bytes }
@@ -73,7 +73,7 @@ fn wanted_by<'a>(line: &ConvertLine<'a>, greatest: u16) -> Wanted<'a>
 {
     Wanted {
         input: line.input,
-        form: line.in_form,
+        form: line.forms.input,
         greatest,
         from: line.from,
         bytes: line.bytes,
@@ -98,7 +98,7 @@ pub fn open_ends<'a, R: AllocGlobal + Files + Input + Print>(
     Ends<Incoming<PartSource<R::File, R::Reader>>, FileSink<R::File, Printer<'a, R>>>,
     CommandFault,
 >
-    requires block { HasBlockSize line.now.in_form }
+    requires block { HasBlockSize line.now.forms.input }
     requires low { 0 < greatest }
     requires high { greatest ≤ longest_record }
     ensures { IfErr result LacksEnds }

@@ -19,9 +19,9 @@ pub struct Inputs {
 impl Inputs {
     /// The files that the options of a conversion name for reading.
     pub fn of<R: Files>(rt: &R, line: &ConvertLine<'_>) -> Inputs {
-        let in_book = FileIdentity::of(rt, line.in_book);
-        let out_book = FileIdentity::of(rt, line.out_book);
-        let moves = FileIdentity::of(rt, line.moves);
+        let in_book = FileIdentity::of(rt, line.texts.in_book);
+        let out_book = FileIdentity::of(rt, line.texts.out_book);
+        let moves = FileIdentity::of(rt, line.texts.moves);
         let records = FileIdentity::of_input(rt, line.input);
         Inputs {
             in_book,

@@ -28,13 +28,13 @@ fn converter_of<R: AllocGlobal>(
     out_book: &[u8],
     moves: &[u8],
 ) -> Result<Converter, CommandFault>
-    requires in_block { HasBlockSize line.now.in_form }
-    requires out_block { HasBlockSize line.now.out_form }
+    requires in_block { HasBlockSize line.now.forms.input }
+    requires out_block { HasBlockSize line.now.forms.output }
     ensures book { IfOk result
         (λ made. IsBookOf Out out_book.now made.records.output) }
     ensures lacks { IfErr result LacksConversion }
 {
-    let (in_form, out_form) = (line.in_form, line.out_form);
+    let (in_form, out_form) = (line.forms.input, line.forms.output);
     let alloc = rt.alloc();
     match Converter::prepare_with(
         alloc,
@@ -43,7 +43,7 @@ fn converter_of<R: AllocGlobal>(
         moves,
         in_form,
         out_form,
-        line.reading,
+        line.forms.reading,
     ) {
         Ok(converter) => fitting(converter, in_form, line.lrecl),
         Err(fault) => Err(CommandFault::from(fault)),
@@ -98,14 +98,14 @@ pub fn explain_record_of<R: AllocGlobal + Files + Input, T: Teller>(
     stretch: Stretch,
     teller: &mut T,
 ) -> Result<Explanation, CommandFault>
-    requires in_block { HasBlockSize line.now.in_form }
-    requires out_block { HasBlockSize line.now.out_form }
+    requires in_block { HasBlockSize line.now.forms.input }
+    requires out_block { HasBlockSize line.now.forms.output }
     ensures told { IfOk result IsExplanation }
     ensures may { IfErr result StopsAtRecord }
 {
-    let in_book = text_of(rt, line.in_book, FileName::InBook)?;
-    let out_book = text_of(rt, line.out_book, FileName::OutBook)?;
-    let moves = text_of(rt, line.moves, FileName::Moves)?;
+    let in_book = text_of(rt, line.texts.in_book, FileName::InBook)?;
+    let out_book = text_of(rt, line.texts.out_book, FileName::OutBook)?;
+    let moves = text_of(rt, line.texts.moves, FileName::Moves)?;
     let texts = ReadAgain {
         out_book: &out_book,
         moves: &moves,
@@ -126,8 +126,8 @@ pub fn explain_record<R: AllocGlobal + Files + Input, T: Teller>(
     line: &ExplainLine<'_>,
     teller: &mut T,
 ) -> Result<Explanation, CommandFault>
-    requires in_block { HasBlockSize line.now.in_form }
-    requires out_block { HasBlockSize line.now.out_form }
+    requires in_block { HasBlockSize line.now.forms.input }
+    requires out_block { HasBlockSize line.now.forms.output }
     ensures told { IfOk result IsExplanation }
     ensures may { IfErr result StopsAtRecord }
 {
@@ -198,8 +198,8 @@ pub fn do_explain<R: AllocGlobal + Files + Input + Print + Eprint>(
     rt: &R,
     line: &ExplainLine<'_>,
 ) -> Status
-    requires in_block { HasBlockSize line.now.in_form }
-    requires out_block { HasBlockSize line.now.out_form }
+    requires in_block { HasBlockSize line.now.forms.input }
+    requires out_block { HasBlockSize line.now.forms.output }
     ensures { EndsAtRecord result }
 {
     let mut moves = MovePrinter::new(rt, line.record);

@@ -44,8 +44,8 @@ fn tell_stop<R: AllocGlobal + Files + Input + Eprint>(
     line: &ConvertLine<'_>,
     fault: RunFault,
 ) -> Status
-    requires in_block { HasBlockSize line.now.in_form }
-    requires out_block { HasBlockSize line.now.out_form }
+    requires in_block { HasBlockSize line.now.forms.input }
+    requires out_block { HasBlockSize line.now.forms.output }
     ensures { EndsAs (status_of (StoppedFault fault)) result }
 {
     let status = tell_fault(rt, CommandFault::Stopped(fault));
@@ -59,8 +59,8 @@ fn tell_explained<R: AllocGlobal + Files + Input + Print + Eprint>(
     beside: bool,
     outcome: Result<u64, CommandFault>,
 ) -> Status
-    requires in_block { HasBlockSize line.now.in_form }
-    requires out_block { HasBlockSize line.now.out_form }
+    requires in_block { HasBlockSize line.now.forms.input }
+    requires out_block { HasBlockSize line.now.forms.output }
     ensures { EndsAs (status_of_outcome outcome) result }
 {
     match outcome {
@@ -76,8 +76,8 @@ fn tell_explained_aside<R: AllocGlobal + Files + Input + Print + Eprint>(
     beside: bool,
     outcome: Result<u64, CommandFault>,
 ) -> Status
-    requires in_block { HasBlockSize line.now.in_form }
-    requires out_block { HasBlockSize line.now.out_form }
+    requires in_block { HasBlockSize line.now.forms.input }
+    requires out_block { HasBlockSize line.now.forms.output }
     ensures { EndsAs (status_of_outcome outcome) result }
 {
     match outcome {
@@ -91,8 +91,8 @@ pub fn do_convert_explained<R: AllocGlobal + Files + Input + Print + Eprint + Cl
     rt: &R,
     line: &ConvertLine<'_>,
 ) -> Status
-    requires in_block { HasBlockSize line.now.in_form }
-    requires out_block { HasBlockSize line.now.out_form }
+    requires in_block { HasBlockSize line.now.forms.input }
+    requires out_block { HasBlockSize line.now.forms.output }
     ensures { EndsAmong (MayEndConvert line.now.atomic) result }
 {
     let beside = is_standard_output(rt, line.output);
@@ -106,8 +106,8 @@ pub fn do_convert_aside_explained<R: AllocGlobal + Files + Input + Print + Eprin
     line: &ConvertLine<'_>,
     rejects: &str,
 ) -> Status
-    requires in_block { HasBlockSize line.now.in_form }
-    requires out_block { HasBlockSize line.now.out_form }
+    requires in_block { HasBlockSize line.now.forms.input }
+    requires out_block { HasBlockSize line.now.forms.output }
     ensures { EndsAmong (MayEndAside line.now.atomic) result }
 {
     let beside = is_standard_output(rt, line.output) || is_standard_output(rt, rejects);

@@ -4,7 +4,7 @@
 //!   that stops the run what `explain` prints behind that line: which item it is, its picture, its place and its bytes, what is wrong with them, and the
 //!   statement that asked. For that they read the texts and the record once more, in the same piece of the file, where none of them comes from standard
 //!   input or a pipe, which can't be read again.
-//! - [`files_of`] are the files that the options of a command line name, in the order in which they are opened, for a runtime that keeps the last error of
+//! - [`files_of`] are the files that are opened for those that the options of a command line name, in their order, for a runtime that keeps the last error of
 //!   one (`cob_program_runtime`), and [`tell_file_error`] prints that error: the option, its path and the system's words.
 //!
 //! What is promised: that conversions end as those without the flag do, with the status of what they came to (`EndsAmong` of `cob_program_faults`, with

@@ -21,21 +21,15 @@ fn number_in_piece(line: &ConvertLine<'_>, number: u64) -> u64
 
 /// The command line that explains the record of a conversion's piece with this number.
 fn explaining<'a>(line: &ConvertLine<'a>, number: u64) -> ExplainLine<'a>
-    requires in_block { HasBlockSize line.now.in_form }
-    requires out_block { HasBlockSize line.now.out_form }
-    ensures input { HasBlockSize result.in_form }
-    ensures output { HasBlockSize result.out_form }
+    requires in_block { HasBlockSize line.now.forms.input }
+    requires out_block { HasBlockSize line.now.forms.output }
+    ensures input { HasBlockSize result.forms.input }
+    ensures output { HasBlockSize result.forms.output }
 {
     ExplainLine {
-        in_book: line.in_book,
-        out_book: line.out_book,
-        moves: line.moves,
+        texts: line.texts,
         input: line.input,
-        in_form: line.in_form,
-        out_form: line.out_form,
-        in_block: line.in_block,
-        out_block: line.out_block,
-        reading: line.reading,
+        forms: line.forms,
         lrecl: line.lrecl,
         record: number,
     }
@@ -76,8 +70,8 @@ fn words_of<R: AllocGlobal + Files + Input>(
     line: &ConvertLine<'_>,
     fault: RunFault,
 ) -> Option<String>
-    requires in_block { HasBlockSize line.now.in_form }
-    requires out_block { HasBlockSize line.now.out_form }
+    requires in_block { HasBlockSize line.now.forms.input }
+    requires out_block { HasBlockSize line.now.forms.output }
 {
     let number = number_in_piece(line, fault.number);
     let stretch = Stretch {
@@ -104,9 +98,9 @@ fn can_be_read_again<R: Files>(rt: &R, name: &str) -> bool {
 
 /// Whether all files of a conversion that it reads can be read once more.
 fn can_be_explained<R: Files>(rt: &R, line: &ConvertLine<'_>) -> bool {
-    can_be_read_again(rt, line.in_book)
-        && can_be_read_again(rt, line.out_book)
-        && can_be_read_again(rt, line.moves)
+    can_be_read_again(rt, line.texts.in_book)
+        && can_be_read_again(rt, line.texts.out_book)
+        && can_be_read_again(rt, line.texts.moves)
         && can_be_read_again(rt, line.input)
 }
 
@@ -116,8 +110,8 @@ pub(crate) fn stop_words<R: AllocGlobal + Files + Input>(
     line: &ConvertLine<'_>,
     fault: RunFault,
 ) -> Option<String>
-    requires in_block { HasBlockSize line.now.in_form }
-    requires out_block { HasBlockSize line.now.out_form }
+    requires in_block { HasBlockSize line.now.forms.input }
+    requires out_block { HasBlockSize line.now.forms.output }
 {
     match Status::of_stop(fault.cause) {
         Status::Stopped if can_be_explained(rt, line) => words_of(rt, line, fault),

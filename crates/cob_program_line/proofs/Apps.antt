@@ -7,8 +7,9 @@ use Rattle.cob_program_line.specs.Numbers.{SaysNumber}
 use Rattle.cob_program_options.specs.Commands.{pieces_options, show_options}
 use Rattle.cob_program_options.specs.Looks.{AreAll, Look}
 use Rattle.cob_program_line.specs.Named.{NamesBlock, NamesBound, NamesNumber, form_by_letter, letter_of, listing_by_word, reading_by_word, sized_by, word_of, word_of_listing}
-use Rattle.cob_program_line.specs.Faults.{HasCounts, HasForms, HasListing, HasPiece, HasPieces, HasSizes, IsFaultIn, LacksABlock, LacksBlock, LacksBound, LacksCount, LacksForm, LacksListing, LacksNumber, LacksPiece, LacksPieces, LacksReading, LacksSize}
+use Rattle.cob_program_line.specs.Faults.{HasCounts, HasForms, HasListing, HasPiece, HasPieces, HasSizes, IsFaultIn, LacksABlock, LacksBlock, LacksBound, LacksCount, LacksForm, LacksListing, LacksNumber, LacksPiece, LacksReading, LacksSize}
 use Rattle.cob_program_line.specs.Lines.{NameChoice, NameForms, NamePiece}
+use Rattle.cob_program_line.specs.declared.line.Forms.{Forms}
 use Rattle.cob_program_line.specs.declared.line.Listing.{Listing}
 use Rattle.cob_program_line.specs.declared.line.Listing.TheVariants as listing
 use Rattle.cob_program_line.specs.declared.fault.LineFault.{LineFault}
@@ -151,10 +152,10 @@ has_piece look from bytes first h (inr (inl lacks)) = has_bound look (codes "byt
 has_piece look from bytes first h (inr (inr lacks)) = has_number look (codes "record") 1 first h.number lacks
 
 -- where the forms of both files are named, nothing is wrong before a listing
-pub before_listing : (look : Look) (f g : Form) (m n : ℕ) (r : Reading) → look (codes "form") ≡ None → NameForms look f g m n r → HasSizes look
-before_listing look f g m n r none h = (
-  (both_forms look f g none h.in_letter h.out_letter, has_reading look r h.word),
-  have_blocks look f g m n h.in_letter h.out_letter h.in_size h.out_size,
+pub before_listing : (look : Look) (forms : Forms) → look (codes "form") ≡ None → NameForms look forms → HasSizes look
+before_listing look forms none h = (
+  (both_forms look forms.input forms.output none h.in_letter h.out_letter, has_reading look forms.reading h.word),
+  have_blocks look forms.input forms.output forms.in_block forms.out_block h.in_letter h.out_letter h.in_size h.out_size,
 )
 
 -- nor before a piece where there is no listing, nor before a number of records where the piece is named

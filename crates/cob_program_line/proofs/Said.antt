@@ -59,9 +59,9 @@ said_by (w ∷ rest) name rows said f h =
 asked_by : (w : Text) (os : Options) (look : Look) (said : Line) → found_at w commands ≡ Some os → IsCommand w look said → AreAsked os look
 asked_by w os look line.Job is h = absurd h
 asked_by w os look (line.Convert o) is (same, h) = subst (λ (x : Options). AreAsked x look) (named_options w (codes "convert") os convert_options is same refl)
-    (ap is_some h.in_book, (ap is_some h.out_book, (ap is_some h.moves, (ap is_some h.input, (ap is_some h.output, tt)))))
+    (ap is_some h.texts.in_book, (ap is_some h.texts.out_book, (ap is_some h.texts.moves, (ap is_some h.input, (ap is_some h.output, tt)))))
 asked_by w os look (line.Check o) is (same, h) = subst (λ (x : Options). AreAsked x look) (named_options w (codes "check") os check_options is same refl)
-    (ap is_some h.in_book, (ap is_some h.out_book, (ap is_some h.moves, tt)))
+    (ap is_some h.texts.in_book, (ap is_some h.texts.out_book, (ap is_some h.texts.moves, tt)))
 asked_by w os look (line.Layout o) is (same, h) = subst (λ (x : Options). AreAsked x look) (named_options w (codes "layout") os layout_options is same refl)
     (ap is_some h.book, tt)
 asked_by w os look (line.Show o) is (same, h) = subst (λ (x : Options). AreAsked x look) (named_options w (codes "show") os show_options is same refl)
@@ -71,11 +71,11 @@ asked_by w os look (line.Pieces o) is (same, h) = subst (λ (x : Options). AreAs
 asked_by w os look (line.Lossless o) is (same, h) = subst (λ (x : Options). AreAsked x look) (named_options w (codes "lossless") os lossless_options is same refl)
     (ap is_some h.in_book, (ap is_some h.out_book, (ap is_some h.there, (ap is_some h.back, tt))))
 asked_by w os look (line.Explain o) is (same, h) = subst (λ (x : Options). AreAsked x look) (named_options w (codes "explain") os explain_options is same refl)
-    (ap is_some h.in_book, (ap is_some h.out_book, (ap is_some h.moves, (ap is_some h.input, tt))))
+    (ap is_some h.texts.in_book, (ap is_some h.texts.out_book, (ap is_some h.texts.moves, (ap is_some h.input, tt))))
 asked_by w os look (line.Draft o) is (same, h) = subst (λ (x : Options). AreAsked x look) (named_options w (codes "draft") os draft_options is same refl)
     (ap is_some h.in_book, (ap is_some h.out_book, tt))
 asked_by w os look (line.Map o) is (same, h) = subst (λ (x : Options). AreAsked x look) (named_options w (codes "map") os map_options is same refl)
-    (ap is_some h.in_book, (ap is_some h.out_book, (ap is_some h.moves, tt)))
+    (ap is_some h.texts.in_book, (ap is_some h.texts.out_book, (ap is_some h.texts.moves, tt)))
 asked_by w os look line.Completion is same = subst (λ (x : Options). AreAsked x look) (named_options w (codes "completion") os help_options is same refl) tt
 asked_by w os look line.Manual is same = subst (λ (x : Options). AreAsked x look) (named_options w (codes "manual") os help_options is same refl) tt
 

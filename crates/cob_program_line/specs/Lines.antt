@@ -1,8 +1,6 @@
 -- What a command line says.
 use Rattle.std.specs.Prelude.{◌≡◌, ◌<◌, ⊤, false, ℕ, List, [], ◌∷◌, Some, Option, option_map, codes}
 use Rattle.clap.specs.Words.{Text}
-use Rattle.cob_codec.specs.declared.reading.Reading.{Reading}
-use Rattle.cob_records.specs.declared.records.Form.{Form}
 use Rattle.cob_records.specs.Forms.{HasBlockSize}
 use Rattle.cob_limits.specs.Limits.{longest_block}
 use Rattle.cob_program_options.specs.Options.{AreOptions, Given, Options, found_at, taken}
@@ -13,6 +11,8 @@ pub use Rattle.cob_program_line.specs.Faults.{IsFaultOf, is_answer_kind}
 use Rattle.cob_program_line.specs.declared.line.CommandLine.{CommandLine}
 use Rattle.cob_program_line.specs.declared.line.Line.{Line}
 use Rattle.cob_program_line.specs.declared.line.Line.TheVariants as line
+use Rattle.cob_program_line.specs.declared.line.TextFiles.{TextFiles}
+use Rattle.cob_program_line.specs.declared.line.Forms.{Forms}
 use Rattle.cob_program_line.specs.declared.line.ConvertLine.{ConvertLine}
 use Rattle.cob_program_line.specs.declared.line.CheckLine.{CheckLine}
 use Rattle.cob_program_line.specs.declared.line.LayoutLine.{LayoutLine}
@@ -23,19 +23,25 @@ use Rattle.cob_program_line.specs.declared.line.ExplainLine.{ExplainLine}
 use Rattle.cob_program_line.specs.declared.line.DraftLine.{DraftLine}
 use Rattle.cob_program_line.specs.declared.line.MapLine.{MapLine}
 
+-- Options name the files of the three texts.
+pub record NameTexts (look : Look) (texts : TextFiles) : Type 0 where
+  pub in_book : look (codes "in-book") ≡ Some texts.in_book.now
+  pub out_book : look (codes "out-book") ≡ Some texts.out_book.now
+  pub moves : look (codes "moves") ≡ Some texts.moves.now
+
 -- Options name the forms of both files with the sizes of their blocks, and the reading of binary items.
-pub record NameForms (look : Look) (in_form out_form : Form) (in_block out_block : ℕ) (reading : Reading) : Type 0 where
-  pub in_letter : look (codes "in-form") ≡ Some (letter_of in_form)
-  pub out_letter : look (codes "out-form") ≡ Some (letter_of out_form)
-  pub in_size : NamesBlock look (codes "in-block") in_form in_block
-  pub out_size : NamesBlock look (codes "out-block") out_form out_block
-  pub in_sized : in_form ≡ sized_by in_block in_form
-  pub out_sized : out_form ≡ sized_by out_block out_form
-  pub word : look (codes "binary") ≡ Some (word_of reading)
+pub record NameForms (look : Look) (forms : Forms) : Type 0 where
+  pub in_letter : look (codes "in-form") ≡ Some (letter_of forms.input)
+  pub out_letter : look (codes "out-form") ≡ Some (letter_of forms.output)
+  pub in_size : NamesBlock look (codes "in-block") forms.input forms.in_block
+  pub out_size : NamesBlock look (codes "out-block") forms.output forms.out_block
+  pub in_sized : forms.input ≡ sized_by forms.in_block forms.input
+  pub out_sized : forms.output ≡ sized_by forms.out_block forms.output
+  pub word : look (codes "binary") ≡ Some (word_of forms.reading)
 
 -- options name no forms
 abbrev pub NameNoForms : Look → Type 0
-NameNoForms look = (in_form out_form : Form) (in_block out_block : ℕ) (reading : Reading) → NameForms look in_form out_form in_block out_block reading → ⊥
+NameNoForms look = (forms : Forms) → NameForms look forms → ⊥
 
 -- Options name a piece of the input: where it begins, how long it is, and the number of its first record.
 pub record NamePiece (look : Look) (from : ℕ) (bytes : Option ℕ) (first : ℕ) : Type 0 where
@@ -51,12 +57,10 @@ pub record NameChoice (look : Look) (skip : ℕ) (records : Option ℕ) : Type 0
 -- The options of `convert` name the line's files, its forms, its reading, the record length of its input, its flags, the piece of the input and the records of
 -- it that are converted, and the file for the records that are set aside with the bound for their number.
 pub record IsConvert (look : Look) (line : ConvertLine) : Type 0 where
-  pub in_book : look (codes "in-book") ≡ Some line.in_book.now
-  pub out_book : look (codes "out-book") ≡ Some line.out_book.now
-  pub moves : look (codes "moves") ≡ Some line.moves.now
+  pub texts : NameTexts look line.texts
   pub input : look (codes "in") ≡ Some line.input.now
   pub output : look (codes "out") ≡ Some line.output.now
-  pub forms : NameForms look line.in_form line.out_form line.in_block line.out_block line.reading
+  pub forms : NameForms look line.forms
   pub lrecl : NamesLrecl look line.lrecl
   pub atomic : is_flagged (codes "atomic") look ≡ line.atomic
   pub progress : is_flagged (codes "progress") look ≡ line.progress
@@ -67,9 +71,7 @@ pub record IsConvert (look : Look) (line : ConvertLine) : Type 0 where
 
 -- The options of `check` name the line's files and its flags.
 pub record IsCheck (look : Look) (line : CheckLine) : Type 0 where
-  pub in_book : look (codes "in-book") ≡ Some line.in_book.now
-  pub out_book : look (codes "out-book") ≡ Some line.out_book.now
-  pub moves : look (codes "moves") ≡ Some line.moves.now
+  pub texts : NameTexts look line.texts
   pub cover : is_flagged (codes "cover") look ≡ line.cover
   pub strict : is_flagged (codes "strict") look ≡ line.strict
 
@@ -107,11 +109,9 @@ pub record IsLosslessLine (look : Look) (line : LosslessLine) : Type 0 where
 
 -- The options of `explain` name the line's files, its forms, its reading, the record length of its input, and the number of the record.
 pub record IsExplain (look : Look) (line : ExplainLine) : Type 0 where
-  pub in_book : look (codes "in-book") ≡ Some line.in_book.now
-  pub out_book : look (codes "out-book") ≡ Some line.out_book.now
-  pub moves : look (codes "moves") ≡ Some line.moves.now
+  pub texts : NameTexts look line.texts
   pub input : look (codes "in") ≡ Some line.input.now
-  pub forms : NameForms look line.in_form line.out_form line.in_block line.out_block line.reading
+  pub forms : NameForms look line.forms
   pub lrecl : NamesLrecl look line.lrecl
   pub number : NamesNumber look (codes "record") 1 line.record
 
@@ -122,11 +122,9 @@ pub record IsDraft (look : Look) (line : DraftLine) : Type 0 where
 
 -- The options of `map` name the line's files, its forms, its reading, the record length of its input, and the number of the record.
 pub record IsMap (look : Look) (line : MapLine) : Type 0 where
-  pub in_book : look (codes "in-book") ≡ Some line.in_book.now
-  pub out_book : look (codes "out-book") ≡ Some line.out_book.now
-  pub moves : look (codes "moves") ≡ Some line.moves.now
+  pub texts : NameTexts look line.texts
   pub input : look (codes "in") ≡ option_map (λ file. file.now) line.input
-  pub forms : NameForms look line.in_form line.out_form line.in_block line.out_block line.reading
+  pub forms : NameForms look line.forms
   pub lrecl : NamesLrecl look line.lrecl
   pub number : NamesNumber look (codes "record") 1 line.record
 
@@ -153,15 +151,15 @@ pub record SaysCommand (name : Text) (look : Look) (said : CommandLine) : Type 0
 -- the blocks of a line's forms may have their greatest sizes, and a number of pieces or that of a record is one at least
 abbrev pub HasBlocks : Line → Type 0
 HasBlocks line.Job = ⊤
-HasBlocks (line.Convert options) = HasBlockSize options.in_form × HasBlockSize options.out_form
+HasBlocks (line.Convert options) = HasBlockSize options.forms.input × HasBlockSize options.forms.output
 HasBlocks (line.Check options) = ⊤
 HasBlocks (line.Layout options) = ⊤
 HasBlocks (line.Show options) = HasBlockSize options.form
 HasBlocks (line.Pieces options) = HasBlockSize options.form × (0 < options.pieces)
 HasBlocks (line.Lossless options) = ⊤
-HasBlocks (line.Explain options) = HasBlockSize options.in_form × HasBlockSize options.out_form × (0 < options.record)
+HasBlocks (line.Explain options) = HasBlockSize options.forms.input × HasBlockSize options.forms.output × (0 < options.record)
 HasBlocks (line.Draft options) = ⊤
-HasBlocks (line.Map options) = HasBlockSize options.in_form × HasBlockSize options.out_form × (0 < options.record)
+HasBlocks (line.Map options) = HasBlockSize options.forms.input × HasBlockSize options.forms.output × (0 < options.record)
 HasBlocks line.Completion = ⊤
 HasBlocks line.Manual = ⊤
 

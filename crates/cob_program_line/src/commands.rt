@@ -1,22 +1,47 @@
 //! The lines of the commands that have options.
 
 ghost use Rattle.std.specs.Prelude.{◌<◌, IfErr, IfOk};
-ghost use Rattle.cob_program_options.specs.Commands.{check_options, convert_options, draft_options, explain_options, layout_options, lossless_options, map_options, pieces_options, show_options};
+ghost use Rattle.cob_program_options.specs.Commands.{IsComplete, check_options, convert_options, draft_options, explain_options, layout_options, lossless_options, map_options, pieces_options, show_options};
 ghost use Rattle.cob_program_line.specs.Faults.{IsFaultIn};
-ghost use Rattle.cob_program_line.specs.Lines.{IsCheck, IsConvert, IsDraft, IsExplain, IsLayout, IsLosslessLine, IsMap, IsPieces, IsShow};
+ghost use Rattle.cob_program_line.specs.Lines.{HasBlocks, IsCheck, IsCommand, IsConvert, IsDraft, IsExplain, IsLayout, IsLosslessLine, IsMap, IsPieces, IsShow};
 ghost use Rattle.cob_program_options.specs.Looks.{AreAll, AreNamed, look_of};
 ghost use Rattle.cob_records.specs.Forms.{HasBlockSize};
 
 use crate::fault::LineFault;
 use crate::line::{
-    CheckLine, ConvertLine, DraftLine, ExplainLine, LayoutLine, LosslessLine, MapLine, PiecesLine,
-    ShowLine,
+    CheckLine, ConvertLine, DraftLine, ExplainLine, LayoutLine, Line, LosslessLine, MapLine,
+    PiecesLine, ShowLine,
 };
 use crate::values::{
-    bound, choice_of, form, forms_of, listing, lrecl_of, number, piece_of, record_of,
+    bound, choice_of, form, forms_of, listing, lrecl_of, number, piece_of, record_of, texts_of,
 };
 use clap::ArgMatches;
 use cob_program_options::{flag, named, named_if_there};
+
+// The line of a command that was named with these options.
+pub(crate) fn command_line<'a>(name: &str, options: &ArgMatches<'a>) -> Result<Line<'a>, LineFault>
+    requires { IsComplete name.now (look_of options.now) }
+    ensures options { IfOk result (IsCommand name.now (look_of options.now)) }
+    ensures lacks { IfErr result (λ _. (line : Line)
+        → IsCommand name.now (look_of options.now) line → ⊥) }
+    ensures fault { IfErr result (IsFaultIn (look_of options.now)) }
+    ensures blocks { IfOk result HasBlocks }
+{
+    match name {
+        "convert" => Ok(Line::Convert(convert_line(options)?)),
+        "check" => Ok(Line::Check(check_line(options))),
+        "layout" => Ok(Line::Layout(layout_line(options))),
+        "show" => Ok(Line::Show(show_line(options)?)),
+        "pieces" => Ok(Line::Pieces(pieces_line(options)?)),
+        "lossless" => Ok(Line::Lossless(lossless_line(options))),
+        "explain" => Ok(Line::Explain(explain_line(options)?)),
+        "draft" => Ok(Line::Draft(draft_line(options))),
+        "map" => Ok(Line::Map(map_line(options)?)),
+        "completion" => Ok(Line::Completion),
+        "manual" => Ok(Line::Manual),
+        _ => unreachable!(),
+    }
+}
 
 /// What the options of `convert` name.
 ///
@@ -31,7 +56,7 @@ pub fn convert_line<'a>(options: &ArgMatches<'a>) -> Result<ConvertLine<'a>, Lin
         → IsConvert (look_of options.now) line → ⊥) }
     ensures fault { IfErr result (IsFaultIn (look_of options.now)) }
     ensures blocks { IfOk result
-        (λ line. HasBlockSize line.in_form × HasBlockSize line.out_form) }
+        (λ line. HasBlockSize line.forms.input × HasBlockSize line.forms.output) }
 {
     let forms = forms_of(options)?;
     let piece = piece_of(options)?;
@@ -39,16 +64,10 @@ pub fn convert_line<'a>(options: &ArgMatches<'a>) -> Result<ConvertLine<'a>, Lin
     let most_rejects = bound(options, "most-rejects", LineFault::Number)?;
     let lrecl = lrecl_of(options)?;
     Ok(ConvertLine {
-        in_book: named(options, "in-book"),
-        out_book: named(options, "out-book"),
-        moves: named(options, "moves"),
+        texts: texts_of(options),
         input: named(options, "in"),
         output: named(options, "out"),
-        in_form: forms.input,
-        out_form: forms.output,
-        in_block: forms.in_block,
-        out_block: forms.out_block,
-        reading: forms.reading,
+        forms,
         lrecl,
         atomic: flag(options, "atomic"),
         progress: flag(options, "progress"),
@@ -68,9 +87,7 @@ pub fn check_line<'a>(options: &ArgMatches<'a>) -> CheckLine<'a>
     ensures { IsCheck (look_of options.now) result }
 {
     CheckLine {
-        in_book: named(options, "in-book"),
-        out_book: named(options, "out-book"),
-        moves: named(options, "moves"),
+        texts: texts_of(options),
         cover: flag(options, "cover"),
         strict: flag(options, "strict"),
     }
@@ -167,22 +184,16 @@ pub fn explain_line<'a>(options: &ArgMatches<'a>) -> Result<ExplainLine<'a>, Lin
     ensures lacks { IfErr result (λ _. (line : ExplainLine)
         → IsExplain (look_of options.now) line → ⊥) }
     ensures fault { IfErr result (IsFaultIn (look_of options.now)) }
-    ensures blocks { IfOk result (λ line. HasBlockSize line.in_form
-        × HasBlockSize line.out_form × (0 < line.record)) }
+    ensures blocks { IfOk result (λ line. HasBlockSize line.forms.input
+        × HasBlockSize line.forms.output × (0 < line.record)) }
 {
     let forms = forms_of(options)?;
     let record = record_of(options)?;
     let lrecl = lrecl_of(options)?;
     Ok(ExplainLine {
-        in_book: named(options, "in-book"),
-        out_book: named(options, "out-book"),
-        moves: named(options, "moves"),
+        texts: texts_of(options),
         input: named(options, "in"),
-        in_form: forms.input,
-        out_form: forms.output,
-        in_block: forms.in_block,
-        out_block: forms.out_block,
-        reading: forms.reading,
+        forms,
         lrecl,
         record,
     })
@@ -211,22 +222,16 @@ pub fn map_line<'a>(options: &ArgMatches<'a>) -> Result<MapLine<'a>, LineFault>
     ensures lacks { IfErr result (λ _. (line : MapLine)
         → IsMap (look_of options.now) line → ⊥) }
     ensures fault { IfErr result (IsFaultIn (look_of options.now)) }
-    ensures blocks { IfOk result (λ line. HasBlockSize line.in_form
-        × HasBlockSize line.out_form × (0 < line.record)) }
+    ensures blocks { IfOk result (λ line. HasBlockSize line.forms.input
+        × HasBlockSize line.forms.output × (0 < line.record)) }
 {
     let forms = forms_of(options)?;
     let record = record_of(options)?;
     let lrecl = lrecl_of(options)?;
     Ok(MapLine {
-        in_book: named(options, "in-book"),
-        out_book: named(options, "out-book"),
-        moves: named(options, "moves"),
+        texts: texts_of(options),
         input: named_if_there(options, "in"),
-        in_form: forms.input,
-        out_form: forms.output,
-        in_block: forms.in_block,
-        out_block: forms.out_block,
-        reading: forms.reading,
+        forms,
         lrecl,
         record,
     })

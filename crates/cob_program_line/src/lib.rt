@@ -11,6 +11,8 @@
 //! option names no form, no reading, no size of blocks, no listing, no piece of the input, no number of records, no number of pieces, or no record length
 //! (`fault`, by `IsFaultIn` of specs/Faults.antt).
 //!
+//! [`Line::files`] are the files that the options of a line name, in the order in which they are opened: each line's stand beside its fields.
+//!
 //! What words say as a whole (`IsCommandLineOf`), and which fault they have (`IsFaultOf`), is defined here too; that they are read so, promises
 //! `line_of`.
 //!
@@ -43,7 +45,7 @@ pub use commands::{
 };
 pub use fault::LineFault;
 pub use line::{
-    CheckLine, CommandLine, ConvertLine, DraftLine, ExplainLine, LayoutLine, Line, Listing,
-    LosslessLine, MapLine, PiecesLine, ShowLine,
+    CheckLine, CommandLine, ConvertLine, DraftLine, ExplainLine, Forms, LayoutLine, Line, Listing,
+    LosslessLine, MapLine, PiecesLine, ShowLine, TextFiles,
 };
 pub use read::line_of;

@@ -1,5 +1,9 @@
+//! What the words ask for, command by command, and the files that each command names.
+
 use cob_codec::Reading;
+use cob_program_runtime::NamedFile;
 use cob_records::Form;
+use std::alloc::{AllocError, Global};
 
 /// What the words ask for.
 #[derive(Clone, Copy)]
@@ -30,6 +34,65 @@ pub enum Line<'a> {
     Manual,
 }
 
+impl<'a> Line<'a> {
+    /// Adds the files that its options name.
+    fn add_files(&self, files: &mut Vec<NamedFile<'a>>) -> Result<(), AllocError> {
+        match self {
+            Line::Convert(line) => line.add_files(files),
+            Line::Check(line) => line.texts.add_files(files),
+            Line::Layout(line) => add_read(files, "book", line.book),
+            Line::Show(line) => line.add_files(files),
+            Line::Pieces(line) => line.add_files(files),
+            Line::Lossless(line) => line.add_files(files),
+            Line::Explain(line) => line.add_files(files),
+            Line::Draft(line) => add_books(files, line.in_book, line.out_book),
+            Line::Map(line) => line.add_files(files),
+            Line::Job | Line::Completion | Line::Manual => Ok(()),
+        }
+    }
+
+    /// The files that its options name, in the order in which they are opened.
+    ///
+    /// # Errors
+    ///
+    /// Where no memory is left.
+    pub fn files(&self, alloc: Global) -> Result<Vec<NamedFile<'a>>, AllocError> {
+        let mut files = Vec::new(alloc);
+        self.add_files(&mut files)?;
+        Ok(files)
+    }
+}
+
+/// Adds a file that is read.
+fn add_read<'a>(
+    files: &mut Vec<NamedFile<'a>>,
+    option: &'a str,
+    path: &'a str,
+) -> Result<(), AllocError> {
+    files.push(NamedFile::read(option, path))?;
+    Ok(())
+}
+
+/// Adds a file that is written.
+fn add_written<'a>(
+    files: &mut Vec<NamedFile<'a>>,
+    option: &'a str,
+    path: &'a str,
+) -> Result<(), AllocError> {
+    files.push(NamedFile::written(option, path, ""))?;
+    Ok(())
+}
+
+/// Adds the files of both copybooks.
+fn add_books<'a>(
+    files: &mut Vec<NamedFile<'a>>,
+    in_book: &'a str,
+    out_book: &'a str,
+) -> Result<(), AllocError> {
+    add_read(files, "in-book", in_book)?;
+    add_read(files, "out-book", out_book)
+}
+
 /// What the words ask for, and how it is told where it fails.
 #[derive(Clone, Copy)]
 pub struct CommandLine<'a> {
@@ -50,29 +113,51 @@ pub enum Listing {
     Csv,
 }
 
-/// The options of `convert`.
+/// The files of the three texts of a conversion.
 #[derive(Clone, Copy)]
-pub struct ConvertLine<'a> {
+pub struct TextFiles<'a> {
     /// The file with the copybook of the input record.
     pub in_book: &'a str,
     /// The file with the copybook of the output record.
     pub out_book: &'a str,
     /// The file with the paragraph.
     pub moves: &'a str,
-    /// The file that the records come from; `-` is standard input.
-    pub input: &'a str,
-    /// The file that the records go to; `-` is standard output.
-    pub output: &'a str,
+}
+
+impl<'a> TextFiles<'a> {
+    /// Adds these files.
+    fn add_files(&self, files: &mut Vec<NamedFile<'a>>) -> Result<(), AllocError> {
+        add_books(files, self.in_book, self.out_book)?;
+        add_read(files, "moves", self.moves)
+    }
+}
+
+/// How the records of both files of a conversion stand, and how binary items are read.
+#[derive(Clone, Copy)]
+pub struct Forms {
     /// How the records of the input stand.
-    pub in_form: Form,
+    pub input: Form,
     /// How the records of the output stand.
-    pub out_form: Form,
+    pub output: Form,
     /// The greatest size of the input's blocks, where it has blocks.
     pub in_block: u16,
     /// The greatest size of the output's blocks, where it has blocks.
     pub out_block: u16,
     /// How binary items are read that are sent.
     pub reading: Reading,
+}
+
+/// The options of `convert`.
+#[derive(Clone, Copy)]
+pub struct ConvertLine<'a> {
+    /// The files of the three texts.
+    pub texts: TextFiles<'a>,
+    /// The file that the records come from; `-` is standard input.
+    pub input: &'a str,
+    /// The file that the records go to; `-` is standard output.
+    pub output: &'a str,
+    /// How the records of both files stand, and how binary items are read.
+    pub forms: Forms,
     /// The record length that the input is said to have, where one is: in form f that of each record, else the greatest, the record descriptor word in it.
     pub lrecl: Option<u64>,
     /// Whether the output is put in its place only when all is converted.
@@ -95,15 +180,24 @@ pub struct ConvertLine<'a> {
     pub most_rejects: Option<u64>,
 }
 
+impl<'a> ConvertLine<'a> {
+    /// Adds the files of the texts, of the records and of those that are set aside.
+    fn add_files(&self, files: &mut Vec<NamedFile<'a>>) -> Result<(), AllocError> {
+        self.texts.add_files(files)?;
+        add_read(files, "in", self.input)?;
+        add_written(files, "out", self.output)?;
+        match self.rejects {
+            Some(rejects) => add_written(files, "rejects", rejects),
+            None => Ok(()),
+        }
+    }
+}
+
 /// The options of `check`.
 #[derive(Clone, Copy)]
 pub struct CheckLine<'a> {
-    /// The file with the copybook of the input record.
-    pub in_book: &'a str,
-    /// The file with the copybook of the output record.
-    pub out_book: &'a str,
-    /// The file with the paragraph.
-    pub moves: &'a str,
+    /// The files of the three texts.
+    pub texts: TextFiles<'a>,
     /// Whether it lists what no move fills, what none takes, and what may be lost.
     pub cover: bool,
     /// Whether it lists these, and ends as where a record stopped a run if bytes are not filled or something may be lost.
@@ -138,6 +232,14 @@ pub struct ShowLine<'a> {
     pub records: Option<u64>,
 }
 
+impl<'a> ShowLine<'a> {
+    /// Adds the files of the copybook and of the records.
+    fn add_files(&self, files: &mut Vec<NamedFile<'a>>) -> Result<(), AllocError> {
+        add_read(files, "book", self.book)?;
+        add_read(files, "in", self.input)
+    }
+}
+
 /// The options of `pieces`.
 #[derive(Clone, Copy)]
 pub struct PiecesLine<'a> {
@@ -153,6 +255,14 @@ pub struct PiecesLine<'a> {
     pub pieces: u64,
 }
 
+impl<'a> PiecesLine<'a> {
+    /// Adds the files of the copybook and of the records.
+    fn add_files(&self, files: &mut Vec<NamedFile<'a>>) -> Result<(), AllocError> {
+        add_read(files, "book", self.book)?;
+        add_read(files, "in", self.input)
+    }
+}
+
 /// The options of `lossless`.
 #[derive(Clone, Copy)]
 pub struct LosslessLine<'a> {
@@ -166,31 +276,36 @@ pub struct LosslessLine<'a> {
     pub back: &'a str,
 }
 
+impl<'a> LosslessLine<'a> {
+    /// Adds the files of both copybooks and both paragraphs.
+    fn add_files(&self, files: &mut Vec<NamedFile<'a>>) -> Result<(), AllocError> {
+        add_books(files, self.in_book, self.out_book)?;
+        add_read(files, "there", self.there)?;
+        add_read(files, "back", self.back)
+    }
+}
+
 /// The options of `explain`.
 #[derive(Clone, Copy)]
 pub struct ExplainLine<'a> {
-    /// The file with the copybook of the input record.
-    pub in_book: &'a str,
-    /// The file with the copybook of the output record.
-    pub out_book: &'a str,
-    /// The file with the paragraph.
-    pub moves: &'a str,
+    /// The files of the three texts.
+    pub texts: TextFiles<'a>,
     /// The file that the records come from; `-` is standard input.
     pub input: &'a str,
-    /// How the records of the input stand.
-    pub in_form: Form,
-    /// How the records of the output stand.
-    pub out_form: Form,
-    /// The greatest size of the input's blocks, where it has blocks.
-    pub in_block: u16,
-    /// The greatest size of the output's blocks, where it has blocks.
-    pub out_block: u16,
-    /// How binary items are read that are sent.
-    pub reading: Reading,
+    /// How the records of both files stand, and how binary items are read.
+    pub forms: Forms,
     /// The record length that the input is said to have, where one is: in form f that of each record, else the greatest, the record descriptor word in it.
     pub lrecl: Option<u64>,
     /// The number of the record, from 1 on.
     pub record: u64,
+}
+
+impl<'a> ExplainLine<'a> {
+    /// Adds the files of the texts and of the records.
+    fn add_files(&self, files: &mut Vec<NamedFile<'a>>) -> Result<(), AllocError> {
+        self.texts.add_files(files)?;
+        add_read(files, "in", self.input)
+    }
 }
 
 /// The options of `draft`.
@@ -205,26 +320,25 @@ pub struct DraftLine<'a> {
 /// The options of `map`.
 #[derive(Clone, Copy)]
 pub struct MapLine<'a> {
-    /// The file with the copybook of the input record.
-    pub in_book: &'a str,
-    /// The file with the copybook of the output record.
-    pub out_book: &'a str,
-    /// The file with the paragraph.
-    pub moves: &'a str,
+    /// The files of the three texts.
+    pub texts: TextFiles<'a>,
     /// The file that a record comes from, where one is shown; `-` is standard input.
     pub input: Option<&'a str>,
-    /// How the records of the input stand.
-    pub in_form: Form,
-    /// How the records of the output stand.
-    pub out_form: Form,
-    /// The greatest size of the input's blocks, where it has blocks.
-    pub in_block: u16,
-    /// The greatest size of the output's blocks, where it has blocks.
-    pub out_block: u16,
-    /// How binary items are read that are sent.
-    pub reading: Reading,
+    /// How the records of both files stand, and how binary items are read.
+    pub forms: Forms,
     /// The record length that the input is said to have, where one is: in form f that of each record, else the greatest, the record descriptor word in it.
     pub lrecl: Option<u64>,
     /// The number of the record, from 1 on.
     pub record: u64,
+}
+
+impl<'a> MapLine<'a> {
+    /// Adds the files of the texts, and that of the records where one is named.
+    fn add_files(&self, files: &mut Vec<NamedFile<'a>>) -> Result<(), AllocError> {
+        self.texts.add_files(files)?;
+        match self.input {
+            Some(input) => add_read(files, "in", input),
+            None => Ok(()),
+        }
+    }
 }

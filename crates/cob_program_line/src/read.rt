@@ -2,46 +2,18 @@
 
 ghost use Rattle.std.specs.Prelude.{◌≡◌, ◌⊎◌, IfErr, IfOk, map};
 ghost use Rattle.cob_program_line.specs.Faults.{IsFaultIn, IsFaultOf};
-ghost use Rattle.cob_program_line.specs.Lines.{HasBlocks, IsCommand, IsCommandLineOf, SaysCommand};
+ghost use Rattle.cob_program_line.specs.Lines.{HasBlocks, IsCommandLineOf, SaysCommand};
 ghost use Rattle.cob_program_line.specs.declared.fault.LineFault.TheVariants.{Memory};
 ghost use Rattle.cob_program_options.specs.Looks.{look_of};
 ghost use Rattle.cob_program_options.specs.Commands.{IsComplete};
 
-use crate::commands::{
-    check_line, convert_line, draft_line, explain_line, layout_line, lossless_line, map_line,
-    pieces_line, show_line,
-};
+use crate::commands::command_line;
 use crate::fault::LineFault;
 use crate::line::{CommandLine, Line};
 use clap::ArgMatches;
 use cob_program_options::{flag, program};
 use std::alloc::Global;
 use std::convert::AsStr;
-
-// The line of a command that was named with these options.
-fn command_line<'a>(name: &str, options: &ArgMatches<'a>) -> Result<Line<'a>, LineFault>
-    requires { IsComplete name.now (look_of options.now) }
-    ensures options { IfOk result (IsCommand name.now (look_of options.now)) }
-    ensures lacks { IfErr result (λ _. (line : Line)
-        → IsCommand name.now (look_of options.now) line → ⊥) }
-    ensures fault { IfErr result (IsFaultIn (look_of options.now)) }
-    ensures blocks { IfOk result HasBlocks }
-{
-    match name {
-        "convert" => Ok(Line::Convert(convert_line(options)?)),
-        "check" => Ok(Line::Check(check_line(options))),
-        "layout" => Ok(Line::Layout(layout_line(options))),
-        "show" => Ok(Line::Show(show_line(options)?)),
-        "pieces" => Ok(Line::Pieces(pieces_line(options)?)),
-        "lossless" => Ok(Line::Lossless(lossless_line(options))),
-        "explain" => Ok(Line::Explain(explain_line(options)?)),
-        "draft" => Ok(Line::Draft(draft_line(options))),
-        "map" => Ok(Line::Map(map_line(options)?)),
-        "completion" => Ok(Line::Completion),
-        "manual" => Ok(Line::Manual),
-        _ => unreachable!(),
-    }
-}
 
 // What the name of a command and these options say.
 fn whole_line<'a>(name: &str, options: &ArgMatches<'a>) -> Result<CommandLine<'a>, LineFault>

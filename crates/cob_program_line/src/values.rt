@@ -1,9 +1,9 @@
 //! What the options of a command name, each by itself and in groups.
 
 ghost use Rattle.std.specs.Prelude.{◌≡◌, ◌<◌, ◌≤◌, ℕ, IfErr, IfOk, None, Option, Some, codes, is_some, true};
-ghost use Rattle.cob_program_options.specs.Commands.{choice_options, forms_options, piece_options};
+ghost use Rattle.cob_program_options.specs.Commands.{choice_options, forms_options, piece_options, texts_options};
 ghost use Rattle.cob_program_line.specs.Faults.{HasListing, HasPiece, HasPieces, IsFaultIn, LacksBound, LacksForm, LacksListing, LacksNumber, LacksReading, LacksSize};
-ghost use Rattle.cob_program_line.specs.Lines.{NameChoice, NameForms, NameNoForms, NamePiece};
+ghost use Rattle.cob_program_line.specs.Lines.{NameChoice, NameForms, NameNoForms, NamePiece, NameTexts};
 ghost use Rattle.cob_program_options.specs.Looks.{AreNamed, look_of};
 ghost use Rattle.cob_program_line.specs.Named.{NamesBlock, NamesBound, NamesLrecl, NamesNumber, form_by_letter, letter_of, listing_by_word, reading_by_word, sized_by, word_of, word_of_listing};
 ghost use Rattle.cob_program_line.specs.Numbers.{SaysNumber};
@@ -13,7 +13,7 @@ ghost use Rattle.cob_records.specs.Blocks.{IsBlockSize};
 ghost use Rattle.cob_records.specs.Forms.{HasBlockSize};
 
 use crate::fault::LineFault;
-use crate::line::Listing;
+use crate::line::{Forms, Listing, TextFiles};
 use crate::number::number_of;
 use clap::ArgMatches;
 use cob_codec::Reading;
@@ -202,21 +202,23 @@ pub(crate) fn lrecl_of(options: &ArgMatches<'_>) -> Result<Option<u64>, LineFaul
     }
 }
 
-// The forms of both files, the greatest sizes of their blocks, and the reading of binary items.
-#[derive(Clone, Copy)]
-pub(crate) struct Forms {
-    pub(crate) input: Form,
-    pub(crate) output: Form,
-    pub(crate) in_block: u16,
-    pub(crate) out_block: u16,
-    pub(crate) reading: Reading,
+// The files of the three texts.
+pub(crate) fn texts_of<'a>(options: &ArgMatches<'a>) -> TextFiles<'a>
+    requires { AreNamed texts_options (look_of options.now) }
+    ensures { NameTexts (look_of options.now) result }
+{
+    TextFiles {
+        in_book: named(options, "in-book"),
+        out_book: named(options, "out-book"),
+        moves: named(options, "moves"),
+    }
 }
 
+// The forms of both files, the greatest sizes of their blocks, and the reading of binary items.
 pub(crate) fn forms_of(options: &ArgMatches<'_>) -> Result<Forms, LineFault>
     requires named { AreNamed forms_options (look_of options.now) }
     requires only { look_of options.now (codes "form") ≡ None }
-    ensures named { IfOk result (λ forms. NameForms (look_of options.now)
-        forms.input forms.output forms.in_block forms.out_block forms.reading) }
+    ensures named { IfOk result (NameForms (look_of options.now)) }
     ensures lacks { IfErr result (λ _. NameNoForms (look_of options.now)) }
     ensures fault { IfErr result (IsFaultIn (look_of options.now)) }
     ensures blocks { IfOk result

@@ -43,7 +43,7 @@ fn print_fitting<R: AllocGlobal + Files + Input + Print>(
     ensures { IfErr result MayNotMap }
 {
     let greatest = converter.in_length();
-    judge_lrecl(FileName::InBook, line.in_form, line.lrecl, greatest)?;
+    judge_lrecl(FileName::InBook, line.forms.input, line.lrecl, greatest)?;
     print_lined(rt, line, converter.conversion(), moves)
 }
 
@@ -55,8 +55,8 @@ fn print_texts<R: AllocGlobal + Files + Input + Print>(
     out_book: &[u8],
     moves: &[u8],
 ) -> Result<(), Unmapped>
-    requires in_block { HasBlockSize line.now.in_form }
-    requires out_block { HasBlockSize line.now.out_form }
+    requires in_block { HasBlockSize line.now.forms.input }
+    requires out_block { HasBlockSize line.now.forms.output }
     requires record { 0 < line.now.record }
     ensures { IfErr result MayNotMap }
 {
@@ -65,9 +65,9 @@ fn print_texts<R: AllocGlobal + Files + Input + Print>(
         in_book,
         out_book,
         moves,
-        line.in_form,
-        line.out_form,
-        line.reading,
+        line.forms.input,
+        line.forms.output,
+        line.forms.reading,
     ) {
         Ok(converter) => print_fitting(rt, line, &converter, moves),
         Err(refused) => Err(Unmapped::Fault(CommandFault::from(refused))),
@@ -83,21 +83,21 @@ pub fn print_map<R: AllocGlobal + Files + Input + Print>(
     rt: &R,
     line: &MapLine<'_>,
 ) -> Result<(), Unmapped>
-    requires in_block { HasBlockSize line.now.in_form }
-    requires out_block { HasBlockSize line.now.out_form }
+    requires in_block { HasBlockSize line.now.forms.input }
+    requires out_block { HasBlockSize line.now.forms.output }
     requires record { 0 < line.now.record }
     ensures { IfErr result MayNotMap }
 {
-    let in_book = text_of(rt, line.in_book, FileName::InBook)?;
-    let out_book = text_of(rt, line.out_book, FileName::OutBook)?;
-    let moves = text_of(rt, line.moves, FileName::Moves)?;
+    let in_book = text_of(rt, line.texts.in_book, FileName::InBook)?;
+    let out_book = text_of(rt, line.texts.out_book, FileName::OutBook)?;
+    let moves = text_of(rt, line.texts.moves, FileName::Moves)?;
     print_texts(rt, line, &in_book, &out_book, &moves)
 }
 
 /// Prints the page of a mapping, or what is at fault, and answers how the program ends.
 pub fn do_map<R: AllocGlobal + Files + Input + Print + Eprint>(rt: &R, line: &MapLine<'_>) -> Status
-    requires in_block { HasBlockSize line.now.in_form }
-    requires out_block { HasBlockSize line.now.out_form }
+    requires in_block { HasBlockSize line.now.forms.input }
+    requires out_block { HasBlockSize line.now.forms.output }
     requires record { 0 < line.now.record }
     ensures { EndsAtRecord result }
 {

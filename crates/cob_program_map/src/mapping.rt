@@ -69,9 +69,9 @@ fn marks_of(
 /// The names of the files of the texts.
 fn names_of<'a>(line: &MapLine<'a>) -> TextNames<'a> {
     TextNames {
-        in_book: line.in_book,
-        out_book: line.out_book,
-        moves: line.moves,
+        in_book: line.texts.in_book,
+        out_book: line.texts.out_book,
+        moves: line.texts.moves,
     }
 }
 

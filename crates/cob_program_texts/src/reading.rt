@@ -98,8 +98,8 @@ pub(crate) fn read_texts<R: AllocGlobal + Files>(
 ) -> Result<(Checked, CoverText), CommandFault>
     ensures { IfErr result MayEndCheck }
 {
-    let in_book = text_of(rt, line.in_book, FileName::InBook)?;
-    let out_book = text_of(rt, line.out_book, FileName::OutBook)?;
-    let moves = text_of(rt, line.moves, FileName::Moves)?;
+    let in_book = text_of(rt, line.texts.in_book, FileName::InBook)?;
+    let out_book = text_of(rt, line.texts.out_book, FileName::OutBook)?;
+    let moves = text_of(rt, line.texts.moves, FileName::Moves)?;
     prepared(rt.alloc(), &in_book, &out_book, &moves, cover)
 }

@@ -1,4 +1,3 @@
-use Rattle.std.proofs.Common.{codes, refl}
 use Rattle.cob_program_options.specs.Looks.{Look, look_of}
 use Rattle.cob_program_line.proofs.Apps.{cut_in, pieces_form, told}
 use Rattle.cob_program_line.proofs.commands.pieces_line.Goals as goal

@@ -50,16 +50,18 @@ pub returns-in_err-in_block-clause-lacks : goal.returns-in_err-in_block-clause-l
 returns-in_err-in_block-clause-lacks c =
     let look : Look = look_of c.args.options.now in
     told c.from_residual-in_err-in_block.result _ _
-    (λ fault is f g m n r says. c.in_err-in_block.ensures.lacks m
-    (block_beside look (codes "in-block") f c.in_ok-in_form.in_form m (same_letter look (codes "in-form") f c.in_ok-in_form.in_form says.in_letter c.in_ok-in_form.ensures.named) says.in_size))
+    (λ fault is forms says. c.in_err-in_block.ensures.lacks forms.in_block
+    (block_beside look (codes "in-block") forms.input c.in_ok-in_form.in_form forms.in_block
+    (same_letter look (codes "in-form") forms.input c.in_ok-in_form.in_form says.in_letter c.in_ok-in_form.ensures.named) says.in_size))
     c.from_residual-in_err-in_block.ensures.1
 
 pub returns-in_err-out_block-clause-lacks : goal.returns-in_err-out_block-clause-lacks
 returns-in_err-out_block-clause-lacks c =
     let look : Look = look_of c.args.options.now in
     told c.from_residual-in_err-out_block.result _ _
-    (λ fault is f g m n r says. c.in_err-out_block.ensures.lacks n
-    (block_beside look (codes "out-block") g c.in_ok-out_form.out_form n (same_letter look (codes "out-form") g c.in_ok-out_form.out_form says.out_letter c.in_ok-out_form.ensures.named) says.out_size))
+    (λ fault is forms says. c.in_err-out_block.ensures.lacks forms.out_block
+    (block_beside look (codes "out-block") forms.output c.in_ok-out_form.out_form forms.out_block
+    (same_letter look (codes "out-form") forms.output c.in_ok-out_form.out_form says.out_letter c.in_ok-out_form.ensures.named) says.out_size))
     c.from_residual-in_err-out_block.ensures.1
 
 pub returns-clause-named : goal.returns-clause-named
