@@ -1,14 +1,15 @@
 -- A record with a number as it is shown: what it becomes, and the places of both.
 use Rattle.std.specs.Prelude.{◌≡◌, ◌⊎◌, ◌<◌, false, ⊤, ℕ, List, Result, Ok, Err}
 use Rattle.cob_convert.specs.Run.{IsConverted}
-use Rattle.cob_convert_record.specs.Conversion.{Conversion}
+use Rattle.cob_convert_record.specs.Conversion.{Conversion, in_length}
 use Rattle.cob_copybook_tree.specs.Forests.{Forest}
 use Rattle.cob_copybook_tree.specs.Nodes.{Resolved}
 use Rattle.cob_layout.specs.Counting.{CountsOf, greatest_counts}
 use Rattle.cob_layout.specs.Standing.{ArePlaces, Standing, StandsIn}
 use Rattle.cob_layout_places.specs.declared.counts.CountFault.{CountFault}
 use Rattle.cob_convert_stream.specs.Reasons.{is_write_cause}
-use Rattle.cob_program_map.specs.Numbered.{AreOnly, HasNumber, StopsUpTo}
+use Rattle.cob_program_map.specs.Numbered.{StopsUpTo}
+use Rattle.cob_records_parts.specs.Numbering.{AreOnly, HasNumber}
 use Rattle.cob_program_map.specs.declared.shown.NotShown.{NotShown}
 use Rattle.cob_program_map.specs.declared.shown.NotShown.TheVariants.{Fewer, Memory, Stops}
 use Rattle.cob_program_map.specs.declared.shown.Shown.{Shown}
@@ -41,15 +42,15 @@ IsNotShown number (Stops fault) = is_write_cause fault.cause ≡ false
 -- What is told of the records that come where the one with this number is not shown: only so many come; or one up to it stops. Want of memory tells nothing.
 abbrev pub TellsWhy : Conversion → ℕ → NotShown → List ℕ → List ℕ → Type 0
 TellsWhy conversion number Memory bytes rest = ⊤
-TellsWhy conversion number (Fewer there) bytes rest = AreOnly conversion there bytes rest
+TellsWhy conversion number (Fewer there) bytes rest = AreOnly conversion.in_form (in_length conversion) there bytes rest
 TellsWhy conversion number (Stops fault) bytes rest = StopsUpTo conversion number fault bytes rest
 
 -- What the answer says where the record with a number is to be shown: it comes, and has the bytes that are shown; or why it is not shown.
 abbrev pub FindsShown : Conversion → ℕ → Result Shown NotShown → List ℕ → List ℕ → Type 0
-FindsShown conversion number (Ok shown) bytes rest = HasNumber conversion number shown.input.items bytes rest
+FindsShown conversion number (Ok shown) bytes rest = HasNumber conversion.in_form (in_length conversion) number shown.input.items bytes rest
 FindsShown conversion number (Err why) bytes rest = TellsWhy conversion number why bytes rest
 
 -- the same of the answer where it was read, and these bytes stand in the buffer
 abbrev pub FindsToShow : Conversion → ℕ → List ℕ → Result (Unit {0}) NotShown → List ℕ → List ℕ → Type 0
-FindsToShow conversion number input (Ok read) bytes rest = HasNumber conversion number input bytes rest
+FindsToShow conversion number input (Ok read) bytes rest = HasNumber conversion.in_form (in_length conversion) number input bytes rest
 FindsToShow conversion number input (Err why) bytes rest = TellsWhy conversion number why bytes rest

@@ -1,18 +1,18 @@
 //! A record of a file, and what it becomes.
 
-ghost use Rattle.std.specs.Prelude.{◌≡◌, ◌<◌, ◌≤◌, ◌-◌, IfErr, IfOk, IfSome, false, length, take};
-ghost use Rattle.cob_convert.specs.Run.{stop_reason};
-ghost use Rattle.cob_convert_record.specs.Becoming.{Becomes, StopsAt};
+ghost use Rattle.std.specs.Prelude.{◌≡◌, ◌<◌, ◌≤◌, IfErr, IfOk, false, length, take};
+ghost use Rattle.cob_convert.specs.Run.{IsConverted, stop_reason};
 ghost use Rattle.cob_convert_record.specs.Conversion.{in_length, out_length};
 ghost use Rattle.cob_convert_record.specs.Rooms.{capacity_for};
-ghost use Rattle.cob_layout.specs.Storage.{IsStorage};
 ghost use Rattle.cob_records.specs.Device.{Told};
-ghost use Rattle.cob_convert_stream.specs.Reasons.{is_write_cause, reason_of as reason_told};
-ghost use Rattle.cob_program_map.specs.Numbered.{ConvertsNext, FindsRecord, HasFewer, PassesSoMany, ShowsRecord, StandConverted, StopsConverting};
+ghost use Rattle.cob_records.specs.Frame.{IsRecord, is_write_fault};
+ghost use Rattle.cob_convert_stream.specs.Reasons.{frame_reason, is_write_cause, reason_of as reason_told};
+ghost use Rattle.cob_program_map.specs.Numbered.{FindsRecord, HasFewer, ShowsRecord, StopsWhole};
 
-use cob_convert_record::{Conversion, Reason, Room, Stop, StopCause};
+use cob_convert_record::{Conversion, Reason, Room, Side, Stop, StopCause};
 use cob_convert_stream::{Cause, RunFault, sized_are_storages};
 use cob_records::Source;
+use cob_records_parts::{Numbered, Stopped, find_record};
 
 /// How many bytes a record has, and how many of what it becomes are written.
 #[derive(Clone, Copy, PartialEq, Eq)]
@@ -52,34 +52,19 @@ fn reason_of(stop: Stop) -> Reason
     }
 }
 
-/// Passes over the first so many records of a source by their frames alone, and answers how many there were: so many, or fewer where it ends before.
-///
-/// # Errors
-///
-/// The first frame that can't be read.
-fn pass_over<S: Source>(
-    conversion: &Conversion,
-    count: u64,
-    input: &mut [u8],
-    left: &mut u16,
-    source: &mut S,
-) -> Result<u64, RunFault>
-    requires input { length input.old ≡ in_length conversion.now }
-    requires begins { left.old ≡ 0 }
-    ensures input { length input.new ≡ in_length conversion.now }
-    ensures passes { Told (S.coming source.old) (S.coming source.new)
-        (PassesSoMany conversion.now count left.new result) }
-    ensures most { IfOk result (λ passed. passed ≤ count) }
-    ensures kind { IfErr result (λ fault. is_write_cause fault.cause ≡ false) }
+/// Why no record is shown where the frame of one up to it can't be read.
+fn unread(stop: Stopped) -> RunFault
+    requires { is_write_fault stop.fault ≡ false }
+    ensures reason { reason_told result ≡ frame_reason stop.fault }
+    ensures number { result.number ≡ stop.number }
+    ensures kind { is_write_cause result.cause ≡ false }
 {
-    for passed in 0..count {
-        match conversion.next_whole(source, input, left) {
-            Ok(Some(_)) => {}
-            Ok(None) => return Ok(passed),
-            Err(why) => return Err(fault_at(passed + 1, why)),
-        }
-    }
-    Ok(count)
+    let why = Reason {
+        side: Side::In,
+        offset: 0,
+        cause: Cause::Record(stop.fault),
+    };
+    fault_at(stop.number, why)
 }
 
 /// What is found where a record with a number is looked for.
@@ -91,69 +76,35 @@ pub enum Found {
     Fewer(u64),
 }
 
-/// Converts the record that was read, which has this number.
+/// Judges a record that came whole, which has this number, and makes of it what it becomes.
 ///
 /// # Errors
 ///
-/// The first move that stops, a count of the output that isn't valid.
-fn convert_read(
+/// It isn't one of the layout; the first move that stops, a count of the output that isn't valid.
+fn convert_found(
     conversion: &Conversion,
     number: u64,
     input: &[u8],
     output: &mut [u8],
     room: &mut Room,
 ) -> Result<usize, RunFault>
-    requires input { IsStorage conversion.now.records.input input.now }
+    requires record { IsRecord conversion.now.in_form (in_length conversion.now) input.now }
     requires output { length output.old ≡ out_length conversion.now }
     requires room { room.old ≡ capacity_for conversion.now.records }
     ensures within { IfOk result (λ made. made ≤ length output.new) }
-    ensures becomes { IfOk result
-        (λ made. Becomes conversion.now input.now (take made output.new)) }
-    ensures stops { IfErr result (StopsConverting conversion.now input.now number) }
+    ensures converts { IfOk result
+        (λ made. IsConverted conversion.now (input.now, take made output.new)) }
+    ensures stops { IfErr result (StopsWhole conversion.now input.now number) }
     ensures kind { IfErr result (λ fault. is_write_cause fault.cause ≡ false) }
 {
+    // What is one of the layout's records holds a record of it.
+    sized_are_storages();
+    if let Err(why) = conversion.judge(input, room) {
+        return Err(fault_at(number, why));
+    }
     match conversion.convert(input, output, room) {
         Ok(made) => Ok(made),
         Err(stop) => Err(fault_at(number, reason_of(stop))),
-    }
-}
-
-/// Reads the next record, which has this number, and makes of it what it becomes.
-///
-/// # Errors
-///
-/// A frame that can't be read, a record that isn't one of the layout, one that doesn't convert.
-fn convert_next<S: Source>(
-    conversion: &Conversion,
-    number: u64,
-    input: &mut [u8],
-    output: &mut [u8],
-    left: &mut u16,
-    room: &mut Room,
-    source: &mut S,
-) -> Result<Option<Lengths>, RunFault>
-    requires input { length input.old ≡ in_length conversion.now }
-    requires output { length output.old ≡ out_length conversion.now }
-    requires room { room.old ≡ capacity_for conversion.now.records }
-    ensures shows { IfOk result
-        (λ found. IfSome found (StandConverted conversion.now input.new output.new)) }
-    ensures next { Told (S.coming source.old) (S.coming source.new)
-        (ConvertsNext conversion.now number left.old input.new result) }
-    ensures kind { IfErr result (λ fault. is_write_cause fault.cause ≡ false) }
-{
-    // What is read as one of the layout's records holds a record of it.
-    sized_are_storages();
-    let count = match conversion.next_input(source, input, left, room) {
-        Ok(None) => return Ok(None),
-        Ok(Some(count)) => count,
-        Err(why) => return Err(fault_at(number, why)),
-    };
-    match convert_read(conversion, number, &input[..count], output, room) {
-        Ok(made) => Ok(Some(Lengths {
-            input: count,
-            output: made,
-        })),
-        Err(fault) => Err(fault),
     }
 }
 
@@ -182,18 +133,17 @@ pub fn converted_record<S: Source>(
         (FindsRecord conversion.now number input.new result) }
     ensures kind { IfErr result (λ fault. is_write_cause fault.cause ≡ false) }
 {
-    let before = number - 1;
-    let mut left: u16 = 0;
-    let passed = match pass_over(conversion, before, input, &mut left, source) {
-        Ok(passed) => passed,
-        Err(fault) => return Err(fault),
+    let (form, greatest) = (conversion.in_form(), conversion.in_length());
+    let count = match find_record(source, form, greatest, number, input) {
+        Ok(Numbered::Record(count)) => count,
+        Ok(Numbered::Fewer(there)) => return Ok(Found::Fewer(there)),
+        Err(stop) => return Err(unread(stop)),
     };
-    if passed < before {
-        return Ok(Found::Fewer(passed));
-    }
-    match convert_next(conversion, number, input, output, &mut left, room, source) {
-        Ok(Some(lengths)) => Ok(Found::Record(lengths)),
-        Ok(None) => Ok(Found::Fewer(passed)),
+    match convert_found(conversion, number, &input[..count], output, room) {
+        Ok(made) => Ok(Found::Record(Lengths {
+            input: count,
+            output: made,
+        })),
         Err(fault) => Err(fault),
     }
 }
