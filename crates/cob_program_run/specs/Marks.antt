@@ -13,6 +13,10 @@ pub record HasMarks (rejected : ℕ → Bool) (marks : Marks) : Type 0 where
   pub none_behind : (k : ℕ) → marks.last < k → rejected k ≡ false
   pub before : IsLastPut rejected marks.last marks.before
 
+-- the marks of no rejected record
+abbrev pub unmarked : Marks
+unmarked = record { last = 0; before = 0 }
+
 -- one more is rejected
 abbrev pub with_rejected : ℕ → (ℕ → Bool) → ℕ → Bool
 with_rejected number rejected k = (k == number) || rejected k

@@ -1,7 +1,7 @@
 //! Where rejected records stand among all.
 
 ghost use Rattle.std.specs.Prelude.{◌≡◌, ◌<◌, ◌≤◌, ℕ, Bool};
-ghost use Rattle.cob_program_run.specs.Marks.{HasMarks, IsLastPut, marks_behind, last_put, with_rejected};
+ghost use Rattle.cob_program_run.specs.Marks.{HasMarks, IsLastPut, marks_behind, last_put, unmarked, with_rejected};
 
 /// What has to be known of the rejected records to name the last record in either output.
 #[derive(Clone, Copy)]
@@ -15,6 +15,7 @@ pub struct Marks {
 impl Marks {
     /// Those of no rejected record.
     pub fn new() -> Marks
+        ensures value { result ≡ unmarked }
         ensures marks { HasMarks (λ _. Bool.false) result }
     {
         Marks { last: 0, before: 0 }

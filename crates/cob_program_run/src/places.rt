@@ -1,18 +1,12 @@
 //! Two outputs that come into their places together.
 
 use crate::running_aside::PlacesFault;
+use cob_program_ends::Names;
 use cob_program_faults::{PlaceFault, put_in_place};
 use cob_records::{FileSink, Opened, WriteSink};
 use std::fs::OpenFile;
 use std::io::{Print, Printer, Write};
 use std::rt::Files;
-
-/// The names of both outputs, or of the parts that stand in for them until all is done.
-#[derive(Clone, Copy)]
-pub struct Names<'a> {
-    pub output: &'a str,
-    pub rejects: &'a str,
-}
 
 /// Whether a part that was handed over whole was brought to its device.
 fn is_synced<F: OpenFile, S>(opened: &Opened<F, S>) -> bool {

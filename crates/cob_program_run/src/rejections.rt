@@ -2,23 +2,16 @@
 
 ghost use Rattle.std.specs.Prelude.{◌≡◌, true, false, None};
 ghost use Rattle.cob_convert.specs.Outcomes.{append_notes};
-ghost use Rattle.cob_program_run.specs.AsideFinished.{number_from};
 ghost use Rattle.cob_program_run.specs.Marks.{marks_behind};
 
 use crate::marks::Marks;
 use cob_convert::{Notes, RunFault};
+use cob_program_ends::counted_on;
 use std::io::Eprint;
 
 /// What is written over the line that tells how far a run is, on a terminal, so that a fault line stands by itself.
 const CLEARED: &str =
     "\r                                                                              \r";
-
-/// The number of a record, where the first that was read has this one.
-pub fn counted_on(first: u64, number: u64) -> u64
-    ensures { result ≡ number_from first number }
-{
-    number.saturating_add(first.saturating_sub(1))
-}
 
 /// An end that prints the fault line of each rejected record on standard error, its records counted from a number, and keeps the marks of all.
 #[derive(Drop)]

@@ -4,7 +4,7 @@ use Rattle.cob_convert.specs.declared.aside.Tally.{Tally}
 use Rattle.cob_program_faults.specs.declared.fault.CommandFault.{CommandFault}
 use Rattle.cob_program_run.specs.declared.marks.Marks.{Marks}
 use Rattle.cob_program_run.specs.declared.running_aside.PlacesFault.{PlacesFault}
-use Rattle.cob_program_run.specs.AsideFinished.{finished_aside, placed_run}
+use Rattle.cob_program_run.specs.Finished.{finished_aside, placed_run}
 use Rattle.cob_program_run.proofs.running_aside.placed_run.Goals as goal
 
 -- a fault stays, whether the outputs are parts or not

@@ -1,5 +1,5 @@
 use Rattle.std.proofs.Common.{None, Ok, Err, ap, refl}
-use Rattle.cob_program_run.proofs.running.answer_apart.Goals as goal
+use Rattle.cob_program_run.proofs.incoming.run_over_apart.Goals as goal
 
 pub returns-in-Ok : goal.returns-in-Ok
 returns-in-Ok g c = record { ran = (Ok c.in-Ok.done, None, refl, c.in-Ok.ensures.ran) }

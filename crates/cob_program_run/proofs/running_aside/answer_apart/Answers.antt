@@ -1,8 +1,0 @@
-use Rattle.std.proofs.Common.{None, Ok, Err, ap, refl}
-use Rattle.cob_program_run.proofs.running_aside.answer_apart.Goals as goal
-
-pub returns-in-Ok : goal.returns-in-Ok
-returns-in-Ok g c = record { ran = (Ok c.in-Ok.tally, None, refl, c.in-Ok.ensures.ran) }
-
-pub returns : goal.returns
-returns g c = record { ran = (Err c.in-Err.fault, c.stopped.result, ap Err c.with_its_cause.ensures, c.in-Err.ensures.ran) }

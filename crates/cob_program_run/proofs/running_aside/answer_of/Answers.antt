@@ -1,4 +1,0 @@
-use Rattle.cob_program_run.proofs.running_aside.answer_of.Goals as goal
-
-pub returns-in-Some-clause-ran : goal.returns-in-Some-clause-ran
-returns-in-Some-clause-ran g c = (_, rw c.new-told.ensures.inner at c.run_aside-answer.ensures.ran)
