@@ -1,4 +1,2 @@
 pub mod Told
 pub mod Ends
-pub mod AsideTold
-pub mod AsideEnds

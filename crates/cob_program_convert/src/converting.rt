@@ -1,34 +1,22 @@
-ghost use Rattle.std.specs.Prelude.{◌≡◌, Bool, IfErr};
-ghost use Rattle.cob_program_faults.specs.Ends.{EndsAmong, EndsAs, status_of_outcome};
-ghost use Rattle.cob_records.specs.Forms.{HasBlockSize};
-ghost use Rattle.cob_program_run.specs.Ends.{StopsRun};
-ghost use Rattle.cob_program_convert.specs.Ends.{EndsRun, MayEndConvert};
-ghost use Rattle.cob_program_convert.specs.Told.{told_counted_from};
+//! A conversion that stops at the first record that does not convert.
 
+ghost use Rattle.std.specs.Prelude.{◌≡◌, Bool, IfErr, IfOk};
+ghost use Rattle.cob_convert.specs.declared.status.Status.TheVariants as status;
+ghost use Rattle.cob_program_faults.specs.Done.{status_of_done};
+ghost use Rattle.cob_program_faults.specs.Ends.{EndsAmong};
+ghost use Rattle.cob_records.specs.Forms.{HasBlockSize};
+ghost use Rattle.cob_program_run.specs.Ends.{LacksOutput, StopsRun};
+ghost use Rattle.cob_program_convert.specs.Ends.{MayEndConvert};
+
+use crate::told::{prepared_for, tell_converted, tell_uneven_input, told_counted_from};
 use cob_convert::{Converter, Status};
-use cob_program_ends::{
-    Ends, counted_from, first_of, is_standard_output, open_ends, telling_piece,
-};
-use cob_program_faults::{
-    CommandFault, Texts, part_name, printed, put_in_place, tell_fault, tell_uneven,
-};
+use cob_program_ends::{Ends, first_of, is_standard_output, open_ends, telling_piece};
+use cob_program_faults::{CommandDone, CommandFault, part_name, put_in_place};
 use cob_program_line::ConvertLine;
 use cob_program_run::{placed, run_to_end};
 use cob_records::FileSink;
 use std::io::{Eprint, Input, Print, Printer};
 use std::rt::{Clock, Files};
-
-/// What a command came to, its records counted from this one.
-fn told_counted_from(first: u64, outcome: Result<u64, CommandFault>) -> Result<u64, CommandFault>
-    ensures told { result ≡ told_counted_from first outcome }
-    ensures ends { (atomic : Bool) → IfErr outcome (EndsRun atomic)
-        → IfErr result (MayEndConvert atomic) }
-{
-    match outcome {
-        Ok(done) => Ok(done),
-        Err(fault) => Err(counted_from(first, fault)),
-    }
-}
 
 /// What a run comes to whose output is this; or is its part, which is put in its place where the run is done.
 fn placed_run<'a, R: AllocGlobal + Files + Print>(
@@ -40,7 +28,7 @@ fn placed_run<'a, R: AllocGlobal + Files + Print>(
     output: &str,
 ) -> Result<u64, CommandFault>
     requires { IfErr outcome StopsRun }
-    ensures { IfErr result (EndsRun atomic) }
+    ensures { IfErr result (LacksOutput atomic) }
 {
     match outcome {
         Ok(done) if atomic => placed(done, put_in_place(rt, sink, part, output)),
@@ -68,14 +56,7 @@ fn convert_into<R: AllocGlobal + Files + Input + Print + Eprint + Clock>(
     let greatest = converter.in_length();
     match open_ends(rt, line, greatest, part_of(line, part)) {
         Ok(Ends { source, mut sink }) => {
-            tell_uneven(
-                rt,
-                line.input,
-                line.forms.input,
-                greatest,
-                line.from,
-                line.bytes,
-            );
+            tell_uneven_input(rt, line, greatest);
             let telling = telling_piece(rt, line);
             let ending = run_to_end(rt, line.forms.input, telling, converter, source, &mut sink);
             let run = ending.finished();
@@ -104,6 +85,18 @@ fn convert_by<R: AllocGlobal + Files + Input + Print + Eprint + Clock>(
     }
 }
 
+/// What so many converted records come to, which were all that came.
+fn all_converted(outcome: Result<u64, CommandFault>) -> Result<CommandDone, CommandFault>
+    ensures faults { (atomic : Bool) → IfErr outcome (MayEndConvert atomic)
+        → IfErr result (MayEndConvert atomic) }
+    ensures all { IfOk result (λ done. status_of_done done ≡ status.Done) }
+{
+    match outcome {
+        Ok(records) => Ok(CommandDone::Converted(records)),
+        Err(fault) => Err(fault),
+    }
+}
+
 /// Converts the records of the file that `--in` names, and answers how many there were. The texts are read and prepared before the input is
 /// opened, and the output is made or emptied last: so a text that is refused leaves no file, and neither does an output that is one of the files
 /// that are read.
@@ -115,41 +108,16 @@ fn convert_by<R: AllocGlobal + Files + Input + Print + Eprint + Clock>(
 pub fn convert<R: AllocGlobal + Files + Input + Print + Eprint + Clock>(
     rt: &R,
     line: &ConvertLine<'_>,
-) -> Result<u64, CommandFault>
+) -> Result<CommandDone, CommandFault>
     requires in_block { HasBlockSize line.now.forms.input }
     requires out_block { HasBlockSize line.now.forms.output }
-    ensures { IfErr result (MayEndConvert line.now.atomic) }
+    ensures faults { IfErr result (MayEndConvert line.now.atomic) }
+    // None was set aside.
+    ensures all { IfOk result (λ done. status_of_done done ≡ status.Done) }
 {
-    let texts = Texts {
-        in_book: line.texts.in_book,
-        out_book: line.texts.out_book,
-        moves: line.texts.moves,
-    };
-    match texts.prepared(
-        rt,
-        line.forms.input,
-        line.forms.output,
-        line.forms.reading,
-        line.lrecl,
-    ) {
-        Ok(mut converter) => convert_by(rt, line, &mut converter),
+    match prepared_for(rt, line) {
+        Ok(mut converter) => all_converted(convert_by(rt, line, &mut converter)),
         Err(fault) => Err(fault),
-    }
-}
-
-/// Prints what a conversion comes to, and answers how it ends: how many records there were, on standard error where the records themselves go to
-/// standard output; or its fault.
-pub fn tell_converted<R: Print + Eprint>(
-    rt: &R,
-    beside: bool,
-    outcome: Result<u64, CommandFault>,
-) -> Status
-    ensures { EndsAs (status_of_outcome outcome) result }
-{
-    match outcome {
-        Ok(done) if beside => printed(eprintln!(rt; "done {done}"), Status::Done),
-        Ok(done) => printed(println!(rt; "done {done}"), Status::Done),
-        Err(fault) => tell_fault(rt, fault),
     }
 }
 

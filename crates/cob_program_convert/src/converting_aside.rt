@@ -1,64 +1,39 @@
-//! The command itself.
+//! A conversion that sets rejected records aside and goes on.
 
 ghost use Rattle.std.specs.Prelude.{◌≡◌, Bool, IfErr};
-ghost use Rattle.cob_program_faults.specs.Ends.{EndsAmong, EndsAs, status_of_outcome};
+ghost use Rattle.cob_program_faults.specs.Ends.{EndsAside};
 ghost use Rattle.cob_records.specs.Forms.{HasBlockSize};
-ghost use Rattle.cob_program_run.specs.AsideEnds.{LacksOutputs};
-ghost use Rattle.cob_program_convert.specs.AsideEnds.{EndsRun, MayEndAside};
-ghost use Rattle.cob_program_convert.specs.AsideTold.{aside_counted_from, aside_told_from, most_of, told_run};
+ghost use Rattle.cob_program_run.specs.Ends.{LacksOutputs};
+ghost use Rattle.cob_program_convert.specs.Ends.{MayEndAside};
+ghost use Rattle.cob_program_convert.specs.Told.{most_of, told_run};
 
+use crate::told::{prepared_for, tell_converted, tell_uneven_input, told_counted_from};
 use cob_convert::{Converter, Status, Tally};
 use cob_program_ends::{
-    AsideEnds, Parts, counted_from, first_of, is_standard_output, open_aside_ends, telling_piece,
+    AsideEnds, Names, first_of, is_standard_output, open_aside_ends, telling_piece,
 };
-use cob_program_faults::{CommandFault, Texts, part_name, printed, tell_fault, tell_uneven};
+use cob_program_faults::{CommandDone, CommandFault, part_name};
 use cob_program_line::ConvertLine;
-use cob_program_run::{How, Names, Rejections, counted_on, placed_run, run_aside_to_end};
+use cob_program_run::{How, Rejections, placed_run, run_aside_to_end};
 use std::io::{Eprint, Input, Print};
 use std::rt::{Clock, Files};
 
 /// What a run comes to, where the fault lines of the rejected records were all printed, or were not.
-fn told_run(outcome: Result<Tally, CommandFault>, are_printed: bool) -> Result<u64, CommandFault>
+fn told_run(
+    outcome: Result<Tally, CommandFault>,
+    are_printed: bool,
+) -> Result<CommandDone, CommandFault>
     ensures told { result ≡ told_run are_printed outcome }
     ensures ends { (atomic : Bool) → IfErr outcome (LacksOutputs atomic)
-        → IfErr result (EndsRun atomic) }
+        → IfErr result (LacksOutputs atomic) }
 {
     match outcome {
         Ok(_) if !are_printed => Err(CommandFault::Unprinted),
-        Ok(tally) if tally.rejected == 0 => Ok(tally.converted),
-        Ok(tally) => Err(CommandFault::SetAside {
+        Ok(tally) => Ok(CommandDone::SetAside {
             converted: tally.converted,
             rejected: tally.rejected,
         }),
         Err(fault) => Err(fault),
-    }
-}
-
-/// A fault with its records counted from this one.
-fn aside_counted_from(first: u64, fault: CommandFault) -> CommandFault
-    ensures { result ≡ aside_counted_from first fault }
-{
-    match fault {
-        CommandFault::NotSetAside { number, cause } => CommandFault::NotSetAside {
-            number: counted_on(first, number),
-            cause,
-        },
-        CommandFault::UnflushedAside { last } => CommandFault::UnflushedAside {
-            last: counted_on(first, last),
-        },
-        other => counted_from(first, other),
-    }
-}
-
-/// What a command came to, its records counted from this one.
-fn aside_told_from(first: u64, outcome: Result<u64, CommandFault>) -> Result<u64, CommandFault>
-    ensures told { result ≡ aside_told_from first outcome }
-    ensures ends { (atomic : Bool) → IfErr outcome (EndsRun atomic)
-        → IfErr result (MayEndAside atomic) }
-{
-    match outcome {
-        Ok(done) => Ok(done),
-        Err(fault) => Err(aside_counted_from(first, fault)),
     }
 }
 
@@ -84,13 +59,8 @@ fn rejections_of<'a, R>(rt: &'a R, line: &ConvertLine<'_>, how: How) -> Rejectio
 }
 
 /// The parts that stand in for both outputs, where some do.
-fn parts_of<'a>(line: &ConvertLine<'_>, parts: Names<'a>) -> Option<Parts<'a>> {
-    let Names { output, rejects } = parts;
-    if line.atomic {
-        Some(Parts { output, rejects })
-    } else {
-        None
-    }
+fn parts_of<'a>(line: &ConvertLine<'_>, parts: Names<'a>) -> Option<Names<'a>> {
+    if line.atomic { Some(parts) } else { None }
 }
 
 /// Converts into the output itself and the file for rejected records itself, which are made, or emptied where they are there; or into the parts of both,
@@ -101,7 +71,7 @@ fn convert_into<R: AllocGlobal + Files + Input + Print + Eprint + Clock>(
     names: Names<'_>,
     parts: Names<'_>,
     converter: &mut Converter,
-) -> Result<u64, CommandFault>
+) -> Result<CommandDone, CommandFault>
     requires { HasBlockSize line.now.forms.input }
     ensures { IfErr result (MayEndAside line.now.atomic) }
 {
@@ -114,21 +84,14 @@ fn convert_into<R: AllocGlobal + Files + Input + Print + Eprint + Clock>(
                 mut aside,
             },
         ) => {
-            tell_uneven(
-                rt,
-                line.input,
-                line.forms.input,
-                greatest,
-                line.from,
-                line.bytes,
-            );
+            tell_uneven_input(rt, line, greatest);
             let how = how_of(rt, line);
             let mut notes = rejections_of(rt, line, how);
             let ending = run_aside_to_end(
                 rt, how, converter, incoming, &mut sink, &mut aside, &mut notes,
             );
             let outcome = placed_run(rt, line.atomic, ending, sink, aside, parts, names);
-            aside_told_from(first_of(line), told_run(outcome, notes.are_printed))
+            told_counted_from(first_of(line), told_run(outcome, notes.are_printed))
         }
         Err(fault) => Err(fault),
     }
@@ -140,7 +103,7 @@ fn convert_by<R: AllocGlobal + Files + Input + Print + Eprint + Clock>(
     line: &ConvertLine<'_>,
     rejects: &str,
     converter: &mut Converter,
-) -> Result<u64, CommandFault>
+) -> Result<CommandDone, CommandFault>
     requires { HasBlockSize line.now.forms.input }
     ensures { IfErr result (MayEndAside line.now.atomic) }
 {
@@ -161,75 +124,25 @@ fn convert_by<R: AllocGlobal + Files + Input + Print + Eprint + Clock>(
 }
 
 /// Converts the records of the file that `--in` names, sets those that are rejected aside in the file `rejects` and prints their fault lines, and answers
-/// how many were converted, where none was rejected. The texts are read and prepared before the input is opened, and the files that are written are
+/// how many were converted and how many rejected. The texts are read and prepared before the input is opened, and the files that are written are
 /// made last, and not where one is a file that is read, or both are one.
 ///
 /// # Errors
 ///
-/// [`CommandFault::SetAside`], where all is done and records were rejected. A file that is not opened or not read, a text that is refused, a file that
-/// is written and is another one, a record that stops the run or the one behind as many rejected ones as may be, a device that fails, an output that is
-/// not put in its place, a fault line that is not printed, want of memory.
+/// A file that is not opened or not read, a text that is refused, a file that is written and is another one, a record that stops the run or the one behind
+/// as many rejected ones as may be, a device that fails, an output that is not put in its place, a fault line that is not printed, want of memory.
 pub fn convert_aside<R: AllocGlobal + Files + Input + Print + Eprint + Clock>(
     rt: &R,
     line: &ConvertLine<'_>,
     rejects: &str,
-) -> Result<u64, CommandFault>
+) -> Result<CommandDone, CommandFault>
     requires in_block { HasBlockSize line.now.forms.input }
     requires out_block { HasBlockSize line.now.forms.output }
     ensures { IfErr result (MayEndAside line.now.atomic) }
 {
-    let texts = Texts {
-        in_book: line.texts.in_book,
-        out_book: line.texts.out_book,
-        moves: line.texts.moves,
-    };
-    match texts.prepared(
-        rt,
-        line.forms.input,
-        line.forms.output,
-        line.forms.reading,
-        line.lrecl,
-    ) {
+    match prepared_for(rt, line) {
         Ok(mut converter) => convert_by(rt, line, rejects, &mut converter),
         Err(fault) => Err(fault),
-    }
-}
-
-/// Prints how many records were converted and how many rejected, on standard error where records go to standard output, and answers how the command ends.
-fn tell_tally<R: Print + Eprint>(
-    rt: &R,
-    beside: bool,
-    converted: u64,
-    rejected: u64,
-    status: Status,
-) -> Status
-    ensures { EndsAs status result }
-{
-    let line = if beside {
-        eprintln!(rt; "done {converted} rejected {rejected}")
-    } else {
-        println!(rt; "done {converted} rejected {rejected}")
-    };
-    printed(line, status)
-}
-
-/// Prints what a conversion comes to, and answers how it ends: how many records were converted and how many rejected; or its fault.
-pub fn tell_converted_aside<R: Print + Eprint>(
-    rt: &R,
-    beside: bool,
-    outcome: Result<u64, CommandFault>,
-) -> Status
-    ensures { EndsAs (status_of_outcome outcome) result }
-{
-    match outcome {
-        Ok(converted) => tell_tally(rt, beside, converted, 0, Status::Done),
-        Err(
-            CommandFault::SetAside {
-                converted,
-                rejected,
-            },
-        ) => tell_tally(rt, beside, converted, rejected, Status::Stopped),
-        Err(fault) => tell_fault(rt, fault),
     }
 }
 
@@ -242,8 +155,8 @@ pub fn do_convert_aside<R: AllocGlobal + Files + Input + Print + Eprint + Clock>
 ) -> Status
     requires in_block { HasBlockSize line.now.forms.input }
     requires out_block { HasBlockSize line.now.forms.output }
-    ensures { EndsAmong (MayEndAside line.now.atomic) result }
+    ensures { EndsAside (MayEndAside line.now.atomic) result }
 {
     let beside = is_standard_output(rt, line.output) || is_standard_output(rt, rejects);
-    tell_converted_aside(rt, beside, convert_aside(rt, line, rejects))
+    tell_converted(rt, beside, convert_aside(rt, line, rejects))
 }

@@ -1,44 +1,30 @@
 //! The command `convert` of `cobconv`, plain and with `--rejects`.
 //!
-//! # Plain
+//! [`do_convert`] and [`do_convert_aside`] carry it out, print what comes of it and answer how the program ends: by [`convert`] and [`convert_aside`], which do
+//! the work without printing, but for the fault lines of rejected records; and both by [`tell_converted`], which prints what a conversion came to. The files for
+//! texts are opened and read in the order of the options, and the texts are prepared before any file for records is opened; the output is made last, and not
+//! where it is one of the files that are read, by whatever name: so neither a text that is refused, nor records that do not fit the record length that the input
+//! is said to have, nor a record that is passed over and can't be read leaves an output, and nothing that is read is lost. With `--atomic` the output is as it
+//! was until all of the new one is on its device.
 //!
-//! The command `convert` of `cobconv`.
-//!
-//! [`do_convert`] carries it out, prints what comes of it and answers how the program ends: by [`convert`], which does the work without printing, and by
-//! [`tell_converted`], which prints what a conversion came to. The files for texts are opened and read in the order of the options, and the texts are prepared
-//! before any file for records is opened; the output is made last, and not where it is one of the files that are read, by whatever name: so neither a text that
-//! is refused, nor records that do not fit the record length that the input is said to have, nor a record that is passed over and can't be read leaves an
-//! output, and nothing that is read is lost. With `--atomic` the output is as it was until all of the new one is on its device.
-//!
-//! What is promised:
-//!
-//! - which faults it can have (`MayEndConvert` of specs/Ends.antt), and that it ends with the status of what it came to, or as where a device failed
-//!   if its last line was not printed (`EndsAmong` of `cob_program_faults`);
-//! - what is told of what the run came to, whose promises are those of `cob_program_run` (`told_counted_from` of specs/Told.antt).
-//!
-//! What files hold and what is printed is shown by the stored command lines of `cob_test_jobs`.
-//!
-//! # With `--rejects`
-//!
-//! The command `convert --rejects` of `cobconv`: a conversion that goes on behind a record that does not convert, and sets it aside.
-//!
-//! [`do_convert_aside`] carries it out, prints what comes of it and answers how the program ends: by [`convert_aside`], which does the work and
-//! prints the fault lines of the rejected records alone, and by [`tell_converted_aside`], which prints what it came to. The file of the rejected
-//! records is made last, behind the output, and not where it is one of the files that are read, or the output, by whatever name. With `--atomic` both
-//! files are as they were until all of both new ones is on its device; then the rejected records come into their place first, so that an output that
-//! is there has them beside it. Where the part of the rejected records is not made, that of the output does not stay.
+//! With `--rejects` a conversion goes on behind a record that does not convert, and sets it aside. The file of the rejected records is made last, behind the
+//! output, and not where it is one of the files that are read, or the output, by whatever name. With `--atomic` both files are as they were until all of both
+//! new ones is on its device; then the rejected records come into their place first, so that an output that is there has them beside it. Where the part of the
+//! rejected records is not made, that of the output does not stay.
 //!
 //! What is promised:
 //!
-//! - which faults the command can have (`MayEndAside` of specs/AsideEnds.antt), and that it ends with the status of what it came to, or as where a device
-//!   failed if its last line was not printed (`EndsAmong` of `cob_program_faults`): where a record was rejected, as a run that one stopped;
-//! - what is told of what the run came to, whose promises are those of `cob_program_run` (`told_run`, `aside_told_from` of specs/AsideTold.antt).
+//! - which faults it can have (`MayEndConvert` and `MayEndAside` of specs/Ends.antt), and that it ends with the status of what it came to, or as where a device
+//!   failed if its last line was not printed (`EndsAmong`, `EndsAside` of `cob_program_faults`): where a record was rejected, as a run that one stopped;
+//! - what is told of what the run came to, whose promises are those of `cob_program_run` (`told_run`, `told_counted_from` of specs/Told.antt).
 //!
 //! What files hold and what is printed is shown by the stored command lines of `cob_test_jobs`.
 #![tactic(auto)]
 
 mod converting;
 mod converting_aside;
+mod told;
 
-pub use converting::{convert, do_convert, tell_converted};
-pub use converting_aside::{convert_aside, do_convert_aside, tell_converted_aside};
+pub use converting::{convert, do_convert};
+pub use converting_aside::{convert_aside, do_convert_aside};
+pub use told::tell_converted;
