@@ -30,14 +30,27 @@ pub(crate) fn prepared_for<R: AllocGlobal + Files>(
         out_book: line.texts.out_book,
         moves: line.texts.moves,
     };
-    texts.prepared(rt, line.forms.input, line.forms.output, line.forms.reading, line.lrecl)
+    texts.prepared(
+        rt,
+        line.forms.input,
+        line.forms.output,
+        line.forms.reading,
+        line.lrecl,
+    )
 }
 
 /// Tells on standard error where the size of the input is no multiple of this length, where each of its records has that.
 pub(crate) fn tell_uneven_input<R: Files + Eprint>(rt: &R, line: &ConvertLine<'_>, length: u16)
     requires { 0 < length }
 {
-    tell_uneven(rt, line.input, line.forms.input, length, line.from, line.bytes);
+    tell_uneven(
+        rt,
+        line.input,
+        line.forms.input,
+        length,
+        line.from,
+        line.bytes,
+    );
 }
 
 /// What a run came to, its records counted from this one. Its faults are those of its command then.
