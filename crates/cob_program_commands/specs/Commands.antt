@@ -10,10 +10,9 @@ use Rattle.cob_program_line.specs.declared.fault.LineFault.TheVariants as refusa
 use Rattle.cob_convert.specs.Statuses.{code_of}
 use Rattle.cob_convert.specs.declared.status.Status.{Status}
 use Rattle.cob_convert.specs.declared.status.Status.TheVariants as status
-use Rattle.cob_program_faults.specs.Ends.{EndsAmong, EndsAs, EndsAtRecord}
-use Rattle.cob_program_convert.specs.AsideEnds.{MayEndAside}
+use Rattle.cob_program_faults.specs.Ends.{EndsAmong, EndsAs, EndsAside, EndsAtRecord}
 use Rattle.cob_program_texts.specs.CheckEnds.{EndsCheck}
-use Rattle.cob_program_convert.specs.Ends.{MayEndConvert}
+use Rattle.cob_program_convert.specs.Ends.{MayEndAside, MayEndConvert}
 use Rattle.cob_program_texts.specs.DraftEnds.{MayEndDraft}
 use Rattle.cob_program_list.specs.Ends.{MayEndLayout, MayEndListing}
 use Rattle.cob_program_texts.specs.LosslessEnds.{MayEndLossless}
@@ -22,7 +21,7 @@ use Rattle.cob_program_manual.specs.Ends.{MayEndPrinting}
 -- how a conversion ends, by whether rejected records are set aside in a file
 abbrev pub EndsConvert : {A : Type 0} → Option A → Bool → Status → Type 0
 EndsConvert None atomic end = EndsAmong (MayEndConvert atomic) end
-EndsConvert (Some rejects) atomic end = EndsAmong (MayEndAside atomic) end
+EndsConvert (Some rejects) atomic end = EndsAside (MayEndAside atomic) end
 
 -- How a command line ends, by what it asks for: with the status of what its command came to, which may have the faults of that command. With which
 -- status a job ends is promised by `cob_program_job`.

@@ -1,8 +1,7 @@
 //! Conversions that say why a record stops them.
 
-ghost use Rattle.cob_program_convert.specs.AsideEnds.{MayEndAside};
-ghost use Rattle.cob_program_convert.specs.Ends.{MayEndConvert};
-ghost use Rattle.cob_program_faults.specs.Ends.{EndsAmong, EndsAs, status_of_outcome};
+ghost use Rattle.cob_program_convert.specs.Ends.{MayEndAside, MayEndConvert};
+ghost use Rattle.cob_program_faults.specs.Ends.{EndsAmong, EndsAs, EndsAside, status_of_conversion};
 ghost use Rattle.cob_program_faults.specs.Faults.{status_of};
 ghost use Rattle.cob_program_faults.specs.declared.fault.CommandFault.TheVariants.{Stopped as StoppedFault};
 ghost use Rattle.cob_records.specs.Forms.{HasBlockSize};
@@ -10,9 +9,9 @@ ghost use Rattle.cob_records.specs.Forms.{HasBlockSize};
 use crate::stops::stop_words;
 use cob_convert::Status;
 use cob_convert_stream::RunFault;
-use cob_program_convert::{convert, convert_aside, tell_converted, tell_converted_aside};
+use cob_program_convert::{convert, convert_aside, tell_converted};
 use cob_program_ends::is_standard_output;
-use cob_program_faults::{CommandFault, printed, tell_fault};
+use cob_program_faults::{CommandDone, CommandFault, printed, tell_fault};
 use cob_program_line::ConvertLine;
 use std::io::{Eprint, Input, Print};
 use std::rt::{Clock, Files};
@@ -57,32 +56,15 @@ fn tell_explained<R: AllocGlobal + Files + Input + Print + Eprint>(
     rt: &R,
     line: &ConvertLine<'_>,
     beside: bool,
-    outcome: Result<u64, CommandFault>,
+    outcome: Result<CommandDone, CommandFault>,
 ) -> Status
     requires in_block { HasBlockSize line.now.forms.input }
     requires out_block { HasBlockSize line.now.forms.output }
-    ensures { EndsAs (status_of_outcome outcome) result }
+    ensures { EndsAs (status_of_conversion outcome) result }
 {
     match outcome {
         Err(CommandFault::Stopped(fault)) => tell_stop(rt, line, fault),
         other => tell_converted(rt, beside, other),
-    }
-}
-
-/// Prints what a conversion comes to that sets rejected records aside, and behind a stop why, and answers how it ends.
-fn tell_explained_aside<R: AllocGlobal + Files + Input + Print + Eprint>(
-    rt: &R,
-    line: &ConvertLine<'_>,
-    beside: bool,
-    outcome: Result<u64, CommandFault>,
-) -> Status
-    requires in_block { HasBlockSize line.now.forms.input }
-    requires out_block { HasBlockSize line.now.forms.output }
-    ensures { EndsAs (status_of_outcome outcome) result }
-{
-    match outcome {
-        Err(CommandFault::Stopped(fault)) => tell_stop(rt, line, fault),
-        other => tell_converted_aside(rt, beside, other),
     }
 }
 
@@ -108,8 +90,8 @@ pub fn do_convert_aside_explained<R: AllocGlobal + Files + Input + Print + Eprin
 ) -> Status
     requires in_block { HasBlockSize line.now.forms.input }
     requires out_block { HasBlockSize line.now.forms.output }
-    ensures { EndsAmong (MayEndAside line.now.atomic) result }
+    ensures { EndsAside (MayEndAside line.now.atomic) result }
 {
     let beside = is_standard_output(rt, line.output) || is_standard_output(rt, rejects);
-    tell_explained_aside(rt, line, beside, convert_aside(rt, line, rejects))
+    tell_explained(rt, line, beside, convert_aside(rt, line, rejects))
 }

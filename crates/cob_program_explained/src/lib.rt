@@ -7,7 +7,7 @@
 //! - [`files_of`] are the files that are opened for those that the options of a command line name, in their order, for a runtime that keeps the last error of
 //!   one (`cob_program_runtime`), and [`tell_file_error`] prints that error: the option, its path and the system's words.
 //!
-//! What is promised: that conversions end as those without the flag do, with the status of what they came to (`EndsAmong` of `cob_program_faults`, with
+//! What is promised: that conversions end as those without the flag do, with the status of what they came to (`EndsAmong` and `EndsAside` of `cob_program_faults`, with
 //! the faults `MayEndConvert` and `MayEndAside`), or as where a device failed if the last line was not printed. Which words are printed is shown by the
 //! stored command lines of `cob_test_jobs`, and that no pipe is waited for by `tools/try_files`.
 #![tactic(auto)]
