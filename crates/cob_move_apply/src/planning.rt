@@ -6,6 +6,7 @@ ghost use Rattle.cob_move_data.specs.Moves.{
   AreMoves,
   IsMove,
   IsOperand,
+  Records,
   move,
   moves,
   numbered_move,
