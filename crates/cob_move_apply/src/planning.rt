@@ -12,6 +12,7 @@ ghost use Rattle.cob_move_data.specs.Moves.{
   numbered_move,
   operand_in,
   sender,
+  sender_by,
   statement_moves,
 };
 ghost use Rattle.cob_move_data.specs.declared.operands.StatementMoves.{StatementMoves as Said};
