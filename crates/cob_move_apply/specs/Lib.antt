@@ -15,3 +15,4 @@ pub mod Surveyed
 pub mod Met
 pub mod Spent
 pub mod Going
+pub mod Promised

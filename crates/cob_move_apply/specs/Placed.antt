@@ -1,12 +1,14 @@
 -- Moves, with what the places of their operands rest on.
-use Rattle.std.specs.Prelude.{ℕ, ◌+◌, ◌≤◌, Bool, true, false, List, [], ◌∷◌, Ok}
+use Rattle.std.specs.Prelude.{◌≡◌, ℕ, ◌+◌, ◌≤◌, Bool, true, false, List, [], ◌∷◌, ◌++◌, map, Ok}
 use Rattle.cob_copybook_tree.specs.Forests.{Forest}
 use Rattle.cob_copybook_tree.specs.Nodes.{Resolved}
 use Rattle.cob_layout.specs.declared.fields.Place.{Place}
 use Rattle.cob_layout.specs.Storage.{greatest_length}
+use Rattle.cob_layout_places.specs.declared.operands.Sender as code_sender
 use Rattle.cob_layout_places.specs.declared.operands.Side.{Side}
 use Rattle.cob_layout_places.specs.declared.operands.Operand.{Operand}
-use Rattle.cob_layout_places.specs.Moves.{IsOperand, Move, Records, Sender, Entry, Literal, record_of}
+use Rattle.cob_layout_places.specs.declared.reference.Ref.{Ref}
+use Rattle.cob_layout_places.specs.Moves.{IsOperand, Move, Records, Sender, Entry, Literal, operand_in, record_of, sender}
 use Rattle.cob_move_receive.specs.Sent.{sent}
 use Rattle.cob_move_apply.specs.Applied.{Content}
 use Rattle.cob_move_apply.specs.Located.{Located}
@@ -48,3 +50,13 @@ ArePlacedReceivers tree _ _ = ⊥
 abbrev pub IsPlacedMove : Records → Move → List Basis → Type 0
 IsPlacedMove r m [] = ⊥
 IsPlacedMove r m (b ∷ bs) = IsPlacedSender r m.sender b × ArePlacedReceivers r.output m.receivers bs
+
+-- bases became these by those of receivers of a record
+abbrev pub AddsReceivers : Forest Resolved → List Ref → (before now : List Basis) → Type 0
+AddsReceivers tree receivers before now =
+    (own : List Basis) × (now ≡ before ++ own) × ArePlacedReceivers tree (map (operand_in tree) receivers) own
+
+-- bases became these by those of a sender and of receivers of the output record
+abbrev pub AddsMove : Records → code_sender.Sender → List Ref → (before now : List Basis) → Type 0
+AddsMove r given receivers before now = (own : List Basis) × (now ≡ before ++ own)
+    × IsPlacedMove r (record { sender = sender r given; receivers = map (operand_in r.output) receivers }) own

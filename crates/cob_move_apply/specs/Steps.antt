@@ -197,6 +197,11 @@ IsStep reading r given on (step.Located number) own = IsLocatedMove reading r on
 IsStep reading r given on (step.LocatedConstant number) own = IsLocatedConstant r on.constants on.located_constants number own
 IsStep reading r given on (step.Copy places) own = AreCopied r places.from places.to own
 
+-- the step stands for what a single move stands for that was made ready
+abbrev pub StandsForPrepared : PreparedMove → Step → Type 0
+StandsForPrepared p s = (reading : Reading) (r : Records) (given : List StatementMoves) (on : Support) (own : List Move)
+    → IsPreparedMove reading r on.prepared p own → IsStep reading r given on s own
+
 -- steps stand for these moves, one step's behind another's
 abbrev pub AreSteps : Reading → Records → List StatementMoves → Support → List Step → List Move → Type 0
 AreSteps reading r given on [] parts = parts ≡ []

@@ -1,7 +1,9 @@
 -- What is kept of both records' storages while moves go on.
-use Rattle.std.specs.Prelude.{◌≡◌, ℕ, List, length}
+use Rattle.std.specs.Prelude.{◌≡◌, ℕ, ◌+◌, ◌≤◌, List, length}
 use Rattle.cob_copybook_tree.specs.Forests.{Forest}
 use Rattle.cob_copybook_tree.specs.Nodes.{Resolved}
+use Rattle.cob_layout.specs.declared.fields.Place.{Place}
+use Rattle.cob_layout.specs.Fields.{with_field}
 use Rattle.cob_layout.specs.Standing.{IsRoomFor, KeepsOf, room_in}
 use Rattle.cob_layout.specs.Storage.{greatest_length}
 use Rattle.cob_layout_places.specs.Moves.{Records}
@@ -42,3 +44,13 @@ pub record IsWorkspace (r : Records) (input output : List ℕ) (w : Workspace) :
   pub surveyed_input : IsSurvey r.input input w.input
   pub surveyed_output : IsSurvey r.output output w.output
   pub content : length w.content.items ≡ greatest_length r.output
+
+-- whatever bytes came to a place, what is kept became what holds of the storage with them
+abbrev pub SurveysField : Forest Resolved → Place → (old new : Survey) → Type 0
+SurveysField tree p old new = (before field : List ℕ) → p.offset + p.length ≤ length before → length field ≡ p.length
+    → IsSurvey tree before old → IsSurvey tree (with_field before p field) new
+
+-- where there was room, and the input's counts were kept, what is kept became what holds of both storages, whatever they are
+abbrev pub BecomesWorkspace : (old new : Workspace) → Type 0
+BecomesWorkspace old new = (r : Records) (input output : List ℕ) → HasSpace r old → KeepsOf r.input input old.input.counts
+    → IsWorkspace r input output new

@@ -1,17 +1,14 @@
 //! Steps, one after another.
 
-ghost use Rattle.std.specs.Prelude.{◌≡◌, ◌+◌, ◌*◌, ◌≤◌, [], ◌∷◌, ℕ, List, false, length, IsTrue, OnErr};
+ghost use Rattle.std.specs.Prelude.{◌≡◌, ◌+◌, ◌≤◌, ℕ, List, false, length, IsTrue, OnErr};
 ghost use Rattle.cob_layout.specs.Sound.{IsSound};
 ghost use Rattle.cob_layout.specs.Standing.{KeepsOf};
 ghost use Rattle.cob_layout.specs.Storage.{greatest_length, IsStorage};
-ghost use Rattle.cob_layout_places.specs.Counts.{tables_of};
-ghost use Rattle.cob_layout_places.specs.Moves.{Move as Meant, moves_by};
-ghost use Rattle.cob_move_apply.specs.Applied.{Applied, IsMoved, done, ending};
-ghost use Rattle.cob_move_apply.specs.Met.{HaveMet};
-ghost use Rattle.cob_move_apply.specs.Going.{Left, SpentSteps, IsBounded};
-ghost use Rattle.cob_move_apply.specs.Spent.{HaveSpent, IsSpent, MovesSpend};
-ghost use Rattle.cob_layout_places.specs.declared.operands.StatementMoves.{StatementMoves as Said};
-ghost use Rattle.cob_move_apply.specs.Steps.{IsMoveOfPart, IsPicturedPart, IsPreparedMove, IsStep, StandFor, support_of};
+ghost use Rattle.cob_layout_places.specs.Moves.{Move as Meant};
+ghost use Rattle.cob_move_apply.specs.Applied.{Applied, ending};
+ghost use Rattle.cob_move_apply.specs.Going.{Left, IsBounded};
+ghost use Rattle.cob_move_apply.specs.Promised.{AnyEnd, AnyMoveEnds, AnyMoveSpends, AnySpend, AreLeft, IsPlanOf, LeavesRest, PartMeans, PicturedMeans, PreparedMeans, RestSpends, StepMeans, StepsAreBounded, StepsEnd, all_moves};
+ghost use Rattle.cob_move_apply.specs.Steps.{support_of};
 ghost use Rattle.cob_move_apply.specs.Surveyed.{HasSpace, IsWorkspace, records};
 
 use crate::basis::{Basis, PlacedReceivers};
@@ -47,19 +44,16 @@ fn make_part(
 ) -> Result<(), Stop>
     requires in_sound { IsSound layouts.now.input.now }
     requires out_sound { IsSound layouts.now.output.now }
-    requires part { (m : Meant)
-        × IsMoveOfPart layouts.now.reading (records layouts.now) given.now bases.now part m }
+    requires part { (m : Meant) × PartMeans given.now bases.now part layouts.now m }
     requires room { part.base + part.count + 1 ≤ length bases.now }
     requires input { IsStorage layouts.now.input.now input.now }
     requires output { length output.old ≡ greatest_length layouts.now.output.now }
     requires space { IsWorkspace (records layouts.now) input.now output.old space.old }
-    ensures moved { (m : Meant)
-        → IsMoveOfPart layouts.now.reading (records layouts.now) given.now bases.now part m
-        → IsMoved (records layouts.now) m input.now output.old (ending result output.new) }
+    ensures moved { AnyMoveEnds (PartMeans given.now bases.now part) layouts.now input.now
+        output.old (ending result output.new) }
     ensures space { IsWorkspace (records layouts.now) input.now output.new space.new }
-    ensures spends { (m : Meant) → IsMoveOfPart layouts.now.reading (records layouts.now) given.now bases.now part m
-        → MovesSpend (records layouts.now) (m ∷ []) input.now output.old result output.new
-        space.old.output space.new.output }
+    ensures spends { AnyMoveSpends (PartMeans given.now bases.now part) layouts.now input.now
+        output.old result output.new space.old space.new }
 {
     let own = &bases[part.base as usize..];
     let first = part.first as usize;
@@ -106,19 +100,15 @@ fn make_pictured(
 ) -> Result<(), Stop>
     requires in_sound { IsSound layouts.now.input.now }
     requires out_sound { IsSound layouts.now.output.now }
-    requires part { (m : Meant) × IsPicturedPart layouts.now.reading (records layouts.now)
-        given.now plan.now.bases.items plan.now.pictured one part.now m }
+    requires part { (m : Meant) × PicturedMeans given.now plan.now one part.now layouts.now m }
     requires input { IsStorage layouts.now.input.now input.now }
     requires output { length output.old ≡ greatest_length layouts.now.output.now }
     requires space { IsWorkspace (records layouts.now) input.now output.old space.old }
-    ensures moved { (m : Meant) → IsPicturedPart layouts.now.reading (records layouts.now)
-        given.now plan.now.bases.items plan.now.pictured one part.now m
-        → IsMoved (records layouts.now) m input.now output.old (ending result output.new) }
+    ensures moved { AnyMoveEnds (PicturedMeans given.now plan.now one part.now) layouts.now
+        input.now output.old (ending result output.new) }
     ensures space { IsWorkspace (records layouts.now) input.now output.new space.new }
-    ensures spends { (m : Meant) → IsPicturedPart layouts.now.reading (records layouts.now)
-        given.now plan.now.bases.items plan.now.pictured one part.now m
-        → MovesSpend (records layouts.now) (m ∷ []) input.now output.old result output.new
-        space.old.output space.new.output }
+    ensures spends { AnyMoveSpends (PicturedMeans given.now plan.now one part.now) layouts.now
+        input.now output.old result output.new space.old space.new }
 {
     match layouts.reading {
         Reading::Pictured => run_pictured(&plan.pictured, one, layouts, input, output, space),
@@ -144,20 +134,15 @@ pub(crate) fn make_single(
     output: &mut [u8],
     space: &mut Workspace,
 ) -> Result<(), Stop>
-    requires step { (own : List Meant) × IsPreparedMove layouts.now.reading (records layouts.now)
-        plan.now.prepared (record { places = places.now; step = step }) own }
+    requires step { (own : List Meant) × PreparedMeans plan.now places.now step layouts.now own }
     requires input { IsStorage layouts.now.input.now input.now }
     requires output { length output.old ≡ greatest_length layouts.now.output.now }
     requires space { IsWorkspace (records layouts.now) input.now output.old space.old }
-    ensures applied { (own : List Meant)
-        → IsPreparedMove layouts.now.reading (records layouts.now)
-        plan.now.prepared (record { places = places.now; step = step }) own
-        → Applied (records layouts.now) own input.now output.old (ending result output.new) }
+    ensures applied { AnyEnd (PreparedMeans plan.now places.now step) layouts.now input.now
+        output.old (ending result output.new) }
     ensures space { IsWorkspace (records layouts.now) input.now output.new space.new }
-    ensures spends { (own : List Meant) → IsPreparedMove layouts.now.reading (records layouts.now)
-        plan.now.prepared (record { places = places.now; step = step }) own
-        → MovesSpend (records layouts.now) own input.now output.old result output.new
-        space.old.output space.new.output }
+    ensures spends { AnySpend (PreparedMeans plan.now places.now step) layouts.now input.now
+        output.old result output.new space.old space.new }
     ensures same { OnErr result ((output.new ≡ output.old) × (space.new ≡ space.old)) }
 {
     make_prepared(&plan.prepared, places, step, layouts, input, output, space)
@@ -178,20 +163,15 @@ fn make_one(
     output: &mut [u8],
     space: &mut Workspace,
 ) -> Result<(), Stop>
-    requires step { (own : List Meant) × IsPreparedMove layouts.now.reading (records layouts.now)
-        plan.now.prepared (record { places = places.now; step = step }) own }
+    requires step { (own : List Meant) × PreparedMeans plan.now places.now step layouts.now own }
     requires input { IsStorage layouts.now.input.now input.now }
     requires output { length output.old ≡ greatest_length layouts.now.output.now }
     requires space { IsWorkspace (records layouts.now) input.now output.old space.old }
-    ensures applied { (own : List Meant)
-        → IsPreparedMove layouts.now.reading (records layouts.now)
-        plan.now.prepared (record { places = places.now; step = step }) own
-        → Applied (records layouts.now) own input.now output.old (ending result output.new) }
+    ensures applied { AnyEnd (PreparedMeans plan.now places.now step) layouts.now input.now
+        output.old (ending result output.new) }
     ensures space { IsWorkspace (records layouts.now) input.now output.new space.new }
-    ensures spends { (own : List Meant) → IsPreparedMove layouts.now.reading (records layouts.now)
-        plan.now.prepared (record { places = places.now; step = step }) own
-        → MovesSpend (records layouts.now) own input.now output.old result output.new
-        space.old.output space.new.output }
+    ensures spends { AnySpend (PreparedMeans plan.now places.now step) layouts.now input.now
+        output.old result output.new space.old space.new }
 {
     make_single(plan, places, step, layouts, input, output, space)
 }
@@ -214,19 +194,15 @@ fn make_step(
 ) -> Result<(), Stop>
     requires in_sound { IsSound layouts.now.input.now }
     requires out_sound { IsSound layouts.now.output.now }
-    requires step { (own : List Meant) × IsStep layouts.now.reading (records layouts.now)
-        given.now (support_of plan.now) step.now own }
+    requires step { (own : List Meant) × StepMeans given.now plan.now step.now layouts.now own }
     requires input { IsStorage layouts.now.input.now input.now }
     requires output { length output.old ≡ greatest_length layouts.now.output.now }
     requires space { IsWorkspace (records layouts.now) input.now output.old space.old }
-    ensures applied { (own : List Meant) → IsStep layouts.now.reading (records layouts.now)
-        given.now (support_of plan.now) step.now own
-        → Applied (records layouts.now) own input.now output.old (ending result output.new) }
+    ensures applied { AnyEnd (StepMeans given.now plan.now step.now) layouts.now input.now
+        output.old (ending result output.new) }
     ensures space { IsWorkspace (records layouts.now) input.now output.new space.new }
-    ensures spends { (own : List Meant) → IsStep layouts.now.reading (records layouts.now)
-        given.now (support_of plan.now) step.now own
-        → MovesSpend (records layouts.now) own input.now output.old result output.new
-        space.old.output space.new.output }
+    ensures spends { AnySpend (StepMeans given.now plan.now step.now) layouts.now input.now
+        output.old result output.new space.old space.new }
 {
     match step {
         Step::Part(part) => {
@@ -287,23 +263,15 @@ fn run_located_steps<'a>(
 ) -> &'a [Step]
     requires in_sound { IsSound layouts.now.input.now }
     requires out_sound { IsSound layouts.now.output.now }
-    requires steps { (given : List Said) × (before : List ℕ)
-        × Left layouts.now.reading (records layouts.now) given
-        steps.now (support_of plan.now) 0 input.now before output.old }
+    requires steps { AreLeft plan.now steps.now layouts.now input.now output.old }
     requires input { IsStorage layouts.now.input.now input.now }
     requires output { length output.old ≡ greatest_length layouts.now.output.now }
     requires space { IsWorkspace (records layouts.now) input.now output.old space.old }
-    ensures left { (given : List Said) (before : List ℕ)
-        → Left layouts.now.reading (records layouts.now) given
-        steps.now (support_of plan.now) 0 input.now before output.old
-        → Left layouts.now.reading (records layouts.now) given
-        result.now (support_of plan.now) 0 input.now before output.new }
+    ensures left { LeavesRest plan.now steps.now result.now layouts.now input.now output.old
+        output.new }
     ensures space { IsWorkspace (records layouts.now) input.now output.new space.new }
-    ensures spends { (given : List Said) (before : List ℕ)
-        → SpentSteps layouts.now.reading (records layouts.now) given
-        steps.now (support_of plan.now) 0 input.now before output.old space.old.output
-        → SpentSteps layouts.now.reading (records layouts.now) given
-        result.now (support_of plan.now) 0 input.now before output.new space.new.output }
+    ensures spends { RestSpends plan.now steps.now result.now layouts.now input.now output.old
+        output.new space.old space.new }
     ensures fewer { length result.now ≤ length steps.now }
 {
     let mut left = steps;
@@ -334,23 +302,15 @@ fn run_placed_steps<'a, const VARIES: bool>(
     requires varies { layouts.now.varies ≡ VARIES }
     requires in_sound { IsSound layouts.now.input.now }
     requires out_sound { IsSound layouts.now.output.now }
-    requires steps { (given : List Said) × (before : List ℕ)
-        × Left layouts.now.reading (records layouts.now) given
-        steps.now (support_of plan.now) 0 input.now before output.old }
+    requires steps { AreLeft plan.now steps.now layouts.now input.now output.old }
     requires input { IsStorage layouts.now.input.now input.now }
     requires output { length output.old ≡ greatest_length layouts.now.output.now }
     requires space { IsWorkspace (records layouts.now) input.now output.old space.old }
-    ensures left { (given : List Said) (before : List ℕ)
-        → Left layouts.now.reading (records layouts.now) given
-        steps.now (support_of plan.now) 0 input.now before output.old
-        → Left layouts.now.reading (records layouts.now) given
-        result.now (support_of plan.now) 0 input.now before output.new }
+    ensures left { LeavesRest plan.now steps.now result.now layouts.now input.now output.old
+        output.new }
     ensures space { IsWorkspace (records layouts.now) input.now output.new space.new }
-    ensures spends { (given : List Said) (before : List ℕ)
-        → SpentSteps layouts.now.reading (records layouts.now) given
-        steps.now (support_of plan.now) 0 input.now before output.old space.old.output
-        → SpentSteps layouts.now.reading (records layouts.now) given
-        result.now (support_of plan.now) 0 input.now before output.new space.new.output }
+    ensures spends { RestSpends plan.now steps.now result.now layouts.now input.now output.old
+        output.new space.old space.new }
     ensures fewer { length result.now ≤ length steps.now }
 {
     let mut rest = steps;
@@ -375,23 +335,15 @@ fn run_placed<'a>(
 ) -> &'a [Step]
     requires in_sound { IsSound layouts.now.input.now }
     requires out_sound { IsSound layouts.now.output.now }
-    requires steps { (given : List Said) × (before : List ℕ)
-        × Left layouts.now.reading (records layouts.now) given
-        steps.now (support_of plan.now) 0 input.now before output.old }
+    requires steps { AreLeft plan.now steps.now layouts.now input.now output.old }
     requires input { IsStorage layouts.now.input.now input.now }
     requires output { length output.old ≡ greatest_length layouts.now.output.now }
     requires space { IsWorkspace (records layouts.now) input.now output.old space.old }
-    ensures left { (given : List Said) (before : List ℕ)
-        → Left layouts.now.reading (records layouts.now) given
-        steps.now (support_of plan.now) 0 input.now before output.old
-        → Left layouts.now.reading (records layouts.now) given
-        result.now (support_of plan.now) 0 input.now before output.new }
+    ensures left { LeavesRest plan.now steps.now result.now layouts.now input.now output.old
+        output.new }
     ensures space { IsWorkspace (records layouts.now) input.now output.new space.new }
-    ensures spends { (given : List Said) (before : List ℕ)
-        → SpentSteps layouts.now.reading (records layouts.now) given
-        steps.now (support_of plan.now) 0 input.now before output.old space.old.output
-        → SpentSteps layouts.now.reading (records layouts.now) given
-        result.now (support_of plan.now) 0 input.now before output.new space.new.output }
+    ensures spends { RestSpends plan.now steps.now result.now layouts.now input.now output.old
+        output.new space.old space.new }
     ensures fewer { length result.now ≤ length steps.now }
 {
     if steps.is_empty() {
@@ -426,23 +378,15 @@ fn run_ready<'a>(
 ) -> &'a [Step]
     requires in_sound { IsSound layouts.now.input.now }
     requires out_sound { IsSound layouts.now.output.now }
-    requires steps { (given : List Said) × (before : List ℕ)
-        × Left layouts.now.reading (records layouts.now) given
-        steps.now (support_of plan.now) 0 input.now before output.old }
+    requires steps { AreLeft plan.now steps.now layouts.now input.now output.old }
     requires input { IsStorage layouts.now.input.now input.now }
     requires output { length output.old ≡ greatest_length layouts.now.output.now }
     requires space { IsWorkspace (records layouts.now) input.now output.old space.old }
-    ensures left { (given : List Said) (before : List ℕ)
-        → Left layouts.now.reading (records layouts.now) given
-        steps.now (support_of plan.now) 0 input.now before output.old
-        → Left layouts.now.reading (records layouts.now) given
-        result.now (support_of plan.now) 0 input.now before output.new }
+    ensures left { LeavesRest plan.now steps.now result.now layouts.now input.now output.old
+        output.new }
     ensures space { IsWorkspace (records layouts.now) input.now output.new space.new }
-    ensures spends { (given : List Said) (before : List ℕ)
-        → SpentSteps layouts.now.reading (records layouts.now) given
-        steps.now (support_of plan.now) 0 input.now before output.old space.old.output
-        → SpentSteps layouts.now.reading (records layouts.now) given
-        result.now (support_of plan.now) 0 input.now before output.new space.new.output }
+    ensures spends { RestSpends plan.now steps.now result.now layouts.now input.now output.old
+        output.new space.old space.new }
     ensures fewer { length result.now ≤ length steps.now }
 {
     let mut rest = run_placed(plan, steps, layouts, input, output, space);
@@ -473,22 +417,16 @@ fn apply_steps(
 ) -> Result<(), Stop>
     requires in_sound { IsSound layouts.now.input.now }
     requires out_sound { IsSound layouts.now.output.now }
-    requires steps { (before : List ℕ) × Left layouts.now.reading (records layouts.now)
-        given.now steps.now (support_of plan.now) 0 input.now before output.old }
+    requires steps { (before : List ℕ) × Left layouts.now.reading (records layouts.now) given.now
+        steps.now (support_of plan.now) 0 input.now before output.old }
     requires input { IsStorage layouts.now.input.now input.now }
     requires output { length output.old ≡ greatest_length layouts.now.output.now }
     requires space { IsWorkspace (records layouts.now) input.now output.old space.old }
-    ensures applied { (before : List ℕ) → Left layouts.now.reading (records layouts.now)
-        given.now steps.now (support_of plan.now) 0 input.now before output.old
-        → Applied (records layouts.now)
-        (moves_by layouts.now.reading (records layouts.now) given.now) input.now before
+    ensures applied { StepsEnd given.now plan.now steps.now layouts.now input.now output.old
         (ending result output.new) }
     ensures space { IsWorkspace (records layouts.now) input.now output.new space.new }
-    ensures reads { (before : List ℕ) → SpentSteps layouts.now.reading (records layouts.now)
-        given.now steps.now (support_of plan.now) 0 input.now before output.old space.old.output
-        → IsBounded (records layouts.now)
-        (moves_by layouts.now.reading (records layouts.now) given.now) input.now before
-        space.new.output }
+    ensures reads { StepsAreBounded given.now plan.now steps.now layouts.now input.now output.old
+        space.old space.new }
 {
     let mut rest = steps;
     while let Some((step, behind)) = rest.split_first() {
@@ -514,20 +452,16 @@ pub(crate) fn apply_in(
 ) -> Result<(), Stop>
     requires in_sound { IsSound layouts.now.input.now }
     requires out_sound { IsSound layouts.now.output.now }
-    requires steps { StandFor layouts.now.reading (records layouts.now)
-        given.now plan.now.steps.items (support_of plan.now)
-        (moves_by layouts.now.reading (records layouts.now) given.now) }
+    requires steps { IsPlanOf given.now plan.now layouts.now }
     requires input { IsStorage layouts.now.input.now input.now }
     requires output { length output.old ≡ greatest_length layouts.now.output.now }
     requires space { HasSpace (records layouts.now) space.old }
     requires kept { KeepsOf layouts.now.input.now input.now space.old.input.counts }
-    ensures applied { Applied (records layouts.now)
-        (moves_by layouts.now.reading (records layouts.now) given.now) input.now output.old
-        (ending result output.new) }
+    ensures applied { Applied (records layouts.now) (all_moves layouts.now given.now) input.now
+        output.old (ending result output.new) }
     ensures space { IsWorkspace (records layouts.now) input.now output.new space.new }
-    ensures reads { (met : ℕ) × HaveMet (records layouts.now)
-        (moves_by layouts.now.reading (records layouts.now) given.now) input.now output.old met
-        × (space.new.output.reads ≤ length (tables_of layouts.now.output.now) * (1 + met)) }
+    ensures reads { IsBounded (records layouts.now) (all_moves layouts.now given.now) input.now
+        output.old space.new.output }
 {
     // For `applied` and `reads`: a place has one outcome.
     one_outcome_of_counts();

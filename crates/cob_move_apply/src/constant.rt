@@ -1,18 +1,17 @@
 //! Single moves of constants that were made ready, carried out: to places that are the same in every storage, and wherever their receivers stand.
 
-ghost use Rattle.std.specs.Prelude.{◌≡◌, ◌+◌, ◌≤◌, [], ◌∷◌, false, length, IfSome, IsTrue, List, OnOk, IfErr, Err};
+ghost use Rattle.std.specs.Prelude.{◌≡◌, ◌+◌, ◌≤◌, false, length, IfSome, IsTrue, List, OnOk, IfErr, Err};
 ghost use Rattle.cob_copybook_tree.specs.declared.node.Kind.{Kind};
 ghost use Rattle.cob_copybook_entry.specs.Described.{PlainValue};
 ghost use Rattle.cob_layout.specs.Sound.{IsSound};
 ghost use Rattle.cob_layout.specs.Storage.{greatest_length};
-ghost use Rattle.cob_layout_places.specs.Moves.{Move as Meant, operand_in};
-ghost use Rattle.cob_move_apply.specs.Applied.{Applied, IsMoved, done, ending};
+ghost use Rattle.cob_layout_places.specs.Moves.{Move as Meant};
+ghost use Rattle.cob_move_apply.specs.Applied.{done, ending};
 ghost use Rattle.cob_move_apply.specs.Made.{IsMadeConstant, ReceivesAt};
-ghost use Rattle.cob_move_apply.specs.Placed.{IsPlaced};
-ghost use Rattle.cob_move_apply.specs.Spent.{HaveSpent, IsSpent, MovesSpend, PlaceSpends};
-ghost use Rattle.cob_move_apply.specs.Steps.{IsConstantAt, IsLocatedConstant, WritesAnywhere, constant_move};
+ghost use Rattle.cob_move_apply.specs.Promised.{AnyEnd, AnyHaveSpent, AnySpend, ConstantEnds, ConstantHasSpent, LocatedConstantMeans, WritesConstant};
+ghost use Rattle.cob_move_apply.specs.Spent.{IsSpent, PlaceSpends};
+ghost use Rattle.cob_move_apply.specs.Steps.{IsConstantAt};
 ghost use Rattle.cob_move_apply.specs.Surveyed.{IsWorkspace, records};
-ghost use Rattle.cob_move_apply.specs.declared.survey.Survey.{Survey as Kept};
 
 use crate::basis::placed_operand;
 use crate::layouts::Layouts;
@@ -60,26 +59,16 @@ fn make_there(
     output: &mut [u8],
     space: &mut Workspace,
 )
-    requires writes { (constant : PlainValue)
-        × WritesAnywhere plan.now.constants.items one.now.number constant
-        (operand_in layouts.now.output.now one.now.receiver).kind }
+    requires writes { (constant : PlainValue) × WritesConstant plan.now one.now layouts.now
+        constant }
     requires stand { ReceivesAt (records layouts.now) one.now output.old to }
     requires output { length output.old ≡ greatest_length layouts.now.output.now }
     requires space { IsWorkspace (records layouts.now) input.now output.old space.old }
-    ensures moved { (constant : PlainValue)
-        → WritesAnywhere plan.now.constants.items one.now.number constant
-        (operand_in layouts.now.output.now one.now.receiver).kind
-        → IsMoved (records layouts.now)
-        (constant_move (records layouts.now) constant one.now.receiver)
-        input.now output.old (done output.new) }
+    ensures moved { ConstantEnds plan.now one.now layouts.now input.now output.old
+        (done output.new) }
     ensures space { IsWorkspace (records layouts.now) input.now output.new space.new }
-    ensures spends { (constant : PlainValue)
-        → WritesAnywhere plan.now.constants.items one.now.number constant
-        (operand_in layouts.now.output.now one.now.receiver).kind
-        → (before : Kept) → IsSpent layouts.now.output.now 0 before space.old.output
-        → HaveSpent (records layouts.now)
-        (constant_move (records layouts.now) constant one.now.receiver ∷ [])
-        input.now output.old output.new before space.new.output }
+    ensures spends { ConstantHasSpent plan.now one.now layouts.now input.now output.old output.new
+        space.old space.new }
 {
     let number = one.number;
     let there = ConstantMove { to, number };
@@ -98,18 +87,14 @@ pub(crate) fn run_located_constant(
     space: &mut Workspace,
 ) -> bool
     requires sound { IsSound layouts.now.output.now }
-    requires step { (own : List Meant) × IsLocatedConstant (records layouts.now)
-        plan.now.constants.items plan.now.located_constants.items number own }
+    requires step { (own : List Meant) × LocatedConstantMeans plan.now number layouts.now own }
     requires output { length output.old ≡ greatest_length layouts.now.output.now }
     requires space { IsWorkspace (records layouts.now) input.now output.old space.old }
-    ensures applied { IsTrue result → (own : List Meant) → IsLocatedConstant (records layouts.now)
-        plan.now.constants.items plan.now.located_constants.items number own
-        → Applied (records layouts.now) own input.now output.old (done output.new) }
+    ensures applied { IsTrue result → AnyEnd (LocatedConstantMeans plan.now number) layouts.now
+        input.now output.old (done output.new) }
     ensures space { IsWorkspace (records layouts.now) input.now output.new space.new }
-    ensures spends { IsTrue result → (own : List Meant) → IsLocatedConstant (records layouts.now)
-        plan.now.constants.items plan.now.located_constants.items number own
-        → HaveSpent (records layouts.now) own input.now output.old output.new
-        space.old.output space.new.output }
+    ensures spends { IsTrue result → AnyHaveSpent (LocatedConstantMeans plan.now number) layouts.now
+        input.now output.old output.new space.old space.new }
     ensures same { result ≡ false → (output.new ≡ output.old)
         × IsSpent layouts.now.output.now 0 space.old.output space.new.output }
 {
@@ -143,18 +128,14 @@ pub(crate) fn make_located_constant(
     space: &mut Workspace,
 ) -> Result<(), Stop>
     requires sound { IsSound layouts.now.output.now }
-    requires step { (own : List Meant) × IsLocatedConstant (records layouts.now)
-        plan.now.constants.items plan.now.located_constants.items number own }
+    requires step { (own : List Meant) × LocatedConstantMeans plan.now number layouts.now own }
     requires output { length output.old ≡ greatest_length layouts.now.output.now }
     requires space { IsWorkspace (records layouts.now) input.now output.old space.old }
-    ensures applied { (own : List Meant) → IsLocatedConstant (records layouts.now)
-        plan.now.constants.items plan.now.located_constants.items number own
-        → Applied (records layouts.now) own input.now output.old (ending result output.new) }
+    ensures applied { AnyEnd (LocatedConstantMeans plan.now number) layouts.now input.now output.old
+        (ending result output.new) }
     ensures space { IsWorkspace (records layouts.now) input.now output.new space.new }
-    ensures spends { (own : List Meant) → IsLocatedConstant (records layouts.now)
-        plan.now.constants.items plan.now.located_constants.items number own
-        → MovesSpend (records layouts.now) own input.now output.old result output.new
-        space.old.output space.new.output }
+    ensures spends { AnySpend (LocatedConstantMeans plan.now number) layouts.now input.now
+        output.old result output.new space.old space.new }
 {
     let one = &plan.located_constants[number];
     let receiving = Stored {

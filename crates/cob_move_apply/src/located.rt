@@ -1,16 +1,16 @@
 //! Single moves that were made ready wherever their items stand, carried out.
 
-ghost use Rattle.std.specs.Prelude.{◌≡◌, [], ◌∷◌, false, length, true, IfSome, IsTrue, List};
+ghost use Rattle.std.specs.Prelude.{◌≡◌, false, length, true, IfSome, IsTrue, List};
 ghost use Rattle.cob_layout.specs.Sound.{IsSound};
 ghost use Rattle.cob_layout.specs.Storage.{greatest_length, IsStorage};
 ghost use Rattle.cob_layout_places.specs.Moves.{Move as Meant, operand_in};
-ghost use Rattle.cob_move_apply.specs.Applied.{Applied, IsMoved, done, ending};
+ghost use Rattle.cob_move_apply.specs.Applied.{IsMoved, done, ending};
 ghost use Rattle.cob_move_apply.specs.Made.{StandAt};
 ghost use Rattle.cob_move_apply.specs.Placed.{IsPlaced};
-ghost use Rattle.cob_move_apply.specs.Spent.{HaveSpent, IsSpent, MovesSpend};
-ghost use Rattle.cob_move_apply.specs.Steps.{CarriesLocated, IsLocatedMove, copied_move, serves};
+ghost use Rattle.cob_move_apply.specs.Promised.{AnyEnd, AnyHaveSpent, AnySpend, CarriesBetween, LocatedMeans, MoveHasSpent, MoveSpends, located_move};
+ghost use Rattle.cob_move_apply.specs.Spent.{IsSpent};
+ghost use Rattle.cob_move_apply.specs.Steps.{serves};
 ghost use Rattle.cob_move_apply.specs.Surveyed.{IsWorkspace, records};
-ghost use Rattle.cob_move_apply.specs.declared.survey.Survey.{Survey as Kept};
 
 use crate::basis::{PlacedReceivers, SentEntry, placed_operand};
 use crate::layouts::Layouts;
@@ -97,22 +97,16 @@ fn run_between(
     output: &mut [u8],
     space: &mut Workspace,
 ) -> bool
-    requires carries { CarriesLocated plan.now.prepared plan.now.pictured
-        (operand_in layouts.now.input.now one.now.sent).kind
-        (operand_in layouts.now.output.now one.now.receiver).kind one.now.step }
+    requires carries { CarriesBetween plan.now one.now layouts.now }
     requires serves { serves one.now.step layouts.now.reading ≡ true }
     requires stand { StandAt (records layouts.now) one.now input.now output.old places.now }
     requires output { length output.old ≡ greatest_length layouts.now.output.now }
     requires space { IsWorkspace (records layouts.now) input.now output.old space.old }
-    ensures moved { IsTrue result → IsMoved (records layouts.now)
-        (copied_move layouts.now.reading (records layouts.now) one.now.sent one.now.receiver)
+    ensures moved { IsTrue result → IsMoved (records layouts.now) (located_move layouts.now one.now)
         input.now output.old (done output.new) }
     ensures space { IsWorkspace (records layouts.now) input.now output.new space.new }
-    ensures spends { IsTrue result → (before : Kept)
-        → IsSpent layouts.now.output.now 0 before space.old.output
-        → HaveSpent (records layouts.now)
-        (copied_move layouts.now.reading (records layouts.now) one.now.sent one.now.receiver ∷ [])
-        input.now output.old output.new before space.new.output }
+    ensures spends { IsTrue result → MoveHasSpent layouts.now (located_move layouts.now one.now)
+        input.now output.old output.new space.old space.new }
     ensures same { result ≡ false → (output.new ≡ output.old) × (space.new ≡ space.old) }
 {
     let prepared = &plan.prepared;
@@ -155,21 +149,15 @@ pub(crate) fn run_located(
 ) -> bool
     requires in_sound { IsSound layouts.now.input.now }
     requires out_sound { IsSound layouts.now.output.now }
-    requires step { (own : List Meant) × IsLocatedMove layouts.now.reading (records layouts.now)
-        plan.now.prepared plan.now.pictured plan.now.located.items number own }
+    requires step { (own : List Meant) × LocatedMeans plan.now number layouts.now own }
     requires input { IsStorage layouts.now.input.now input.now }
     requires output { length output.old ≡ greatest_length layouts.now.output.now }
     requires space { IsWorkspace (records layouts.now) input.now output.old space.old }
-    ensures applied { IsTrue result → (own : List Meant)
-        → IsLocatedMove layouts.now.reading (records layouts.now)
-        plan.now.prepared plan.now.pictured plan.now.located.items number own
-        → Applied (records layouts.now) own input.now output.old (done output.new) }
+    ensures applied { IsTrue result → AnyEnd (LocatedMeans plan.now number) layouts.now input.now
+        output.old (done output.new) }
     ensures space { IsWorkspace (records layouts.now) input.now output.new space.new }
-    ensures spends { IsTrue result → (own : List Meant)
-        → IsLocatedMove layouts.now.reading (records layouts.now)
-        plan.now.prepared plan.now.pictured plan.now.located.items number own
-        → HaveSpent (records layouts.now) own input.now output.old output.new
-        space.old.output space.new.output }
+    ensures spends { IsTrue result → AnyHaveSpent (LocatedMeans plan.now number) layouts.now
+        input.now output.old output.new space.old space.new }
     ensures same { result ≡ false → (output.new ≡ output.old)
         × IsSpent layouts.now.output.now 0 space.old.output space.new.output }
 {
@@ -204,12 +192,11 @@ fn move_unready(
     requires input { IsStorage layouts.now.input.now input.now }
     requires output { length output.old ≡ greatest_length layouts.now.output.now }
     requires space { IsWorkspace (records layouts.now) input.now output.old space.old }
-    ensures moved { IsMoved (records layouts.now)
-        (copied_move layouts.now.reading (records layouts.now) one.now.sent one.now.receiver)
-        input.now output.old (ending result output.new) }
+    ensures moved { IsMoved (records layouts.now) (located_move layouts.now one.now) input.now
+        output.old (ending result output.new) }
     ensures space { IsWorkspace (records layouts.now) input.now output.new space.new }
-    ensures spends { MovesSpend (records layouts.now)
-        (copied_move layouts.now.reading (records layouts.now) one.now.sent one.now.receiver ∷ []) input.now output.old result output.new space.old.output space.new.output }
+    ensures spends { MoveSpends layouts.now (located_move layouts.now one.now) input.now output.old
+        result output.new space.old space.new }
 {
     let sent = SentEntry {
         side: Side::In,
@@ -240,19 +227,15 @@ pub(crate) fn make_located(
 ) -> Result<(), Stop>
     requires in_sound { IsSound layouts.now.input.now }
     requires out_sound { IsSound layouts.now.output.now }
-    requires step { (own : List Meant) × IsLocatedMove layouts.now.reading (records layouts.now)
-        plan.now.prepared plan.now.pictured plan.now.located.items number own }
+    requires step { (own : List Meant) × LocatedMeans plan.now number layouts.now own }
     requires input { IsStorage layouts.now.input.now input.now }
     requires output { length output.old ≡ greatest_length layouts.now.output.now }
     requires space { IsWorkspace (records layouts.now) input.now output.old space.old }
-    ensures applied { (own : List Meant) → IsLocatedMove layouts.now.reading (records layouts.now)
-        plan.now.prepared plan.now.pictured plan.now.located.items number own
-        → Applied (records layouts.now) own input.now output.old (ending result output.new) }
+    ensures applied { AnyEnd (LocatedMeans plan.now number) layouts.now input.now output.old
+        (ending result output.new) }
     ensures space { IsWorkspace (records layouts.now) input.now output.new space.new }
-    ensures spends { (own : List Meant) → IsLocatedMove layouts.now.reading (records layouts.now)
-        plan.now.prepared plan.now.pictured plan.now.located.items number own
-        → MovesSpend (records layouts.now) own input.now output.old result output.new
-        space.old.output space.new.output }
+    ensures spends { AnySpend (LocatedMeans plan.now number) layouts.now input.now output.old result
+        output.new space.old space.new }
 {
     let one = &plan.located[number];
     move_unready(one, layouts, input, output, space)

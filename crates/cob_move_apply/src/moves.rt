@@ -189,7 +189,8 @@ impl Moves {
             (moves_of (record { input = input_layout.now; output = output_layout.now }) self.now)
             input.now output.old (ending result output.new) }
         ensures room { scratch.new.room ≡ scratch.old.room }
-        ensures keeps { OnOk result (AreKeptOf output_layout.now output.new scratch.new.kept_output) }
+        ensures keeps { OnOk result (AreKeptOf output_layout.now output.new
+            scratch.new.kept_output) }
         // Counts of the output record are read again only where a receiver met the item of one.
         ensures reads { (met : ℕ)
             × HaveMet (record { input = input_layout.now; output = output_layout.now })

@@ -1,13 +1,13 @@
 //! The move of a pair of two groups.
 
-ghost use Rattle.std.specs.Prelude.{◌≡◌, length, ◌≤◌, [], ◌∷◌};
+ghost use Rattle.std.specs.Prelude.{◌≡◌, length, ◌≤◌};
 ghost use Rattle.cob_limits.specs.Limits.{most_dimensions};
 ghost use Rattle.cob_layout.specs.Sound.{IsSound};
 ghost use Rattle.cob_layout.specs.Storage.{greatest_length, IsStorage};
-ghost use Rattle.cob_layout_places.specs.Moves.{entry_below, numbered_move, numbered_move_by};
+ghost use Rattle.cob_layout_places.specs.Moves.{entry_below, numbered_move};
 ghost use Rattle.cob_move_apply.specs.Applied.{IsMoved, ending};
 ghost use Rattle.cob_move_apply.specs.Placed.{IsPlacedMove};
-ghost use Rattle.cob_move_apply.specs.Spent.{MovesSpend};
+ghost use Rattle.cob_move_apply.specs.Promised.{MoveSpends, move_of_pair};
 ghost use Rattle.cob_move_apply.specs.Surveyed.{IsWorkspace, records};
 
 use crate::basis::{Basis, PlacedReceivers, SentEntry};
@@ -71,12 +71,11 @@ pub(crate) fn make_pair_move(
     requires input { IsStorage layouts.now.input.now input.now }
     requires output { length output.old ≡ greatest_length layouts.now.output.now }
     requires space { IsWorkspace (records layouts.now) input.now output.old space.old }
-    ensures moved { IsMoved (records layouts.now)
-        (numbered_move_by layouts.now.reading (records layouts.now) group.now pair.now) input.now
-        output.old (ending result output.new) }
+    ensures moved { IsMoved (records layouts.now) (move_of_pair layouts.now group.now pair.now)
+        input.now output.old (ending result output.new) }
     ensures space { IsWorkspace (records layouts.now) input.now output.new space.new }
-    ensures spends { MovesSpend (records layouts.now)
-        (numbered_move_by layouts.now.reading (records layouts.now) group.now pair.now ∷ []) input.now output.old result output.new space.old.output space.new.output }
+    ensures spends { MoveSpends layouts.now (move_of_pair layouts.now group.now pair.now) input.now
+        output.old result output.new space.old space.new }
 {
     let from = entry_below(&group.from, pair.from);
     let to = entry_below(&group.to, pair.to);

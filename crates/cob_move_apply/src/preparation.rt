@@ -1,6 +1,6 @@
 //! What the places of operands rest on, found before a record comes.
 
-ghost use Rattle.std.specs.Prelude.{◌≡◌, ◌++◌, ◌∷◌, List, map, true, false, OnOk};
+ghost use Rattle.std.specs.Prelude.{◌∷◌, map, true, false, OnOk};
 ghost use Rattle.std.specs.List.{AllByRecursion};
 ghost use Rattle.cob_layout_places.specs.Moves.{
   IsOperand,
@@ -8,13 +8,7 @@ ghost use Rattle.cob_layout_places.specs.Moves.{
   operand_in,
   sender,
 };
-ghost use Rattle.cob_move_apply.specs.Placed.{
-  ArePlacedReceivers,
-  IsBasis,
-  IsPlacedMove,
-  IsPlacedSender,
-};
-ghost use Rattle.cob_move_apply.specs.declared.basis.Basis as code_basis;
+ghost use Rattle.cob_move_apply.specs.Placed.{AddsMove, AddsReceivers, IsBasis, IsPlacedSender};
 
 use crate::basis::Basis;
 use cob_layout::{Layout, Ref};
@@ -60,9 +54,8 @@ fn push_receivers(
 ) -> Result<(), AllocError>
     requires receivers { AllByRecursion (IsOperand layout.now)
         (map (operand_in layout.now) receivers.now) }
-    ensures placed { OnOk result ((own : List code_basis.Basis)
-        × (bases.new.items ≡ bases.old.items ++ own)
-        × ArePlacedReceivers layout.now (map (operand_in layout.now) receivers.now) own) }
+    ensures placed { OnOk result (AddsReceivers layout.now receivers.now bases.old.items
+        bases.new.items) }
 {
     for receiver in receivers {
         let basis = basis_of(layout, receiver, true);
@@ -87,13 +80,8 @@ pub(crate) fn push_bases(
         (sender (record { input = input.now; output = output.now }) given.now) }
     requires receivers { AllByRecursion (IsOperand output.now)
         (map (operand_in output.now) receivers.now) }
-    ensures placed { OnOk result ((own : List code_basis.Basis)
-        × (bases.new.items ≡ bases.old.items ++ own)
-        × IsPlacedMove (record { input = input.now; output = output.now })
-        (record {
-          sender = sender (record { input = input.now; output = output.now }) given.now;
-          receivers = map (operand_in output.now) receivers.now;
-        }) own) }
+    ensures placed { OnOk result (AddsMove (record { input = input.now; output = output.now })
+        given.now receivers.now bases.old.items bases.new.items) }
 {
     let basis = sender_basis(given, input, output);
     bases.push(basis)?;

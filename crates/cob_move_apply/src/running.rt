@@ -2,14 +2,14 @@
 //!
 //! A step that stops is carried out once more, as all others are (`application`), to say why.
 
-ghost use Rattle.std.specs.Prelude.{◌≡◌, ◌∷◌, [], List, false, length, IsTrue};
+ghost use Rattle.std.specs.Prelude.{◌≡◌, List, false, length, IsTrue};
 ghost use Rattle.cob_layout.specs.Sound.{IsSound};
 ghost use Rattle.cob_layout.specs.Storage.{greatest_length, IsStorage};
 ghost use Rattle.cob_layout_places.specs.declared.operands.StatementMoves.{StatementMoves as Said};
 ghost use Rattle.cob_layout_places.specs.Moves.{Move as Meant};
-ghost use Rattle.cob_move_apply.specs.Applied.{Applied, IsMoved, done};
-ghost use Rattle.cob_move_apply.specs.Spent.{HaveSpent, IsSpent};
-ghost use Rattle.cob_move_apply.specs.Steps.{IsPicturedPart, IsPreparedMove, IsStep, support_of};
+ghost use Rattle.cob_move_apply.specs.Applied.{done};
+ghost use Rattle.cob_move_apply.specs.Promised.{AnyEnd, AnyHaveSpent, PicturedEnds, PicturedHasSpent, PicturedMeans, PreparedMeans, StepEnds, StepHasSpent, StepMeans};
+ghost use Rattle.cob_move_apply.specs.Spent.{IsSpent};
 ghost use Rattle.cob_move_apply.specs.Surveyed.{IsWorkspace, records};
 ghost use Rattle.cob_move_apply.specs.declared.step.Part.{Part as PartOf};
 
@@ -34,21 +34,15 @@ fn run_single(
     output: &mut [u8],
     space: &mut Workspace,
 ) -> bool
-    requires step { (own : List Meant) × IsPreparedMove layouts.now.reading (records layouts.now)
-        plan.now.prepared (record { places = places.now; step = step }) own }
+    requires step { (own : List Meant) × PreparedMeans plan.now places.now step layouts.now own }
     requires input { IsStorage layouts.now.input.now input.now }
     requires output { length output.old ≡ greatest_length layouts.now.output.now }
     requires space { IsWorkspace (records layouts.now) input.now output.old space.old }
-    ensures applied { IsTrue result → (own : List Meant)
-        → IsPreparedMove layouts.now.reading (records layouts.now)
-        plan.now.prepared (record { places = places.now; step = step }) own
-        → Applied (records layouts.now) own input.now output.old (done output.new) }
+    ensures applied { IsTrue result → AnyEnd (PreparedMeans plan.now places.now step) layouts.now
+        input.now output.old (done output.new) }
     ensures space { IsWorkspace (records layouts.now) input.now output.new space.new }
-    ensures spends { IsTrue result → (own : List Meant)
-        → IsPreparedMove layouts.now.reading (records layouts.now)
-        plan.now.prepared (record { places = places.now; step = step }) own
-        → HaveSpent (records layouts.now) own input.now output.old output.new
-        space.old.output space.new.output }
+    ensures spends { IsTrue result → AnyHaveSpent (PreparedMeans plan.now places.now step)
+        layouts.now input.now output.old output.new space.old space.new }
     ensures same { result ≡ false → (output.new ≡ output.old) × (space.new ≡ space.old) }
 {
     match make_single(plan, places, step, layouts, input, output, space) {
@@ -68,21 +62,16 @@ fn run_one(
     output: &mut [u8],
     space: &mut Workspace,
 ) -> bool
-    requires step { (own : List Meant) × IsPreparedMove layouts.now.reading (records layouts.now)
-        plan.now.prepared one.now own }
+    requires step { (own : List Meant) × PreparedMeans plan.now one.now.places one.now.step
+        layouts.now own }
     requires input { IsStorage layouts.now.input.now input.now }
     requires output { length output.old ≡ greatest_length layouts.now.output.now }
     requires space { IsWorkspace (records layouts.now) input.now output.old space.old }
-    ensures applied { IsTrue result → (own : List Meant)
-        → IsPreparedMove layouts.now.reading (records layouts.now)
-        plan.now.prepared one.now own
-        → Applied (records layouts.now) own input.now output.old (done output.new) }
+    ensures applied { IsTrue result → AnyEnd (PreparedMeans plan.now one.now.places one.now.step)
+        layouts.now input.now output.old (done output.new) }
     ensures space { IsWorkspace (records layouts.now) input.now output.new space.new }
-    ensures spends { IsTrue result → (own : List Meant)
-        → IsPreparedMove layouts.now.reading (records layouts.now)
-        plan.now.prepared one.now own
-        → HaveSpent (records layouts.now) own input.now output.old output.new
-        space.old.output space.new.output }
+    ensures spends { IsTrue result → AnyHaveSpent (PreparedMeans plan.now one.now.places
+        one.now.step) layouts.now input.now output.old output.new space.old space.new }
     ensures same { result ≡ false → (output.new ≡ output.old) × (space.new ≡ space.old) }
 {
     let places = &one.places;
@@ -101,21 +90,15 @@ fn run_part(
     space: &mut Workspace,
 ) -> bool
     requires part { (given : List Said) × (part : PartOf) × (m : Meant)
-        × IsPicturedPart layouts.now.reading (records layouts.now)
-        given plan.now.bases.items plan.now.pictured one part m }
+        × PicturedMeans given plan.now one part layouts.now m }
     requires input { IsStorage layouts.now.input.now input.now }
     requires output { length output.old ≡ greatest_length layouts.now.output.now }
     requires space { IsWorkspace (records layouts.now) input.now output.old space.old }
-    ensures moved { IsTrue result → (given : List Said) (part : PartOf) (m : Meant)
-        → IsPicturedPart layouts.now.reading (records layouts.now)
-        given plan.now.bases.items plan.now.pictured one part m
-        → IsMoved (records layouts.now) m input.now output.old (done output.new) }
+    ensures moved { IsTrue result → PicturedEnds plan.now one layouts.now input.now output.old
+        (done output.new) }
     ensures space { IsWorkspace (records layouts.now) input.now output.new space.new }
-    ensures spends { IsTrue result → (given : List Said) (part : PartOf) (m : Meant)
-        → IsPicturedPart layouts.now.reading (records layouts.now)
-        given plan.now.bases.items plan.now.pictured one part m
-        → HaveSpent (records layouts.now) (m ∷ []) input.now output.old output.new
-        space.old.output space.new.output }
+    ensures spends { IsTrue result → PicturedHasSpent plan.now one layouts.now input.now output.old
+        output.new space.old space.new }
     ensures same { result ≡ false → (output.new ≡ output.old) × (space.new ≡ space.old) }
 {
     match layouts.reading {
@@ -144,19 +127,15 @@ pub(crate) fn run_step<const VARIES: bool>(
     requires varies { layouts.now.varies ≡ VARIES }
     requires out_sound { IsSound layouts.now.output.now }
     requires step { (given : List Said) × (own : List Meant)
-        × IsStep layouts.now.reading (records layouts.now)
-        given (support_of plan.now) step.now own }
+        × StepMeans given plan.now step.now layouts.now own }
     requires input { IsStorage layouts.now.input.now input.now }
     requires output { length output.old ≡ greatest_length layouts.now.output.now }
     requires space { IsWorkspace (records layouts.now) input.now output.old space.old }
-    ensures applied { IsTrue result → (given : List Said) (own : List Meant)
-        → IsStep layouts.now.reading (records layouts.now) given (support_of plan.now) step.now own
-        → Applied (records layouts.now) own input.now output.old (done output.new) }
+    ensures applied { IsTrue result → StepEnds plan.now step.now layouts.now input.now output.old
+        (done output.new) }
     ensures space { IsWorkspace (records layouts.now) input.now output.new space.new }
-    ensures spends { IsTrue result → (given : List Said) (own : List Meant)
-        → IsStep layouts.now.reading (records layouts.now) given (support_of plan.now) step.now own
-        → HaveSpent (records layouts.now) own input.now output.old output.new
-        space.old.output space.new.output }
+    ensures spends { IsTrue result → StepHasSpent plan.now step.now layouts.now input.now output.old
+        output.new space.old space.new }
     ensures same { result ≡ false → (output.new ≡ output.old)
         × IsSpent layouts.now.output.now 0 space.old.output space.new.output }
 {

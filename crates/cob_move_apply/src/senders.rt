@@ -1,15 +1,15 @@
 //! One move: what its sender gives, and its receivers in turn.
 
-ghost use Rattle.std.specs.Prelude.{◌≡◌, ◌+◌, ◌≤◌, [], ◌∷◌, ℕ, List, length, take, true, false};
+ghost use Rattle.std.specs.Prelude.{◌≡◌, ◌+◌, ◌≤◌, ℕ, List, length, take, true, false};
 ghost use Rattle.cob_layout.specs.Fields.{field_of};
 ghost use Rattle.cob_layout.specs.Sound.{IsSound};
 ghost use Rattle.cob_layout.specs.Storage.{greatest_length, IsStorage};
-ghost use Rattle.cob_layout_places.specs.Moves.{Entry, sender_by};
+ghost use Rattle.cob_layout_places.specs.Moves.{sender_by};
 ghost use Rattle.cob_layout_places.specs.declared.operands.Side.TheVariants.{In, Out};
 ghost use Rattle.cob_move_apply.specs.Applied.{IsMoved, ending};
 ghost use Rattle.cob_move_apply.specs.Placed.{ArePlacedReceivers, IsPlaced, IsPlacedSender};
+ghost use Rattle.cob_move_apply.specs.Promised.{MoveSpends, entry_move, operand_move, sender_move};
 ghost use Rattle.cob_move_apply.specs.Seen.{entry_sent, operand_of, receivers_in};
-ghost use Rattle.cob_move_apply.specs.Spent.{MovesSpend};
 ghost use Rattle.cob_move_apply.specs.Surveyed.{IsWorkspace, records};
 
 use crate::basis::{Basis, PlacedOperand, PlacedReceivers, SentEntry, placed_operand};
@@ -54,18 +54,11 @@ fn move_from_input(
     requires input { IsStorage layouts.now.input.now input.now }
     requires output { length output.old ≡ greatest_length layouts.now.output.now }
     requires space { IsWorkspace (records layouts.now) input.now output.old space.old }
-    ensures moved { IsMoved (records layouts.now)
-        (record {
-          sender = Entry In layouts.now.reading (operand_of sender.now);
-          receivers = receivers_in layouts.now.output.now receivers.now;
-        })
-        input.now output.old (ending result output.new) }
+    ensures moved { IsMoved (records layouts.now) (operand_move In layouts.now sender.now
+        receivers.now) input.now output.old (ending result output.new) }
     ensures space { IsWorkspace (records layouts.now) input.now output.new space.new }
-    ensures spends { MovesSpend (records layouts.now)
-        ((record {
-          sender = Entry In layouts.now.reading (operand_of sender.now);
-          receivers = receivers_in layouts.now.output.now receivers.now;
-        }) ∷ []) input.now output.old result output.new space.old.output space.new.output }
+    ensures spends { MoveSpends layouts.now (operand_move In layouts.now sender.now receivers.now)
+        input.now output.old result output.new space.old space.new }
 {
     let _ = layouts.input.greatest();
     places_lie_in_storage();
@@ -107,18 +100,11 @@ fn move_within_output(
         (receivers_in layouts.now.output.now receivers.now) receivers.now.bases.now }
     requires output { length output.old ≡ greatest_length layouts.now.output.now }
     requires space { IsWorkspace (records layouts.now) input.now output.old space.old }
-    ensures moved { IsMoved (records layouts.now)
-        (record {
-          sender = Entry Out layouts.now.reading (operand_of sender.now);
-          receivers = receivers_in layouts.now.output.now receivers.now;
-        })
-        input.now output.old (ending result output.new) }
+    ensures moved { IsMoved (records layouts.now) (operand_move Out layouts.now sender.now
+        receivers.now) input.now output.old (ending result output.new) }
     ensures space { IsWorkspace (records layouts.now) input.now output.new space.new }
-    ensures spends { MovesSpend (records layouts.now)
-        ((record {
-          sender = Entry Out layouts.now.reading (operand_of sender.now);
-          receivers = receivers_in layouts.now.output.now receivers.now;
-        }) ∷ []) input.now output.old result output.new space.old.output space.new.output }
+    ensures spends { MoveSpends layouts.now (operand_move Out layouts.now sender.now receivers.now)
+        input.now output.old result output.new space.old space.new }
 {
     let stored = Stored {
         side: Side::Out,
@@ -161,17 +147,11 @@ pub(crate) fn move_entry(
     requires input { IsStorage layouts.now.input.now input.now }
     requires output { length output.old ≡ greatest_length layouts.now.output.now }
     requires space { IsWorkspace (records layouts.now) input.now output.old space.old }
-    ensures moved { IsMoved (records layouts.now) (record {
-      sender = entry_sent layouts.now.reading (records layouts.now) sent.now;
-      receivers = receivers_in layouts.now.output.now receivers.now;
-    })
+    ensures moved { IsMoved (records layouts.now) (entry_move layouts.now sent.now receivers.now)
         input.now output.old (ending result output.new) }
     ensures space { IsWorkspace (records layouts.now) input.now output.new space.new }
-    ensures spends { MovesSpend (records layouts.now)
-        ((record {
-          sender = entry_sent layouts.now.reading (records layouts.now) sent.now;
-          receivers = receivers_in layouts.now.output.now receivers.now;
-        }) ∷ []) input.now output.old result output.new space.old.output space.new.output }
+    ensures spends { MoveSpends layouts.now (entry_move layouts.now sent.now receivers.now)
+        input.now output.old result output.new space.old space.new }
 {
     match sent.side {
         Side::In => {
@@ -208,18 +188,11 @@ pub(crate) fn make_move(
     requires input { IsStorage layouts.now.input.now input.now }
     requires output { length output.old ≡ greatest_length layouts.now.output.now }
     requires space { IsWorkspace (records layouts.now) input.now output.old space.old }
-    ensures moved { IsMoved (records layouts.now)
-        (record {
-          sender = sender_by layouts.now.reading (records layouts.now) given.now;
-          receivers = receivers_in layouts.now.output.now receivers.now;
-        })
+    ensures moved { IsMoved (records layouts.now) (sender_move layouts.now given.now receivers.now)
         input.now output.old (ending result output.new) }
     ensures space { IsWorkspace (records layouts.now) input.now output.new space.new }
-    ensures spends { MovesSpend (records layouts.now)
-        ((record {
-          sender = sender_by layouts.now.reading (records layouts.now) given.now;
-          receivers = receivers_in layouts.now.output.now receivers.now;
-        }) ∷ []) input.now output.old result output.new space.old.output space.new.output }
+    ensures spends { MoveSpends layouts.now (sender_move layouts.now given.now receivers.now)
+        input.now output.old result output.new space.old space.new }
 {
     match given {
         Sender::Entry { side, entry } => {

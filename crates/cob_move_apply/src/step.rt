@@ -1,14 +1,11 @@
 //! Steps: what is carried out in the place of moves.
 
-ghost use Rattle.std.specs.Prelude.{◌≡◌, ◌+◌, ◌≤◌, false, length, min, IfNone, IfSome, List, None, IfOk};
-ghost use Rattle.cob_codec.specs.declared.reading.Reading.{Reading};
+ghost use Rattle.std.specs.Prelude.{◌≡◌, ◌+◌, ◌≤◌, false, length, min, IfNone, IfSome, None, IfOk};
 ghost use Rattle.cob_limits.specs.Limits.{longest_record};
 ghost use Rattle.cob_layout.specs.Fields.{field_of, with_field};
-ghost use Rattle.cob_layout_places.specs.Moves.{Move as Meant, Records};
-ghost use Rattle.cob_layout_places.specs.declared.operands.StatementMoves.{StatementMoves as Said};
 ghost use Rattle.cob_move_apply.specs.Joined.{copy_ends, meets};
 ghost use Rattle.cob_move_apply.specs.Planned.{AreWithinLongest, counted_steps, step_count, step_ends};
-ghost use Rattle.cob_move_apply.specs.Steps.{IsPreparedMove, IsStep, Support};
+ghost use Rattle.cob_move_apply.specs.Steps.{StandsForPrepared};
 ghost use Rattle.cob_move_apply.specs.Told.{most_moves_told};
 ghost use Rattle.cob_move_apply.specs.Written.{IsBoth};
 
@@ -246,9 +243,7 @@ pub(crate) fn copy_across(places: MovePlaces, input: &[u8], output: &mut [u8])
 
 /// The step that carries a single move out.
 pub(crate) fn prepared_step(one: PreparedMove) -> Step
-    ensures stands { (reading : Reading) (r : Records) (given : List Said) (on : Support)
-        (own : List Meant) → IsPreparedMove reading r on.prepared one own
-        → IsStep reading r given on result own }
+    ensures stands { StandsForPrepared one result }
     ensures counts { step_count result ≡ 1 }
     ensures ends { step_ends result ≡ None }
 {

@@ -1,12 +1,11 @@
 //! What is kept of the counts of a storage while moves go on.
 
-ghost use Rattle.std.specs.Prelude.{◌≡◌, ◌+◌, ◌≤◌, ℕ, List, length, IfOk};
+ghost use Rattle.std.specs.Prelude.{◌≡◌, ℕ, List, IfOk};
 ghost use Rattle.cob_copybook_tree.specs.Forests.{Forest};
 ghost use Rattle.cob_copybook_tree.specs.Nodes.{Resolved};
-ghost use Rattle.cob_layout.specs.Fields.{with_field};
 ghost use Rattle.cob_layout.specs.Standing.{KeepsOf, room_in};
 ghost use Rattle.cob_move_apply.specs.Spent.{kept_of, PlaceSpends};
-ghost use Rattle.cob_move_apply.specs.Surveyed.{HasRoom, IsSurvey};
+ghost use Rattle.cob_move_apply.specs.Surveyed.{HasRoom, IsSurvey, SurveysField};
 
 use crate::layouts::Layouts;
 use cob_layout::{Counts, Layout, Place};
@@ -49,9 +48,7 @@ impl Survey {
     /// where no table varies.
     #[inline(always)]
     pub(crate) fn change(&mut self, layout: &Layout, place: Place)
-        ensures survey { (before field : List ℕ) → place.offset + place.length ≤ length before
-            → length field ≡ place.length → IsSurvey layout.now before self.old
-            → IsSurvey layout.now (with_field before place field) self.new }
+        ensures survey { SurveysField layout.now place self.old self.new }
         // Counts are forgotten only where the place meets the item of one.
         ensures spends { (before : List ℕ) → IsSurvey layout.now before self.old
             → PlaceSpends layout.now before place self.old self.new }
@@ -62,9 +59,7 @@ impl Survey {
     /// Says of the output record what [`Survey::change`] says. Where no table of it varies, none of its counts is kept: then this is a test alone.
     #[inline(always)]
     pub(crate) fn change_output(&mut self, layouts: &Layouts<'_>, place: Place)
-        ensures survey { (before field : List ℕ) → place.offset + place.length ≤ length before
-            → length field ≡ place.length → IsSurvey layouts.now.output.now before self.old
-            → IsSurvey layouts.now.output.now (with_field before place field) self.new }
+        ensures survey { SurveysField layouts.now.output.now place self.old self.new }
         ensures spends { (before : List ℕ) → IsSurvey layouts.now.output.now before self.old
             → PlaceSpends layouts.now.output.now before place self.old self.new }
     {

@@ -1,12 +1,10 @@
 //! What moves on one record work with.
 
-ghost use Rattle.std.specs.Prelude.{◌≡◌, List, ℕ, IfOk};
+ghost use Rattle.std.specs.Prelude.{◌≡◌, IfOk};
 ghost use Rattle.cob_copybook_tree.specs.Forests.{Forest};
 ghost use Rattle.cob_copybook_tree.specs.Nodes.{Resolved};
-ghost use Rattle.cob_layout.specs.Standing.{KeepsOf};
-ghost use Rattle.cob_layout_places.specs.Moves.{Records};
 ghost use Rattle.cob_move_apply.specs.Spent.{kept_of};
-ghost use Rattle.cob_move_apply.specs.Surveyed.{HasSpace, IsWorkspace};
+ghost use Rattle.cob_move_apply.specs.Surveyed.{BecomesWorkspace, HasSpace};
 
 use crate::survey::Survey;
 use cob_layout::Layout;
@@ -45,8 +43,7 @@ impl Workspace {
 
     /// Forgets what is kept of the output record before.
     pub(crate) fn forget_output(&mut self)
-        ensures space { (r : Records) (input output : List ℕ) → HasSpace r self.old
-            → KeepsOf r.input input self.old.input.counts → IsWorkspace r input output self.new }
+        ensures space { BecomesWorkspace self.old self.new }
         ensures none { self.new.output.reads ≡ 0 }
         ensures unkept { (tree : Forest Resolved) → kept_of tree self.new.output ≡ 0 }
     {
