@@ -10,6 +10,7 @@ pub mod Joined
 pub mod Steps
 pub mod Made
 pub mod Planned
+pub mod Planning
 pub mod Prepared
 pub mod Surveyed
 pub mod Met

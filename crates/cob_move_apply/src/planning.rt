@@ -1,35 +1,26 @@
 //! Plans: the steps that stand for moves, made before a record comes. Plain copies that meet on both sides are one step.
 
-ghost use Rattle.std.specs.Prelude.{◌≡◌, ◌<◌, ◌+◌, ◌++◌, [], ◌∷◌, List, length, true, IfNone, IfOk, IfSome, IsFalse, OnOk, IsTrue, Some};
+ghost use Rattle.std.specs.Prelude.{◌≡◌, ◌<◌, ◌+◌, length, true, IfNone, IfOk, IfSome, IsFalse, OnOk, IsTrue, Some};
 ghost use Rattle.cob_codec.specs.declared.reading.Reading.{Reading};
 ghost use Rattle.cob_layout_places.specs.Moves.{
   AreMoves,
-  Entry,
   IsMove,
   IsOperand,
-  Move as Meant,
   Records,
   move,
-  move_by,
   moves,
-  moves_by,
   numbered_move,
-  numbered_move_by,
   operand_in,
   sender,
   sender_by,
   statement_moves,
-  statement_moves_by,
 };
-ghost use Rattle.cob_layout_places.specs.declared.operands.Side.TheVariants.{In};
 ghost use Rattle.cob_layout_places.specs.declared.operands.StatementMoves.{StatementMoves as Said};
 ghost use Rattle.cob_layout_places.specs.declared.operands.StatementMoves.TheVariants.{Pairs, Single};
-ghost use Rattle.cob_move_apply.specs.Joined.{begun, copy_ends, neither_varies, plain_copy, steps_in};
-ghost use Rattle.cob_move_apply.specs.Planned.{AlwaysCopied, AlwaysGains, AlwaysGainsCut, AlwaysLocated, AlwaysLocatedConstant, AlwaysMore, AreBetween, AreMore, AreWithinLongest, HasOneMore, IsPartIn, IsPictured, IsReady, IsStatementAt, records_between, counted_steps, entry_alone, last_step_ends, pair_alone, part_alone, single_alone, step_count, step_ends};
-ghost use Rattle.cob_move_apply.specs.Steps.{AreSteps, Gains, GainsCut, IsSteady, IsStep, StandFor, Support, alone, pair_at, singles_of, support_of};
-ghost use Rattle.cob_move_apply.specs.Written.{AreCopied};
-ghost use Rattle.cob_move_apply.specs.declared.step.Part as code_part;
-ghost use Rattle.cob_move_apply.specs.declared.step.Step.TheVariants.{Part as StepPart};
+ghost use Rattle.cob_move_apply.specs.Joined.{begun, copy_ends, neither_varies};
+ghost use Rattle.cob_move_apply.specs.Planned.{AlwaysCopied, AlwaysGains, AlwaysGainsCut, AlwaysLocated, AlwaysLocatedConstant, AlwaysMore, AreBetween, AreWithinLongest, HasOneMore, IsPartIn, IsPictured, IsReady, IsStatementAt, counted_steps, entry_alone, last_step_ends, pair_alone, part_alone, records_between, single_alone, step_count, step_ends};
+ghost use Rattle.cob_move_apply.specs.Planning.{CountsSteps, GainsAny, GainsStatement, HasPartMore, IsPlanFor, MoreByStatement, StepTakesCopy, StepsTakeCopy, entry_copy, move_alone, moves_alone, single_copy, singles_alone};
+ghost use Rattle.cob_move_apply.specs.Steps.{IsSteady, alone, pair_at};
 
 use crate::basis::entry_kind;
 use crate::pairs::entry_below;
@@ -92,9 +83,8 @@ fn plain_copy(sent: &Ref, receiver: &Ref, both: &Between<'_>) -> Option<MovePlac
     ensures copied { IfSome result (λ c. AlwaysCopied both.now c
         (entry_alone both.now sent.now receiver.now)) }
     ensures short { IfSome result AreWithinLongest }
-    ensures value { (reading : Reading) → result ≡ plain_copy (records_between both.now)
-        (Entry In reading (operand_in both.now.input.now sent.now))
-        (operand_in both.now.output.now receiver.now) }
+    ensures value { (reading : Reading) → result ≡ entry_copy both.now sent.now receiver.now
+        reading }
 {
     places_lie_in_storage();
     records_are_sound();
@@ -120,9 +110,8 @@ fn copy_of(given: &Sender, receiver: &Ref, both: &Between<'_>) -> Option<MovePla
     ensures copied { IfSome result (λ c. AlwaysCopied both.now c
         (single_alone both.now given.now receiver.now)) }
     ensures short { IfSome result AreWithinLongest }
-    ensures value { (reading : Reading) → result ≡ plain_copy (records_between both.now)
-        (sender_by reading (records_between both.now) given.now)
-        (operand_in both.now.output.now receiver.now) }
+    ensures value { (reading : Reading) → result ≡ single_copy both.now given.now receiver.now
+        reading }
 {
     if !both.is_fixed {
         return None;
@@ -139,10 +128,7 @@ fn copy_of(given: &Sender, receiver: &Ref, both: &Between<'_>) -> Option<MovePla
 /// A step and a copy behind it as one copy, where the step is a copy that ends on both sides where the other begins.
 fn joined(last: Step, places: MovePlaces) -> Option<Step>
     requires short { AreWithinLongest places }
-    ensures copied { IfSome result (λ both. (reading : Reading) (r : Records) (given : List Said)
-        (on : Support) (own next : List Meant)
-        → IsStep reading r given on last own → AreCopied r places.from places.to next
-        → IsStep reading r given on both (own ++ next)) }
+    ensures copied { IfSome result (StepTakesCopy places last) }
     ensures joins { IfSome result (λ both. begun (step_ends last) (Some places) ≡ 0) }
     ensures counts { IfSome result (λ both. step_count both ≡ step_count last) }
     ensures ends { IfSome result (λ both. step_ends both ≡ Some (copy_ends places)) }
@@ -164,11 +150,7 @@ fn joined(last: Step, places: MovePlaces) -> Option<Step>
 /// Where no memory is left.
 fn push_copy(places: MovePlaces, steps: &mut Vec<Step>) -> Result<(), AllocError>
     requires short { AreWithinLongest places }
-    ensures steps { OnOk result ((reading : Reading) (r : Records) (given : List Said)
-        (on : Support) (parts next : List Meant)
-        → AreSteps reading r given on steps.old.items parts
-        → AreCopied r places.from places.to next
-        → AreSteps reading r given on steps.new.items (parts ++ next)) }
+    ensures steps { OnOk result (StepsTakeCopy places steps.old.items steps.new.items) }
     ensures count { OnOk result (counted_steps steps.new.items
         ≡ counted_steps steps.old.items + begun (last_step_ends steps.old.items) (Some places)) }
     ensures ends { OnOk result (last_step_ends steps.new.items ≡ Some (copy_ends places)) }
@@ -200,9 +182,8 @@ fn push_part(
     requires part { IsPartIn (records_between both.now) given.now part.now }
     ensures gains { OnOk result (AlwaysGains both.now given.now
         (part_alone both.now part.now) plan.old plan.new) }
-    ensures added { OnOk result ((p : code_part.Part)
-        × (plan.new.steps.items ≡ plan.old.steps.items ++ StepPart p ∷ [])
-        × (p.count ≡ length part.now.receivers.now)) }
+    ensures added { OnOk result (HasPartMore plan.old.steps.items plan.new.steps.items
+        (length part.now.receivers.now)) }
 {
     let base = plan.bases.len();
     push_bases(
@@ -223,9 +204,7 @@ fn push_part(
 ///
 /// Where no memory is left.
 fn push_constant(one: ReadyConstant, plan: &mut Plan) -> Result<(), AllocError>
-    ensures gains { OnOk result ((reading : Reading) (r : Records) (given : List Said)
-        (ms : Reading → List Meant) → IsReady r one ms
-        → Gains reading r given (ms reading) plan.old plan.new) }
+    ensures gains { OnOk result (GainsAny (λ r. IsReady r one) plan.old plan.new) }
     ensures added { OnOk result (HasOneMore plan.old.steps.items plan.new.steps.items) }
 {
     let to = one.to;
@@ -242,9 +221,8 @@ fn push_constant(one: ReadyConstant, plan: &mut Plan) -> Result<(), AllocError>
 ///
 /// Where no memory is left.
 fn push_located(one: LocatedMove, plan: &mut Plan) -> Result<(), AllocError>
-    ensures gains { OnOk result ((reading : Reading) (r : Records) (given : List Said)
-        (ms : Reading → List Meant) → AlwaysLocated r plan.old.prepared plan.old.pictured one ms
-        → Gains reading r given (ms reading) plan.old plan.new) }
+    ensures gains { OnOk result (GainsAny (λ r. AlwaysLocated r plan.old.prepared plan.old.pictured
+        one) plan.old plan.new) }
     ensures added { OnOk result (HasOneMore plan.old.steps.items plan.new.steps.items) }
 {
     let number = plan.located.len();
@@ -259,9 +237,7 @@ fn push_located(one: LocatedMove, plan: &mut Plan) -> Result<(), AllocError>
 ///
 /// Where no memory is left.
 fn push_located_constant(one: ReadyLocatedConstant, plan: &mut Plan) -> Result<(), AllocError>
-    ensures gains { OnOk result ((reading : Reading) (r : Records) (given : List Said)
-        (ms : Reading → List Meant) → AlwaysLocatedConstant r one ms
-        → Gains reading r given (ms reading) plan.old plan.new) }
+    ensures gains { OnOk result (GainsAny (λ r. AlwaysLocatedConstant r one) plan.old plan.new) }
     ensures added { OnOk result (HasOneMore plan.old.steps.items plan.new.steps.items) }
 {
     let written = plan.constants.len();
@@ -475,11 +451,9 @@ fn push_singles(
     requires both { AreBetween both.now }
     requires at { IsStatementAt given.now number (Single one.now) }
     requires legal { IsMove (records_between both.now) (move (records_between both.now) one.now) }
-    ensures gains { OnOk result (AlwaysGains both.now given.now
-        (λ reading. singles_of (move_by reading (records_between both.now) one.now))
+    ensures gains { OnOk result (AlwaysGains both.now given.now (singles_alone both.now one.now)
         plan.old plan.new) }
-    ensures more { OnOk result (AlwaysMore both.now
-        (λ reading. singles_of (move_by reading (records_between both.now) one.now))
+    ensures more { OnOk result (AlwaysMore both.now (singles_alone both.now one.now)
         plan.old.steps.items plan.new.steps.items) }
 {
     let receivers = one.receivers.as_slice();
@@ -526,11 +500,9 @@ fn push_move(
     requires both { AreBetween both.now }
     requires at { IsStatementAt given.now number (Single one.now) }
     requires legal { IsMove (records_between both.now) (move (records_between both.now) one.now) }
-    ensures gains { OnOk result (AlwaysGainsCut both.now given.now
-        (λ reading. move_by reading (records_between both.now) one.now ∷ [])
+    ensures gains { OnOk result (AlwaysGainsCut both.now given.now (move_alone both.now one.now)
         plan.old plan.new) }
-    ensures more { OnOk result (AlwaysMore both.now
-        (λ reading. move_by reading (records_between both.now) one.now ∷ [])
+    ensures more { OnOk result (AlwaysMore both.now (move_alone both.now one.now)
         plan.old.steps.items plan.new.steps.items) }
 {
     if is_steady(&one.sender) && !one.receivers.is_empty() {
@@ -601,10 +573,8 @@ fn push_pairs(
     requires moves { AreMoves (records_between both.now)
         (statement_moves (records_between both.now) (Pairs group.now)) }
     ensures gains { OnOk result (AlwaysGains both.now given.now
-        (λ reading. statement_moves_by reading (records_between both.now) (Pairs group.now))
-        plan.old plan.new) }
-    ensures more { OnOk result (AlwaysMore both.now
-        (λ reading. statement_moves_by reading (records_between both.now) (Pairs group.now))
+        (moves_alone both.now (Pairs group.now)) plan.old plan.new) }
+    ensures more { OnOk result (AlwaysMore both.now (moves_alone both.now (Pairs group.now))
         plan.old.steps.items plan.new.steps.items) }
 {
     for first in 0..group.pairs.len() {
@@ -628,13 +598,9 @@ fn push_statement(
     requires below { number < length given.now }
     requires moves { (s : Said) → IsStatementAt given.now number s
         → AreMoves (records_between both.now) (statement_moves (records_between both.now) s) }
-    ensures gains { OnOk result ((reading : Reading) (s : Said) → IsStatementAt given.now number s
-        → GainsCut reading (records_between both.now) given.now
-        (statement_moves_by reading (records_between both.now) s) plan.old plan.new) }
-    ensures more { OnOk result ((reading : Reading) (s : Said) → IsStatementAt given.now number s
-        → AreMore (records_between both.now)
-        (statement_moves_by reading (records_between both.now) s)
-        plan.old.steps.items plan.new.steps.items) }
+    ensures gains { OnOk result (GainsStatement both.now given.now number plan.old plan.new) }
+    ensures more { OnOk result (MoreByStatement both.now given.now number plan.old.steps.items
+        plan.new.steps.items) }
 {
     match &given[number] {
         StatementMoves::Single(single) => push_move(given, number, single, both, plan),
@@ -655,13 +621,10 @@ pub(crate) fn plan_of(
 ) -> Result<Plan, AllocError>
     requires given { AreMoves (record { input = input.now; output = output.now })
         (moves (record { input = input.now; output = output.now }) given.now) }
-    ensures stand { IfOk result (λ plan. (reading : Reading)
-        → StandFor reading (record { input = input.now; output = output.now }) given.now
-        plan.steps.items (support_of plan)
-        (moves_by reading (record { input = input.now; output = output.now }) given.now)) }
-    ensures count { IfOk result (λ plan. (reading : Reading) → counted_steps plan.steps.items
-        ≡ steps_in (record { input = input.now; output = output.now })
-        (moves_by reading (record { input = input.now; output = output.now }) given.now)) }
+    ensures stand { IfOk result (IsPlanFor (record { input = input.now; output = output.now })
+        given.now) }
+    ensures count { IfOk result (CountsSteps (record { input = input.now; output = output.now })
+        given.now) }
 {
     let both = Between {
         input,

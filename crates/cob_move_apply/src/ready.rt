@@ -4,7 +4,8 @@ ghost use Rattle.std.specs.Prelude.{IfOk, IfSome};
 ghost use Rattle.cob_copybook_entry.specs.Described.{plain_value};
 ghost use Rattle.cob_layout.specs.Sound.{IsStorableKind};
 ghost use Rattle.cob_layout_places.specs.Moves.{IsMove, IsOperand, operand_in, sender};
-ghost use Rattle.cob_move_apply.specs.Planned.{AlwaysLocated, AlwaysLocatedConstant, AlwaysPrepared, AreFixedPlaces, IsPictured, IsReady, constant_alone, entry_alone, records_between, single_alone};
+ghost use Rattle.cob_move_apply.specs.Planned.{AlwaysPrepared, AreFixedPlaces, IsPictured, IsReady, constant_alone, entry_alone, records_between, single_alone};
+ghost use Rattle.cob_move_apply.specs.Planning.{IsLocatedBetween, IsLocatedConstantBetween};
 ghost use Rattle.cob_move_apply.specs.Steps.{CarriesLocated, WritesFor, alone};
 ghost use Rattle.cob_move_steps.specs.Pictured.{KeepsPictured};
 ghost use Rattle.cob_move_steps.specs.Pool.{KeepsSteps};
@@ -235,7 +236,7 @@ fn located_entry(
     requires receiver { IsOperand both.now.output.now
         (operand_in both.now.output.now receiver.now) }
     ensures step { IfOk result (λ found. IfSome found
-        (λ one. AlwaysLocated (records_between both.now) prepared.new pictured.new one
+        (IsLocatedBetween both.now prepared.new pictured.new
         (entry_alone both.now sent.now receiver.now))) }
     ensures prepared { KeepsSteps prepared.old prepared.new }
     ensures pictured { KeepsPictured pictured.old pictured.new }
@@ -273,7 +274,7 @@ pub(crate) fn located_of(
         (alone (sender (records_between both.now) given.now)
         (operand_in both.now.output.now receiver.now)) }
     ensures step { IfOk result (λ found. IfSome found
-        (λ one. AlwaysLocated (records_between both.now) prepared.new pictured.new one
+        (IsLocatedBetween both.now prepared.new pictured.new
         (single_alone both.now given.now receiver.now))) }
     ensures prepared { KeepsSteps prepared.old prepared.new }
     ensures pictured { KeepsPictured pictured.old pictured.new }
@@ -301,7 +302,8 @@ fn ready_constant(
     requires receiver { IsOperand both.now.output.now
         (operand_in both.now.output.now receiver.now) }
     ensures ready { IfOk result (λ found. IfSome found
-        (λ one. IsReady (records_between both.now) one (constant_alone both.now value.now receiver.now))) }
+        (λ one. IsReady (records_between both.now) one
+        (constant_alone both.now value.now receiver.now))) }
 {
     records_are_sound();
     let _ = both.output.greatest();
@@ -332,7 +334,8 @@ pub(crate) fn constant_of(
         (alone (sender (records_between both.now) given.now)
         (operand_in both.now.output.now receiver.now)) }
     ensures ready { IfOk result (λ found. IfSome found
-        (λ one. IsReady (records_between both.now) one (single_alone both.now given.now receiver.now))) }
+        (λ one. IsReady (records_between both.now) one
+        (single_alone both.now given.now receiver.now))) }
 {
     match given {
         Sender::Entry { .. } => Ok(None),
@@ -378,8 +381,7 @@ fn located_constant(
     requires receiver { IsOperand both.now.output.now
         (operand_in both.now.output.now receiver.now) }
     ensures ready { IfOk result (λ found. IfSome found
-        (λ one. AlwaysLocatedConstant (records_between both.now) one
-        (constant_alone both.now value.now receiver.now))) }
+        (IsLocatedConstantBetween both.now (constant_alone both.now value.now receiver.now))) }
 {
     records_are_sound();
     let _ = both.output.greatest();
@@ -409,8 +411,7 @@ pub(crate) fn located_constant_of(
         (alone (sender (records_between both.now) given.now)
         (operand_in both.now.output.now receiver.now)) }
     ensures ready { IfOk result (λ found. IfSome found
-        (λ one. AlwaysLocatedConstant (records_between both.now) one
-        (single_alone both.now given.now receiver.now))) }
+        (IsLocatedConstantBetween both.now (single_alone both.now given.now receiver.now))) }
 {
     match given {
         Sender::Entry { .. } => Ok(None),
