@@ -6,7 +6,7 @@ use Rattle.cob_copybook_tree.specs.declared.node.Kind.{Kind}
 use Rattle.cob_copybook_tree.specs.declared.node.Node.{Node}
 use Rattle.cob_copybook_tree.specs.declared.node.Node.TheViews.{out-Node}
 use Rattle.cob_copybook_tree.specs.Forests.{Forest, NoEntries, AnEntry, Tree}
-use Rattle.cob_copybook_tree.specs.Nodes.{Resolved, node}
+use Rattle.cob_copybook_tree.specs.Nodes.{Resolved, node, tree_of}
 use Rattle.cob_copybook_tree.specs.Lengths.{greatest_number}
 use Rattle.cob_copybook_rules.specs.Areas.{is_varying}
 use Rattle.cob_copybook_names.specs.declared.bearer.Bearer.{Bearer as Listed}
@@ -146,6 +146,11 @@ listed_bearer b = bearer_by draft_entry b
 -- entries are listed behind those before
 abbrev pub ListsBehind : List (Listed ListedEntry) → List (Listed ListedEntry) → List (Bearer DraftEntry) → Type 0
 ListsBehind before after more = map listed_bearer after ≡ map listed_bearer before ++ more
+
+-- an entry of the code and those beneath it are listed behind those before, as they stand in groups of these names and where its row stands
+abbrev pub ListsTree : StoredSource → List (Bor (List ℕ)) → StoredSetting → Node → (before after : List (Listed ListedEntry)) → Type 0
+ListsTree source above w n before after =
+    ListsBehind before after (draft_entries (seen_source source) (texts above) (seen_setting w) (tree_of n))
 
 -- a record stands in no table and in no redefinition
 abbrev pub outside : Setting

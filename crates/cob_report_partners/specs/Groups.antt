@@ -1,5 +1,5 @@
 -- The names of the groups of a record, and those that two records share.
-use Rattle.std.specs.Prelude.{◌≡◌, ℕ, ◌-◌, Bool, true, false, nat_eq, ◌&&◌, is_some, List, [], ◌∷◌, length, take, filter}
+use Rattle.std.specs.Prelude.{◌≡◌, ℕ, ◌-◌, Bool, true, false, nat_eq, ◌&&◌, is_some, List, [], ◌∷◌, length, map, take, filter}
 use Rattle.std.specs.List.{list_any}
 use Rattle.std.specs.Borrow.{Bor}
 use Rattle.std.specs.Cmp.Lexicographic.{pointwise}
@@ -7,7 +7,9 @@ use Rattle.indexmap.specs.IndexMap.{IndexMap, get_by}
 use Rattle.cob_copybook_names.specs.Naming.{Bearer, has_name}
 use Rattle.cob_copybook_tree.specs.declared.node.Kind.{Kind}
 use Rattle.cob_copybook_tree.specs.declared.node.Kind.TheVariants.{Group, Item as ItemKind}
-use Rattle.cob_report_partners.specs.Entries.{DraftEntry}
+use Rattle.cob_copybook_names.specs.declared.bearer.Bearer.{Bearer as Listed}
+use Rattle.cob_report_partners.specs.declared.entries.DraftEntry.{DraftEntry as ListedEntry}
+use Rattle.cob_report_partners.specs.Entries.{DraftEntry, listed_bearer}
 use Rattle.cob_report_partners.specs.declared.groups.GroupNames.{GroupNames}
 
 -- the names of the groups above an entry but for its record's, which comes last
@@ -51,3 +53,11 @@ AreGroups bs groups = (name : List ℕ) → has_group groups name ≡ names_grou
 -- those of the names of groups above an entry, its record left out, that groups of the other record have
 abbrev pub shared_above : List (Bearer DraftEntry) → Bearer DraftEntry → List (List ℕ)
 shared_above others b = names_there others (below_record b.above)
+
+-- those of the names of groups above each of some entries, its record left out, that are noted
+abbrev pub noted_above : GroupNames → List (Bearer DraftEntry) → List (List (List ℕ))
+noted_above groups bs = map (λ b. filter (has_group groups) (below_record b.above)) bs
+
+-- of a listed entry those of them that groups of the other record have, whose entries these are
+abbrev pub listed_shared : List (Listed ListedEntry) → Listed ListedEntry → List (List ℕ)
+listed_shared others b = shared_above (map listed_bearer others) (listed_bearer b)

@@ -1,6 +1,6 @@
 -- The qualifiers that an entry needs to be named.
-use Rattle.std.specs.Prelude.{◌≡◌, ℕ, ◌+◌, ◌<◌, ◌≤◌, bytes_eq, if◌then◌else◌, List, [], ◌∷◌, length, take}
-use Rattle.cob_copybook_names.specs.Naming.{Bearer, named}
+use Rattle.std.specs.Prelude.{◌≡◌, ℕ, ◌+◌, ◌<◌, ◌≤◌, bytes_eq, if◌then◌else◌, IsTrue, List, [], ◌∷◌, ◌++◌, length, take}
+use Rattle.cob_copybook_names.specs.Naming.{Bearer, has_name, named}
 use Rattle.cob_report_partners.specs.Entries.{DraftEntry}
 use Rattle.cob_report_partners.specs.declared.naming.Spread.{Spread}
 
@@ -30,3 +30,14 @@ pub record IsSpread (s : Spread) (k : ℕ) (count : ℕ) : Type 0 where
 pub record Spreads (s : Spread) (name : List ℕ) (above : List (List ℕ)) (all : List (Bearer DraftEntry)) : Type 0 where
   pub most : s.most ≤ length above + 1
   pub each : (k : ℕ) → k ≤ length above → IsSpread s k (length (named name (take k above) all))
+
+-- a spread over some entries became this one with further ones behind them
+abbrev pub SpreadsOn : (before now : Spread) → List ℕ → List (List ℕ) → List (Bearer DraftEntry) → Type 0
+SpreadsOn before now name above more =
+    (front : List (Bearer DraftEntry)) → Spreads before name above front → Spreads now name above (front ++ more)
+
+-- so it did with one that bears the name, whichever this is, and stands in groups of these names
+abbrev pub SpreadsOnNamed : (before now : Spread) → (qualifiers above : List (List ℕ)) → Type 0
+SpreadsOnNamed before now qualifiers above = (name : List ℕ) (bearer : Bearer DraftEntry) (front : List (Bearer DraftEntry))
+    → IsTrue (has_name name bearer.name) → bearer.above ≡ above → Spreads before name qualifiers front
+    → Spreads now name qualifiers (front ++ bearer ∷ [])

@@ -11,7 +11,7 @@ use Rattle.cob_layout_places.specs.declared.operands.Side.TheVariants.{In, Out}
 use Rattle.cob_move_names.specs.Pairs.{same_names}
 use Rattle.cob_picture.specs.Positions.{shows_number}
 use Rattle.cob_report_partners.specs.Entries.{DraftEntry, draft_entry, listed_bearer}
-use Rattle.cob_report_partners.specs.Groups.{below_record, is_below, names_there}
+use Rattle.cob_report_partners.specs.Groups.{below_record, is_below, names_there, shared_above}
 use Rattle.cob_report_partners.specs.declared.entries.DraftEntry.{DraftEntry as ListedEntry}
 use Rattle.cob_report_partners.specs.declared.partners.Partner.{Partner}
 use Rattle.cob_report_partners.specs.declared.partners.Partner.TheVariants as partner
@@ -129,6 +129,11 @@ is_sought sought.Whole r to b = may_be_partner Whole r to b
 is_sought (sought.Shared names) r to b = is_namesake to b && same_names (texts names.now) (names_there (output_bearers r) (below_record b.above))
 is_sought (sought.Within sender) r to b = redefines_sender (draft_entry sender.now) to b
 is_sought (sought.Beneath group) r to b = is_item_beneath (draft_entry group.now) to b
+
+-- the answer says of an entry of the input record that it is sought, with the names of groups above it that groups of the output record have
+abbrev pub TellsSought : Sought → (to from : Bearer DraftEntry) → List (List ℕ) → Bool → Type 0
+TellsSought s to from shared answer =
+    (r : BothRecords) → shared ≡ shared_above (output_bearers r) from → answer ≡ is_sought s r to from
 
 -- those that are sought
 abbrev pub those_sought : Sought → BothRecords → Bearer DraftEntry → List (Bearer DraftEntry) → List (Bearer DraftEntry)

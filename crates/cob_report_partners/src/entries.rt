@@ -4,13 +4,12 @@ ghost use Rattle.std.specs.Prelude.{◌≡◌, ◌+◌, ◌≤◌, [], ◌∷◌
 ghost use Rattle.cob_copybook_tree.specs.Lengths.{greatest_number};
 ghost use Rattle.cob_copybook_tree.specs.Nodes.{node, resolved_entry, tree_of};
 ghost use Rattle.cob_copybook_tree.specs.declared.node.Node.TheViews.{out-Node};
-ghost use Rattle.cob_copybook_names.specs.Listed.{texts};
 ghost use Rattle.cob_copybook_rules.specs.Areas.{is_varying};
 ghost use Rattle.cob_layout.specs.Sound.{AreNested, own_dimension};
 ghost use Rattle.cob_layout_places.specs.Places.{is_table};
 ghost use Rattle.cob_limits.specs.Limits.{most_dimensions};
 ghost use Rattle.cob_move_names.specs.Candidates.{with_table};
-ghost use Rattle.cob_report_partners.specs.Entries.{ListsBehind, draft_entries, draft_entry, entry_inside, inside, is_count, last_number, latest_behind, node_bearer, outside, record_entries, redefined_at, seen_setting, seen_source};
+ghost use Rattle.cob_report_partners.specs.Entries.{ListsBehind, ListsTree, draft_entry, entry_inside, inside, is_count, last_number, latest_behind, node_bearer, outside, record_entries, redefined_at, seen_setting, seen_source};
 
 use arrayvec::ArrayVec;
 use cob_copybook_names::{Bearer, name_of, names_beneath};
@@ -206,9 +205,8 @@ fn list_tree<'a>(
     listed: &mut Vec<DraftBearer<'a>>,
 ) -> Result<(), AllocError>
     requires nested { AreNested (length outer.now.tables.items) (tree_of entry.now) }
-    ensures { OnOk result (ListsBehind listed.old.items listed.new.items
-        (draft_entries (seen_source source.entry) (texts above.now) (seen_setting outer.now)
-        (tree_of entry.now))) }
+    ensures { OnOk result (ListsTree source.entry above.now outer.now entry.now listed.old.items
+        listed.new.items) }
 {
     list_entry(alloc, source, above, outer, entry, listed)?;
     if entry.children.is_empty() {

@@ -96,10 +96,12 @@ pub fn objection_to(
     from: &DraftEntry<'_>,
     to: &DraftEntry<'_>,
 ) -> Result<Option<Objection>, AllocError>
-    ensures none { IfOk result (λ objection. IfNone objection (MayStand from.now (greatest_element from.now.entry.now)
-        to.now (greatest_element to.now.entry.now))) }
-    ensures some { IfOk result (λ objection. IfSome objection (λ o. Objects from.now (greatest_element from.now.entry.now)
-        to.now (greatest_element to.now.entry.now) o)) }
+    ensures none { IfOk result (λ objection. IfNone objection
+        (MayStand from.now (greatest_element from.now.entry.now) to.now
+        (greatest_element to.now.entry.now))) }
+    ensures some { IfOk result (λ objection. IfSome objection
+        (λ o. Objects from.now (greatest_element from.now.entry.now) to.now
+        (greatest_element to.now.entry.now) o)) }
 {
     if let Some(objection) = objection_of_places(from, to) {
         return Ok(Some(objection));

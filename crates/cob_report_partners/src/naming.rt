@@ -1,10 +1,9 @@
 //! The qualifiers that an entry needs to be named.
 
-ghost use Rattle.std.specs.Prelude.{◌≡◌, ℕ, ◌<◌, ◌≤◌, ◌+◌, List, [], ◌∷◌, ◌++◌, length, map, IfNone, IfSome, IsTrue};
+ghost use Rattle.std.specs.Prelude.{◌≡◌, ℕ, ◌<◌, ◌≤◌, ◌+◌, [], ◌∷◌, length, map, IfNone, IfSome};
 ghost use Rattle.cob_copybook_names.specs.Listed.{texts};
-ghost use Rattle.cob_copybook_names.specs.Naming.{Bearer, has_name};
-ghost use Rattle.cob_report_partners.specs.Entries.{DraftEntry, listed_bearer};
-ghost use Rattle.cob_report_partners.specs.Naming.{IsNeeded, IsSpread, NamesOne, Spreads, reach};
+ghost use Rattle.cob_report_partners.specs.Entries.{listed_bearer};
+ghost use Rattle.cob_report_partners.specs.Naming.{IsNeeded, IsSpread, NamesOne, SpreadsOn, SpreadsOnNamed, reach};
 ghost use Rattle.cob_report_partners.specs.Partners.{all_bearers};
 
 use crate::entries::DraftBearer;
@@ -61,19 +60,15 @@ impl Spread {
 
 /// With a further entry, which bears the name and stands in groups of these names.
 fn spread_with(before: Spread, qualifiers: &[&[u8]], above: &[&[u8]]) -> Spread
-    ensures { (name : List ℕ) (bearer : Bearer DraftEntry) (front : List (Bearer DraftEntry))
-        → IsTrue (has_name name bearer.name) → bearer.above ≡ texts above.now
-        → Spreads before name (texts qualifiers.now) front
-        → Spreads result name (texts qualifiers.now) (front ++ bearer ∷ []) }
+    ensures { SpreadsOnNamed before result (texts qualifiers.now) (texts above.now) }
 {
     before.with(reach(qualifiers, above))
 }
 
 /// With a further entry.
 fn spread_by(before: Spread, name: &[u8], qualifiers: &[&[u8]], bearer: &DraftBearer<'_>) -> Spread
-    ensures { (front : List (Bearer DraftEntry))
-        → Spreads before name.now (texts qualifiers.now) front
-        → Spreads result name.now (texts qualifiers.now) (front ++ listed_bearer bearer.now ∷ []) }
+    ensures { SpreadsOn before result name.now (texts qualifiers.now)
+        (listed_bearer bearer.now ∷ []) }
 {
     if has_name(name, bearer.name) {
         return spread_with(before, qualifiers, bearer.above.as_slice());
@@ -88,9 +83,8 @@ fn spread_over(
     qualifiers: &[&[u8]],
     entries: &[DraftBearer<'_>],
 ) -> Spread
-    ensures { (front : List (Bearer DraftEntry))
-        → Spreads before name.now (texts qualifiers.now) front
-        → Spreads result name.now (texts qualifiers.now) (front ++ map listed_bearer entries.now) }
+    ensures { SpreadsOn before result name.now (texts qualifiers.now)
+        (map listed_bearer entries.now) }
 {
     let mut spread = before;
     for entry in entries {

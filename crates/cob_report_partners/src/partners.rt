@@ -4,8 +4,8 @@ ghost use Rattle.std.specs.Prelude.{◌≡◌, IfOk};
 ghost use Rattle.cob_copybook_names.specs.Listed.{texts};
 ghost use Rattle.cob_move_names.specs.Pairs.{same_names};
 ghost use Rattle.cob_report_partners.specs.Entries.{draft_entry, listed_bearer};
-ghost use Rattle.cob_report_partners.specs.Groups.{below_record, shared_above};
-ghost use Rattle.cob_report_partners.specs.Partners.{IsOnly, Shared, are_alike, candidates_for, candidates_within, fitting, input_bearers, is_beneath, is_input, is_item_beneath, is_namesake, is_number, is_sought, items_beneath, output_bearers, those_sought};
+ghost use Rattle.cob_report_partners.specs.Groups.{below_record};
+ghost use Rattle.cob_report_partners.specs.Partners.{IsOnly, Shared, TellsSought, are_alike, candidates_for, candidates_within, fitting, input_bearers, is_beneath, is_input, is_item_beneath, is_namesake, is_number, items_beneath, those_sought};
 
 use crate::entries::{DraftBearer, DraftEntry};
 use crate::groups::{is_below, names_there};
@@ -87,7 +87,8 @@ fn are_alike(one: &Kind, other: &Kind) -> bool
 
 /// Whether an item with a name stands beneath a group and in no redefinition, and is a number where another one is.
 fn is_item_beneath(group: &DraftEntry<'_>, to: &DraftBearer<'_>, from: &DraftBearer<'_>) -> bool
-    ensures { result ≡ is_item_beneath (draft_entry group.now) (listed_bearer to.now) (listed_bearer from.now) }
+    ensures { result ≡ is_item_beneath (draft_entry group.now) (listed_bearer to.now)
+        (listed_bearer from.now) }
 {
     from.entry.own
         && from.name.is_some()
@@ -113,9 +114,8 @@ fn is_sought(
     from: &DraftBearer<'_>,
     shared: &[&[u8]],
 ) -> bool
-    ensures { (records : BothRecords)
-        → texts shared.now ≡ shared_above (output_bearers records) (listed_bearer from.now)
-        → result ≡ is_sought sought.now records (listed_bearer to.now) (listed_bearer from.now) }
+    ensures { TellsSought sought.now (listed_bearer to.now) (listed_bearer from.now)
+        (texts shared.now) result }
 {
     match sought {
         Sought::Whole => is_namesake(to, from) && has_same_groups(to, from),
@@ -197,7 +197,8 @@ pub fn partner_within<'s, 'a>(
     sender: &DraftEntry<'_>,
     to: &DraftBearer<'_>,
 ) -> Result<Partner<'s, 'a>, AllocError>
-    ensures { IfOk result (λ partner. IsOnly partner (candidates_within records.now (draft_entry sender.now) (listed_bearer to.now))) }
+    ensures { IfOk result (λ partner. IsOnly partner
+        (candidates_within records.now (draft_entry sender.now) (listed_bearer to.now))) }
 {
     match only_sought(&Sought::Within(sender), records, to) {
         Partner::Missing => partner_of(alloc, records, to),
@@ -213,7 +214,8 @@ pub fn only_item_beneath<'s, 'a>(
     group: &DraftEntry<'_>,
     to: &DraftBearer<'_>,
 ) -> Partner<'s, 'a>
-    ensures { IsOnly result (items_beneath records.now (draft_entry group.now) (listed_bearer to.now)) }
+    ensures { IsOnly result (items_beneath records.now (draft_entry group.now)
+        (listed_bearer to.now)) }
 {
     only_sought(&Sought::Beneath(group), records, to)
 }

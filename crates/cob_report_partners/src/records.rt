@@ -1,10 +1,10 @@
 //! The entries of both records.
 
-ghost use Rattle.std.specs.Prelude.{◌≡◌, ◌<◌, filter, length, map, slice_get, IfOk, IfSome};
+ghost use Rattle.std.specs.Prelude.{◌≡◌, ◌<◌, length, map, slice_get, IfOk, IfSome};
 ghost use Rattle.cob_copybook_names.specs.Listed.{texts};
 ghost use Rattle.cob_layout_places.specs.declared.operands.Side.TheVariants.{In, Out};
 ghost use Rattle.cob_report_partners.specs.Entries.{listed_bearer, record_entries};
-ghost use Rattle.cob_report_partners.specs.Groups.{AreGroups, below_record, has_group, shared_above};
+ghost use Rattle.cob_report_partners.specs.Groups.{AreGroups, listed_shared, noted_above, shared_above};
 
 use crate::entries::{DraftBearer, entries_of};
 use crate::groups::{GroupNames, names_there};
@@ -34,7 +34,8 @@ fn listed<'a>(
     side: Side,
     layout: &'a Layout,
 ) -> Result<Vec<DraftBearer<'a>>, AllocError>
-    ensures { IfOk result (λ entries. map listed_bearer entries.items ≡ record_entries side layout.now) }
+    ensures { IfOk result (λ entries. map listed_bearer entries.items
+        ≡ record_entries side layout.now) }
 {
     let mut entries = Vec::new(alloc);
     entries_of(alloc, side, layout, &mut entries)?;
@@ -48,7 +49,7 @@ fn shared_names<'a>(
     entries: &[DraftBearer<'a>],
 ) -> Result<Vec<Vec<&'a [u8]>>, AllocError>
     ensures { IfOk result (λ shared. map (λ names. texts names.items) shared.items
-        ≡ map (λ b. filter (has_group groups.now) (below_record b.above)) (map listed_bearer entries.now)) }
+        ≡ noted_above groups.now (map listed_bearer entries.now)) }
 {
     let mut shared = Vec::new(alloc);
     for entry in entries {
@@ -68,8 +69,10 @@ impl<'a> BothRecords<'a> {
         input: &'a Layout,
         output: &'a Layout,
     ) -> Result<BothRecords<'a>, AllocError>
-        ensures inputs { IfOk result (λ r. map listed_bearer r.inputs.items ≡ record_entries In input.now) }
-        ensures outputs { IfOk result (λ r. map listed_bearer r.outputs.items ≡ record_entries Out output.now) }
+        ensures inputs { IfOk result (λ r. map listed_bearer r.inputs.items
+            ≡ record_entries In input.now) }
+        ensures outputs { IfOk result (λ r. map listed_bearer r.outputs.items
+            ≡ record_entries Out output.now) }
     {
         let inputs = listed(alloc, Side::In, input)?;
         let outputs = listed(alloc, Side::Out, output)?;
@@ -101,8 +104,8 @@ impl<'a> BothRecords<'a> {
     /// Of the names of the groups above the entry of the input record at this place, its record left out, those that groups of the output record have.
     pub(crate) fn shared_above(&self, place: usize) -> &[&'a [u8]]
         requires there { place < length self.now.inputs.items }
-        ensures { IfSome (slice_get self.now.inputs.items place) (λ from. texts result.now
-            ≡ shared_above (map listed_bearer self.now.outputs.items) (listed_bearer from)) }
+        ensures { IfSome (slice_get self.now.inputs.items place)
+            (λ from. texts result.now ≡ listed_shared self.now.outputs.items from) }
     {
         self.shared[place].as_slice()
     }
