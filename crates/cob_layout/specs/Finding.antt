@@ -6,6 +6,7 @@ use Rattle.cob_layout_places.specs.declared.places.Found.{Found}
 use Rattle.cob_layout_places.specs.declared.reference.Ref.{Ref}
 use Rattle.cob_layout_places.specs.declared.varying.Table.{Table}
 use Rattle.cob_layout_places.specs.Counts.{tables_of}
+use Rattle.cob_copybook_tree.specs.Lengths.{sum_of}
 use Rattle.cob_layout_places.specs.Lengths.{times}
 use Rattle.cob_layout_places.specs.Needs.{is_needed, is_read, number_behind}
 use Rattle.cob_layout_places.specs.Places.{place_of}
@@ -16,7 +17,7 @@ use Rattle.cob_layout.specs.declared.finding.FindFault.{FindFault}
 use Rattle.cob_layout.specs.declared.finding.FindFault.TheVariants.{Count, Subscript}
 use Rattle.cob_layout.specs.declared.shifts.Growth.{Growth}
 use Rattle.cob_layout.specs.Counting.{greatest_counts, NeededOf}
-use Rattle.cob_layout.specs.Kept.{kept_after, numbers_of, TakenAnew}
+use Rattle.cob_layout.specs.Kept.{AreKeptOf, kept_after, numbers_of, TakenAnew}
 use Rattle.cob_layout.specs.Placed.{element_under, placed_under}
 use Rattle.cob_layout.specs.Shifts.{growths_from, sums_by}
 
@@ -41,10 +42,32 @@ OnCountFault (Ok p) A = Unit {0}
 OnCountFault (Err (Subscript f)) A = Unit {0}
 OnCountFault (Err (Count f)) A = A
 
+-- it ends within the record's length under the counts that a reference needs
+abbrev pub EndsInLength : Forest Resolved → Ref → Bool → List ℕ → Place → Type 0
+EndsInLength tree r receiving bytes p =
+    (c : List ℕ) × NeededOf tree r.node receiving bytes (Ok c) × (p.offset + p.length ≤ sum_of (times c) tree)
+
+-- the counts that a reference needs are kept, and those that were kept before
+abbrev pub KeepsNeeded : Forest Resolved → Ref → Bool → List ℕ → (before now : List (Option StoredCount)) → Type 0
+KeepsNeeded tree r receiving bytes before now = (c : List ℕ) × NeededOf tree r.node receiving bytes (Ok c)
+    × (numbers_of now ≡ kept_after (is_read tree r.node receiving) c (tables_of tree) (numbers_of before))
+
 -- these counts put each element of an entry where those do
 abbrev pub StandsFor : Forest Resolved → ℕ → List ℕ → List ℕ → Type 0
 StandsFor tree r counts those =
     (subscripts : List ℕ) → place_of (times counts) r tree 0 0 subscripts ≡ place_of (times those) r tree 0 0 subscripts
+
+-- these counts stand for those that a reference needs, and so many are kept then
+abbrev pub HasNeeded : Forest Resolved → Ref → Bool → List ℕ → List ℕ → (before now : List (Option StoredCount)) → Type 0
+HasNeeded tree r receiving bytes counts before now = (c : List ℕ) × NeededOf tree r.node receiving bytes (Ok c)
+    × StandsFor tree r.node counts c
+    × (numbers_of now ≡ kept_after (is_read tree r.node receiving) c (tables_of tree) (numbers_of before))
+
+-- a reference has this element under the counts that it needs, and so many are kept then
+abbrev pub FindsNeeded : Forest Resolved → Ref → Bool → List ℕ → (before now : List (Option StoredCount)) → Found → Type 0
+FindsNeeded tree r receiving bytes before now found = (c : List ℕ) × NeededOf tree r.node receiving bytes (Ok c)
+    × (element_under c tree r ≡ Some found)
+    × (numbers_of now ≡ kept_after (is_read tree r.node receiving) c (tables_of tree) (numbers_of before))
 
 -- A reference has this element where all counts that it needs are kept: it stands so under them, none of them is read anew, and what is kept stays.
 abbrev pub IsFoundKept : Forest Resolved → Ref → Bool → (bytes : List ℕ) → List (Option StoredCount) → Found → Type 0
@@ -92,3 +115,9 @@ ReachTo behind counts sums tables growths ks =
 abbrev pub ReachIn : Forest Resolved → (behind : ℕ) → (counts sums : List ℕ) → List (Option StoredCount) → Type 0
 ReachIn tree behind counts sums ks =
     ReachTo behind counts sums (tables_of tree) (growths_from (spots_of (times []) tree 0 0) 0 tree) ks
+
+-- where the counts that a reference needs are among those that these reach, it has this element, whatever the storage of which so much is kept
+abbrev pub FindsWithin : Forest Resolved → Ref → Bool → (reach : ℕ) → (counts sums : List ℕ) → Found → Type 0
+FindsWithin tree r receiving reach counts sums found = (bytes : List ℕ) (kept : List (Option StoredCount))
+    → length kept ≡ length (tables_of tree) → AreKeptOf tree bytes kept → ReachIn tree reach counts sums kept
+    → IsFoundKept tree r receiving bytes kept found

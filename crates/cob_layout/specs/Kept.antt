@@ -1,15 +1,17 @@
 -- Counts of a storage that are kept.
-use Rattle.std.specs.Prelude.{◌≡◌, ◌⊎◌, ℕ, ◌+◌, ◌≤◌, Bool, MatchBool, List, [], ◌∷◌, Option, Some, None, Ok, Err, Result, length, if◌then◌else◌, map, option_map, slice_index, slice_set}
+use Rattle.std.specs.Prelude.{◌≡◌, ◌⊎◌, ℕ, ◌+◌, ◌≤◌, min, Bool, MatchBool, List, [], ◌∷◌, Option, Some, None, Ok, Err, Result, length, if◌then◌else◌, map, option_map, slice_index, slice_set}
 use Rattle.cob_copybook_tree.specs.Forests.{Forest}
 use Rattle.cob_copybook_tree.specs.Nodes.{Resolved}
 use Rattle.cob_layout_places.specs.declared.counts.CountFault.{CountFault}
+use Rattle.cob_layout_places.specs.declared.reference.Ref.{Ref}
 use Rattle.cob_layout_places.specs.declared.varying.Table.{Table}
 use Rattle.cob_layout_places.specs.Counts.{tables_of, IsCounted, Taken}
-use Rattle.cob_layout_places.specs.Needs.{keep, is_read}
+use Rattle.cob_layout_places.specs.Needs.{is_needed, keep, is_read}
 use Rattle.cob_layout.specs.Counting.{greatest_counts}
 use Rattle.cob_layout.specs.Sound.{IsSound}
 use Rattle.cob_layout.specs.declared.counts.StoredCount.{StoredCount}
 use Rattle.cob_layout.specs.declared.fields.Place.{Place}
+use Rattle.cob_layout.specs.declared.keeping.Needed.{Needed}
 use Rattle.cob_layout.specs.Fields.{with_field}
 use Rattle.cob_layout.specs.Ways.{spot_at}
 use Rattle.cob_layout_places.specs.declared.places.Found.{Found}
@@ -185,3 +187,23 @@ abbrev pub kept_read : (Table → Bool) → List ℕ → List Spot → List Tabl
 kept_read read d spots [] ks = ks
 kept_read read d spots (x ∷ xs) [] = []
 kept_read read d spots (x ∷ xs) (k ∷ ks) = (if read x then Some (stored_at d spots x) else k) ∷ kept_read read d spots xs ks
+
+-- so many reads are counted as it takes to get this of a lone table, where so much is kept
+abbrev pub ReadsLone : Forest Resolved → Table → List ℕ → List (Option StoredCount) → Result ℕ CountFault → (before now : ℕ) → Type 0
+ReadsLone tree x bytes ks outcome before now =
+    (n : ℕ) × IsReadOne tree bytes x (first_kept (numbers_of ks)) (greatest_counts tree) outcome n × (now ≡ min (before + n) most_reads)
+
+-- the table is one of those whose counts are needed
+abbrev pub is_asked_by : Needed → Table → Bool
+is_asked_by needed = is_needed needed.behind needed.last needed.number
+
+-- so many reads are counted as it takes to get this of the tables that are read, where so much is kept
+abbrev pub TakesAnew : Forest Resolved → (Table → Bool) → List ℕ → List (Option StoredCount) → Result (List ℕ) CountFault → (before now : ℕ) → Type 0
+TakesAnew tree read bytes ks outcome before now =
+    (n : ℕ) × TakenAnew tree bytes read (tables_of tree) (numbers_of ks) (greatest_counts tree) outcome n × (now ≡ min (before + n) most_reads)
+
+-- so many reads are counted as a reference takes, whatever it finds
+abbrev pub ReadsAnew : Forest Resolved → Ref → Bool → List ℕ → List (Option StoredCount) → (before now : ℕ) → Type 0
+ReadsAnew tree r receiving bytes ks before now = (c : Result (List ℕ) CountFault) × (n : ℕ)
+    × TakenAnew tree bytes (is_read tree r.node receiving) (tables_of tree) (numbers_of ks) (greatest_counts tree) c n
+    × (now ≡ min (before + n) most_reads)

@@ -117,3 +117,7 @@ pub record CanGrow (counts sums : List ℕ) (k : ℕ) (g : Growth) : Type 0 wher
 abbrev pub CanAllGrow : List ℕ → List ℕ → ℕ → List Growth → Type 0
 CanAllGrow counts sums k [] = Unit {0}
 CanAllGrow counts sums k (g ∷ gs) = CanGrow counts sums k g × CanAllGrow counts sums (k + 1) gs
+
+-- growths became these by that of an entry, if it grows, where so many end before it begins and before its first element ends
+abbrev pub AddsGrowth : List Spot → (before through : ℕ) → Resolved → (old new : List Growth) → Type 0
+AddsGrowth least before through e old new = new ≡ old ++ replicate (own_growth e.occurs (through - before)) (growth_of least before e)

@@ -25,6 +25,11 @@ pub record Standing : Type 0 where
   pub tables : List Table
   pub growths : List Growth
 
+-- these counts and spots, of which none is kept of a storage
+abbrev pub none_kept : List ℕ → List Spot → List Table → List Growth → Standing
+none_kept counts spots tables growths =
+    record { counts = counts; spots = spots; kept = replicate (length tables) None; tables = tables; growths = growths }
+
 -- How much room there is, and how much a record needs: a count for each entry, and one that is kept for each table that varies; and for which tables, and
 -- which of them that grow, it is.
 pub record RoomForCounts : Type 0 where

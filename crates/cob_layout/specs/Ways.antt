@@ -34,13 +34,16 @@ held w = record { tables = w.tables.items; end = w.end }
 abbrev pub spot_at : List Spot → ℕ → Spot
 spot_at spots k = slice_index_or spots k (record { offset = 0; length = 0; times = 0 })
 
+-- an element, moved by one subscript of this table, behind the elements before it
+abbrev pub moved_once : Found → Spot → ℕ → Found
+moved_once f t s = record { offset = f.offset + (s - 1) * t.length; length = f.length; within = f.within && nat_le s t.times }
+
 -- an element, moved by the subscripts of these tables, the outermost first, each behind the elements before it
 abbrev pub moved : List Spot → List ℕ → List ℕ → Found → Found
 moved spots [] subscripts f = f
 moved spots (t ∷ ts) [] f = f
 moved spots (t ∷ ts) (s ∷ subscripts) f =
-    let table = spot_at spots t in
-    moved spots ts subscripts (record { offset = f.offset + (s - 1) * table.length; length = f.length; within = f.within && nat_le s table.times })
+    moved spots ts subscripts (moved_once f (spot_at spots t) s)
 
 -- the first element of an entry
 abbrev pub first_element : List Spot → ℕ → Found

@@ -5,8 +5,7 @@
 
 ghost use Rattle.std.specs.Prelude.{◌≡◌, ◌+◌, ◌≤◌, ℕ, length, slice_index};
 ghost use Rattle.cob_limits.specs.Limits.{longest_record};
-ghost use Rattle.cob_layout_places.specs.Needs.{is_needed};
-ghost use Rattle.cob_layout.specs.Kept.{kept_read, stored_at};
+ghost use Rattle.cob_layout.specs.Kept.{is_asked_by, kept_read, stored_at};
 ghost use Rattle.cob_layout.specs.Footings.{first_by};
 ghost use Rattle.cob_layout.specs.Shifts.{all_shifted, CanShift, IsWithin};
 ghost use Rattle.cob_layout.specs.Ways.{moved, spot_at};
@@ -120,7 +119,7 @@ pub(crate) fn keep_by(
 )
     requires by { CanShift sums.now shifts.now least.now }
     requires as_many { length kept.old ≡ length tables.now }
-    ensures { kept.new ≡ kept_read (is_needed needed.behind needed.last needed.number) counts.now
+    ensures { kept.new ≡ kept_read (is_asked_by needed) counts.now
         (all_shifted sums.now counts.now 0 shifts.now least.now) tables.now kept.old }
 {
     for (index, table) in tables.iter().enumerate() {

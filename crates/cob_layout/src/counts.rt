@@ -1,10 +1,10 @@
 //! The counts of the tables of a record, where its entries stand under them, and which counts of a storage are kept.
 
-ghost use Rattle.std.specs.Prelude.{◌≡◌, ◌++◌, [], ◌∷◌, ℕ, List, length, replicate, slice_index, None, IfOk};
+ghost use Rattle.std.specs.Prelude.{◌≡◌, ◌++◌, [], ◌∷◌, ℕ, List, length, slice_index, IfOk};
 ghost use Rattle.cob_copybook_tree.specs.Forests.{Forest};
 ghost use Rattle.cob_copybook_tree.specs.Nodes.{Resolved, tree_of};
 ghost use Rattle.cob_layout.specs.Counting.{in_order, varying};
-ghost use Rattle.cob_layout.specs.Standing.{KeepsOf, forgotten};
+ghost use Rattle.cob_layout.specs.Standing.{KeepsOf, forgotten, none_kept};
 
 use crate::fields::Place;
 use crate::shifts::Growth;
@@ -84,13 +84,7 @@ impl Counts {
         growths: &[Growth],
     ) -> Result<Counts, AllocError>
         requires spots { length spots.items ≡ length taken.items }
-        ensures { IfOk result (λ c. c ≡ record {
-          counts = taken.items;
-          spots = spots.items;
-          kept = replicate (length tables.now) None;
-          tables = tables.now;
-          growths = growths.now;
-        }) }
+        ensures { IfOk result (λ c. c ≡ none_kept taken.items spots.items tables.now growths.now) }
     {
         let next = copied_counts(alloc, &taken)?;
         let kept = vec![in alloc; None; tables.len()]?;

@@ -12,8 +12,8 @@ ghost use Rattle.cob_layout_places.specs.Lengths.{times};
 ghost use Rattle.cob_layout_places.specs.Needs.{is_read};
 ghost use Rattle.cob_layout_places.specs.References.{Refers};
 ghost use Rattle.cob_layout.specs.Counting.{greatest_counts, NeededOf};
-ghost use Rattle.cob_layout.specs.Finding.{are_met, is_met, IsFound, OnCountFault, OnCounts};
-ghost use Rattle.cob_layout.specs.Kept.{kept_after, most_reads, numbers_of, TakenAnew};
+ghost use Rattle.cob_layout.specs.Finding.{EndsInLength, IsFound, KeepsNeeded, OnCountFault, OnCounts, are_met, is_met};
+ghost use Rattle.cob_layout.specs.Kept.{ReadsAnew, TakenAnew, kept_after, most_reads, numbers_of};
 ghost use Rattle.cob_layout.specs.Standing.{IsRoomFor, KeepsOf};
 
 use crate::counts::{Counts, StoredCount, count_at};
@@ -116,21 +116,14 @@ impl Layout {
         requires room { IsRoomFor self.now counts.old }
         requires kept { KeepsOf self.now bytes.now counts.old }
         ensures found { IsFound self.now reference.now receiving bytes.now result }
-        ensures current { IfOk result (λ p. (c : List ℕ)
-            × NeededOf self.now reference.now.node receiving bytes.now (Ok c)
-            × (p.offset + p.length ≤ sum_of (times c) self.now)) }
+        ensures current { IfOk result (EndsInLength self.now reference.now receiving bytes.now) }
         ensures fits { IfOk result (λ p. p.offset + p.length ≤ sum_of greatest_number self.now) }
         ensures same { OnCountFault result (counts.new ≡ counts.old) }
         ensures keeps { KeepsOf self.now bytes.now counts.new }
-        ensures kept { OnCounts result ((c : List ℕ)
-            × NeededOf self.now reference.now.node receiving bytes.now (Ok c)
-            × (numbers_of counts.new.kept
-            ≡ kept_after (is_read self.now reference.now.node receiving) c (tables_of self.now)
-            (numbers_of counts.old.kept))) }
-        ensures reads { (c : Result (List ℕ) CountFault) × (n : ℕ)
-            × TakenAnew self.now bytes.now (is_read self.now reference.now.node receiving)
-            (tables_of self.now) (numbers_of counts.old.kept) (greatest_counts self.now) c n
-            × (reads.new ≡ min (reads.old + n) most_reads) }
+        ensures kept { OnCounts result (KeepsNeeded self.now reference.now receiving bytes.now
+            counts.old.kept counts.new.kept) }
+        ensures reads { ReadsAnew self.now reference.now receiving bytes.now counts.old.kept
+            reads.old reads.new }
         ensures room { IsRoomFor self.now counts.new }
     {
         // For `current`: an element that is there ends within the record's length,
@@ -165,21 +158,14 @@ impl Layout {
         requires room { IsRoomFor self.now counts.old }
         requires kept { KeepsOf self.now bytes.now counts.old }
         ensures found { IsFound self.now reference.now receiving bytes.now result }
-        ensures current { IfOk result (λ p. (c : List ℕ)
-            × NeededOf self.now reference.now.node receiving bytes.now (Ok c)
-            × (p.offset + p.length ≤ sum_of (times c) self.now)) }
+        ensures current { IfOk result (EndsInLength self.now reference.now receiving bytes.now) }
         ensures fits { IfOk result (λ p. p.offset + p.length ≤ sum_of greatest_number self.now) }
         ensures same { OnCountFault result (counts.new ≡ counts.old) }
         ensures keeps { KeepsOf self.now bytes.now counts.new }
-        ensures kept { OnCounts result ((c : List ℕ)
-            × NeededOf self.now reference.now.node receiving bytes.now (Ok c)
-            × (numbers_of counts.new.kept
-            ≡ kept_after (is_read self.now reference.now.node receiving) c (tables_of self.now)
-            (numbers_of counts.old.kept))) }
-        ensures reads { (c : Result (List ℕ) CountFault) × (n : ℕ)
-            × TakenAnew self.now bytes.now (is_read self.now reference.now.node receiving)
-            (tables_of self.now) (numbers_of counts.old.kept) (greatest_counts self.now) c n
-            × (reads.new ≡ min (reads.old + n) most_reads) }
+        ensures kept { OnCounts result (KeepsNeeded self.now reference.now receiving bytes.now
+            counts.old.kept counts.new.kept) }
+        ensures reads { ReadsAnew self.now reference.now receiving bytes.now counts.old.kept
+            reads.old reads.new }
         ensures room { IsRoomFor self.now counts.new }
     {
         if let Some(place) = self.place_at_once(reference, receiving, bytes, counts, *reads) {

@@ -5,7 +5,7 @@ ghost use Rattle.cob_copybook_tree.specs.Forests.{entries_in};
 ghost use Rattle.cob_layout_places.specs.Counts.{tables_of};
 ghost use Rattle.cob_layout_places.specs.Needs.{is_needed};
 ghost use Rattle.cob_layout.specs.Counting.{greatest_counts};
-ghost use Rattle.cob_layout.specs.Kept.{IsIn, kept_read, most_reads, number_of, numbers_of, outcome_of, stored_at, IsReadOne, TakenAnew};
+ghost use Rattle.cob_layout.specs.Kept.{IsIn, IsReadOne, TakesAnew, is_asked_by, kept_read, most_reads, number_of, outcome_of, stored_at};
 ghost use Rattle.cob_layout.specs.Standing.{first_number, meets, meets_kept, LieWithin};
 
 use crate::counts::{KeptRange, NO_RANGE, StoredCount, count_at};
@@ -80,10 +80,8 @@ impl Layout {
         requires counts { counts.old ≡ greatest_counts self.now }
         requires as_many { length kept.now ≡ length (tables_of self.now) }
         requires sums { length sums.old ≡ entries_in self.now + 1 }
-        ensures taken { (n : ℕ) × TakenAnew self.now bytes.now
-            (is_needed needed.behind needed.last needed.number) (tables_of self.now)
-            (numbers_of kept.now) (greatest_counts self.now) (outcome_of result counts.new) n
-            × (reads.new ≡ min (reads.old + n) most_reads) }
+        ensures taken { TakesAnew self.now (is_asked_by needed) bytes.now kept.now
+            (outcome_of result counts.new) reads.old reads.new }
         ensures room { length counts.new ≡ length counts.old }
     {
         // For `taken`: how many reads there were is a count of 64 bits.

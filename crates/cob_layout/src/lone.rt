@@ -4,9 +4,8 @@
 //! counts, and a reference that needs it needs no other. What such a reference needs is had in a straight line then: no counts are copied, and no table is
 //! looked for.
 
-ghost use Rattle.std.specs.Prelude.{◌≡◌, ◌&&◌, ◌+◌, ◌<◌, [], ◌∷◌, true, false, ℕ, List, Result, length, min, take, Ok, Err, Some, OnOk, OnErr, IfErr, IfOk, IfSome, IsTrue};
+ghost use Rattle.std.specs.Prelude.{◌≡◌, ◌&&◌, ◌+◌, ◌<◌, [], ◌∷◌, true, false, length, take, Err, Some, OnOk, OnErr, IfErr, IfOk, IfSome, IsTrue};
 ghost use Rattle.cob_copybook_tree.specs.Forests.{entries_in};
-ghost use Rattle.cob_layout_places.specs.declared.counts.CountFault.{CountFault};
 ghost use Rattle.cob_layout_places.specs.declared.places.Found.{Found};
 ghost use Rattle.cob_layout_places.specs.Counts.{tables_of};
 ghost use Rattle.cob_layout_places.specs.Lengths.{times};
@@ -14,8 +13,8 @@ ghost use Rattle.cob_layout_places.specs.Needs.{is_read};
 ghost use Rattle.cob_layout_places.specs.Places.{place_of};
 ghost use Rattle.cob_layout_places.specs.References.{Refers};
 ghost use Rattle.cob_layout.specs.Counting.{greatest_counts, NeededOf};
-ghost use Rattle.cob_layout.specs.Finding.{ReachIn, StandsFor};
-ghost use Rattle.cob_layout.specs.Kept.{first_kept, kept_after, most_reads, numbers_of, AreKeptOf, IsIn, IsReadOne, TakenAnew};
+ghost use Rattle.cob_layout.specs.Finding.{HasNeeded, ReachIn};
+ghost use Rattle.cob_layout.specs.Kept.{AreKeptOf, IsIn, ReadsAnew, ReadsLone, numbers_of};
 ghost use Rattle.cob_layout.specs.Shifts.{grow_in, sums_of};
 ghost use Rattle.cob_layout.specs.Sound.{IsSound};
 ghost use Rattle.cob_layout.specs.Standing.{LieWithin};
@@ -79,7 +78,8 @@ impl Layout {
     #[inline(always)]
     fn greatest_item(&self, table: Table) -> Found
         requires table { IsIn table (tables_of self.now) }
-        ensures { place_of (times (greatest_counts self.now)) table.count self.now 0 0 [] ≡ Some result }
+        ensures { place_of (times (greatest_counts self.now)) table.count self.now 0 0 []
+            ≡ Some result }
     {
         let spot = spot_at(self.counts.spots(), table.count);
         Found {
@@ -108,9 +108,7 @@ impl Layout {
         requires kept { AreKeptOf self.now bytes.now kept.old }
         requires as_many { length kept.old ≡ 1 }
         requires within { LieWithin range.old kept.old }
-        ensures read { (n : ℕ) × IsReadOne self.now bytes.now table (first_kept (numbers_of kept.old))
-            (greatest_counts self.now) result n
-            × (reads.new ≡ min (reads.old + n) most_reads) }
+        ensures read { ReadsLone self.now table bytes.now kept.old result reads.old reads.new }
         ensures same { OnErr result (kept.new ≡ kept.old) }
         ensures kept { IfOk result (λ v. numbers_of kept.new ≡ Some v ∷ []) }
         ensures within { LieWithin range.new kept.new }
@@ -169,20 +167,15 @@ impl Layout {
         ensures err { IfErr result
             (λ e. NeededOf self.now reference.now.node receiving bytes.now (Err e)) }
         ensures same { OnErr result (kept.new ≡ kept.old) }
-        ensures came { OnOk result ((c : List ℕ)
-            × NeededOf self.now reference.now.node receiving bytes.now (Ok c)
-            × StandsFor self.now reference.now.node counts.new c
-            × (numbers_of kept.new
-            ≡ kept_after (is_read self.now reference.now.node receiving) c (tables_of self.now)
-            (numbers_of kept.old))) }
-        ensures sums { OnOk result (take (grow_in self.now + 1) sums.new ≡ sums_of self.now counts.new) }
+        ensures came { OnOk result (HasNeeded self.now reference.now receiving bytes.now counts.new
+            kept.old kept.new) }
+        ensures sums { OnOk result (take (grow_in self.now + 1) sums.new
+            ≡ sums_of self.now counts.new) }
         ensures reach { ReachIn self.now reach.new counts.new sums.new kept.new }
         ensures within { LieWithin range.new kept.new }
         ensures keeps { OnOk result (AreKeptOf self.now bytes.now kept.new) }
-        ensures reads { (c : Result (List ℕ) CountFault) × (n : ℕ)
-            × TakenAnew self.now bytes.now (is_read self.now reference.now.node receiving)
-            (tables_of self.now) (numbers_of kept.old) (greatest_counts self.now) c n
-            × (reads.new ≡ min (reads.old + n) most_reads) }
+        ensures reads { ReadsAnew self.now reference.now receiving bytes.now kept.old reads.old
+            reads.new }
     {
         // For `err` and `came`: the counts that are read are those that the reference needs, and counts that agree on them give it one place.
         needs_are_read();

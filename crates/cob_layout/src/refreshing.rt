@@ -9,7 +9,7 @@ ghost use Rattle.cob_layout_places.specs.References.{Refers};
 ghost use Rattle.cob_layout_places.specs.Spots.{spots_of};
 ghost use Rattle.cob_layout.specs.Counting.{greatest_counts, NeededOf};
 ghost use Rattle.cob_layout.specs.Fields.{with_field};
-ghost use Rattle.cob_layout.specs.Kept.{kept_read, most_reads, numbers_of, outcome_of, AreKeptOf, TakenAnew};
+ghost use Rattle.cob_layout.specs.Kept.{AreKeptOf, TakenAnew, TakesAnew, kept_read, most_reads, numbers_of, outcome_of};
 ghost use Rattle.cob_layout.specs.Standing.{AreSomePlaces, IsRoomFor, KeepsOf, written};
 
 use crate::counts::{Counts, StoredCount};
@@ -75,11 +75,8 @@ impl Layout {
         ensures kept { OnOk result (kept.new ≡ kept_read
             (is_read self.now reference.now.node receiving) taken.new spots.new
             (tables_of self.now) kept.old) }
-        ensures reads { (n : ℕ) × TakenAnew self.now bytes.now
-            (is_read self.now reference.now.node receiving) (tables_of self.now)
-            (numbers_of kept.old) (greatest_counts self.now)
-            (outcome_of result taken.new) n
-            × (reads.new ≡ min (reads.old + n) most_reads) }
+        ensures reads { TakesAnew self.now (is_read self.now reference.now.node receiving) bytes.now
+            kept.old (outcome_of result taken.new) reads.old reads.new }
     {
         // For `ok`, `err` and `keeps`: the counts that are read are those that the reference needs, and a count has one place.
         needs_are_read();

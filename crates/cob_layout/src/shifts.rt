@@ -5,13 +5,13 @@
 //! varies stands beneath it. So one sum for each table that grows, in the order in which they end, and what each entry needs of these sums, give all
 //! spots (`spots_of` of cob_layout_places).
 
-ghost use Rattle.std.specs.Prelude.{◌≡◌, ◌∷◌, ◌++◌, ◌+◌, ◌-◌, ◌<◌, ◌≤◌, ◌^◌, ℕ, [], length, replicate, slice_index, take, IfOk, IsFalse, IsTrue};
+ghost use Rattle.std.specs.Prelude.{◌≡◌, ◌∷◌, ◌++◌, ◌+◌, ◌-◌, ◌<◌, ◌≤◌, ◌^◌, ℕ, [], length, slice_index, take, IfOk, IsFalse, IsTrue};
 ghost use Rattle.cob_copybook_tree.specs.Forests.{entries_in};
 ghost use Rattle.cob_copybook_tree.specs.Nodes.{node, tree_of};
 ghost use Rattle.cob_limits.specs.Limits.{longest_record};
 ghost use Rattle.cob_layout_places.specs.Lengths.{times};
 ghost use Rattle.cob_layout_places.specs.Spots.{spots_of};
-ghost use Rattle.cob_layout.specs.Shifts.{all_shifted, grow_in, growth_of, growths_from, next_sum, own_bytes, own_growth, shift_of, shifted, shifts_from, sums_by, sums_of, CanAllGrow, CanGrow, CanShift, IsWithin};
+ghost use Rattle.cob_layout.specs.Shifts.{AddsGrowth, CanAllGrow, CanGrow, CanShift, IsWithin, all_shifted, grow_in, growth_of, growths_from, next_sum, own_bytes, own_growth, shift_of, shifted, shifts_from, sums_by, sums_of};
 
 use crate::counts::{count_at, greatest_count};
 use crate::layout::Layout;
@@ -109,9 +109,8 @@ fn push_growth(
     requires small { through + own_growth (node entry.now).top.occurs (through - before) < 2 ^ 64 }
     ensures behind { IfOk result (λ behind. behind
         ≡ through + own_growth (node entry.now).top.occurs (through - before)) }
-    ensures growths { IfOk result (λ _. growths.new.items ≡ growths.old.items
-        ++ replicate (own_growth (node entry.now).top.occurs (through - before))
-        (growth_of least.now before (node entry.now).top)) }
+    ensures growths { IfOk result (λ _. AddsGrowth least.now before through (node entry.now).top
+        growths.old.items growths.new.items) }
 {
     if !grows(entry.occurs, through - before) {
         return Ok(through);

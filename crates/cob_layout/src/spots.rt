@@ -1,12 +1,12 @@
 //! The spots of a record's entries, and elements that subscripts move from them.
 
-ghost use Rattle.std.specs.Prelude.{◌≡◌, ◌+◌, ◌-◌, ◌*◌, ◌≤◌, ◌&&◌, nat_le, length, drop, IfOk};
+ghost use Rattle.std.specs.Prelude.{◌≡◌, ◌+◌, ◌-◌, ◌*◌, ◌≤◌, length, drop, IfOk};
 ghost use Rattle.cob_copybook_tree.specs.Forests.{entries_in};
 ghost use Rattle.cob_copybook_tree.specs.Nodes.{tree_of};
 ghost use Rattle.cob_limits.specs.Limits.{longest_record};
 ghost use Rattle.cob_layout_places.specs.Lengths.{times, FitsInRecord};
 ghost use Rattle.cob_layout_places.specs.Spots.{spots_of};
-ghost use Rattle.cob_layout.specs.Ways.{first_element, moved, spot_at};
+ghost use Rattle.cob_layout.specs.Ways.{first_element, moved, moved_once, spot_at};
 
 use cob_copybook::Node;
 use cob_layout_places::{Found, Spot, put_spots};
@@ -75,11 +75,7 @@ pub(crate) fn copied_spots(alloc: Global, spots: &[Spot]) -> Result<Vec<Spot>, A
 /// An element of an entry, moved by one subscript of a table that holds the entry or that it is.
 pub(crate) fn moved_by(found: Found, table: Spot, subscript: u32) -> Found
     requires room { found.offset + (subscript - 1) * table.length ≤ longest_record }
-    ensures { result ≡ record {
-      offset = found.offset + (subscript - 1) * table.length;
-      length = found.length;
-      within = found.within && nat_le subscript table.times;
-    } }
+    ensures { result ≡ moved_once found table subscript }
 {
     Found {
         offset: found.offset + subscript.saturating_sub(1) * table.length,

@@ -4,18 +4,15 @@
 //! tables that grow, stay from call to call, and it is known up to which number they serve references: their reach (`ReachTo` of specs/Finding.antt). Past
 //! it counts are read. The reach ends where a kept count goes, or where the counts or the sums are written for another question.
 
-ghost use Rattle.std.specs.Prelude.{◌≡◌, ◌==◌, ◌&&◌, ◌+◌, ◌<◌, ◌≤◌, true, false, ℕ, List, Option, Result, length, min, take, Ok, Err, Some, OnOk, OnErr, IfErr, IfOk, IfSome, IsFalse, IsTrue};
+ghost use Rattle.std.specs.Prelude.{◌≡◌, ◌==◌, ◌&&◌, ◌+◌, ◌<◌, ◌≤◌, true, false, length, take, Ok, Err, Some, OnOk, OnErr, IfErr, IfOk, IfSome, IsFalse, IsTrue};
 ghost use Rattle.cob_copybook_tree.specs.Forests.{entries_in};
 ghost use Rattle.cob_copybook_tree.specs.Lengths.{greatest_number, sum_of};
-ghost use Rattle.cob_layout_places.specs.declared.counts.CountFault.{CountFault};
 ghost use Rattle.cob_layout_places.specs.Counts.{tables_of};
-ghost use Rattle.cob_layout_places.specs.Lengths.{times};
-ghost use Rattle.cob_layout_places.specs.Needs.{is_read, number_behind};
+ghost use Rattle.cob_layout_places.specs.Needs.{number_behind};
 ghost use Rattle.cob_layout_places.specs.References.{Refers};
-ghost use Rattle.cob_layout.specs.declared.counts.StoredCount.{StoredCount};
-ghost use Rattle.cob_layout.specs.Counting.{greatest_counts, NeededOf};
-ghost use Rattle.cob_layout.specs.Finding.{are_met, IsFound, IsFoundKept, ReachIn, SparesNone, StandsFor};
-ghost use Rattle.cob_layout.specs.Kept.{kept_after, most_reads, numbers_of, AreKeptOf, TakenAnew};
+ghost use Rattle.cob_layout.specs.Counting.{NeededOf};
+ghost use Rattle.cob_layout.specs.Finding.{EndsInLength, FindsNeeded, FindsWithin, HasNeeded, IsFound, KeepsNeeded, ReachIn, SparesNone, are_met};
+ghost use Rattle.cob_layout.specs.Kept.{AreKeptOf, ReadsAnew};
 ghost use Rattle.cob_layout.specs.Placed.{element_under};
 ghost use Rattle.cob_layout.specs.Shifts.{grow_in, sums_of};
 ghost use Rattle.cob_layout.specs.Standing.{IsRoomFor, KeepsOf, LieWithin};
@@ -99,10 +96,8 @@ impl Layout {
         requires room { length sums.now ≡ entries_in self.now + 1 }
         requires sums { 0 < reach
             → take (grow_in self.now + 1) sums.now ≡ sums_of self.now counts.now }
-        ensures { IfSome result (λ found. (bytes : List ℕ) (kept : List (Option StoredCount))
-            → length kept ≡ length (tables_of self.now) → AreKeptOf self.now bytes kept
-            → ReachIn self.now reach counts.now sums.now kept
-            → IsFoundKept self.now reference.now receiving bytes kept found) }
+        ensures { IfSome result (FindsWithin self.now reference.now receiving reach counts.now
+            sums.now) }
     {
         // For what `element_in` asks and what is found: the counts that are read are those that the reference needs, and counts that agree on them give
         // it one place.
@@ -145,18 +140,13 @@ impl Layout {
         ensures err { IfErr result
             (λ e. NeededOf self.now reference.now.node receiving bytes.now (Err e)) }
         ensures same { OnErr result (kept.new ≡ kept.old) }
-        ensures came { OnOk result ((c : List ℕ)
-            × NeededOf self.now reference.now.node receiving bytes.now (Ok c)
-            × StandsFor self.now reference.now.node counts.new c
-            × (numbers_of kept.new
-            ≡ kept_after (is_read self.now reference.now.node receiving) c (tables_of self.now)
-            (numbers_of kept.old))) }
-        ensures sums { OnOk result (take (grow_in self.now + 1) sums.new ≡ sums_of self.now counts.new) }
+        ensures came { OnOk result (HasNeeded self.now reference.now receiving bytes.now counts.new
+            kept.old kept.new) }
+        ensures sums { OnOk result (take (grow_in self.now + 1) sums.new
+            ≡ sums_of self.now counts.new) }
         ensures keeps { OnOk result (AreKeptOf self.now bytes.now kept.new) }
-        ensures reads { (c : Result (List ℕ) CountFault) × (n : ℕ)
-            × TakenAnew self.now bytes.now (is_read self.now reference.now.node receiving)
-            (tables_of self.now) (numbers_of kept.old) (greatest_counts self.now) c n
-            × (reads.new ≡ min (reads.old + n) most_reads) }
+        ensures reads { ReadsAnew self.now reference.now receiving bytes.now kept.old reads.old
+            reads.new }
     {
         // For `err`, `came` and `keeps`: the counts that are read are those that the reference needs, and a count has one place.
         needs_are_read();
@@ -218,20 +208,15 @@ impl Layout {
         ensures err { IfErr result
             (λ e. NeededOf self.now reference.now.node receiving bytes.now (Err e)) }
         ensures same { OnErr result (kept.new ≡ kept.old) }
-        ensures came { OnOk result ((c : List ℕ)
-            × NeededOf self.now reference.now.node receiving bytes.now (Ok c)
-            × StandsFor self.now reference.now.node counts.new c
-            × (numbers_of kept.new
-            ≡ kept_after (is_read self.now reference.now.node receiving) c (tables_of self.now)
-            (numbers_of kept.old))) }
-        ensures sums { OnOk result (take (grow_in self.now + 1) sums.new ≡ sums_of self.now counts.new) }
+        ensures came { OnOk result (HasNeeded self.now reference.now receiving bytes.now counts.new
+            kept.old kept.new) }
+        ensures sums { OnOk result (take (grow_in self.now + 1) sums.new
+            ≡ sums_of self.now counts.new) }
         ensures reach { ReachIn self.now reach.new counts.new sums.new kept.new }
         ensures within { LieWithin range.new kept.new }
         ensures keeps { OnOk result (AreKeptOf self.now bytes.now kept.new) }
-        ensures reads { (c : Result (List ℕ) CountFault) × (n : ℕ)
-            × TakenAnew self.now bytes.now (is_read self.now reference.now.node receiving)
-            (tables_of self.now) (numbers_of kept.old) (greatest_counts self.now) c n
-            × (reads.new ≡ min (reads.old + n) most_reads) }
+        ensures reads { ReadsAnew self.now reference.now receiving bytes.now kept.old reads.old
+            reads.new }
     {
         // For `came`: the counts that are read are those that the reference needs, and counts that agree on them give it one place.
         needs_are_read();
@@ -279,17 +264,11 @@ impl Layout {
         ensures err { IfErr result
             (λ e. NeededOf self.now reference.now.node receiving bytes.now (Err e)) }
         ensures same { OnErr result (counts.new ≡ counts.old) }
-        ensures came { IfOk result (λ f. (c : List ℕ)
-            × NeededOf self.now reference.now.node receiving bytes.now (Ok c)
-            × (element_under c self.now reference.now ≡ Some f)
-            × (numbers_of counts.new.kept
-            ≡ kept_after (is_read self.now reference.now.node receiving) c (tables_of self.now)
-            (numbers_of counts.old.kept))) }
+        ensures came { IfOk result (FindsNeeded self.now reference.now receiving bytes.now
+            counts.old.kept counts.new.kept) }
         ensures keeps { OnOk result (KeepsOf self.now bytes.now counts.new) }
-        ensures reads { (c : Result (List ℕ) CountFault) × (n : ℕ)
-            × TakenAnew self.now bytes.now (is_read self.now reference.now.node receiving)
-            (tables_of self.now) (numbers_of counts.old.kept) (greatest_counts self.now) c n
-            × (reads.new ≡ min (reads.old + n) most_reads) }
+        ensures reads { ReadsAnew self.now reference.now receiving bytes.now counts.old.kept
+            reads.old reads.new }
         ensures room { IsRoomFor self.now counts.new }
     {
         self.have_counts(
@@ -321,20 +300,13 @@ impl Layout {
         requires kept { KeepsOf self.now bytes.now counts.now }
         ensures found { IfSome result
             (λ p. IsFound self.now reference.now receiving bytes.now (Ok p)) }
-        ensures current { IfSome result (λ p. (c : List ℕ)
-            × NeededOf self.now reference.now.node receiving bytes.now (Ok c)
-            × (p.offset + p.length ≤ sum_of (times c) self.now)) }
+        ensures current { IfSome result (EndsInLength self.now reference.now receiving bytes.now) }
         ensures fits { IfSome result (λ p. p.offset + p.length ≤ sum_of greatest_number self.now) }
         // All that it needs is kept, and none of it is read.
-        ensures kept { IfSome result (λ _. (c : List ℕ)
-            × NeededOf self.now reference.now.node receiving bytes.now (Ok c)
-            × (numbers_of counts.now.kept
-            ≡ kept_after (is_read self.now reference.now.node receiving) c (tables_of self.now)
-            (numbers_of counts.now.kept))) }
-        ensures reads { IfSome result (λ _. (c : Result (List ℕ) CountFault) × (n : ℕ)
-            × TakenAnew self.now bytes.now (is_read self.now reference.now.node receiving)
-            (tables_of self.now) (numbers_of counts.now.kept) (greatest_counts self.now) c n
-            × (reads ≡ min (reads + n) most_reads)) }
+        ensures kept { IfSome result (λ _. KeepsNeeded self.now reference.now receiving bytes.now
+            counts.now.kept counts.now.kept) }
+        ensures reads { IfSome result (λ _. ReadsAnew self.now reference.now receiving bytes.now
+            counts.now.kept reads reads) }
     {
         // For `current`: an element that is there ends within the record's length,
         places_end_in_length();
