@@ -5,6 +5,7 @@ use Rattle.cob_codec.specs.declared.reading.Reading.{Reading}
 use Rattle.cob_copybook_tree.specs.declared.node.Item.{Item}
 use Rattle.cob_copybook_tree.specs.Lengths.{item_size}
 use Rattle.cob_edit.specs.Pictured.{places}
+use Rattle.cob_codec_lanes.specs.declared.text.KeptDigits.{KeptDigits}
 use Rattle.cob_codec_lanes.specs.Texts.{ArePlacesAt, IsKeeperOf}
 use Rattle.cob_codec_lanes.specs.Windows.{last_bytes}
 use Rattle.cob_codec_lanes.specs.Words.{IsNumberRead}
@@ -25,6 +26,10 @@ pub record IsTextReaderFor (from to : Item) (r : TextReader) : Type 0 where
   pub places : ArePlacesAt (digit_bytes_from 0 (places from.picture.positions)) r.places
   pub kept : IsKeeperOf (item_digits from) (item_digits to) (scale to.picture.positions -ℤ scale from.picture.positions) r.kept
   pub texts : AreWideTextsFor from 0 r.texts.items
+
+-- of the digits of an item those are kept that another item has places for
+abbrev pub IsKeeperFor : (from to : Item) → KeptDigits → Type 0
+IsKeeperFor from to kept = IsKeeperOf (item_digits from) (item_digits to) (scale to.picture.positions -ℤ scale from.picture.positions) kept
 
 -- What was read of the edited item at the end of bytes, for each two items whose reader this is.
 abbrev pub IsTextRead : TextReader → List ℕ → (is_number minus : Bool) → List ℕ → Type 0

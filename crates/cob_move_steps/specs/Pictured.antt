@@ -3,6 +3,7 @@ use Rattle.std.specs.Prelude.{◌≡◌, ℕ, List, length, Option}
 use Rattle.cob_codec.specs.declared.reading.Reading.TheVariants.{Pictured}
 use Rattle.cob_copybook_tree.specs.declared.node.Item.{Item}
 use Rattle.cob_copybook_tree.specs.declared.node.Kind.{Kind}
+use Rattle.cob_copybook_tree.specs.declared.node.Kind.TheVariants.{Item as ItemKind}
 use Rattle.cob_codec_lanes.specs.Windows.{last_bytes}
 use Rattle.cob_move_receive.specs.Received.{Received}
 use Rattle.cob_move_receive.specs.Sent.{Entry}
@@ -49,6 +50,16 @@ IsPicturedBetween steps k (pictured.Numerals number) = IsStepAt NumeralsStep (λ
 pub record IsPicturedStep (steps : PicturedSteps) (k : MoveKinds) (step : PicturedStep) : Type 0 where
   pub occupied : AreOccupied k
   pub between : IsPicturedBetween steps k step
+
+-- the step, one of these, carries out the moves between items of which this holds, whatever places they fill
+abbrev pub CarriesPicturedItems : PicturedSteps → (Item → Item → Type 0) → PicturedStep → Type 0
+CarriesPicturedItems steps holds step =
+    (k : MoveKinds) → AreOccupied k → BetweenItems holds k.sender k.receiver → IsPicturedStep steps k step
+
+-- so it does those of one item to another
+abbrev pub CarriesPicturedFromTo : PicturedSteps → (from to : Item) → PicturedStep → Type 0
+CarriesPicturedFromTo steps from to step =
+    (k : MoveKinds) → AreOccupied k → k.sender ≡ ItemKind from → k.receiver ≡ ItemKind to → IsPicturedStep steps k step
 
 -- there is a step between these kinds: the sender gives a short number, and the receiver is one, edits one, or takes its digits as characters
 abbrev pub HavePicturedStep : Kind → Kind → Type 0

@@ -1,5 +1,5 @@
 -- What carries out single moves between entries, by what these describe.
-use Rattle.std.specs.Prelude.{◌≡◌, ◌⊎◌, ◌<◌, ℕ, false, true, List, length, get_or, Option}
+use Rattle.std.specs.Prelude.{◌≡◌, ◌⊎◌, ◌<◌, ◌≤◌, ℕ, false, true, List, length, get_or, Option, Some}
 use Rattle.cob_codec.specs.declared.reading.Reading.{Reading}
 use Rattle.cob_copybook_tree.specs.declared.node.Item.{Item}
 use Rattle.cob_copybook_tree.specs.declared.node.Kind.{Kind}
@@ -16,6 +16,7 @@ use Rattle.cob_move_steps.specs.Steps.{IsNumberStep, is_binary}
 use Rattle.cob_move_steps.specs.Texts.{IsWideEditedItem}
 use Rattle.cob_move_steps.specs.Wide.{IsWideStep}
 use Rattle.cob_move_steps.specs.declared.any_number_step.AnyNumberStep.{AnyNumberStep}
+use Rattle.cob_move_steps.specs.declared.characters_step.CharactersStep.{CharactersStep}
 use Rattle.cob_move_steps.specs.declared.edit_step.EditStep.{EditStep}
 use Rattle.cob_move_steps.specs.declared.numerals_step.NumeralsStep.{NumeralsStep}
 use Rattle.cob_move_steps.specs.declared.pool.MoveStep.{MoveStep}
@@ -98,6 +99,20 @@ IsStepBetween steps k (move_step.Characters step) = IsCharactersStep k.sender k.
 pub record IsMoveStep (steps : MoveSteps) (k : MoveKinds) (step : MoveStep) : Type 0 where
   pub occupied : AreOccupied k
   pub between : IsStepBetween steps k step
+
+-- the step, one of these, carries out the moves between items of which this holds, whatever places they fill
+abbrev pub CarriesItems : MoveSteps → (Item → Item → Type 0) → MoveStep → Type 0
+CarriesItems steps holds step = (k : MoveKinds) → AreOccupied k → BetweenItems holds k.sender k.receiver → IsMoveStep steps k step
+
+-- so it does those of one item to another
+abbrev pub CarriesFromTo : MoveSteps → (from to : Item) → MoveStep → Type 0
+CarriesFromTo steps from to step =
+    (k : MoveKinds) → AreOccupied k → k.sender ≡ ItemKind from → k.receiver ≡ ItemKind to → IsMoveStep steps k step
+
+-- the characters of a sender that ends bytes became what its receiver holds, whatever move of these the step carries out
+abbrev pub PutsCharacters : MoveSteps → CharactersStep → (from before after : List ℕ) → Type 0
+PutsCharacters steps step from before after = (k : MoveKinds) → IsMoveStep steps k (move_step.Characters step)
+    → k.sent ≤ length from → length before ≡ k.received → IsReceived k from (Some after)
 
 -- the sender gives a short number and isn't binary, and the receiver is a number of any kind of storage, edits one, or takes its digits as characters
 pub record HaveSteadyNumbers (from to : Item) : Type 0 where

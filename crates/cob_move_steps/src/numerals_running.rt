@@ -16,7 +16,8 @@ impl NumeralsStep {
     /// It isn't inlined: a loop over many steps of all kinds stays one short function so.
     #[inline(never)]
     pub fn run(&self, from: &[u8], to: &mut [u8]) -> bool
-        ensures gets { IsNumeralsCarriedOut self.now from.now (length to.old) (outcome result to.new) }
+        ensures gets { IsNumeralsCarriedOut self.now from.now (length to.old)
+            (outcome result to.new) }
         ensures same { result ≡ false → to.new ≡ to.old }
     {
         let read = self.reader.read(from);

@@ -1,10 +1,9 @@
 //! Steps of single moves whose senders are read as their pictures say.
 
 ghost use Rattle.std.specs.Prelude.{◌≡◌, ◌≤◌, false, length, IfOk, IfSome, IsSome};
-ghost use Rattle.cob_move_steps.specs.Pictured.{HasNoPictured, HavePicturedStep, IsPicturedStep, IsReceivedPictured, KeepsPictured, MovesPictured, MovesPicturedToEdited, MovesPicturedToNumerals, MovesPicturedToWideEdited};
+ghost use Rattle.cob_move_steps.specs.Pictured.{CarriesPicturedFromTo, CarriesPicturedItems, HasNoPictured, HavePicturedStep, IsPicturedStep, IsReceivedPictured, KeepsPictured, MovesPictured, MovesPicturedToEdited, MovesPicturedToNumerals, MovesPicturedToWideEdited};
 ghost use Rattle.cob_move_steps.specs.Numerals.{HaveAnyShortNumbers};
-ghost use Rattle.cob_move_steps.specs.Pool.{AreOccupied, BetweenItems, MoveKinds};
-ghost use Rattle.cob_copybook_tree.specs.declared.node.Kind.TheVariants.{Item as ItemKind};
+ghost use Rattle.cob_move_steps.specs.Pool.{AreOccupied, MoveKinds};
 ghost use Rattle.cob_move_receive.specs.Received.{outcome};
 
 use crate::any_number_step::AnyNumberStep;
@@ -70,9 +69,7 @@ impl PicturedSteps {
     ///
     /// Where no memory is left.
     fn put_number(&mut self, step: AnyNumberStep) -> Result<PicturedStep, AllocError>
-        ensures step { IfOk result (λ put. (k : MoveKinds) → AreOccupied k
-            → BetweenItems (MovesPictured step) k.sender k.receiver
-            → IsPicturedStep self.new k put) }
+        ensures step { IfOk result (CarriesPicturedItems self.new (MovesPictured step)) }
         ensures kept { KeepsPictured self.old self.new }
     {
         let number = self.numbers.len();
@@ -86,9 +83,7 @@ impl PicturedSteps {
     ///
     /// Where no memory is left.
     fn put_edited(&mut self, step: EditStep) -> Result<PicturedStep, AllocError>
-        ensures step { IfOk result (λ put. (k : MoveKinds) → AreOccupied k
-            → BetweenItems (MovesPicturedToEdited step) k.sender k.receiver
-            → IsPicturedStep self.new k put) }
+        ensures step { IfOk result (CarriesPicturedItems self.new (MovesPicturedToEdited step)) }
         ensures kept { KeepsPictured self.old self.new }
     {
         let number = self.edits.len();
@@ -102,8 +97,8 @@ impl PicturedSteps {
     ///
     /// Where no memory is left.
     fn put_wide_edited(&mut self, step: WideEditStep) -> Result<PicturedStep, AllocError>
-        ensures step { IfOk result (λ put. (k : MoveKinds) → AreOccupied k
-            → BetweenItems (MovesPicturedToWideEdited step) k.sender k.receiver → IsPicturedStep self.new k put) }
+        ensures step { IfOk result (CarriesPicturedItems self.new
+            (MovesPicturedToWideEdited step)) }
         ensures kept { KeepsPictured self.old self.new }
     {
         let number = self.wide_edits.len();
@@ -117,8 +112,7 @@ impl PicturedSteps {
     ///
     /// Where no memory is left.
     fn put_numerals(&mut self, step: NumeralsStep) -> Result<PicturedStep, AllocError>
-        ensures step { IfOk result (λ put. (k : MoveKinds) → AreOccupied k
-            → BetweenItems (MovesPicturedToNumerals step) k.sender k.receiver → IsPicturedStep self.new k put) }
+        ensures step { IfOk result (CarriesPicturedItems self.new (MovesPicturedToNumerals step)) }
         ensures kept { KeepsPictured self.old self.new }
     {
         let number = self.numerals.len();
@@ -132,9 +126,8 @@ impl PicturedSteps {
     ///
     /// Where no memory is left.
     fn prepare_items(&mut self, from: &Item, to: &Item) -> Result<Option<PicturedStep>, AllocError>
-        ensures step { IfOk result (λ found. IfSome found (λ put. (k : MoveKinds) → AreOccupied k
-            → k.sender ≡ ItemKind from.now → k.receiver ≡ ItemKind to.now
-            → IsPicturedStep self.new k put)) }
+        ensures step { IfOk result (λ found. IfSome found
+            (CarriesPicturedFromTo self.new from.now to.now)) }
         ensures must { HaveAnyShortNumbers from.now to.now → IfOk result (λ found. IsSome found) }
         ensures kept { KeepsPictured self.old self.new }
     {

@@ -3,8 +3,7 @@
 ghost use Rattle.std.specs.Prelude.{◌≡◌, ◌≤◌, false, length, Some, IfOk, IfSome, IsSome};
 ghost use Rattle.cob_move_steps.specs.Numerals.{HaveAnyShortNumbers};
 ghost use Rattle.cob_move_steps.specs.Steps.{is_binary};
-ghost use Rattle.cob_move_steps.specs.Pool.{AreOccupied, BetweenItems, HasNoSteps, HaveShortNumbers, HaveStep, IsMoveStep, IsReceived, KeepsSteps, MoveKinds, MovesNumber, MovesAnyNumber, MovesToEdited, MovesText, MovesToNumerals, MovesToWideEdited, MovesWide};
-ghost use Rattle.cob_copybook_tree.specs.declared.node.Kind.TheVariants.{Item as ItemKind};
+ghost use Rattle.cob_move_steps.specs.Pool.{AreOccupied, CarriesFromTo, CarriesItems, HasNoSteps, HaveShortNumbers, HaveStep, IsMoveStep, IsReceived, KeepsSteps, MoveKinds, MovesAnyNumber, MovesNumber, MovesText, MovesToEdited, MovesToNumerals, MovesToWideEdited, MovesWide, PutsCharacters};
 ghost use Rattle.cob_move_steps.specs.declared.pool.MoveStep.TheVariants.{Characters};
 ghost use Rattle.cob_move_receive.specs.Received.{outcome};
 
@@ -93,8 +92,7 @@ impl MoveSteps {
     ///
     /// Where no memory is left.
     fn put_number(&mut self, step: NumberStep) -> Result<MoveStep, AllocError>
-        ensures step { IfOk result (λ put. (k : MoveKinds) → AreOccupied k
-            → BetweenItems (MovesNumber step) k.sender k.receiver → IsMoveStep self.new k put) }
+        ensures step { IfOk result (CarriesItems self.new (MovesNumber step)) }
         ensures kept { KeepsSteps self.old self.new }
     {
         let number = self.numbers.len();
@@ -108,8 +106,7 @@ impl MoveSteps {
     ///
     /// Where no memory is left.
     fn put_wide(&mut self, step: WideStep) -> Result<MoveStep, AllocError>
-        ensures step { IfOk result (λ put. (k : MoveKinds) → AreOccupied k
-            → BetweenItems (MovesWide step) k.sender k.receiver → IsMoveStep self.new k put) }
+        ensures step { IfOk result (CarriesItems self.new (MovesWide step)) }
         ensures kept { KeepsSteps self.old self.new }
     {
         let number = self.wides.len();
@@ -123,8 +120,7 @@ impl MoveSteps {
     ///
     /// Where no memory is left.
     fn put_any_number(&mut self, step: AnyNumberStep) -> Result<MoveStep, AllocError>
-        ensures step { IfOk result (λ put. (k : MoveKinds) → AreOccupied k
-            → BetweenItems (MovesAnyNumber step) k.sender k.receiver → IsMoveStep self.new k put) }
+        ensures step { IfOk result (CarriesItems self.new (MovesAnyNumber step)) }
         ensures kept { KeepsSteps self.old self.new }
     {
         let number = self.any_numbers.len();
@@ -138,8 +134,7 @@ impl MoveSteps {
     ///
     /// Where no memory is left.
     fn put_edited(&mut self, step: EditStep) -> Result<MoveStep, AllocError>
-        ensures step { IfOk result (λ put. (k : MoveKinds) → AreOccupied k
-            → BetweenItems (MovesToEdited step) k.sender k.receiver → IsMoveStep self.new k put) }
+        ensures step { IfOk result (CarriesItems self.new (MovesToEdited step)) }
         ensures kept { KeepsSteps self.old self.new }
     {
         let number = self.edits.len();
@@ -153,8 +148,7 @@ impl MoveSteps {
     ///
     /// Where no memory is left.
     fn put_wide_edited(&mut self, step: WideEditStep) -> Result<MoveStep, AllocError>
-        ensures step { IfOk result (λ put. (k : MoveKinds) → AreOccupied k
-            → BetweenItems (MovesToWideEdited step) k.sender k.receiver → IsMoveStep self.new k put) }
+        ensures step { IfOk result (CarriesItems self.new (MovesToWideEdited step)) }
         ensures kept { KeepsSteps self.old self.new }
     {
         let number = self.wide_edits.len();
@@ -168,8 +162,7 @@ impl MoveSteps {
     ///
     /// Where no memory is left.
     fn put_numerals(&mut self, step: NumeralsStep) -> Result<MoveStep, AllocError>
-        ensures step { IfOk result (λ put. (k : MoveKinds) → AreOccupied k
-            → BetweenItems (MovesToNumerals step) k.sender k.receiver → IsMoveStep self.new k put) }
+        ensures step { IfOk result (CarriesItems self.new (MovesToNumerals step)) }
         ensures kept { KeepsSteps self.old self.new }
     {
         let number = self.numerals.len();
@@ -183,8 +176,7 @@ impl MoveSteps {
     ///
     /// Where no memory is left.
     fn put_text(&mut self, step: TextStep) -> Result<MoveStep, AllocError>
-        ensures step { IfOk result (λ put. (k : MoveKinds) → AreOccupied k
-            → BetweenItems (MovesText step) k.sender k.receiver → IsMoveStep self.new k put) }
+        ensures step { IfOk result (CarriesItems self.new (MovesText step)) }
         ensures kept { KeepsSteps self.old self.new }
     {
         let number = self.texts.len();
@@ -199,9 +191,8 @@ impl MoveSteps {
     /// Where no memory is left.
     fn prepare_numbers(&mut self, from: &Item, to: &Item) -> Result<Option<MoveStep>, AllocError>
         requires { is_binary from.now.usage ≡ false }
-        ensures step { IfOk result (λ found. IfSome found (λ put. (k : MoveKinds) → AreOccupied k
-            → k.sender ≡ ItemKind from.now → k.receiver ≡ ItemKind to.now
-            → IsMoveStep self.new k put)) }
+        ensures step { IfOk result (λ found. IfSome found
+            (CarriesFromTo self.new from.now to.now)) }
         ensures must { HaveAnyShortNumbers from.now to.now → IfOk result (λ found. IsSome found) }
         ensures kept { KeepsSteps self.old self.new }
     {
@@ -232,9 +223,8 @@ impl MoveSteps {
     ///
     /// Where no memory is left.
     fn prepare_items(&mut self, from: &Item, to: &Item) -> Result<Option<MoveStep>, AllocError>
-        ensures step { IfOk result (λ found. IfSome found (λ put. (k : MoveKinds) → AreOccupied k
-            → k.sender ≡ ItemKind from.now → k.receiver ≡ ItemKind to.now
-            → IsMoveStep self.new k put)) }
+        ensures step { IfOk result (λ found. IfSome found
+            (CarriesFromTo self.new from.now to.now)) }
         ensures must { HaveShortNumbers from.now to.now → IfOk result (λ found. IsSome found) }
         ensures kept { KeepsSteps self.old self.new }
     {
@@ -334,9 +324,7 @@ impl MoveSteps {
     fn put_characters(&self, step: CharactersStep, from: &[u8], to: &mut [u8])
         requires { (k : MoveKinds) × IsMoveStep self.now k (Characters step)
             × (k.sent ≤ length from.now) × (length to.old ≡ k.received) }
-        ensures { (k : MoveKinds) → IsMoveStep self.now k (Characters step)
-            → k.sent ≤ length from.now → length to.old ≡ k.received
-            → IsReceived k from.now (Some to.new) }
+        ensures { PutsCharacters self.now step from.now to.old to.new }
     {
         self.run_characters(step, from, to);
     }

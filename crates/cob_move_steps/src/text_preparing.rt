@@ -1,11 +1,11 @@
 //! Steps of numbers of edited items, made ready.
 
-ghost use Rattle.std.specs.Prelude.{◌≤◌, ◌-ℤ◌, count_by, IfOk, IfSome, IsSome};
+ghost use Rattle.std.specs.Prelude.{◌≤◌, count_by, IfOk, IfSome, IsSome};
 ghost use Rattle.cob_edit.specs.Pictured.{places};
 ghost use Rattle.cob_edit.specs.Places.{bytes_of, is_digit};
-ghost use Rattle.cob_codec_lanes.specs.Texts.{ArePlacesAt, IsKeeperOf};
-ghost use Rattle.cob_picture.specs.Counts.{digits, scale};
-ghost use Rattle.cob_move_steps.specs.Deedits.{IsReceiverWriterFor, IsTextReaderFor, IsTextStep, ReceivesNumber};
+ghost use Rattle.cob_codec_lanes.specs.Texts.{ArePlacesAt};
+ghost use Rattle.cob_picture.specs.Counts.{digits};
+ghost use Rattle.cob_move_steps.specs.Deedits.{IsKeeperFor, IsReceiverWriterFor, IsTextReaderFor, IsTextStep, ReceivesNumber};
 ghost use Rattle.cob_move_steps.specs.Texts.{digit_bytes_from, IsWideEditedItem};
 
 use crate::ends_preparing::number_writer;
@@ -54,8 +54,7 @@ fn digit_places(item: &Item) -> DigitPlaces
 fn kept_digits(sender: &Item, receiver: &Item) -> KeptDigits
     requires sender { digits sender.now.picture.positions ≤ 16 }
     requires receiver { digits receiver.now.picture.positions ≤ 16 }
-    ensures { IsKeeperOf (digits sender.now.picture.positions) (digits receiver.now.picture.positions)
-        (scale receiver.now.picture.positions -ℤ scale sender.now.picture.positions) result }
+    ensures { IsKeeperFor sender.now receiver.now result }
 {
     KeptDigits::of(sender.picture.digits(), wanted_of(sender, receiver))
 }
@@ -67,7 +66,8 @@ fn text_reader(
     receiver: &Item,
 ) -> Result<Option<TextReader>, AllocError>
     requires { digits receiver.now.picture.positions ≤ 16 }
-    ensures reader { IfOk result (λ reader. IfSome reader (IsTextReaderFor sender.now receiver.now)) }
+    ensures reader { IfOk result (λ reader. IfSome reader
+        (IsTextReaderFor sender.now receiver.now)) }
     ensures must { IsWideEditedItem sender.now → IfOk result IsSome }
 {
     if !is_wide_edited_item(sender) {
@@ -114,7 +114,8 @@ impl TextStep {
         receiver: &Item,
     ) -> Result<Option<TextStep>, AllocError>
         ensures step { IfOk result (λ step. IfSome step (IsTextStep sender.now receiver.now)) }
-        ensures must { IsWideEditedItem sender.now → ReceivesNumber receiver.now → IfOk result IsSome }
+        ensures must { IsWideEditedItem sender.now → ReceivesNumber receiver.now
+            → IfOk result IsSome }
     {
         let Some(writer) = receiver_writer(alloc, receiver)? else {
             return Ok(None);

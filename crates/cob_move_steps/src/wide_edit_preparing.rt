@@ -52,7 +52,8 @@ impl WideEditStep {
         receiver: &Item,
     ) -> Result<Option<WideEditStep>, AllocError>
         ensures step { IfOk result (λ step. IfSome step (IsWideEditStep sender.now receiver.now)) }
-        ensures must { IsShortSender sender.now → IsWideEditedItem receiver.now → IfOk result IsSome }
+        ensures must { IsShortSender sender.now → IsWideEditedItem receiver.now
+            → IfOk result IsSome }
     {
         let Some(writer) = text_writer(alloc, receiver)? else {
             return Ok(None);

@@ -31,7 +31,8 @@ impl WideEditStep {
     #[inline(never)]
     pub fn run(&self, from: &[u8], to: &mut [u8]) -> bool
         requires { length to.old ≤ 32 }
-        ensures gets { IsWideEditCarriedOut self.now from.now (length to.old) (outcome result to.new) }
+        ensures gets { IsWideEditCarriedOut self.now from.now (length to.old)
+            (outcome result to.new) }
         ensures same { result ≡ false → to.new ≡ to.old }
     {
         let read = self.reader.read(from);
