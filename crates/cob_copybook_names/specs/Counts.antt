@@ -1,14 +1,17 @@
 -- DEPENDING ON: the counts of the tables of a record.
-use Rattle.std.specs.Prelude.{◌≡◌, ℕ, ◌+◌, ◌<◌, pos, true, false, List, [], ◌∷◌, Option, Some, None}
+use Rattle.std.specs.Prelude.{◌≡◌, ℕ, ◌+◌, ◌<◌, pos, true, false, List, [], ◌∷◌, map, Option, Some, None}
 use Rattle.cob_picture.specs.Positions.{PlainPicture}
 use Rattle.cob_picture.specs.Counts.{scale}
 use Rattle.cob_copybook_entry.specs.Described.{PlainEntry, PlainOccurs, Fixed, Varying}
+use Rattle.cob_copybook_entry.specs.declared.entry.Qualified.{Qualified}
 use Rattle.cob_copybook_entry.specs.declared.fault.BookRule.{BookRule}
 use Rattle.cob_copybook_entry.specs.declared.fault.BookRule.TheVariants as rule
 use Rattle.cob_copybook_tree.specs.Forests.{Forest, flat}
 use Rattle.cob_copybook_tree.specs.Resolving.{is_numeric}
 use Rattle.cob_copybook_names.specs.Naming.{Bearer, named}
-use Rattle.cob_copybook_names.specs.Entries.{NumberedEntry, bearers}
+use Rattle.cob_copybook_names.specs.declared.bearer.Bearer.{Bearer as Listed}
+use Rattle.cob_copybook_names.specs.declared.listing.NumberedEntry.{NumberedEntry as ListedEntry}
+use Rattle.cob_copybook_names.specs.Entries.{NumberedEntry, bearer_of, bearers}
 
 -- a number without a fraction, and without P, which would move the point
 pub record IsWholeNumber (p : PlainPicture) : Type 0 where
@@ -37,6 +40,10 @@ IsCountOf all n (Some (Varying least most name qualifiers)) (Some count) = IsCou
 IsCountOf all n (Some (Varying least most name qualifiers)) None = ⊥
 IsCountOf all n (Some (Fixed times)) count = count ≡ None
 IsCountOf all n None count = count ≡ None
+
+-- so it is among those that are listed, by what names it
+abbrev pub CountsTable : List (Listed ListedEntry) → ℕ → Qualified → ℕ → Type 0
+CountsTable listed n q count = IsCountOfTable (map bearer_of listed) n q.name q.qualifiers.items count
 
 -- the counts of entries from number n on
 abbrev pub AreCounts : List (Bearer NumberedEntry) → ℕ → List PlainEntry → List (Option ℕ) → Type 0

@@ -4,7 +4,7 @@ ghost use Rattle.cob_copybook_entry.specs.declared.fault.BookRule.TheVariants.{M
 ghost use Rattle.cob_copybook_entry.specs.Faults.{MemoryAside};
 ghost use Rattle.cob_copybook_tree.specs.Forests.{Forest, entries_in};
 ghost use Rattle.cob_copybook_tree.specs.Branches.{forest_of};
-ghost use Rattle.cob_copybook_names.specs.Counts.{IsWholeNumber, MayCount, IsCountOfTable, IsCountOf, AreCounts, AreCountsOfTables, IsRefusedAmong, IsRefused};
+ghost use Rattle.cob_copybook_names.specs.Counts.{AreCounts, AreCountsOfTables, CountsTable, IsCountOf, IsRefused, IsRefusedAmong, IsWholeNumber, MayCount};
 ghost use Rattle.cob_copybook_names.specs.Entries.{bearer_of, entry_of, known_entry};
 
 use crate::directory::Directory;
@@ -39,10 +39,9 @@ fn named_count(
     number: usize,
     count: &Qualified,
 ) -> Option<usize>
-    ensures found { IfSome result (λ c. IsCountOfTable (map bearer_of directory.now.bearers.items)
-        number count.now.name count.now.qualifiers.items c) }
-    ensures only { (c : ℕ) → IsCountOfTable (map bearer_of directory.now.bearers.items)
-        number count.now.name count.now.qualifiers.items c → IsSomeAnd result (λ d. d ≡ c) }
+    ensures found { IfSome result (CountsTable directory.now.bearers.items number count.now) }
+    ensures only { (c : ℕ) → CountsTable directory.now.bearers.items number count.now c
+        → IsSomeAnd result (λ d. d ≡ c) }
 {
     let found = directory.only_named(count.name.as_bytes(), count.qualifiers.as_slice());
     let Ok(bearer) = found else {

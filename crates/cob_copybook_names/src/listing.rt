@@ -4,8 +4,8 @@ ghost use Rattle.cob_copybook_tree.specs.Forests.{flat, entries_in};
 ghost use Rattle.cob_copybook_tree.specs.Branches.{forest_of};
 ghost use Rattle.cob_copybook_names.specs.Listed.{texts};
 ghost use Rattle.cob_copybook_names.specs.Naming.{with_name};
-ghost use Rattle.cob_copybook_names.specs.Entries.{bearer_at, bearers, entry_of};
-ghost use Rattle.cob_copybook_names.specs.Listing.{ListsBearers};
+ghost use Rattle.cob_copybook_names.specs.Entries.{bearers, entry_of};
+ghost use Rattle.cob_copybook_names.specs.Listing.{ListsBearer, ListsBearers};
 
 use crate::bearer::{Bearer, name_of, names_beneath};
 use cob_copybook_tree::{Branch, Entry};
@@ -39,9 +39,8 @@ fn list_entry<'a>(
     ensures beneath { IfOk result
         (λ v. texts v.items ≡ with_name (plain_entry entry.now).name (texts above.now)) }
     ensures length { OnOk result (length listed.new.items ≡ length listed.old.items + 1) }
-    ensures bearers { OnOk result
-        (ListsBearers listed.old.items listed.new.items (bearer_at
-        (texts above.now) in_table (length listed.old.items) (plain_entry entry.now) ∷ [])) }
+    ensures bearers { OnOk result (ListsBearer (texts above.now) in_table (plain_entry entry.now)
+        listed.old.items listed.new.items) }
     ensures entries { OnOk result (map
         entry_of listed.new.items ≡ map entry_of listed.old.items ++ plain_entry entry.now ∷ []) }
 {
