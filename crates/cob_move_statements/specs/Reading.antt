@@ -5,12 +5,13 @@ use Rattle.cob_source.specs.Tokens.{Lexeme, lexemes}
 use Rattle.cob_source.specs.declared.token.Token.{Token}
 use Rattle.cob_copybook_clauses.specs.declared.term.WordClass.TheVariants as term
 use Rattle.cob_copybook_clauses.specs.Terms.{word_class}
-use Rattle.cob_copybook_clauses.specs.Reading.{Answers}
+use Rattle.cob_copybook_clauses.specs.Reading.{Answers, EachCut, StandInFront}
+use Rattle.cob_move_statements.specs.declared.parts.Action.{Action}
 use Rattle.cob_move_statements.specs.declared.parts.Reference.{Reference}
 use Rattle.cob_move_statements.specs.declared.fault.MoveFault.{MoveFault}
 use Rattle.cob_move_statements.specs.declared.fault.MoveRule.TheVariants as rule
-use Rattle.cob_move_statements.specs.Written.{WrittenReference, WrittenStatement, written_reference}
-use Rattle.cob_move_statements.specs.Statements.{IsBracketed}
+use Rattle.cob_move_statements.specs.Written.{MoveCorresponding, MoveTo, WrittenReference, WrittenSender, WrittenStatement, written_action, written_reference}
+use Rattle.cob_move_statements.specs.Statements.{EndsReferences, IsAction, IsBracketed}
 
 -- words of a kind and TO stand in front, before these
 abbrev pub StandBeforeTo : (List Lexeme → Type 0) → List Lexeme → List Lexeme → Type 0
@@ -47,3 +48,17 @@ IsOrLacksMemory Is answer = IfOk answer Is × IfErr answer (λ f. f.rule ≡ rul
 -- the fault is want of memory, or that no statements are so
 abbrev pub Refused : (List WrittenStatement → Type 0) → MoveFault → Type 0
 Refused Are f = (f.rule ≡ rule.Memory) ⊎ ((f.rule ≡ rule.Grammar) × ((ss : List WrittenStatement) → Are ss → ⊥))
+
+-- CORRESPONDING and these two references stand in front, before these words
+abbrev pub CorrespondInFront : (from to : Reference) → List Lexeme → List Lexeme → Type 0
+CorrespondInFront from to words more = StandInFront (IsAction (MoveCorresponding (written_reference from) (written_reference to))) words more
+
+-- memory aside, a reader answers the sender and the receivers that stand in front, however the words are cut
+abbrev pub AnswersMoves : {E : Type 0} → Result (Option (Action × Bor (List Token))) E → List Lexeme → Type 0
+AnswersMoves answer words = (s : WrittenSender) (rs : List WrittenReference)
+    → EachCut (IsAction (MoveTo s rs)) EndsReferences words (OkAnswers written_action answer (MoveTo s rs))
+
+-- a reader answers the numbers in brackets that stand in front, and leaves the words behind them
+abbrev pub AnswersBracketed : Option (Bor (List Token) × Bor (List Token)) → List Lexeme → Type 0
+AnswersBracketed answer words = (before after : Lexeme) (ns more : List Lexeme) → IsBracketed before after ns
+    → words ≡ before ∷ (ns ++ after ∷ more) → Answers (λ r. lexemes r.now) answer ns more

@@ -1,16 +1,13 @@
-ghost use Rattle.std.specs.Prelude.{◌≡◌, List, ◌∷◌, ◌++◌, IfOk, IfSome, IsSomeAnd};
-ghost use Rattle.cob_source.specs.Tokens.{Lexeme, lexemes};
+ghost use Rattle.std.specs.Prelude.{◌≡◌, ◌∷◌, ◌++◌, IfOk, IfSome, IsSomeAnd};
+ghost use Rattle.cob_source.specs.Tokens.{lexemes};
 ghost use Rattle.cob_move_statements.specs.Written.{
   MoveCorresponding,
-  MoveTo,
   WrittenAction,
   WrittenReference,
-  WrittenSender,
   written_action,
-  written_reference,
 };
 ghost use Rattle.cob_copybook_clauses.specs.Reading.{EachCut, StandInFront};
-ghost use Rattle.cob_move_statements.specs.Reading.{AnswersBoth, OkAnswers};
+ghost use Rattle.cob_move_statements.specs.Reading.{AnswersBoth, AnswersMoves, CorrespondInFront, OkAnswers};
 ghost use Rattle.cob_move_statements.specs.Statements.{EndsReferences, FitsReference, IsAction};
 
 use crate::parts::{Action, Reference};
@@ -22,9 +19,8 @@ use std::alloc::{AllocError, Global};
 
 /// CORRESPONDING in front, its two references, and what is behind them.
 fn corresponding_at(words: &[Token]) -> Option<(Reference<'_>, Reference<'_>, &[Token])>
-    ensures found { IfSome result (λ r. StandInFront
-        (IsAction (MoveCorresponding (written_reference r.0) (written_reference r.1)))
-        (lexemes words.now) (lexemes r.2.now)) }
+    ensures found { IfSome result (λ r. CorrespondInFront r.0 r.1 (lexemes words.now)
+        (lexemes r.2.now)) }
     ensures only { (from to : WrittenReference) → EachCut (IsAction (MoveCorresponding from to))
         FitsReference (lexemes words.now) (AnswersBoth result from to) }
 {
@@ -42,9 +38,7 @@ fn corresponding_at(words: &[Token]) -> Option<(Reference<'_>, Reference<'_>, &[
 fn move_at(alloc: Global, words: &[Token]) -> Result<Option<(Action<'_>, &[Token])>, AllocError>
     ensures found { IfOk result (λ o. IfSome o (λ r. StandInFront
         (IsAction (written_action r.0)) (lexemes words.now) (lexemes r.1.now))) }
-    ensures only { (s : WrittenSender) (rs : List WrittenReference)
-        → EachCut (IsAction (MoveTo s rs)) EndsReferences (lexemes words.now)
-        (OkAnswers written_action result (MoveTo s rs)) }
+    ensures only { AnswersMoves result (lexemes words.now) }
 {
     let Some((sender, received)) = sender_to_at(words) else {
         return Ok(None);

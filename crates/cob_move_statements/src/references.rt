@@ -29,8 +29,8 @@ fn name_at(words: &[Token]) -> Option<(&[u8], &[Token])>
 
 /// The reference in front, and what is behind it.
 pub fn reference_at(words: &[Token]) -> Option<(Reference<'_>, &[Token])>
-    ensures found { IfSome result
-        (λ r. StandInFront (IsReference (written_reference r.0)) (lexemes words.now) (lexemes r.1.now)) }
+    ensures found { IfSome result (λ r. StandInFront (IsReference (written_reference r.0))
+        (lexemes words.now) (lexemes r.1.now)) }
     ensures only { (x : WrittenReference) → EachCutNeither (IsReference x) term.Of term.OpenBracket
         (lexemes words.now) (Answers written_reference result x) }
 {
@@ -57,7 +57,8 @@ pub fn references_at<'a>(
     words: &'a [Token],
 ) -> Result<(Vec<Reference<'a>>, &'a [Token]), AllocError>
     ensures found { IfOk result (λ r. StandInFront
-        (Several IsReference (written_references r.0.items)) (lexemes words.now) (lexemes r.1.now)) }
+        (Several IsReference (written_references r.0.items)) (lexemes words.now)
+        (lexemes r.1.now)) }
     ensures only { (xs : List WrittenReference) → EachCut (Several IsReference xs) EndsReferences
         (lexemes words.now) (AnswersReferences (λ rs. written_references rs.items) result xs) }
 {

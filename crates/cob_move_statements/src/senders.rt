@@ -28,8 +28,8 @@ fn begins_with_name(words: &[Token]) -> bool
 /// The entry in front that is sent, and what is behind it.
 fn sent_entry_at(words: &[Token]) -> Option<(StatementSender<'_>, &[Token])>
     requires { NameFirst (lexemes words.now) }
-    ensures found { IfSome result
-        (λ r. StandInFront (IsWrittenSender (written_sender r.0)) (lexemes words.now) (lexemes r.1.now)) }
+    ensures found { IfSome result (λ r. StandInFront (IsWrittenSender (written_sender r.0))
+        (lexemes words.now) (lexemes r.1.now)) }
     ensures only { (x : WrittenSender) → EachCutNeither (IsWrittenSender x) term.Of term.OpenBracket
         (lexemes words.now) (Answers written_sender result x) }
 {
@@ -51,8 +51,8 @@ fn is_literal_or_figurative(constant: &ValueClause<'_>) -> bool
 /// The constant in front that is sent, and what is behind it.
 fn sent_constant_at(words: &[Token]) -> Option<(StatementSender<'_>, &[Token])>
     requires { NoName (lexemes words.now) }
-    ensures found { IfSome result
-        (λ r. StandInFront (IsWrittenSender (written_sender r.0)) (lexemes words.now) (lexemes r.1.now)) }
+    ensures found { IfSome result (λ r. StandInFront (IsWrittenSender (written_sender r.0))
+        (lexemes words.now) (lexemes r.1.now)) }
     ensures only { (x : WrittenSender) → EachCutNeither (IsWrittenSender x) term.Of term.OpenBracket
         (lexemes words.now) (Answers written_sender result x) }
 {
@@ -65,8 +65,8 @@ fn sent_constant_at(words: &[Token]) -> Option<(StatementSender<'_>, &[Token])>
 
 /// The sender in front, and what is behind it.
 pub fn sender_at(words: &[Token]) -> Option<(StatementSender<'_>, &[Token])>
-    ensures found { IfSome result
-        (λ r. StandInFront (IsWrittenSender (written_sender r.0)) (lexemes words.now) (lexemes r.1.now)) }
+    ensures found { IfSome result (λ r. StandInFront (IsWrittenSender (written_sender r.0))
+        (lexemes words.now) (lexemes r.1.now)) }
     ensures only { (x : WrittenSender) → EachCutNeither (IsWrittenSender x) term.Of term.OpenBracket
         (lexemes words.now) (Answers written_sender result x) }
 {

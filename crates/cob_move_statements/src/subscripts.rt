@@ -4,9 +4,9 @@ ghost use Rattle.cob_decimal.specs.Literals.{AreDigits};
 ghost use Rattle.cob_source.specs.Tokens.{Lexeme, lexeme, lexemes};
 ghost use Rattle.cob_copybook_clauses.specs.declared.term.WordClass.TheVariants as term;
 ghost use Rattle.cob_move_statements.specs.Written.{word_texts};
-ghost use Rattle.cob_move_statements.specs.Statements.{AreSubscripts, IsBracketed, IsNumeral};
+ghost use Rattle.cob_move_statements.specs.Statements.{AreSubscripts, IsNumeral};
 ghost use Rattle.cob_copybook_clauses.specs.Reading.{Answers, EachCut, NotFirstWord, StandInFront};
-ghost use Rattle.cob_move_statements.specs.Reading.{BracketsInFront, Splits};
+ghost use Rattle.cob_move_statements.specs.Reading.{AnswersBracketed, BracketsInFront, Splits};
 
 use cob_copybook_clauses::{WordClass, behind, is_term};
 use cob_decimal::are_digits;
@@ -61,9 +61,7 @@ fn numerals_at(words: &[Token]) -> (&[Token], &[Token])
 fn bracketed_at(words: &[Token]) -> Option<(&[Token], &[Token])>
     ensures found { IfSome result
         (λ r. BracketsInFront (lexemes r.0.now) (lexemes words.now) (lexemes r.1.now)) }
-    ensures only { (before after : Lexeme) (ns more : List Lexeme) → IsBracketed before after ns
-        → lexemes words.now ≡ before ∷ (ns ++ after ∷ more)
-        → Answers (λ r. lexemes r.now) result ns more }
+    ensures only { AnswersBracketed result (lexemes words.now) }
 {
     let inside = behind(words, WordClass::OpenBracket)?;
     let (numbers, rest) = numerals_at(inside);
