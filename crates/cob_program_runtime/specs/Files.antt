@@ -1,9 +1,10 @@
 -- Files that have an extent, or none.
-use Rattle.std.specs.Prelude.{◌≡◌, ℕ, Bool, if◌then◌else◌, List, Option, None, Some, Result, Ok, Err}
+use Rattle.std.specs.Prelude.{◌≡◌, ℕ, ◌<◌, Bool, if◌then◌else◌, List, length, Option, None, Some, Result, Ok, Err}
 use Rattle.std.specs.Fs.{IsFile, file_type, metadata_len}
 use Rattle.std.specs.declared.fs.Metadata.{Metadata}
+use Rattle.std.specs.declared.io.Error.{Error}
 use Rattle.cob_program_runtime.specs.declared.extent.Extent.{Extent}
-use Rattle.cob_program_runtime.specs.Extents.{AtLimit, front_of, moved_by}
+use Rattle.cob_program_runtime.specs.Extents.{AtLimit, IsTooLarge, front_of, moved_by}
 
 -- how many bytes stand before the next one that is written to a file, of which the system says this: all that it has, or none
 abbrev pub first_position : Metadata → Bool → ℕ
@@ -39,3 +40,11 @@ extent_after (Err error) extent = extent
 abbrev pub extent_at : {E : Type 0} → Result ℕ E → Option Extent → Option Extent
 extent_at (Ok position) (Some extent) = Some (record { limit = extent.limit; position = position })
 extent_at moved extent = extent
+
+-- these bytes are as many as there is room for, and where there is room for none, there were none
+abbrev pub IsFrontWithin : Option Extent → (bytes front : List ℕ) → Type 0
+IsFrontWithin extent bytes front = (front ≡ front_within extent bytes) × (IsFull extent → length bytes ≡ 0)
+
+-- there are bytes, there is room for none, and this is the error
+abbrev pub HasNoRoom : Option Extent → List ℕ → Error → Type 0
+HasNoRoom extent bytes error = IsTooLarge error × IsFull extent × (0 < length bytes)

@@ -53,8 +53,8 @@ impl Extent {
     ///
     /// Where there are some, and there is room for none.
     pub fn front_of<'a>(&self, bytes: &'a [u8]) -> io::Result<&'a [u8]>
-        ensures { MatchResult result
-            (λ front. (front.now ≡ front_of self.now bytes.now) × (AtLimit self.now → length bytes.now ≡ 0))
+        ensures { MatchResult result (λ front. (front.now ≡ front_of self.now bytes.now)
+            × (AtLimit self.now → length bytes.now ≡ 0))
             (λ error. IsTooLarge error × AtLimit self.now × (0 < length bytes.now)) }
     {
         match usize::try_from(self.room()) {

@@ -6,7 +6,7 @@ ghost use Rattle.std.specs.Io.{ReadsAtMost, WritesAtMost};
 ghost use Rattle.std.specs.Io.KnownBytes.{Keeps, ReadConsumes, WriteAppends};
 ghost use Rattle.std.specs.Io.Seek.{SeekMoves};
 ghost use Rattle.cob_program_runtime.specs.Extents.{IsTooLarge};
-ghost use Rattle.cob_program_runtime.specs.Files.{IsExtentOf, IsFull, extent_after, extent_at, first_position, front_within};
+ghost use Rattle.cob_program_runtime.specs.Files.{HasNoRoom, IsExtentOf, IsFrontWithin, IsFull, extent_after, extent_at, first_position, front_within};
 
 use crate::extent::{Extent, too_large};
 use std::fs::{FileTimes, Metadata, OpenFile, OpenOptions, Permissions};
@@ -60,9 +60,8 @@ pub(crate) fn extent_of<F: OpenFile>(
 ///
 /// Where there are some, and it has room for none.
 pub(crate) fn front_within(extent: Option<Extent>, bytes: &[u8]) -> io::Result<&[u8]>
-    ensures { MatchResult result
-        (λ front. (front.now ≡ front_within extent bytes.now) × (IsFull extent → length bytes.now ≡ 0))
-        (λ error. IsTooLarge error × IsFull extent × (0 < length bytes.now)) }
+    ensures { MatchResult result (λ front. IsFrontWithin extent bytes.now front.now)
+        (HasNoRoom extent bytes.now) }
 {
     match extent {
         Some(extent) => extent.front_of(bytes),
@@ -109,8 +108,10 @@ impl<F: Read> Read for LimitedFile<F> {
 
     fn read(&mut self, buf: &mut [u8]) -> io::Result<usize>
         ensures bound { ReadsAtMost result buf.new }
-        ensures bytes { ReadConsumes (F.remaining self.old.file) (F.remaining self.new.file) result buf.new }
-        ensures moves { self.old.appends ≡ false → self.new.extent ≡ extent_after result self.old.extent }
+        ensures bytes { ReadConsumes (F.remaining self.old.file) (F.remaining self.new.file) result
+            buf.new }
+        ensures moves { self.old.appends ≡ false
+            → self.new.extent ≡ extent_after result self.old.extent }
         ensures stays { self.old.appends ≡ true → self.new.extent ≡ self.old.extent }
     {
         let answer = self.file.read(buf);
@@ -126,8 +127,10 @@ impl<F: Write> Write for LimitedFile<F> {
 
     fn write(&mut self, buf: &[u8]) -> io::Result<usize>
         ensures bound { WritesAtMost result buf.now }
-        ensures bytes { WriteAppends (F.contents self.old.file) (F.contents self.new.file) result buf.now }
-        ensures within { IfOk result (λ bytes. bytes ≤ length (front_within self.old.extent buf.now)) }
+        ensures bytes { WriteAppends (F.contents self.old.file) (F.contents self.new.file) result
+            buf.now }
+        ensures within { IfOk result (λ bytes. bytes ≤ length
+            (front_within self.old.extent buf.now)) }
         ensures extent { self.new.extent ≡ extent_after result self.old.extent }
         ensures full { IsFull self.old.extent → 0 < length buf.now → IsErrAnd result IsTooLarge }
     {
@@ -162,10 +165,11 @@ impl<F: Seek> Seek for LimitedFile<F> {
     ghost stream_bytes = { λ limited. F.stream_bytes limited.file };
 
     fn seek(&mut self, to: SeekFrom) -> io::Result<u64>
-        ensures position { SeekMoves (F.stream_position self.old.file) (F.stream_position self.new.file)
-            (F.stream_bytes self.old.file) to result }
+        ensures position { SeekMoves (F.stream_position self.old.file)
+            (F.stream_position self.new.file) (F.stream_bytes self.old.file) to result }
         ensures bytes { Keeps (F.stream_bytes self.old.file) (F.stream_bytes self.new.file) }
-        ensures moves { self.old.appends ≡ false → self.new.extent ≡ extent_at result self.old.extent }
+        ensures moves { self.old.appends ≡ false
+            → self.new.extent ≡ extent_at result self.old.extent }
         ensures stays { self.old.appends ≡ true → self.new.extent ≡ self.old.extent }
     {
         let answer = self.file.seek(to);

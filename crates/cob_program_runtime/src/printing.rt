@@ -26,7 +26,8 @@ impl Write for Counter {
 
 /// How many bytes are printed of a value.
 fn length_of<D: Display>(value: &D) -> io::Result<u64>
-    ensures { IfSome (D.output value.now) (λ text. IfOk result (λ bytes. bytes ≡ counted (length text))) }
+    ensures { IfSome (D.output value.now) (λ text. IfOk result
+        (λ bytes. bytes ≡ counted (length text))) }
 {
     let mut counter = Counter { bytes: 0 };
     match counter.write(value) {
@@ -54,7 +55,8 @@ pub(crate) fn extent_behind<R: Files>(rt: &R, limit: Option<u64>, path: &str) ->
 /// Where it does not.
 pub(crate) fn fits<D: Display>(extent: Option<Extent>, value: &D, more: u64) -> io::Result<()>
     ensures unlimited { extent ≡ None → IsOk result }
-    ensures fits { IfSome (D.output value.now) (λ text. IfOk result (λ _. FitsIn extent (length text + more))) }
+    ensures fits { IfSome (D.output value.now)
+        (λ text. IfOk result (λ _. FitsIn extent (length text + more))) }
 {
     match extent {
         None => Ok(()),
