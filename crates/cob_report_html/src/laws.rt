@@ -10,5 +10,6 @@ pub fn escapes_read_back()
 
 /// What is written is read in one way.
 pub fn reading_is_one()
-    ensures { (shown text other : List ℕ) → ReadsAs shown text → ReadsAs shown other → text ≡ other }
+    ensures { (shown text other : List ℕ) → ReadsAs shown text → ReadsAs shown other
+        → text ≡ other }
 {}
