@@ -1,6 +1,6 @@
 -- The storage of a record before the first move, cut into elements by their lengths.
 use Rattle.std.specs.Prelude.{◌≡◌, ℕ, List, [], ◌++◌, length}
-use Rattle.cob_copybook_tree.specs.Forests.{Forest, NoEntries, AnEntry}
+use Rattle.cob_copybook_tree.specs.Forests.{Forest, NoEntries, AnEntry, Tree}
 use Rattle.cob_copybook_tree.specs.Nodes.{Resolved}
 use Rattle.cob_copybook_tree.specs.Lengths.{greatest_number, sum_of, element_length}
 use Rattle.cob_move_initial.specs.Initial.{AreParts, Unless, HoldsElement}
@@ -20,3 +20,7 @@ AreBegun (AnEntry e children more) bytes =
 -- all elements of an entry, as many as there are at most
 abbrev pub AreElements : Resolved → Forest Resolved → List ℕ → Type 0
 AreElements e children = AreParts (OfSize (element_length greatest_number e children) (HoldsElement e.kind e.value (sum_of greatest_number children) (AreBegun children))) (greatest_number e)
+
+-- one element holds what that of an entry does, with those beneath it as they begin
+abbrev pub HoldsTree : Tree Resolved → List ℕ → Type 0
+HoldsTree t bytes = HoldsElement t.top.kind t.top.value (sum_of greatest_number t.beneath) (AreBegun t.beneath) bytes

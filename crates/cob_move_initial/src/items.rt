@@ -22,8 +22,8 @@ fn move_constant(value: &Value, item: &Item, bytes: &mut [u8])
         → (v : Amount) × ConstantGives (plain_value value.now) v }
     requires storable { IsStorable item.now }
     requires long { length bytes.old ≡ item_size item.now }
-    ensures { Received
-        (Literal (plain_value value.now)) (ItemKind item.now) (item_size item.now) (Some bytes.new) }
+    ensures { Received (Literal (plain_value value.now)) (ItemKind item.now) (item_size item.now)
+        (Some bytes.new) }
 {
     receive_in_item(&Sent::Constant(value), item, bytes);
 }
@@ -33,8 +33,8 @@ fn write_number(item: &Item, value: &Value, bytes: &mut [u8])
     requires fits { IsNumericValue item.now.picture (plain_value value.now) }
     requires storable { IsStorable item.now }
     requires long { length bytes.old ≡ item_size item.now }
-    ensures { Received
-        (Literal (plain_value value.now)) (ItemKind item.now) (item_size item.now) (Some bytes.new) }
+    ensures { Received (Literal (plain_value value.now)) (ItemKind item.now) (item_size item.now)
+        (Some bytes.new) }
 {
     move_constant(value, item, bytes);
 }

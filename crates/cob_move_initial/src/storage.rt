@@ -4,8 +4,8 @@ ghost use Rattle.std.specs.Prelude.{◌≡◌, ℕ, ◌*◌, ◌<◌, length, ta
 ghost use Rattle.cob_copybook_tree.specs.Nodes.{node, forest};
 ghost use Rattle.cob_copybook_tree.specs.Lengths.{greatest_number, sum_of, element_length, whole_length};
 ghost use Rattle.cob_move_receive.specs.Characters.{repeated};
-ghost use Rattle.cob_move_initial.specs.Initial.{HoldsElement, IsInitial};
-ghost use Rattle.cob_move_initial.specs.Begun.{AreElements, AreBegun};
+ghost use Rattle.cob_move_initial.specs.Initial.{IsInitial};
+ghost use Rattle.cob_move_initial.specs.Begun.{AreBegun, AreElements, HoldsTree};
 ghost use Rattle.cob_move_initial.specs.AtPlaces.{HoldAtPlaces};
 ghost use Rattle.cob_move_initial.specs.Ready.{HaveInitialStorage, HasInitialStorage};
 
@@ -30,8 +30,7 @@ fn write_element(entry: &Node, bytes: &mut [u8])
     requires ready { HasInitialStorage (node entry.now).top (node entry.now).beneath }
     requires room { length bytes.old ≡ element_length greatest_number (node entry.now).top
         (node entry.now).beneath }
-    ensures holds { HoldsElement (node entry.now).top.kind (node entry.now).top.value
-        (sum_of greatest_number (node entry.now).beneath) (AreBegun (node entry.now).beneath) bytes.new }
+    ensures holds { HoldsTree (node entry.now) bytes.new }
     ensures room { length bytes.new ≡ length bytes.old }
 {
     match &entry.kind {
