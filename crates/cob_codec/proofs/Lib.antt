@@ -7,3 +7,8 @@ pub mod ZonedLemmas
 pub mod PackedLemmas
 pub mod BinaryLemmas
 pub mod SliceLemmas
+pub mod HalfLemmas
+pub mod ZonedFlawLemmas
+pub mod SeparateFlawLemmas
+pub mod PackedFlawLemmas
+pub mod NaturalLemmas

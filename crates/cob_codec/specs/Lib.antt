@@ -4,3 +4,5 @@ pub mod Zoned
 pub mod Separate
 pub mod Packed
 pub mod Binary
+pub mod Flaws
+pub mod Naturals

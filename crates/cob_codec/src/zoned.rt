@@ -46,7 +46,7 @@ impl Storage for Zoned {
 }
 
 /// The place of the sign among the bytes.
-fn sign_at(signed: bool, leading: bool, count: usize) -> usize
+pub(crate) fn sign_at(signed: bool, leading: bool, count: usize) -> usize
     requires { 0 < count }
     ensures place { result ≡ sign_place signed leading count }
     ensures within { result < count }

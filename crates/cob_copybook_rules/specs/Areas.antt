@@ -1,18 +1,11 @@
 -- REDEFINES: areas, and the entries that share them.
 use Rattle.std.specs.Prelude.{◌≡◌, ◌⊎◌, ℕ, ◌≤◌, ◌<◌, Bool, true, false, ◌||◌, List, [], ◌∷◌, ◌++◌, Option, Some, None}
-use Rattle.cob_copybook_tree.specs.declared.node.ResolvedOccurs.{ResolvedOccurs}
-use Rattle.cob_copybook_tree.specs.declared.node.ResolvedOccurs.TheVariants.{Once, Fixed, Varying}
+use Rattle.cob_copybook_tree.specs.declared.node.ResolvedOccurs.TheVariants.{Once}
 use Rattle.cob_copybook_tree.specs.declared.node.Kind.{Kind}
 use Rattle.cob_copybook_tree.specs.declared.node.Kind.TheVariants.{Group, Item as ItemKind}
 use Rattle.cob_copybook_tree.specs.Forests.{Forest, NoEntries, AnEntry, Tree}
-use Rattle.cob_copybook_tree.specs.Nodes.{Resolved, MayHold}
+use Rattle.cob_copybook_tree.specs.Nodes.{Resolved, MayHold, is_varying}
 use Rattle.cob_copybook_tree.specs.Lengths.{greatest_number, whole_length}
-
--- a table with DEPENDING ON
-abbrev pub is_varying : ResolvedOccurs → Bool
-is_varying Once = false
-is_varying (Fixed n) = false
-is_varying (Varying least most count) = true
 
 -- whether one of the entries is a table that varies
 abbrev pub hold_varying : Forest Resolved → Bool

@@ -11,7 +11,8 @@ use Rattle.cob_copybook_entry.specs.declared.kinds.Usage.{Usage}
 use Rattle.cob_copybook_entry.specs.declared.kinds.Usage.TheVariants.{Display}
 use Rattle.cob_copybook_entry.specs.Described.{PlainEntry}
 use Rattle.cob_copybook_tree.specs.Forests.{Forest, NoEntries, AnEntry}
-use Rattle.cob_copybook_tree.specs.Resolving.{inherited, is_display}
+use Rattle.cob_copybook_entry.specs.Kinds.{is_display}
+use Rattle.cob_copybook_tree.specs.Resolving.{inherited}
 
 -- letters or characters
 abbrev pub TakesCharacters : Category → Type 0

@@ -1,13 +1,12 @@
 -- USAGE: a group's applies to each item in it.
-use Rattle.std.specs.Prelude.{◌≡◌, ◌≤◌, pos, ◌-ℤ◌, ◌≤ℤ◌, true, Option, Some, None}
-use Rattle.cob_limits.specs.Limits.{most_binary_digits}
+use Rattle.std.specs.Prelude.{◌≡◌, true, MatchBool, Option, Some, None}
 use Rattle.cob_picture.specs.Positions.{PlainPicture}
-use Rattle.cob_picture.specs.Counts.{digits, scale}
 use Rattle.cob_copybook_entry.specs.declared.kinds.Usage.{Usage}
-use Rattle.cob_copybook_entry.specs.declared.kinds.Usage.TheVariants.{Display, Binary, Packed}
+use Rattle.cob_copybook_entry.specs.Kinds.{is_display}
 use Rattle.cob_copybook_entry.specs.Described.{PlainEntry}
 use Rattle.cob_copybook_tree.specs.Forests.{Forest, NoEntries, AnEntry}
 use Rattle.cob_copybook_tree.specs.Resolving.{inherited, is_numeric}
+use Rattle.cob_copybook_tree.specs.Storage.{AllowsPicture, storage_kind_by}
 
 -- an entry's usage is that of the groups that hold it, where both have one
 abbrev pub Agree : Option Usage → Option Usage → Type 0
@@ -15,16 +14,9 @@ Agree None own = Unit {0}
 Agree (Some u) None = Unit {0}
 Agree (Some u) (Some v) = u ≡ v
 
--- a number's digits, those that a P stands for counted too, are no more than those of a binary item
-abbrev pub IsNarrow : PlainPicture → Type 0
-IsNarrow p = (digits p.positions ≤ most_binary_digits) × (scale p.positions ≤ℤ pos most_binary_digits)
-    × ((pos (digits p.positions) -ℤ scale p.positions) ≤ℤ pos most_binary_digits)
-
--- a packed or binary item is a number, and a binary one has few enough digits
+-- each picture may have the usage of characters; an item of another usage is a number, whose picture its kind of storage is allowed
 abbrev pub Takes : Usage → PlainPicture → Type 0
-Takes Display p = Unit {0}
-Takes Packed p = is_numeric p.category ≡ true
-Takes Binary p = (is_numeric p.category ≡ true) × IsNarrow p
+Takes usage p = MatchBool (is_display usage) (Unit {0}) ((is_numeric p.category ≡ true) × AllowsPicture (storage_kind_by usage None) p)
 
 -- an item may have the usage that its clause or its groups say, if they say one
 abbrev pub MayHave : Option Usage → Option PlainPicture → Type 0

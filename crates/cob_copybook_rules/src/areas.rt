@@ -2,37 +2,22 @@
 
 ghost use Rattle.std.specs.Prelude.{◌≡◌, ◌≤◌, ◌↔◌, [], ◌∷◌, map, Some, IsTrue};
 ghost use Rattle.std.specs.Option.{IsNone};
-ghost use Rattle.cob_copybook_tree.specs.declared.node.ResolvedOccurs.TheVariants.{Once};
 ghost use Rattle.cob_copybook_tree.specs.Nodes.{node, forest};
 ghost use Rattle.cob_copybook_tree.specs.Lengths.{greatest_number, sum_of, whole_length};
 ghost use Rattle.cob_limits.specs.Limits.{longest_record};
-ghost use Rattle.cob_copybook_rules.specs.Areas.{hold_varying, is_varying, Bears, FitsArea, MayFollow, AreAreas, ArePossible};
+ghost use Rattle.cob_copybook_rules.specs.Areas.{hold_varying, Bears, FitsArea, MayFollow, AreAreas, ArePossible};
 ghost use Rattle.cob_copybook_rules.specs.Greatest.{greatest_whole};
 ghost use Rattle.cob_copybook_rules.specs.Short.{IsShortArea};
 
-use cob_copybook_tree::{Name, Node, ResolvedOccurs, whole_length};
+use cob_copybook_tree::{Name, Node, whole_length};
 use std::slice;
-
-/// Whether a table varies.
-fn is_varying(times: ResolvedOccurs) -> bool
-    ensures { result ≡ is_varying times }
-{
-    matches!(times, ResolvedOccurs::Varying { .. })
-}
-
-/// Whether an entry is no table.
-fn is_once(times: ResolvedOccurs) -> bool
-    ensures { IsTrue result ↔ (times ≡ Once) }
-{
-    matches!(times, ResolvedOccurs::Once)
-}
 
 /// Whether one of the entries, or of those beneath them, is a table that varies.
 fn hold_varying(entries: &[Node]) -> bool
     ensures { result ≡ hold_varying (forest entries.now) }
 {
     for entry in entries {
-        if is_varying(entry.occurs) || hold_varying(entry.children.as_slice()) {
+        if entry.occurs.is_varying() || hold_varying(entry.children.as_slice()) {
             return true;
         }
     }
@@ -77,7 +62,7 @@ fn fits_area(first: &Node, entry: &Node) -> bool
     ensures yes { IsTrue result → FitsArea (node first.now) (node entry.now) }
     ensures must { FitsArea (node first.now) (node entry.now) → IsTrue result }
 {
-    is_once(first.occurs)
+    first.occurs.is_once()
         && !hold_varying(slice::from_ref(first))
         && !hold_varying(slice::from_ref(entry))
         && is_no_longer(entry, first)

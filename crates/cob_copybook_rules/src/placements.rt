@@ -44,9 +44,7 @@ fn can_be_blank(usage: Usage, picture: &Picture) -> bool
 {
     match picture.category() {
         Category::NumericEdited => !has(picture, Symbol::Star),
-        Category::Numeric => {
-            usage == Usage::Display && !picture.signed() && !has(picture, Symbol::P)
-        }
+        Category::Numeric => { usage.is_display() && !picture.signed() && !has(picture, Symbol::P) }
         Category::Alphabetic | Category::Alphanumeric | Category::AlphanumericEdited => false,
     }
 }

@@ -2,13 +2,10 @@ ghost use Rattle.std.specs.Prelude.{◌≡◌, IsTrue};
 ghost use Rattle.std.specs.Option.{IsNone};
 ghost use Rattle.cob_copybook_tree.specs.Branches.{forest_of};
 ghost use Rattle.cob_copybook_tree.specs.Resolving.{inherited};
-ghost use Rattle.cob_copybook_rules.specs.Usages.{Agree, IsNarrow, Takes, MayHave, AreUsages};
+ghost use Rattle.cob_copybook_rules.specs.Usages.{Agree, Takes, MayHave, AreUsages};
 
-use cob_copybook_tree::{Branch, Usage};
+use cob_copybook_tree::{Branch, StorageKind, Usage};
 use cob_picture::{Category, Picture};
-
-/// The most digits of a binary item, those that a P stands for counted too.
-const MAX_BINARY_DIGITS: i16 = cob_limits::MAX_BINARY_DIGITS as i16;
 
 /// The usage of an entry beneath groups with the usage `above`: its own, else theirs.
 pub(crate) fn inherited(above: Option<Usage>, own: Option<Usage>) -> Option<Usage>
@@ -28,26 +25,13 @@ fn agree(above: Option<Usage>, own: Option<Usage>) -> bool
     }
 }
 
-/// Whether the number has few enough digits for a binary item.
-fn is_narrow(picture: &Picture) -> bool
-    ensures yes { IsTrue result → IsNarrow picture.now }
-    ensures must { IsNarrow picture.now → IsTrue result }
-{
-    let digits = i16::from(picture.digits());
-    let scale = i16::from(picture.scale());
-    digits <= MAX_BINARY_DIGITS && scale <= MAX_BINARY_DIGITS && digits - scale <= MAX_BINARY_DIGITS
-}
-
 /// Whether an item with the picture may have the usage.
 fn takes(usage: Usage, picture: &Picture) -> bool
     ensures yes { IsTrue result → Takes usage picture.now }
     ensures must { Takes usage picture.now → IsTrue result }
 {
-    match usage {
-        Usage::Display => true,
-        Usage::Packed => picture.category() == Category::Numeric,
-        Usage::Binary => picture.category() == Category::Numeric && is_narrow(picture),
-    }
+    usage.is_display()
+        || (picture.category() == Category::Numeric && StorageKind::of(usage, None).allows(picture))
 }
 
 /// Whether an entry with the picture, or without one, may have the usage.

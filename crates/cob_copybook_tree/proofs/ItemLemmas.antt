@@ -1,25 +1,22 @@
 -- Bytes of an item represent one number, whatever its kind of storage.
-use Rattle.std.proofs.Common.{◌≡◌, ℕ, ◌+◌, ◌<◌, List, refl, sym, subst, arith, Bool, true, false, Option, Some, None}
+use Rattle.std.proofs.Common.{◌≡◌, ℕ, ◌<◌, List, refl, sym, subst, arith, Bool}
 use Rattle.cob_picture.specs.Positions.{PlainPicture}
 use Rattle.cob_picture.specs.Counts.{digits, signed, size}
-use Rattle.cob_copybook_entry.specs.declared.kinds.Usage.{Usage}
-use Rattle.cob_copybook_entry.specs.declared.kinds.Usage.TheVariants as usage
-use Rattle.cob_copybook_entry.specs.declared.kinds.Sign.{Sign}
 use Rattle.cob_copybook_tree.specs.declared.node.Item.{Item}
-use Rattle.cob_copybook_tree.specs.Lengths.{item_size, stored_size}
+use Rattle.cob_copybook_tree.specs.Lengths.{item_size}
 use Rattle.cob_codec.specs.Sign.{IsHeld}
 use Rattle.cob_codec.specs.declared.reading.Reading.{Reading}
 use Rattle.cob_codec.specs.declared.reading.Reading.TheVariants.{Pictured, Whole}
-use Rattle.std.specs.Prelude.{if◌then◌else◌}
 use Rattle.cob_codec.proofs.ZonedLaws as zoned
 use Rattle.cob_codec.proofs.SeparateLaws as separate
 use Rattle.cob_codec.proofs.PackedLaws as packed
 use Rattle.cob_codec.proofs.BinaryLaws as binary
-use Rattle.cob_copybook_tree.specs.declared.form.Form.{Form}
-use Rattle.cob_copybook_tree.specs.declared.form.Form.TheVariants.{Zoned, Separate, Packed, Binary}
-use Rattle.cob_copybook_tree.specs.Items.{IsNumberItem, Represents, stored_form, RepresentsAs, SentAs, OneItemNumber, OneSentNumber, ItemReadsBack, HoldsNumbers, TakesPicture, written_as, form_of, form_by, display_form, is_leading, size_as}
+use Rattle.cob_copybook_tree.specs.declared.kinds.StorageKind.{StorageKind}
+use Rattle.cob_copybook_tree.specs.declared.kinds.StorageKind.TheVariants.{Zoned, Separate, Packed, Binary}
+use Rattle.cob_copybook_tree.specs.Items.{IsNumberItem, Represents, stored_form, OneItemNumber, OneSentNumber, ItemReadsBack, HoldsNumbers, storage_kind}
+use Rattle.cob_copybook_tree.specs.Storage.{RepresentsAs, SentAs, TakesPicture, is_leading, size_as, stored_size, written_as}
 
-one_as : (f : Form) (leading : Bool) (p : PlainPicture) (bytes : List ℕ) (a b : Bool) (ds es : List ℕ)
+one_as : (f : StorageKind) (leading : Bool) (p : PlainPicture) (bytes : List ℕ) (a b : Bool) (ds es : List ℕ)
     → RepresentsAs f leading p bytes a ds → RepresentsAs f leading p bytes b es → (a ≡ b) × (ds ≡ es)
 one_as Zoned leading p bytes a b ds es x y = zoned.one_number (digits p.positions) (signed p.positions) leading bytes a b ds es x y
 one_as Separate leading p bytes a b ds es x y = separate.one_number (digits p.positions) leading bytes a b ds es x y
@@ -27,9 +24,9 @@ one_as Packed leading p bytes a b ds es x y = packed.one_number (digits p.positi
 one_as Binary leading p bytes a b ds es x y = binary.one_number (digits p.positions) (signed p.positions) bytes a b ds es x y
 
 pub one_number : OneItemNumber
-one_number i bytes a b ds es x y = one_as (form_of i) (is_leading i.sign) i.picture bytes a b ds es x y
+one_number i bytes a b ds es x y = one_as (storage_kind i) (is_leading i.sign) i.picture bytes a b ds es x y
 
-one_sent_as : (reading : Reading) (f : Form) (leading : Bool) (p : PlainPicture) (bytes : List ℕ) (a b : Bool) (ds es : List ℕ)
+one_sent_as : (reading : Reading) (f : StorageKind) (leading : Bool) (p : PlainPicture) (bytes : List ℕ) (a b : Bool) (ds es : List ℕ)
     → SentAs reading f leading p bytes a ds → SentAs reading f leading p bytes b es → (a ≡ b) × (ds ≡ es)
 one_sent_as Pictured f leading p bytes a b ds es x y = one_as f leading p bytes a b ds es x y
 one_sent_as Whole Zoned leading p bytes a b ds es x y = one_as Zoned leading p bytes a b ds es x y
@@ -38,9 +35,9 @@ one_sent_as Whole Packed leading p bytes a b ds es x y = one_as Packed leading p
 one_sent_as Whole Binary leading p bytes a b ds es x y = binary.one_whole (digits p.positions) (signed p.positions) bytes a b ds es x y
 
 pub one_sent : OneSentNumber
-one_sent reading i bytes a b ds es x y = one_sent_as reading (form_of i) (is_leading i.sign) i.picture bytes a b ds es x y
+one_sent reading i bytes a b ds es x y = one_sent_as reading (storage_kind i) (is_leading i.sign) i.picture bytes a b ds es x y
 
-reads_back_as : (f : Form) (leading : Bool) (p : PlainPicture) (negative : Bool) (ds : List ℕ) → TakesPicture f p → 0 < digits p.positions → IsHeld (digits p.positions) (signed p.positions) negative ds
+reads_back_as : (f : StorageKind) (leading : Bool) (p : PlainPicture) (negative : Bool) (ds : List ℕ) → TakesPicture f p → 0 < digits p.positions → IsHeld (digits p.positions) (signed p.positions) negative ds
     → RepresentsAs f leading p (written_as f leading p negative ds) negative ds
 reads_back_as Zoned leading p negative ds t some h = zoned.reads_back (digits p.positions) (signed p.positions) leading negative ds some h
 reads_back_as Separate leading p negative ds t some h = separate.reads_back (digits p.positions) (signed p.positions) leading negative ds h
@@ -48,14 +45,14 @@ reads_back_as Packed leading p negative ds t some h = packed.reads_back (digits 
 reads_back_as Binary leading p negative ds t some h = binary.reads_back (digits p.positions) (signed p.positions) negative ds t h
 
 pub reads_back : ItemReadsBack
-reads_back i negative ds n some h = reads_back_as (form_of i) (is_leading i.sign) i.picture negative ds n.taken some h
+reads_back i negative ds n some h = reads_back_as (storage_kind i) (is_leading i.sign) i.picture negative ds n.taken some h
 
 -- bytes that are those written for a number represent it
 pub written_reads : (i : Item) (negative : Bool) (ds bytes : List ℕ) → IsNumberItem i → 0 < digits i.picture.positions → IsHeld (digits i.picture.positions) (signed i.picture.positions) negative ds
     → bytes ≡ stored_form i negative ds → Represents i bytes negative ds
 written_reads i negative ds bytes n some h e = subst (λ (xs : List ℕ). Represents i xs negative ds) (sym e) (reads_back i negative ds n some h)
 
-held_as : (f : Form) (leading : Bool) (p : PlainPicture) (bytes : List ℕ) (negative : Bool) (ds : List ℕ) → TakesPicture f p → RepresentsAs f leading p bytes negative ds
+held_as : (f : StorageKind) (leading : Bool) (p : PlainPicture) (bytes : List ℕ) (negative : Bool) (ds : List ℕ) → TakesPicture f p → RepresentsAs f leading p bytes negative ds
     → IsHeld (digits p.positions) (signed p.positions) negative ds
 held_as Zoned leading p bytes negative ds t h = zoned.held_zoned (digits p.positions) (signed p.positions) leading bytes negative ds h
 held_as Separate leading p bytes negative ds t h = separate.held_separate (digits p.positions) (signed p.positions) leading bytes negative ds t h
@@ -63,18 +60,14 @@ held_as Packed leading p bytes negative ds t h = packed.held_packed (digits p.po
 held_as Binary leading p bytes negative ds t h = binary.held_binary (digits p.positions) (signed p.positions) bytes negative ds h
 
 pub holds : HoldsNumbers
-holds i bytes negative ds n h = held_as (form_of i) (is_leading i.sign) i.picture bytes negative ds n.taken h
+holds i bytes negative ds n h = held_as (storage_kind i) (is_leading i.sign) i.picture bytes negative ds n.taken h
 
-size_by : (u : Usage) (sign : Option Sign) (p : PlainPicture) → digits p.positions ≡ size p.positions → stored_size u sign p ≡ size_as (form_by u sign) (digits p.positions)
-size_by usage.Display None p e = omega (arith, e)
-size_by usage.Display (Some s) p e = at s.separate
-  where
-    at : (b : Bool) → size p.positions + (if b then 1 else 0) ≡ size_as (display_form b) (digits p.positions)
-    at true = omega (arith, e)
-    at false = omega (arith, e)
-size_by usage.Packed sign p e = refl
-size_by usage.Binary sign p e = refl
+size_by : (f : StorageKind) (p : PlainPicture) → digits p.positions ≡ size p.positions → stored_size f p ≡ size_as f (digits p.positions)
+size_by Zoned p e = sym e
+size_by Separate p e = omega (arith, e)
+size_by Packed p e = refl
+size_by Binary p e = refl
 
 -- the bytes of an item are those of its kind of storage
-pub sizes : (i : Item) → digits i.picture.positions ≡ size i.picture.positions → item_size i ≡ size_as (form_of i) (digits i.picture.positions)
-sizes i e = size_by i.usage i.sign i.picture e
+pub sizes : (i : Item) → digits i.picture.positions ≡ size i.picture.positions → item_size i ≡ size_as (storage_kind i) (digits i.picture.positions)
+sizes i e = size_by (storage_kind i) i.picture e

@@ -5,5 +5,6 @@ pub mod StandsForLemmas
 pub mod ResolvedLemmas
 pub mod LengthLemmas
 pub mod ItemLemmas
+pub mod NaturalLemmas
 pub mod PictureLemmas
 pub use Rattle.cob_codec.proofs as codec_lemmas

@@ -1,11 +1,5 @@
 -- The greatest lengths of entries, in bytes.
-use Rattle.std.specs.Prelude.{ℕ, ◌+◌, ◌*◌, ◌/◌, nat_le, if◌then◌else◌, Option, Some, None, List}
-use Rattle.cob_picture.specs.Positions.{PlainPicture}
-use Rattle.cob_picture.specs.Counts.{size, digits}
-use Rattle.cob_codec.specs.Binary.{binary_length}
-use Rattle.cob_copybook_entry.specs.declared.kinds.Usage.{Usage}
-use Rattle.cob_copybook_entry.specs.declared.kinds.Usage.TheVariants.{Display, Binary, Packed}
-use Rattle.cob_copybook_entry.specs.declared.kinds.Sign.{Sign}
+use Rattle.std.specs.Prelude.{ℕ, ◌+◌, ◌*◌, Option, Some, None, List}
 use Rattle.cob_copybook_tree.specs.declared.node.ResolvedOccurs.{ResolvedOccurs}
 use Rattle.cob_copybook_tree.specs.declared.node.ResolvedOccurs.TheVariants.{Once, Fixed, Varying}
 use Rattle.cob_copybook_tree.specs.declared.node.Kind.{Kind}
@@ -13,22 +7,11 @@ use Rattle.cob_copybook_tree.specs.declared.node.Kind.TheVariants.{Group, Item a
 use Rattle.cob_copybook_tree.specs.declared.node.Item.{Item}
 use Rattle.cob_copybook_tree.specs.Forests.{Forest, NoEntries, AnEntry}
 use Rattle.cob_copybook_tree.specs.Nodes.{Resolved}
-
--- a separate sign takes a byte
-abbrev pub separate_sign_length : Option Sign → ℕ
-separate_sign_length None = 0
-separate_sign_length (Some s) = if s.separate then 1 else 0
-
--- the bytes of an item that is stored so: a byte for each position that has one, and one for a separate sign; half a byte for each digit of a packed number,
--- and one for its sign; 2, 4 or 8 for a binary one
-abbrev pub stored_size : Usage → Option Sign → PlainPicture → ℕ
-stored_size Display sign p = size p.positions + separate_sign_length sign
-stored_size Packed sign p = digits p.positions / 2 + 1
-stored_size Binary sign p = binary_length (digits p.positions)
+use Rattle.cob_copybook_tree.specs.Storage.{storage_kind_by, stored_size}
 
 -- the bytes of an item
 abbrev pub item_size : Item → ℕ
-item_size i = stored_size i.usage i.sign i.picture
+item_size i = stored_size (storage_kind_by i.usage i.sign) i.picture
 
 -- how often an entry occurs at most
 abbrev pub greatest_number_by : ResolvedOccurs → ℕ

@@ -1,13 +1,20 @@
 -- Entries with what they inherit and what their names refer to, as a tree.
-use Rattle.std.specs.Prelude.{ℕ, List, [], ◌∷◌, map, Option, option_map}
+use Rattle.std.specs.Prelude.{ℕ, Bool, true, false, List, [], ◌∷◌, map, Option, option_map}
 use Rattle.cob_copybook_entry.specs.Described.{PlainValue, plain_value}
 use Rattle.cob_copybook_tree.specs.declared.node.Node.{Node}
 use Rattle.cob_copybook_tree.specs.declared.node.Node.TheOpen.{Node-F}
 use Rattle.cob_copybook_tree.specs.declared.node.Node.TheFolds.{fold-Node}
 use Rattle.cob_copybook_tree.specs.declared.node.ResolvedOccurs.{ResolvedOccurs}
+use Rattle.cob_copybook_tree.specs.declared.node.ResolvedOccurs.TheVariants.{Once, Fixed, Varying}
 use Rattle.cob_copybook_tree.specs.declared.node.Kind.{Kind}
 use Rattle.cob_copybook_tree.specs.declared.node.Kind.TheVariants.{Group, Item as ItemKind}
 use Rattle.cob_copybook_tree.specs.Forests.{AnEntry, Forest, NoEntries, Tree, grown}
+
+-- a table with DEPENDING ON
+abbrev pub is_varying : ResolvedOccurs → Bool
+is_varying Once = false
+is_varying (Fixed n) = false
+is_varying (Varying least most count) = true
 
 -- an entry by itself
 pub record Resolved : Type 0 where

@@ -5,8 +5,9 @@ use Rattle.cob_picture.specs.Counts.{signed}
 use Rattle.cob_picture.specs.declared.category.Category.{Category}
 use Rattle.cob_picture.specs.declared.category.Category.TheVariants.{Alphabetic, Numeric, Alphanumeric, AlphanumericEdited, NumericEdited}
 use Rattle.cob_copybook_entry.specs.declared.kinds.Usage.{Usage}
-use Rattle.cob_copybook_entry.specs.declared.kinds.Usage.TheVariants.{Display, Binary, Packed}
+use Rattle.cob_copybook_entry.specs.declared.kinds.Usage.TheVariants.{Display}
 use Rattle.cob_copybook_entry.specs.declared.kinds.Sign.{Sign}
+use Rattle.cob_copybook_entry.specs.Kinds.{is_display}
 use Rattle.cob_copybook_entry.specs.Described as described
 use Rattle.cob_copybook_entry.specs.Described.{PlainEntry}
 use Rattle.cob_copybook_tree.specs.declared.node.ResolvedOccurs.{ResolvedOccurs}
@@ -33,12 +34,6 @@ is_numeric NumericEdited = false
 -- an item that is a number and is not edited: BLANK WHEN ZERO makes a number an edited one
 abbrev pub is_number : Item → Bool
 is_number i = is_numeric i.picture.category && not i.blank
-
--- the usage of characters
-abbrev pub is_display : Usage → Bool
-is_display Display = true
-is_display Binary = false
-is_display Packed = false
 
 -- a signed DISPLAY number
 abbrev pub keeps_sign : Usage → PlainPicture → Bool

@@ -1,48 +1,12 @@
 ghost use Rattle.std.specs.Prelude.{◌≡◌, ◌*◌, min};
 ghost use Rattle.cob_copybook_tree.specs.declared.lengths.TheConstants.{MANY};
-ghost use Rattle.cob_codec.specs.Binary.{binary_length};
 ghost use Rattle.cob_copybook_tree.specs.Nodes.{node};
-ghost use Rattle.cob_copybook_tree.specs.Lengths.{element_length, item_size, greatest_number, greatest_number_by, separate_sign_length, whole_length};
+ghost use Rattle.cob_copybook_tree.specs.Lengths.{element_length, greatest_number, greatest_number_by, whole_length};
 
-use crate::node::{Item, Kind, Node, ResolvedOccurs};
-use cob_copybook_entry::{Sign, Usage};
+use crate::node::{Kind, Node, ResolvedOccurs};
 
 /// The length that each greater one counts as.
 pub const MANY: u32 = 65_536;
-
-/// The byte of a separate sign.
-fn sign_byte(sign: Option<Sign>) -> u16
-    ensures { result ≡ separate_sign_length sign }
-{
-    match sign {
-        Some(sign) => u16::from(sign.separate),
-        None => 0,
-    }
-}
-
-/// The bytes of a binary number of so many digits.
-fn binary_length(digits: u8) -> u16
-    ensures { result ≡ binary_length digits }
-{
-    match digits {
-        0..=4 => 2,
-        5..=9 => 4,
-        _ => 8,
-    }
-}
-
-impl Item {
-    /// Its bytes, the one of a separate sign with them.
-    pub fn size(&self) -> u16
-        ensures { result ≡ item_size self.now }
-    {
-        match self.usage {
-            Usage::Display => self.picture.size() + sign_byte(self.sign),
-            Usage::Packed => u16::from(self.picture.digits()) / 2 + 1,
-            Usage::Binary => binary_length(self.picture.digits()),
-        }
-    }
-}
 
 impl ResolvedOccurs {
     /// How often the entry occurs at most.

@@ -21,7 +21,11 @@
 //! Contracts see branches and nodes as a `Forest` (specs/Forests.antt), so that no clause speaks of where they lie in memory. A fault is
 //! only that memory was refused: which levels, usages, signs and tables are allowed, the crates above say.
 //!
-//! An [`Item`] is stored in one of the four kinds of `cob_codec`: zoned or with a separate sign under DISPLAY, packed, or binary.
+//! An [`Item`] is stored in one of the kinds of `cob_codec`: zoned or with a separate sign under DISPLAY, packed, or binary
+//! ([`Item::storage_kind`]). All that depends on the kind stands in src/kinds.rt, with its definitions in specs/Storage.antt: which pictures it
+//! takes ([`StorageKind::takes`]) and the rules of copybooks allow ([`StorageKind::allows`]), its bytes, what reads and writes it, what is wrong
+//! with bytes that represent no number ([`Item::flaw`]), the number that a few steps tell ([`Item::quick_natural`]), whether reading it whole
+//! differs ([`StorageKind::is_read_whole`]), and its words. [`Item::shape`] is how a number lies in its bytes.
 //!
 //! - [`read_number`] gives the number that the bytes of an item represent, at the scale of its picture (`found`, `scale`), and None only where they represent
 //!   none (`only`); [`read_sent`] does so of an item that is sent, by a [`Reading`] (`IsSentBy`); [`store_number`] writes the one stored form of a number
@@ -33,8 +37,8 @@
 #![tactic(auto)]
 
 mod branch;
-mod form;
 mod item_laws;
+mod kinds;
 mod laws;
 mod lengths;
 mod node;
@@ -47,11 +51,11 @@ pub use cob_codec::Reading;
 pub use cob_copybook_entry::{
     BookFault, BookRule, Entry, Figurative, Name, Occurs, Qualified, Sign, Text, Usage, Value,
 };
-pub use form::is_number_item;
 pub use item_laws::{items_hold_numbers, one_number, one_sent_number, stored_numbers_read_back};
+pub use kinds::{StorageKind, read_number, store_number};
 pub use laws::{as_many_entries, branch_opens, node_opens, one_tree};
 pub use lengths::{MANY, element_length, whole_length};
 pub use node::{Item, Kind, Node, ResolvedOccurs};
-pub use numbers::{read_number, read_sent, store_number};
+pub use numbers::{is_number_item, read_sent};
 pub use planting::build_tree;
 pub use resolving::{is_number, keeps_sign, resolve};

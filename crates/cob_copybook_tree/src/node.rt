@@ -1,6 +1,8 @@
 //! The entries of a record with what they inherit.
 
-ghost use Rattle.std.specs.Prelude.{◌≡◌};
+ghost use Rattle.std.specs.Prelude.{◌≡◌, ◌↔◌, IsTrue};
+ghost use Rattle.cob_copybook_tree.specs.declared.node.ResolvedOccurs.TheVariants.{Once};
+ghost use Rattle.cob_copybook_tree.specs.Nodes.{is_varying};
 
 use cob_copybook_entry::{Name, Sign, Usage, Value};
 use cob_picture::Picture;
@@ -14,6 +16,22 @@ pub enum ResolvedOccurs {
     Fixed(u32),
     /// As often as the item with the number `count` says, from `least` to `most`.
     Varying { least: u32, most: u32, count: usize },
+}
+
+impl ResolvedOccurs {
+    /// Whether the entry is no table.
+    pub fn is_once(self) -> bool
+        ensures { IsTrue result ↔ (self ≡ Once) }
+    {
+        matches!(self, ResolvedOccurs::Once)
+    }
+
+    /// Whether the entry is a table that varies.
+    pub fn is_varying(self) -> bool
+        ensures { result ≡ is_varying self }
+    {
+        matches!(self, ResolvedOccurs::Varying { .. })
+    }
 }
 
 /// An elementary item.

@@ -4,7 +4,7 @@ ghost use Rattle.cob_copybook_entry.specs.Described.{plain_entry, plain_occurs};
 ghost use Rattle.cob_copybook_tree.specs.Forests.{entries_in};
 ghost use Rattle.cob_copybook_tree.specs.Branches.{forest_of};
 ghost use Rattle.cob_copybook_tree.specs.Nodes.{node, forest};
-ghost use Rattle.cob_copybook_tree.specs.Resolving.{count_at, inherited, is_number, keeps_sign, kind_by_picture, resolved, resolved_by, times_of};
+ghost use Rattle.cob_copybook_tree.specs.Resolving.{count_at, inherited, is_number, is_numeric, keeps_sign, kind_by_picture, resolved, resolved_by, times_of};
 
 use crate::branch::Branch;
 use crate::node::{Item, Kind, Node, ResolvedOccurs};
@@ -32,18 +32,25 @@ impl Inherited {
     }
 }
 
+/// Whether a picture is numeric.
+pub(crate) fn is_numeric(picture: &Picture) -> bool
+    ensures { result ≡ is_numeric picture.now.category }
+{
+    matches!(picture.category(), Category::Numeric)
+}
+
 /// Whether SIGN acts on an item: it is a signed DISPLAY number.
 pub fn keeps_sign(usage: Usage, picture: &Picture) -> bool
     ensures { result ≡ keeps_sign usage picture.now }
 {
-    usage == Usage::Display && picture.category() == Category::Numeric && picture.signed()
+    usage.is_display() && is_numeric(picture) && picture.signed()
 }
 
 /// Whether an item is a number that isn't edited.
 pub fn is_number(item: &Item) -> bool
     ensures { result ≡ is_number item.now }
 {
-    matches!(item.picture.category(), Category::Numeric) && !item.blank
+    is_numeric(&item.picture) && !item.blank
 }
 
 /// What an entry describes.

@@ -9,4 +9,3 @@ pub mod NeedLemmas
 pub mod AgreeLaw
 pub mod PlaceLaw
 pub mod SpotLemmas
-pub mod NaturalLemmas

@@ -2,6 +2,7 @@
 use Rattle.std.specs.Prelude.{◌≡◌, ◌⊎◌, ℕ, ◌+◌, ◌<◌, ◌≤◌, pos, Bool, true, false, ◌==◌, List, [], ◌∷◌, ◌++◌, length, take, drop, Option, Some, None, Ok, Err, Result, slice_set}
 use Rattle.std.specs.List.{AllByRecursion}
 use Rattle.cob_decimal.specs.Decimal.{number_of}
+use Rattle.cob_codec.specs.Naturals.{IsNaturalOf}
 use Rattle.cob_picture.specs.Counts.{scale}
 use Rattle.cob_copybook_tree.specs.declared.node.Item.{Item}
 use Rattle.cob_copybook_tree.specs.declared.node.Kind.{Kind}
@@ -54,7 +55,7 @@ bytes_at offset long bytes = take long (drop offset bytes)
 
 -- the bytes of an item represent this number, which is not below zero, without its scale
 abbrev pub IsNatural : Item → List ℕ → ℕ → Type 0
-IsNatural i part v = (digits : List ℕ) × Represents i part false digits × (v ≡ number_of digits)
+IsNatural i part v = IsNaturalOf (Represents i) part v
 
 -- These bytes of a table's count give this number: they represent it, and it is from the table's least to its greatest one. What is below zero
 -- is none; minus zero is zero.

@@ -1,0 +1,60 @@
+-- The usages: which is that of characters, their names, and what the words of the USAGE clause mean.
+use Rattle.std.specs.Prelude.{ℕ, ◌==◌, Bool, true, false, List, [], ◌∷◌, length, filter, map, codes, if◌then◌else◌, bytes_eq, Option, Some, None}
+use denote.Ref.{Bor}
+use Rattle.cob_copybook_entry.specs.declared.kinds.Usage.{Usage}
+use Rattle.cob_copybook_entry.specs.declared.kinds.Usage.TheVariants.{Display, Binary, Packed}
+use Rattle.cob_copybook_entry.specs.declared.kinds.UsageWord.{UsageWord}
+use Rattle.cob_copybook_entry.specs.declared.kinds.UsageWord.TheVariants.{Names, LeftOut}
+
+-- the usage of characters
+abbrev pub is_display : Usage → Bool
+is_display Display = true
+is_display Binary = false
+is_display Packed = false
+
+-- the shortest name of a usage
+abbrev pub usage_name : Usage → List ℕ
+usage_name Display = codes "DISPLAY"
+usage_name Binary = codes "COMP"
+usage_name Packed = codes "COMP-3"
+
+-- a word of the USAGE clause, and what it means
+pub record KeptWord : Type 0 where
+  pub text : List ℕ
+  pub meaning : UsageWord
+
+-- a text with what it means
+abbrev pub word : List ℕ → UsageWord → KeptWord
+word text meaning = record { text = text; meaning = meaning }
+
+-- the words that name a usage, and those that name one that is left out
+abbrev pub usage_words : List KeptWord
+usage_words =
+    word (codes "DISPLAY") (Names Display)
+    ∷ word (codes "COMP") (Names Binary) ∷ word (codes "COMPUTATIONAL") (Names Binary)
+    ∷ word (codes "COMP-4") (Names Binary) ∷ word (codes "COMPUTATIONAL-4") (Names Binary) ∷ word (codes "BINARY") (Names Binary)
+    ∷ word (codes "COMP-3") (Names Packed) ∷ word (codes "COMPUTATIONAL-3") (Names Packed)
+    ∷ word (codes "PACKED-DECIMAL") (Names Packed)
+    ∷ word (codes "COMP-1") LeftOut ∷ word (codes "COMP-2") LeftOut ∷ word (codes "COMP-5") LeftOut
+    ∷ word (codes "COMPUTATIONAL-1") LeftOut ∷ word (codes "COMPUTATIONAL-2") LeftOut ∷ word (codes "COMPUTATIONAL-5") LeftOut
+    ∷ word (codes "INDEX") LeftOut ∷ word (codes "POINTER") LeftOut
+    ∷ word (codes "PROCEDURE-POINTER") LeftOut ∷ word (codes "FUNCTION-POINTER") LeftOut
+    ∷ word (codes "NATIONAL") LeftOut ∷ word (codes "DISPLAY-1") LeftOut
+    ∷ []
+
+-- a table of texts and what they mean, without where the texts lie in memory
+abbrev pub kept_words : List (Bor (List ℕ) × UsageWord) → List KeptWord
+kept_words table = map (λ k. word k.0.now k.1) table
+
+-- the words of this length
+abbrev pub words_of_length : ℕ → List KeptWord
+words_of_length n = filter (λ k. length k.text == n) usage_words
+
+-- what a text means by a table of words, if it is in it
+abbrev pub meaning_by : List KeptWord → List ℕ → Option UsageWord
+meaning_by [] text = None
+meaning_by (k ∷ ks) text = if bytes_eq k.text text then Some k.meaning else meaning_by ks text
+
+-- what a word means in a USAGE clause, if it names a usage
+unfoldable pub usage_word : List ℕ → Option UsageWord
+usage_word text = meaning_by usage_words text
