@@ -25,9 +25,7 @@ abbrev pub Only : List Lexeme → Clause → List Lexeme → Type 0
 Only rest c more = (d : Clause) (ws after : List Lexeme) → SaysClause d ws → ClauseFirst after → rest ≡ ws ++ after → (c ≡ d) × (more ≡ after)
 
 usage_starts : (t : WordClass) (u : Usage) → usage_of t ≡ Some u → starts_clause t ≡ true
-usage_starts term.Display u e = refl
-usage_starts term.Binary u e = refl
-usage_starts term.Packed u e = refl
+usage_starts (term.UsageName v) u e = refl
 usage_starts _ u e = absurd cc
 
 leading_starts : (t : WordClass) (b : Bool) → leading_of t ≡ Some b → starts_clause t ≡ true

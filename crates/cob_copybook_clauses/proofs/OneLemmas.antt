@@ -238,9 +238,7 @@ constant_cut c d n m a b p q e =
 
 -- the first word of a clause says of which kind it is
 usage_kind : (t : WordClass) (u : Usage) → usage_of t ≡ Some u → kind_at t ≡ Some clause_kind.Usage
-usage_kind term.Display u e = refl
-usage_kind term.Binary u e = refl
-usage_kind term.Packed u e = refl
+usage_kind (term.UsageName v) u e = refl
 usage_kind _ u e = absurd cc
 
 leading_kind : (t : WordClass) (b : Bool) → leading_of t ≡ Some b → kind_at t ≡ Some clause_kind.Sign

@@ -1,5 +1,5 @@
 -- What is left out by name, and the words of a sentence.
-use Rattle.std.proofs.Common.{◌≡◌, ◌≢◌, ℕ, ◌+◌, ◌<◌, ◌≤◌, Bool, true, false, ◌&&◌, nat_le, nat_lt, List, [], ◌∷◌, ◌++◌, length, take, drop, get_or, refl, sym, ap, ◌∙◌, subst, ◌⊎◌, inl, inr, rules, bytes_eq, if◌then◌else◌}
+use Rattle.std.proofs.Common.{◌≡◌, ◌≢◌, ℕ, ◌+◌, ◌<◌, ◌≤◌, Bool, true, false, ◌&&◌, nat_le, nat_lt, List, [], ◌∷◌, ◌++◌, length, take, drop, get_or, refl, sym, ap, ◌∙◌, subst, ◌⊎◌, inl, inr, rules, bytes_eq, if◌then◌else◌, Option, Some, None}
 use Rattle.std.proofs.lemmas.List.{at_drop_more, take-append-drop, map-append}
 use Rattle.std.proofs.lemmas.Slice.Eq.{bytes_eq-Decides}
 use Rattle.std.specs.List.{AllByRecursion, list_all}
@@ -9,7 +9,8 @@ use Rattle.cob_source.specs.declared.token.Kind.TheVariants as kind
 use Rattle.cob_source.specs.Tokens.{Lexeme, lexeme, lexemes}
 use Rattle.cob_copybook_clauses.specs.declared.term.WordClass.{WordClass}
 use Rattle.cob_copybook_clauses.specs.declared.term.WordClass.TheVariants as term
-use Rattle.cob_copybook_clauses.specs.Terms.{Keyword, term_by, word_class, term_of_kind, term_of_word, reserved_words}
+use Rattle.cob_copybook_clauses.specs.Terms.{Keyword, term_by, word_class, term_of_kind, term_of_usage, term_of_word, reserved_words}
+use Rattle.cob_copybook_entry.specs.Kinds.{KeptWord, meaning_by, usage_word, usage_words}
 use Rattle.cob_copybook_clauses.specs.Clauses.{IsWord}
 use Rattle.cob_copybook_clauses.specs.Entries.{IsLeftOut, IsLeftOutLevel, IsLeftOutWord, looked_at}
 use Rattle.cob_copybook_clauses.specs.Reading.{StopFirst}
@@ -62,13 +63,34 @@ short_table : (ks : List Keyword) → are_short ks ≡ true → AreShort ks
 short_table [] e = tt
 short_table (k ∷ ks) e = (short_text k.text (search rules), short_table ks (search rules))
 
+-- a word of the USAGE clause is short
+abbrev AreShortWords : List KeptWord → Type 0
+AreShortWords ks = AllByRecursion (λ k. IsShort k.text) ks
+
+short_words : (ks : List KeptWord) → list_all (λ k. is_short k.text) ks ≡ true → AreShortWords ks
+short_words [] e = tt
+short_words (k ∷ ks) e = (short_text k.text (search rules), short_words ks (search rules))
+
+usage_step : (b : Bool) (k : KeptWord) (ks : List KeptWord) (text : List ℕ) → bytes_eq k.text text ≡ b → IsShort k.text
+    → (term_of_usage (meaning_by ks text) ≡ term.LeftOut → IsShort text) → term_of_usage (if b then Some k.meaning else meaning_by ks text) ≡ term.LeftOut → IsShort text
+usage_step true k ks text e short more h = subst IsShort ((bytes_eq-Decides k.text text).0 e) short
+usage_step false k ks text e short more h = more h
+
+by_words : (ks : List KeptWord) (text : List ℕ) → AreShortWords ks → term_of_usage (meaning_by ks text) ≡ term.LeftOut → IsShort text
+by_words [] text short e = absurd cc
+by_words (k ∷ ks) text short e = usage_step (bytes_eq k.text text) k ks text refl short.0 (by_words ks text short.1) e
+
+short_usage : (text : List ℕ) → term_of_usage (usage_word text) ≡ term.LeftOut → IsShort text
+unfolding usage_word is_short
+short_usage text e = by_words usage_words text (short_words usage_words refl) e
+
 short_else : (text : List ℕ) (other : WordClass) → IsShort text ⊎ (other ≡ term.LeftOut) → (other ≡ term.LeftOut → IsShort text) → IsShort text
 short_else text other (inl h) more = h
 short_else text other (inr e) more = more e
 
 pub short_word : (text : List ℕ) → term_of_word text ≡ term.LeftOut → IsShort text
 unfolding term_of_word is_short
-short_word text e = short_else text _ (by_table reserved_words text term.LeftOut _ (short_table reserved_words refl) e) (λ e. absurd cc)
+short_word text e = short_else text _ (by_table reserved_words text term.LeftOut _ (short_table reserved_words refl) e) (short_usage text)
 
 pub short_lexeme : (k : Kind) (text : List ℕ) → term_of_kind k text ≡ term.LeftOut → IsShort text
 short_lexeme kind.Word text e = short_word text e

@@ -4,9 +4,9 @@ use Rattle.std.specs.List.{AllByRecursion, list_all}
 use Rattle.std.proofs.lemmas.List.{get_or_past}
 use Rattle.std.proofs.lemmas.Slice.Eq.{bytes_eq-Decides}
 use Rattle.cob_copybook_clauses.specs.declared.term.WordClass.{WordClass}
-use Rattle.cob_copybook_clauses.specs.declared.term.WordClass.TheVariants as term
+use Rattle.cob_copybook_entry.specs.Kinds.{usage_word}
 use Rattle.cob_copybook_clauses.specs.declared.term.TheConstants.{KEYWORDS}
-use Rattle.cob_copybook_clauses.specs.Terms.{Keyword, meaning, reserved_words, term_by, term_of_word, words_of_length}
+use Rattle.cob_copybook_clauses.specs.Terms.{Keyword, meaning, reserved_words, term_by, term_of_usage, term_of_word, words_of_length}
 
 -- a text is one of the words of its length, or none
 by_step : (b c : Bool) (k : Keyword) (ks fs : List Keyword) (text : List ℕ) (other : WordClass) → bytes_eq k.text text ≡ b → (length k.text == length text) ≡ c
@@ -22,9 +22,9 @@ by_length [] text other = refl
 by_length (k ∷ ks) text other =
     by_step (bytes_eq k.text text) (length k.text == length text) k ks (filter (λ k. length k.text == length text) ks) text other refl refl (by_length ks text other)
 
-pub word_by_length : (text : List ℕ) → term_by (words_of_length (length text)) text term.Plain ≡ term_of_word text
+pub word_by_length : (text : List ℕ) → term_by (words_of_length (length text)) text (term_of_usage (usage_word text)) ≡ term_of_word text
 unfolding term_of_word
-word_by_length text = by_length reserved_words text term.Plain
+word_by_length text = by_length reserved_words text (term_of_usage (usage_word text))
 
 -- the reserved words of the tables
 abbrev pub kept_words : List (List Keyword)
@@ -36,7 +36,7 @@ AreByLength n [] = Unit {0}
 AreByLength n (t ∷ ts) = (t ≡ words_of_length n) × AreByLength (n + 1) ts
 
 kept_are : AreByLength 0 kept_words
-kept_are = (refl, (refl, (refl, (refl, (refl, (refl, (refl, (refl, (refl, (refl, (refl, (refl, (refl, (refl, (refl, (refl, (refl, (refl, tt))))))))))))))))))
+kept_are = (refl, (refl, (refl, (refl, (refl, (refl, (refl, (refl, (refl, (refl, (refl, (refl, (refl, (refl, tt))))))))))))))
 
 same_words : (a b : ℕ) → a ≡ b → words_of_length a ≡ words_of_length b
 same_words a b e = ap words_of_length e
@@ -50,22 +50,22 @@ pub kept_at : (i : ℕ) (d : List Keyword) → i < length kept_words → slice_i
 kept_at i d lt = at_length kept_words 0 i d kept_are lt ∙ same_words (0 + i) i (omega arith)
 
 -- no reserved word is longer than these
-fits_step : (b : Bool) (n : ℕ) (k : Keyword) (fs : List Keyword) → length k.text < 18 → 18 ≤ n → (length k.text == n) ≡ b → fs ≡ [] → cond b (k ∷ fs) fs ≡ []
+fits_step : (b : Bool) (n : ℕ) (k : Keyword) (fs : List Keyword) → length k.text < 14 → 14 ≤ n → (length k.text == n) ≡ b → fs ≡ [] → cond b (k ∷ fs) fs ≡ []
 fits_step true n k fs short long e none = absurd (search rules)
 fits_step false n k fs short long e none = none
 
-none_longer : (ks : List Keyword) (n : ℕ) → AllByRecursion (λ k. length k.text < 18) ks → 18 ≤ n → filter (λ k. length k.text == n) ks ≡ []
+none_longer : (ks : List Keyword) (n : ℕ) → AllByRecursion (λ k. length k.text < 14) ks → 14 ≤ n → filter (λ k. length k.text == n) ks ≡ []
 none_longer [] n short long = refl
 none_longer (k ∷ ks) n short long = fits_step (length k.text == n) n k (filter (λ k. length k.text == n) ks) short.0 long refl (none_longer ks n short.1 long)
 
-are_short : (ks : List Keyword) → list_all (λ k. nat_lt (length k.text) 18) ks ≡ true → AllByRecursion (λ k. length k.text < 18) ks
+are_short : (ks : List Keyword) → list_all (λ k. nat_lt (length k.text) 14) ks ≡ true → AllByRecursion (λ k. length k.text < 14) ks
 are_short [] e = tt
 are_short (k ∷ ks) e = (search rules, are_short ks (search rules))
 
 -- the table of a length has the words of that length
-by_cases : (b : Bool) (i : ℕ) → nat_lt i 18 ≡ b → slice_index_or kept_words i [] ≡ words_of_length i
+by_cases : (b : Bool) (i : ℕ) → nat_lt i 14 ≡ b → slice_index_or kept_words i [] ≡ words_of_length i
 by_cases true i e = kept_at i [] (search rules)
 by_cases false i e = get_or_past kept_words i [] (search rules) ∙ sym (none_longer reserved_words i (are_short reserved_words refl) (search rules))
 
-pub word_by_tables : (text : List ℕ) → term_by (slice_index_or kept_words (length text) []) text term.Plain ≡ term_of_word text
-word_by_tables text = ap (λ ks. term_by ks text term.Plain) (by_cases (nat_lt (length text) 18) (length text) refl) ∙ word_by_length text
+pub word_by_tables : (text : List ℕ) → term_by (slice_index_or kept_words (length text) []) text (term_of_usage (usage_word text)) ≡ term_of_word text
+word_by_tables text = ap (λ ks. term_by ks text (term_of_usage (usage_word text))) (by_cases (nat_lt (length text) 14) (length text) refl) ∙ word_by_length text

@@ -63,9 +63,7 @@ AreQualifiers (w ∷ n ∷ ws) = (word_class w ≡ term.Of) × IsNameWord n × A
 
 -- the usage that a word names
 abbrev pub usage_of : WordClass → Option Usage
-usage_of term.Display = Some usage.Display
-usage_of term.Binary = Some usage.Binary
-usage_of term.Packed = Some usage.Packed
+usage_of (term.UsageName u) = Some u
 usage_of _ = None
 
 -- where the sign stands, by LEADING or TRAILING

@@ -1,9 +1,12 @@
 -- What a word means to the grammar of entries and statements.
-use Rattle.std.specs.Prelude.{ℕ, ◌==◌, List, [], ◌∷◌, ◌++◌, length, filter, map, codes, if◌then◌else◌, bytes_eq}
+use Rattle.std.specs.Prelude.{ℕ, ◌==◌, List, [], ◌∷◌, ◌++◌, length, filter, map, codes, if◌then◌else◌, bytes_eq, Option, Some, None}
 use denote.Ref.{Bor}
 use Rattle.cob_source.specs.Tokens.{Lexeme}
 use Rattle.cob_source.specs.declared.token.Kind.{Kind}
 use Rattle.cob_source.specs.declared.token.Kind.TheVariants as kind
+use Rattle.cob_copybook_entry.specs.declared.kinds.UsageWord.{UsageWord}
+use Rattle.cob_copybook_entry.specs.declared.kinds.UsageWord.TheVariants as usage
+use Rattle.cob_copybook_entry.specs.Kinds.{usage_word}
 use Rattle.cob_copybook_clauses.specs.declared.term.WordClass.{WordClass}
 use Rattle.cob_copybook_clauses.specs.declared.term.WordClass.TheVariants as term
 
@@ -37,16 +40,6 @@ clause_words =
     ∷ meaning (codes "BLANK") term.Blank ∷ meaning (codes "WHEN") term.When ∷ meaning (codes "FILLER") term.Filler
     ∷ []
 
--- the words that name a usage
-abbrev pub usage_words : List Keyword
-usage_words =
-    meaning (codes "DISPLAY") term.Display
-    ∷ meaning (codes "COMP") term.Binary ∷ meaning (codes "COMPUTATIONAL") term.Binary
-    ∷ meaning (codes "COMP-4") term.Binary ∷ meaning (codes "COMPUTATIONAL-4") term.Binary ∷ meaning (codes "BINARY") term.Binary
-    ∷ meaning (codes "COMP-3") term.Packed ∷ meaning (codes "COMPUTATIONAL-3") term.Packed
-    ∷ meaning (codes "PACKED-DECIMAL") term.Packed
-    ∷ []
-
 -- the figurative constants
 abbrev pub figurative_words : List Keyword
 figurative_words =
@@ -64,16 +57,10 @@ statement_words =
     ∷ meaning (codes "(") term.OpenBracket ∷ meaning (codes ")") term.CloseBracket
     ∷ []
 
--- the words of what is left out by name
+-- the words of clauses and statements that are left out by name
 abbrev pub left_out_words : List Keyword
 left_out_words =
     meaning (codes "SYNC") term.LeftOut ∷ meaning (codes "SYNCHRONIZED") term.LeftOut
-    ∷ meaning (codes "COMP-1") term.LeftOut ∷ meaning (codes "COMP-2") term.LeftOut ∷ meaning (codes "COMP-5") term.LeftOut
-    ∷ meaning (codes "COMPUTATIONAL-1") term.LeftOut ∷ meaning (codes "COMPUTATIONAL-2") term.LeftOut
-    ∷ meaning (codes "COMPUTATIONAL-5") term.LeftOut
-    ∷ meaning (codes "INDEX") term.LeftOut ∷ meaning (codes "POINTER") term.LeftOut
-    ∷ meaning (codes "PROCEDURE-POINTER") term.LeftOut ∷ meaning (codes "FUNCTION-POINTER") term.LeftOut
-    ∷ meaning (codes "NATIONAL") term.LeftOut ∷ meaning (codes "DISPLAY-1") term.LeftOut
     ∷ meaning (codes "EXTERNAL") term.LeftOut ∷ meaning (codes "GLOBAL") term.LeftOut ∷ meaning (codes "TYPEDEF") term.LeftOut
     ∷ meaning (codes "GROUP-USAGE") term.LeftOut ∷ meaning (codes "UNBOUNDED") term.LeftOut
     ∷ meaning (codes "COPY") term.LeftOut ∷ meaning (codes "REPLACE") term.LeftOut ∷ meaning (codes "EXEC") term.LeftOut
@@ -84,17 +71,23 @@ abbrev pub term_by : List Keyword → List ℕ → WordClass → WordClass
 term_by [] text other = other
 term_by (k ∷ ks) text other = if bytes_eq k.text text then k.term else term_by ks text other
 
--- the reserved words
+-- the reserved words, but for those of the USAGE clause
 abbrev pub reserved_words : List Keyword
-reserved_words = clause_words ++ (usage_words ++ (figurative_words ++ (left_out_words ++ statement_words)))
+reserved_words = clause_words ++ (figurative_words ++ (left_out_words ++ statement_words))
 
 -- those of this length
 abbrev pub words_of_length : ℕ → List Keyword
 words_of_length n = filter (λ k. length k.text == n) reserved_words
 
+-- what a word of the USAGE clause is by what it means there; one that names no usage is free
+abbrev pub term_of_usage : Option UsageWord → WordClass
+term_of_usage None = term.Plain
+term_of_usage (Some (usage.Names u)) = term.UsageName u
+term_of_usage (Some usage.LeftOut) = term.LeftOut
+
 -- what a word is
 unfoldable pub term_of_word : List ℕ → WordClass
-term_of_word text = term_by reserved_words text term.Plain
+term_of_word text = term_by reserved_words text (term_of_usage (usage_word text))
 
 -- what a text means as a word, and what a literal and a Stop are
 abbrev pub term_of_kind : Kind → List ℕ → WordClass

@@ -69,9 +69,7 @@ pub fn kind_at(term: WordClass) -> Option<ClauseKind>
     match term {
         WordClass::Redefines => Some(ClauseKind::Redefines),
         WordClass::Picture => Some(ClauseKind::Picture),
-        WordClass::Usage | WordClass::Display | WordClass::Binary | WordClass::Packed => Some(
-            ClauseKind::Usage,
-        ),
+        WordClass::Usage | WordClass::UsageName(_) => Some(ClauseKind::Usage),
         WordClass::Sign | WordClass::Leading | WordClass::Trailing => Some(ClauseKind::Sign),
         WordClass::Occurs => Some(ClauseKind::Occurs),
         WordClass::Value => Some(ClauseKind::Value),
@@ -86,9 +84,7 @@ fn usage_of(term: WordClass) -> Option<Usage>
     ensures { result ≡ usage_of term }
 {
     match term {
-        WordClass::Display => Some(Usage::Display),
-        WordClass::Binary => Some(Usage::Binary),
-        WordClass::Packed => Some(Usage::Packed),
+        WordClass::UsageName(usage) => Some(usage),
         _ => None,
     }
 }

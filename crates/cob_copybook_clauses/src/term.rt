@@ -1,7 +1,9 @@
 ghost use Rattle.std.specs.Prelude.{◌≡◌, [], length, map, slice_index_or, unwrap_or};
-ghost use Rattle.cob_copybook_clauses.specs.Terms.{term_by, term_of_word, word_class, keywords};
+ghost use Rattle.cob_copybook_entry.specs.Kinds.{usage_word};
+ghost use Rattle.cob_copybook_clauses.specs.Terms.{term_by, term_of_usage, term_of_word, word_class, keywords};
 ghost use Rattle.cob_source.specs.Tokens.{lexeme};
 
+use cob_copybook_entry::{Usage, UsageWord, usage_word};
 use cob_source::{Kind, Token};
 
 /// What a word, a literal or a Stop is to the grammar of entries.
@@ -15,12 +17,8 @@ pub enum WordClass {
     Is,
     /// USAGE.
     Usage,
-    /// DISPLAY.
-    Display,
-    /// COMP, COMPUTATIONAL, COMP-4, COMPUTATIONAL-4, BINARY.
-    Binary,
-    /// COMP-3, COMPUTATIONAL-3, PACKED-DECIMAL.
-    Packed,
+    /// A word that names this usage.
+    UsageName(Usage),
     /// SIGN.
     Sign,
     /// LEADING.
@@ -95,8 +93,8 @@ pub enum WordClass {
     Stop,
 }
 
-/// The reserved words of each length, from 0 on, and what each means.
-static KEYWORDS: [&[(&[u8], WordClass)]; 18] = [
+/// The reserved words of each length, from 0 on, but for those of the USAGE clause, and what each means.
+static KEYWORDS: [&[(&[u8], WordClass)]; 14] = [
     &[],
     &[
         (b"(", WordClass::OpenBracket),
@@ -120,7 +118,6 @@ static KEYWORDS: [&[(&[u8], WordClass)]; 18] = [
         (b"SIGN", WordClass::Sign),
         (b"JUST", WordClass::Justified),
         (b"WHEN", WordClass::When),
-        (b"COMP", WordClass::Binary),
         (b"ZERO", WordClass::Zero),
         (b"SYNC", WordClass::LeftOut),
         (b"COPY", WordClass::LeftOut),
@@ -137,36 +134,26 @@ static KEYWORDS: [&[(&[u8], WordClass)]; 18] = [
         (b"SPACE", WordClass::Space),
         (b"ZEROS", WordClass::Zero),
         (b"QUOTE", WordClass::Quote),
-        (b"INDEX", WordClass::LeftOut),
     ],
     &[
         (b"OCCURS", WordClass::Occurs),
         (b"VALUES", WordClass::Value),
         (b"FILLER", WordClass::Filler),
-        (b"COMP-4", WordClass::Binary),
-        (b"BINARY", WordClass::Binary),
-        (b"COMP-3", WordClass::Packed),
         (b"SPACES", WordClass::Space),
         (b"ZEROES", WordClass::Zero),
         (b"QUOTES", WordClass::Quote),
-        (b"COMP-1", WordClass::LeftOut),
-        (b"COMP-2", WordClass::LeftOut),
-        (b"COMP-5", WordClass::LeftOut),
         (b"GLOBAL", WordClass::LeftOut),
     ],
     &[
         (b"PICTURE", WordClass::Picture),
         (b"LEADING", WordClass::Leading),
         (b"INDEXED", WordClass::Indexed),
-        (b"DISPLAY", WordClass::Display),
-        (b"POINTER", WordClass::LeftOut),
         (b"TYPEDEF", WordClass::LeftOut),
         (b"REPLACE", WordClass::LeftOut),
     ],
     &[
         (b"TRAILING", WordClass::Trailing),
         (b"SEPARATE", WordClass::Separate),
-        (b"NATIONAL", WordClass::LeftOut),
         (b"EXTERNAL", WordClass::LeftOut),
     ],
     &[
@@ -176,7 +163,6 @@ static KEYWORDS: [&[(&[u8], WordClass)]; 18] = [
         (b"ASCENDING", WordClass::Ordered),
         (b"JUSTIFIED", WordClass::Justified),
         (b"LOW-VALUE", WordClass::LowValue),
-        (b"DISPLAY-1", WordClass::LeftOut),
         (b"UNBOUNDED", WordClass::LeftOut),
     ],
     &[
@@ -189,20 +175,7 @@ static KEYWORDS: [&[(&[u8], WordClass)]; 18] = [
         (b"GROUP-USAGE", WordClass::LeftOut),
     ],
     &[(b"SYNCHRONIZED", WordClass::LeftOut)],
-    &[
-        (b"COMPUTATIONAL", WordClass::Binary),
-        (b"CORRESPONDING", WordClass::Corresponding),
-    ],
-    &[(b"PACKED-DECIMAL", WordClass::Packed)],
-    &[
-        (b"COMPUTATIONAL-4", WordClass::Binary),
-        (b"COMPUTATIONAL-3", WordClass::Packed),
-        (b"COMPUTATIONAL-1", WordClass::LeftOut),
-        (b"COMPUTATIONAL-2", WordClass::LeftOut),
-        (b"COMPUTATIONAL-5", WordClass::LeftOut),
-    ],
-    &[(b"FUNCTION-POINTER", WordClass::LeftOut)],
-    &[(b"PROCEDURE-POINTER", WordClass::LeftOut)],
+    &[(b"CORRESPONDING", WordClass::Corresponding)],
 ];
 
 /// What a text is by a table of keywords, if it is in it.
@@ -229,11 +202,25 @@ fn term_of_length(tables: &[&[(&[u8], WordClass)]], text: &[u8]) -> Option<WordC
     }
 }
 
+/// What a word of the USAGE clause is, and one that names no usage.
+fn term_of_usage(text: &[u8]) -> WordClass
+    ensures { result ≡ term_of_usage (usage_word text.now) }
+{
+    match usage_word(text) {
+        Some(UsageWord::Names(usage)) => WordClass::UsageName(usage),
+        Some(UsageWord::LeftOut) => WordClass::LeftOut,
+        None => WordClass::Plain,
+    }
+}
+
 /// What a word is.
 pub fn term_of_word(text: &[u8]) -> WordClass
     ensures { result ≡ term_of_word text.now }
 {
-    term_of_length(&KEYWORDS, text).unwrap_or(WordClass::Plain)
+    match term_of_length(&KEYWORDS, text) {
+        Some(term) => term,
+        None => term_of_usage(text),
+    }
 }
 
 /// What a word, a literal or a Stop is to the grammar of entries.
