@@ -5,9 +5,6 @@ use Rattle.std.specs.List.{AllByRecursion, slice_get}
 use Rattle.std.proofs.lemmas.Option.{slice_get_within}
 use Rattle.cob_codec.specs.Zoned.{IsZoned, low_digit, zone_of}
 use Rattle.cob_decimal.specs.Decimal.{IsDigits}
-use Rattle.cob_copybook_entry.specs.declared.kinds.Sign.{Sign}
-use Rattle.cob_copybook_entry.specs.declared.kinds.Usage.{Usage}
-use Rattle.cob_copybook_entry.specs.declared.kinds.Usage.TheVariants.{Binary, Display, Packed}
 use Rattle.cob_picture.specs.Counts.{digits, scale, signed, size}
 use Rattle.cob_picture.specs.Positions.{PlainPicture, shows_number}
 use Rattle.cob_picture.specs.declared.category.Category.{Category}
@@ -17,9 +14,12 @@ use Rattle.cob_copybook_tree.specs.declared.node.Kind.TheVariants.{Group, Item a
 use Rattle.cob_copybook_tree.specs.declared.node.Item.{Item}
 use Rattle.cob_copybook_tree.specs.Forests.{Forest, NoEntries, AnEntry, Tree}
 use Rattle.cob_copybook_tree.specs.Nodes.{Resolved}
-use Rattle.cob_copybook_tree.specs.Items.{IsNumberItem, RepresentsAs, TakesPicture, display_form, form_by, is_leading, is_separate}
-use Rattle.cob_copybook_tree.specs.Lengths.{greatest_number, item_size, separate_sign_length, stored_size}
-use Rattle.cob_copybook_tree.specs.Resolving.{is_display, is_number, is_numeric}
+use Rattle.cob_copybook_tree.specs.declared.kinds.StorageKind.{StorageKind}
+use Rattle.cob_copybook_tree.specs.declared.kinds.StorageKind.TheVariants.{Zoned, Separate, Packed, Binary}
+use Rattle.cob_copybook_tree.specs.Items.{IsNumberItem, storage_kind}
+use Rattle.cob_copybook_tree.specs.Lengths.{greatest_number, item_size}
+use Rattle.cob_copybook_tree.specs.Resolving.{is_number, is_numeric}
+use Rattle.cob_copybook_tree.specs.Storage.{RepresentsAs, TakesPicture, is_leading, is_zoned, stored_size}
 use Rattle.cob_layout_places.specs.Cover.{several, unless}
 use Rattle.cob_back_losses.specs.Bytes.{ItemByte, bytes_by_kind, bytes_in, element_bytes, item_bytes}
 use Rattle.cob_back_losses.specs.Keeping.{byte_sense}
@@ -178,49 +178,44 @@ zoned count leading bs some long all = record {
   sign = (λ h. absurd (cc (h)), λ h. h.0);
 }
 
-zoned_by : (u : Usage) (sign : Option Sign) (p : PlainPicture) (bs ds : List ℕ) → is_display u ≡ true → is_separate sign ≡ false
-    → IsZoned (digits p.positions) (signed p.positions) (is_leading sign) bs false ds → RepresentsAs (form_by u sign) (is_leading sign) p bs false ds
-zoned_by Display sign p bs ds shown joined z = subst (λ (b : Bool). RepresentsAs (display_form b) (is_leading sign) p bs false ds) (sym joined) z
-zoned_by Binary sign p bs ds shown joined z = absurd (cc (shown))
-zoned_by Packed sign p bs ds shown joined z = absurd (cc (shown))
+zoned_by : (k : StorageKind) (leading : Bool) (p : PlainPicture) (bs ds : List ℕ) → is_zoned k ≡ true → IsZoned (digits p.positions) (signed p.positions) leading bs false ds → RepresentsAs k leading p bs false ds
+zoned_by Zoned leading p bs ds is z = z
+zoned_by Separate leading p bs ds is z = absurd (cc (is))
+zoned_by Packed leading p bs ds is z = absurd (cc (is))
+zoned_by Binary leading p bs ds is z = absurd (cc (is))
 
-no_sign_byte : (sign : Option Sign) → is_separate sign ≡ false → separate_sign_length sign ≡ 0
-no_sign_byte None joined = refl
-no_sign_byte (Some s) joined = rw joined refl
-
-size_by : (u : Usage) (sign : Option Sign) (p : PlainPicture) → is_display u ≡ true → is_separate sign ≡ false → stored_size u sign p ≡ size p.positions
-size_by Display sign p shown joined = omega (arith, no_sign_byte sign joined)
-size_by Binary sign p shown joined = absurd (cc (shown))
-size_by Packed sign p shown joined = absurd (cc (shown))
+size_by : (k : StorageKind) (p : PlainPicture) → is_zoned k ≡ true → stored_size k p ≡ size p.positions
+size_by Zoned p is = refl
+size_by Separate p is = absurd (cc (is))
+size_by Packed p is = absurd (cc (is))
+size_by Binary p is = absurd (cc (is))
 
 record Plain (i : Item) : Type 0 where
   number : is_number i ≡ true
-  shown : is_display i.usage ≡ true
-  joined : is_separate i.sign ≡ false
+  zone : is_zoned (storage_kind i) ≡ true
   unsigned : signed i.picture.positions ≡ false
 
-all_five : (a b c d e : Bool) → (a && (b && (not c && (not d && e)))) ≡ true → (a ≡ true) × (b ≡ true) × (c ≡ false) × (d ≡ false)
-all_five true true false false e h = (refl, refl, refl, refl)
-all_five true true false true e h = absurd (cc (h))
-all_five true true true d e h = absurd (cc (h))
-all_five true false c d e h = absurd (cc (h))
-all_five false b c d e h = absurd (cc (h))
+all_four : (a b c d : Bool) → (a && (b && (not c && d))) ≡ true → (a ≡ true) × (b ≡ true) × (c ≡ false)
+all_four true true false d h = (refl, refl, refl)
+all_four true true true d h = absurd (cc (h))
+all_four true false c d h = absurd (cc (h))
+all_four false b c d h = absurd (cc (h))
 
 plain : (i : Item) → is_plain_digits i ≡ true → Plain i
 plain i is =
-    let (number, shown, joined, unsigned) = all_five (is_number i) (is_display i.usage) (is_separate i.sign) (signed i.picture.positions) (is_whole (scale i.picture.positions)) is in
-    record { number = number; shown = shown; joined = joined; unsigned = unsigned }
+    let (number, zone, unsigned) = all_four (is_number i) (is_zoned (storage_kind i)) (signed i.picture.positions) (is_whole (scale i.picture.positions)) is in
+    record { number = number; zone = zone; unsigned = unsigned }
 
 digits_represent : (i : Item) (from : ℕ) (bytes : List ℕ) → is_plain_digits i ≡ true → digits i.picture.positions ≡ size i.picture.positions → 0 < item_size i → AreDigits i from bytes
     → RepresentsSome i (part_of i from bytes)
 digits_represent i from bytes is even some all =
     let p = plain i is in
     let first = part_all IsDigitByte from (item_size i) bytes all in
-    let count : item_size i ≡ digits i.picture.positions = size_by i.usage i.sign i.picture p.shown p.joined ∙ sym even in
+    let count : item_size i ≡ digits i.picture.positions = size_by (storage_kind i) i.picture p.zone ∙ sym even in
     let z = zoned (digits i.picture.positions) (is_leading i.sign) (part_of i from bytes) (omega (arith, some, count)) (first.long ∙ count) first.all in (
       false,
       map low_digit (part_of i from bytes),
-      zoned_by i.usage i.sign i.picture (part_of i from bytes) (map low_digit (part_of i from bytes)) p.shown p.joined
+      zoned_by (storage_kind i) (is_leading i.sign) i.picture (part_of i from bytes) (map low_digit (part_of i from bytes)) p.zone
           (subst (λ (b : Bool). IsZoned (digits i.picture.positions) b (is_leading i.sign) (part_of i from bytes) false (map low_digit (part_of i from bytes))) (sym p.unsigned) z),
     )
 
@@ -285,17 +280,18 @@ plain_is_number : (i : Item) → is_plain_digits i ≡ true → IsNumberItem i
 plain_is_number i is =
     let p = plain i is in
     let (numeric, unblank) = both (is_numeric i.picture.category) i.blank p.number in
-    record { numeric = numeric; plain = unblank; taken = takes i.usage i.sign i.picture p.shown p.joined }
+    record { numeric = numeric; plain = unblank; taken = takes (storage_kind i) i.picture p.zone }
   where
     both : (a b : Bool) → (a && not b) ≡ true → (a ≡ true) × (b ≡ false)
     both true false h = (refl, refl)
     both true true h = absurd (cc (h))
     both false b h = absurd (cc (h))
 
-    takes : (u : Usage) (sign : Option Sign) (p : PlainPicture) → is_display u ≡ true → is_separate sign ≡ false → TakesPicture (form_by u sign) p
-    takes Display sign p shown joined = subst (λ (b : Bool). TakesPicture (display_form b) p) (sym joined) tt
-    takes Binary sign p shown joined = absurd (cc (shown))
-    takes Packed sign p shown joined = absurd (cc (shown))
+    takes : (k : StorageKind) (p : PlainPicture) → is_zoned k ≡ true → TakesPicture k p
+    takes Zoned p is = tt
+    takes Separate p is = absurd (cc (is))
+    takes Packed p is = absurd (cc (is))
+    takes Binary p is = absurd (cc (is))
 
 -- ---- the law
 

@@ -8,8 +8,9 @@ use Rattle.cob_copybook_entry.specs.Described.{PlainValue, Numeric as NumericLit
 use Rattle.cob_picture.specs.Counts.{scale, signed}
 use Rattle.cob_picture.specs.Positions.{shows_number}
 use Rattle.cob_copybook_tree.specs.declared.node.Item.{Item}
-use Rattle.cob_copybook_tree.specs.Items.{is_separate}
-use Rattle.cob_copybook_tree.specs.Resolving.{is_display, is_number}
+use Rattle.cob_copybook_tree.specs.Items.{storage_kind}
+use Rattle.cob_copybook_tree.specs.Resolving.{is_number}
+use Rattle.cob_copybook_tree.specs.Storage.{is_zoned}
 use Rattle.cob_back_losses.specs.declared.senses.Sense as code
 use Rattle.cob_back_losses.specs.declared.senses.Sense.TheVariants as code_sense
 
@@ -34,9 +35,9 @@ is_whole (pos zero) = true
 is_whole (pos (suc n)) = false
 is_whole (negsuc n) = false
 
--- Each byte of the item is a digit: it is a DISPLAY number without a sign, all of whose digits stand before the point, down to the ones.
+-- Each byte of the item is a digit: it is a zoned number without a sign, all of whose digits stand before the point, down to the ones.
 abbrev pub is_plain_digits : Item → Bool
-is_plain_digits i = is_number i && (is_display i.usage && (not (is_separate i.sign) && (not (signed i.picture.positions) && is_whole (scale i.picture.positions))))
+is_plain_digits i = is_number i && (is_zoned (storage_kind i) && (not (signed i.picture.positions) && is_whole (scale i.picture.positions)))
 
 -- what the byte at this place of an item is described as
 abbrev pub item_sense : Item → ℕ → Sense

@@ -4,12 +4,10 @@ ghost use Rattle.std.specs.Prelude.{◌≡◌, ℕ, Bool};
 ghost use Rattle.std.specs.Bool.{Decides};
 ghost use Rattle.std.specs.List.{slice_get};
 ghost use Rattle.cob_copybook_entry.specs.Described.{plain_value};
-ghost use Rattle.cob_copybook_tree.specs.Items.{is_separate};
-ghost use Rattle.cob_copybook_tree.specs.Resolving.{is_display};
 ghost use Rattle.cob_back_losses.specs.Senses.{Keeps, Part, character_sense, constant_sense, figurative_sense, is_digit, is_plain_digits, is_shown, is_whole, item_sense, repeated_sense, sense, sense_if};
 
 use cob_copybook_same::is_same_item;
-use cob_copybook_tree::{Figurative, Item, Sign, Usage, Value, is_number};
+use cob_copybook_tree::{Figurative, Item, Value, is_number};
 
 /// What a byte is described as.
 #[derive(Clone, Copy)]
@@ -24,23 +22,6 @@ pub(crate) enum Sense<'a> {
     Fill,
 }
 
-/// Whether the usage is that of characters.
-fn is_display(usage: Usage) -> bool
-    ensures { result ≡ is_display usage }
-{
-    matches!(usage, Usage::Display)
-}
-
-/// Whether a sign has a byte of its own.
-fn is_separate(sign: Option<Sign>) -> bool
-    ensures { result ≡ is_separate sign }
-{
-    match sign {
-        Some(sign) => sign.separate,
-        None => false,
-    }
-}
-
 /// Whether no digit stands behind the point, and the last one before it is the ones.
 fn is_whole(scale: i8) -> bool
     ensures { result ≡ is_whole scale }
@@ -48,13 +29,12 @@ fn is_whole(scale: i8) -> bool
     scale == 0
 }
 
-/// Whether each byte of an item is a digit: it is a DISPLAY number without a sign, all of whose digits stand before the point, down to the ones.
+/// Whether each byte of an item is a digit: it is a zoned number without a sign, all of whose digits stand before the point, down to the ones.
 fn is_plain_digits(item: &Item) -> bool
     ensures { result ≡ is_plain_digits item.now }
 {
     is_number(item)
-        && is_display(item.usage)
-        && !is_separate(item.sign)
+        && item.storage_kind().is_zoned()
         && !item.picture.signed()
         && is_whole(item.picture.scale())
 }

@@ -31,9 +31,10 @@ use Rattle.cob_copybook_tree.specs.declared.node.Item.{Item}
 use Rattle.cob_copybook_tree.specs.declared.node.Kind.TheVariants.{Group, Item as ItemKind}
 use Rattle.cob_copybook_tree.specs.Lengths.{item_size}
 use Rattle.cob_copybook_tree.specs.Resolving.{is_number, is_numeric}
-use Rattle.cob_copybook_tree.specs.declared.form.Form.{Form}
-use Rattle.cob_copybook_tree.specs.declared.form.Form.TheVariants.{Zoned, Separate, Packed, Binary}
-use Rattle.cob_copybook_tree.specs.Items.{IsNumberItem, form_of, is_leading, size_as, stored_form, written_as}
+use Rattle.cob_copybook_tree.specs.declared.kinds.StorageKind.{StorageKind}
+use Rattle.cob_copybook_tree.specs.declared.kinds.StorageKind.TheVariants.{Zoned, Separate, Packed, Binary}
+use Rattle.cob_copybook_tree.specs.Items.{IsNumberItem, storage_kind, stored_form}
+use Rattle.cob_copybook_tree.specs.Storage.{is_leading, size_as, written_as}
 use Rattle.cob_copybook_tree.proofs.ItemLemmas.{sizes}
 use Rattle.cob_copybook_tree.proofs.PictureLemmas.{digits_are_bytes}
 use Rattle.cob_move_receive.specs.Sent.{Amount, Entry}
@@ -47,7 +48,7 @@ use Rattle.cob_back_moves.proofs.TextLemmas.{length-padded}
 
 -- ---- numbers
 
-stored_has : (f : Form) (leading : Bool) (p : PlainPicture) (negative : Bool) (ds : List ℕ) → length ds ≡ digits p.positions
+stored_has : (f : StorageKind) (leading : Bool) (p : PlainPicture) (negative : Bool) (ds : List ℕ) → length ds ≡ digits p.positions
     → length (written_as f leading p negative ds) ≡ size_as f (digits p.positions)
 stored_has Zoned leading p negative ds e = zoned.stored_length (signed p.positions) leading negative ds ∙ e
 stored_has Separate leading p negative ds e = separate.stored_length (digits p.positions) leading negative ds e
@@ -58,7 +59,7 @@ fills_number : (i : Item) (v : Amount) (bytes : List ℕ) → IsSoundItem i → 
 fills_number i v bytes sound number h =
     let (symbols, is, at) = sound.picture in
     let even : digits i.picture.positions ≡ size i.picture.positions = digits_are_bytes i.picture.category symbols i.picture.positions number.numeric is at in
-    ap length h.stored ∙ stored_has (form_of i) (is_leading i.sign) i.picture h.minus h.digits h.count ∙ sym (sizes i even)
+    ap length h.stored ∙ stored_has (storage_kind i) (is_leading i.sign) i.picture h.minus h.digits h.count ∙ sym (sizes i even)
 
 -- ---- edited texts
 

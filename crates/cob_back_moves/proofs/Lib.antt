@@ -10,7 +10,6 @@ pub mod SoundLaw
 pub mod LeftLemmas
 pub mod StandingLemmas
 pub mod NamedLemmas
-pub mod KindLemmas
 pub mod EachLemmas
 pub mod OnceLemmas
 pub mod NotedLemmas

@@ -4,13 +4,14 @@ use Rattle.std.specs.Prelude.{MatchBool, Some}
 use Rattle.cob_picture.specs.Positions.{PlainPicture, shows_number}
 use Rattle.cob_codec.specs.declared.reading.Reading.{Reading}
 use Rattle.cob_codec.specs.declared.reading.Reading.TheVariants.{Pictured, Whole}
-use Rattle.cob_copybook_tree.specs.declared.form.Form.{Form}
-use Rattle.cob_copybook_tree.specs.declared.form.Form.TheVariants.{Zoned, Separate, Packed, Binary}
+use Rattle.cob_copybook_tree.specs.declared.kinds.StorageKind.{StorageKind}
+use Rattle.cob_copybook_tree.specs.declared.kinds.StorageKind.TheVariants.{Zoned, Separate, Packed, Binary}
 use Rattle.cob_copybook_tree.specs.declared.node.Item.{Item}
 use Rattle.cob_copybook_tree.specs.declared.node.Kind.TheVariants.{Group, Item as ItemKind}
 use Rattle.cob_copybook_tree.specs.Lengths.{item_size}
 use Rattle.cob_copybook_tree.specs.Resolving.{is_number}
-use Rattle.cob_copybook_tree.specs.Items.{HoldsNumbers, ItemReadsBack, IsSentBy, RepresentsAs, SentAs, form_of, is_leading}
+use Rattle.cob_copybook_tree.specs.Items.{HoldsNumbers, ItemReadsBack, IsSentBy, storage_kind}
+use Rattle.cob_copybook_tree.specs.Storage.{RepresentsAs, SentAs, is_leading, is_read_whole}
 use Rattle.cob_decimal.specs.Laws.{BelowPower, KeepsMagnitude}
 use Rattle.cob_move_receive.specs.Sent.{Entry, Amount}
 use Rattle.cob_move_receive.specs.Numbers.{GivesUnder, HoldsAmount, IsNumberIn, ItemGives}
@@ -23,17 +24,17 @@ use Rattle.cob_back_moves.proofs.TextLemmas.{gets_text, no_number, pad_back, tex
 
 -- ---- what is read as its picture says, whichever reading sends it
 
-pictured_by : (f : Form) → (f ≡ Binary → ⊥) → (leading : Bool) (p : PlainPicture) (bytes : List ℕ) (negative : Bool) (ds : List ℕ)
+pictured_by : (f : StorageKind) → is_read_whole f ≡ false → (leading : Bool) (p : PlainPicture) (bytes : List ℕ) (negative : Bool) (ds : List ℕ)
     → SentAs Whole f leading p bytes negative ds ≡ RepresentsAs f leading p bytes negative ds
 pictured_by Zoned other leading p bytes negative ds = refl
 pictured_by Separate other leading p bytes negative ds = refl
 pictured_by Packed other leading p bytes negative ds = refl
-pictured_by Binary other leading p bytes negative ds = absurd (other refl)
+pictured_by Binary other leading p bytes negative ds = absurd (cc)
 
 sent_pictured : (reading : Reading) (i : Item) (bytes : List ℕ) (negative : Bool) (ds : List ℕ) → IsReadPictured reading i
     → IsSentBy reading i bytes negative ds ≡ IsSentBy Pictured i bytes negative ds
 sent_pictured Pictured i bytes negative ds is = refl
-sent_pictured Whole i bytes negative ds is = pictured_by (form_of i) is (is_leading i.sign) i.picture bytes negative ds
+sent_pictured Whole i bytes negative ds is = pictured_by (storage_kind i) is (is_leading i.sign) i.picture bytes negative ds
 
 to_pictured : (reading : Reading) (i : Item) (bytes : List ℕ) (v : Amount) → IsReadPictured reading i → IsNumberIn reading i bytes v → IsNumberIn Pictured i bytes v
 to_pictured reading i bytes v is h =

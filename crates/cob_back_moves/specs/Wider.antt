@@ -1,13 +1,13 @@
 -- Items that lose nothing of what another item holds.
-use Rattle.std.specs.Prelude.{◌≡◌, ◌≢◌, ◌⊎◌, ℕ, ◌≤◌, pos, ◌-ℤ◌, ◌≤ℤ◌, ℤ, Bool, true, not, ◌&&◌, List, IsTrue, MatchBool}
+use Rattle.std.specs.Prelude.{◌≡◌, ◌⊎◌, ℕ, ◌≤◌, pos, ◌-ℤ◌, ◌≤ℤ◌, ℤ, Bool, true, false, not, ◌&&◌, List, IsTrue, MatchBool}
 use Rattle.cob_picture.specs.Positions.{PlainPicture, shows_number}
 use Rattle.cob_picture.specs.Counts.{digits, scale, signed}
 use Rattle.cob_codec.specs.declared.reading.Reading.{Reading}
 use Rattle.cob_codec.specs.declared.reading.Reading.TheVariants.{Pictured, Whole}
-use Rattle.cob_copybook_tree.specs.declared.form.Form.TheVariants.{Binary}
 use Rattle.cob_copybook_tree.specs.declared.node.Item.{Item}
-use Rattle.cob_copybook_tree.specs.Items.{form_of}
+use Rattle.cob_copybook_tree.specs.Items.{storage_kind}
 use Rattle.cob_copybook_tree.specs.Lengths.{item_size}
+use Rattle.cob_copybook_tree.specs.Storage.{is_read_whole}
 use Rattle.cob_move_receive.specs.Copying.{is_of_characters}
 use Rattle.cob_move_receive.specs.Sent.{Amount}
 use Rattle.cob_move_receive.specs.Numbers.{ItemGives}
@@ -41,7 +41,7 @@ LosesNothing i j = IsWiderNumber i j ⊎ IsLongerText i j
 -- where it is sent by this reading, the item is read as its picture says
 abbrev pub IsReadPictured : Reading → Item → Type 0
 IsReadPictured Pictured i = Unit {0}
-IsReadPictured Whole i = form_of i ≢ Binary
+IsReadPictured Whole i = is_read_whole (storage_kind i) ≡ false
 
 -- these bytes of the item represent the same value as those, or are the same where it is of characters
 abbrev pub IsSameIn : Item → List ℕ → List ℕ → Type 0

@@ -7,9 +7,9 @@ use Rattle.cob_copybook_tree.specs.declared.node.Kind.TheVariants.{Group, Item a
 use Rattle.cob_copybook_tree.specs.declared.node.ResolvedOccurs.{ResolvedOccurs}
 use Rattle.cob_copybook_tree.specs.declared.node.ResolvedOccurs.TheVariants.{Once, Fixed, Varying}
 use Rattle.cob_copybook_tree.specs.Forests.{Forest, NoEntries, AnEntry, Tree, entries_in}
-use Rattle.cob_copybook_tree.specs.Nodes.{Resolved, MayHold}
+use Rattle.cob_copybook_tree.specs.Nodes.{Resolved, MayHold, is_varying}
 use Rattle.cob_copybook_tree.specs.Lengths.{element_length, whole_length, own_length, length_by_kind, sum_of, item_size}
-use Rattle.cob_copybook_rules.specs.Areas.{is_varying, hold_varying, HasFixedLength, FitsFirst, MayFollow, AreAreas, area_with}
+use Rattle.cob_copybook_rules.specs.Areas.{hold_varying, HasFixedLength, FitsFirst, MayFollow, AreAreas, area_with}
 use Rattle.cob_layout_places.specs.declared.spots.Spot.{Spot}
 use Rattle.cob_layout_places.specs.Cover.{AreNumbered}
 use Rattle.cob_layout_places.specs.Lengths.{times, times_by, AreLeaves}

@@ -11,11 +11,12 @@ use Rattle.cob_copybook_entry.specs.declared.kinds.Sign.{Sign}
 use Rattle.cob_copybook_entry.specs.Described.{PlainEntry}
 use Rattle.cob_copybook_tree.specs.declared.node.Item.{Item}
 use Rattle.cob_copybook_tree.specs.Forests.{Forest, NoEntries, AnEntry, entries_in}
-use Rattle.cob_copybook_tree.specs.Lengths.{stored_size}
-use Rattle.cob_copybook_tree.specs.Resolving.{inherited, is_numeric, is_display, keeps_sign, acting, kind_by_picture, resolved}
+use Rattle.cob_copybook_entry.specs.Kinds.{is_display}
+use Rattle.cob_copybook_tree.specs.Resolving.{inherited, is_numeric, keeps_sign, acting, kind_by_picture, resolved}
 use Rattle.cob_copybook_rules.specs.Usages.{AreUsages, MayHave, Takes}
 use Rattle.cob_copybook_rules.specs.Placements.{ArePlaced, MayBeBlank, CanBeBlank}
-use Rattle.cob_copybook_tree.specs.Items.{TakesPicture, IsNumberItem, display_form, form_by, is_separate}
+use Rattle.cob_copybook_tree.specs.Items.{IsNumberItem}
+use Rattle.cob_copybook_tree.specs.Storage.{TakesPicture, display_kind, is_separate, storage_kind_by, stored_size}
 use Rattle.cob_layout.specs.Sound.{IsStorableKind, AreStorable}
 
 -- an item with a sign that acts where it may
@@ -23,34 +24,34 @@ abbrev item : Usage → Option Sign → Bool → Bool → PlainPicture → Item
 item usage sign justified blank p = record { picture = p; usage = usage; sign = acting (keeps_sign usage p) sign; justified = justified; blank = blank }
 
 -- a separate sign acts in a signed picture alone
-display_taken : (b : Bool) (sign : Option Sign) (p : PlainPicture) → signed p.positions ≡ b → TakesPicture (display_form (is_separate (acting b sign))) p
+display_taken : (b : Bool) (sign : Option Sign) (p : PlainPicture) → signed p.positions ≡ b → TakesPicture (display_kind (is_separate (acting b sign))) p
 display_taken false sign p e = tt
-display_taken true sign p e = by_form (is_separate sign)
+display_taken true sign p e = by_kind (is_separate sign)
   where
-    by_form : (separate : Bool) → TakesPicture (display_form separate) p
-    by_form false = tt
-    by_form true = e
+    by_kind : (separate : Bool) → TakesPicture (display_kind separate) p
+    by_kind false = tt
+    by_kind true = e
 
 -- each kind of storage takes the pictures of numbers that may have its usage
-taken : (usage : Usage) (sign : Option Sign) (p : PlainPicture) → Takes usage p → is_numeric p.category ≡ true → TakesPicture (form_by usage (acting (keeps_sign usage p) sign)) p
+taken : (usage : Usage) (sign : Option Sign) (p : PlainPicture) → Takes usage p → is_numeric p.category ≡ true → TakesPicture (storage_kind_by usage (acting (keeps_sign usage p) sign)) p
 taken Packed sign p h numeric = tt
 taken Binary sign p h numeric = h.1.0
 taken Display sign p h numeric =
-    subst (λ (b : Bool). TakesPicture (display_form (is_separate (acting (b && signed p.positions) sign))) p) (sym numeric) (display_taken (signed p.positions) sign p refl)
-
--- where no sign acts, a DISPLAY item has a byte for each position that has one
-display_size : (sign : Option Sign) (p : PlainPicture) (b : Bool) → b ≡ false → stored_size Display (acting b sign) p ≡ size p.positions
-display_size sign p false e = omega arith
-display_size sign p true e = absurd (cc)
+    subst (λ (b : Bool). TakesPicture (display_kind (is_separate (acting (b && signed p.positions) sign))) p) (sym numeric) (display_taken (signed p.positions) sign p refl)
 
 -- an item has a byte for each position of its picture that has one
 abbrev HasBytes : Usage → Option Sign → PlainPicture → Type 0
-HasBytes usage sign p = stored_size usage (acting (keeps_sign usage p) sign) p ≡ size p.positions
+HasBytes usage sign p = stored_size (storage_kind_by usage (acting (keeps_sign usage p) sign)) p ≡ size p.positions
+
+-- where no sign acts, a DISPLAY item has a byte for each position that has one
+display_size : (sign : Option Sign) (p : PlainPicture) (b : Bool) → b ≡ false → stored_size (storage_kind_by Display (acting b sign)) p ≡ size p.positions
+display_size sign p false e = refl
+display_size sign p true e = absurd (cc)
 
 -- no sign acts on what is no number
 other_size : (usage : Usage) (sign : Option Sign) (p : PlainPicture) → Takes usage p → is_numeric p.category ≡ false → HasBytes usage sign p
 other_size Display sign p h other = display_size sign p (keeps_sign Display p) (ap (λ (b : Bool). b && signed p.positions) other)
-other_size Packed sign p h other = absurd (let e : true ≡ false = sym h ∙ other in cc)
+other_size Packed sign p h other = absurd (let e : true ≡ false = sym h.0 ∙ other in cc)
 other_size Binary sign p h other = absurd (let e : true ≡ false = sym h.0 ∙ other in cc)
 
 no_sign : (b : Bool) → (b && false) ≡ false

@@ -17,7 +17,6 @@ use crate::numerals::numerals_to_point;
 use crate::sent::Sent;
 use cob_codec::Reading;
 use cob_copybook_tree::{Item, Kind, is_number, read_sent};
-use cob_picture::Category;
 
 /// Writes what a group holds after the move of a sender to it, into all its bytes: the sender's bytes, from the left.
 pub fn receive_in_group(given: &Sent<'_>, bytes: &mut [u8])
@@ -112,16 +111,6 @@ fn is_group(given: &Sent<'_>) -> bool
     }
 }
 
-/// Whether an item shows a number.
-fn shows_number(item: &Item) -> bool
-    ensures { result ≡ shows_number item.now.picture.category }
-{
-    matches!(
-        item.picture.category(),
-        Category::Numeric | Category::NumericEdited
-    )
-}
-
 /// Writes what an item holds after the move of a sender to it, into all its bytes.
 ///
 /// False where the sender's bytes represent no value that the item asks for: its bytes are as they were then.
@@ -133,7 +122,7 @@ pub fn receive_in_item(given: &Sent<'_>, item: &Item, bytes: &mut [u8]) -> bool
         (outcome result bytes.new) }
     ensures same { result ≡ false → bytes.new ≡ bytes.old }
 {
-    if !is_group(given) && shows_number(item) {
+    if !is_group(given) && item.picture.category().shows_number() {
         receive_number(given, item, bytes)
     } else {
         receive_text(given, item, bytes)

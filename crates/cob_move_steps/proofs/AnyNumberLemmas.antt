@@ -4,18 +4,17 @@ use Rattle.std.proofs.lemmas.Bool.{cases_eq}
 use Rattle.cob_decimal.specs.Decimal.{number_of}
 use Rattle.cob_picture.specs.Counts.{scale, signed}
 use Rattle.cob_picture.specs.Positions.{shows_number}
-use Rattle.cob_copybook_entry.specs.declared.kinds.Usage.{Usage}
-use Rattle.cob_copybook_entry.specs.declared.kinds.Usage.TheVariants.{Display, Packed, Binary}
 use Rattle.cob_codec.specs.Binary.{IsBinary, binary_form, binary_length}
 use Rattle.cob_codec.specs.declared.reading.Reading.{Reading}
 use Rattle.cob_codec.specs.declared.reading.Reading.TheVariants.{Pictured}
-use Rattle.cob_copybook_tree.specs.declared.form.Form.{Form}
-use Rattle.cob_copybook_tree.specs.declared.form.Form.TheVariants as form
+use Rattle.cob_copybook_tree.specs.declared.kinds.StorageKind.{StorageKind}
+use Rattle.cob_copybook_tree.specs.declared.kinds.StorageKind.TheVariants as kind
 use Rattle.cob_copybook_tree.specs.declared.node.Item.{Item}
 use Rattle.cob_copybook_tree.specs.declared.node.Kind.TheVariants.{Item as ItemKind}
 use Rattle.cob_copybook_tree.specs.Resolving.{is_number}
-use Rattle.cob_copybook_tree.specs.Items.{form_by, form_of, is_leading, IsSentBy, SentAs, written_as}
-use Rattle.cob_copybook_tree.specs.Lengths.{item_size, stored_size}
+use Rattle.cob_copybook_tree.specs.Items.{storage_kind, IsSentBy}
+use Rattle.cob_copybook_tree.specs.Storage.{SentAs, is_leading, stored_size, written_as}
+use Rattle.cob_copybook_tree.specs.Lengths.{item_size}
 use Rattle.cob_edit.specs.Pictured.{IsEdited}
 use Rattle.cob_codec_lanes.specs.Lanes.{AreTens, AreZero}
 use Rattle.cob_codec_lanes.specs.Windows.{last_bytes}
@@ -25,7 +24,7 @@ use Rattle.cob_codec_lanes.proofs.WantedLemmas.{wanted_tens, wanted_zero}
 use Rattle.cob_move_receive.specs.Sent.{Amount, Entry}
 use Rattle.cob_move_receive.specs.Numbers.{HoldsAligned}
 use Rattle.cob_move_receive.specs.Received.{Received, GetsNumber, GetsCharacters, outcome}
-use Rattle.cob_move_steps.specs.Steps.{is_binary, received_form}
+use Rattle.cob_move_steps.specs.Steps.{received_form}
 use Rattle.cob_move_steps.specs.Ends.{Gives, IsNumberWriterFor, item_digits, SendsNumber}
 use Rattle.cob_move_steps.specs.declared.number_ends.NumberWriter.{NumberWriter}
 use Rattle.cob_move_steps.proofs.GivenLemmas.{gives_scaled}
@@ -33,19 +32,11 @@ use Rattle.cob_move_steps.proofs.StepLemmas.{holds, match_true, not_false, not_t
 
 -- ---- binary items
 
-usage_is : (u : Usage) → is_binary u ≡ true → u ≡ Binary
-usage_is Binary e = refl
-usage_is Display e = absurd (cc)
-usage_is Packed e = absurd (cc)
-
-pub form_is : (i : Item) → is_binary i.usage ≡ true → form_of i ≡ form.Binary
-form_is i e = ap (λ u. form_by u i.sign) (usage_is i.usage e)
-
-pub size_is : (i : Item) → is_binary i.usage ≡ true → item_size i ≡ binary_length (item_digits i)
-size_is i e = ap (λ u. stored_size u i.sign i.picture) (usage_is i.usage e)
+pub size_is : (i : Item) → storage_kind i ≡ kind.Binary → item_size i ≡ binary_length (item_digits i)
+size_is i e = ap (λ k. stored_size k i.picture) e
 
 -- what was read of a binary item is what was read of the item
-pub word_read : (from to : Item) (reading : Reading) (bytes kept : List ℕ) (told minus : Bool) → is_binary from.usage ≡ true → reading ≡ Pictured
+pub word_read : (from to : Item) (reading : Reading) (bytes kept : List ℕ) (told minus : Bool) → storage_kind from ≡ kind.Binary → reading ≡ Pictured
     → IsNumberRead (IsBinary (item_digits from) (signed from.picture.positions) (last_bytes (binary_length (item_digits from)) bytes)) (item_digits to) (scale to.picture.positions -ℤ scale from.picture.positions) told minus kept
     → IsNumberRead (IsSentBy reading from (last_bytes (item_size from) bytes)) (item_digits to) (scale to.picture.positions -ℤ scale from.picture.positions) told minus kept
 word_read from to reading bytes kept told minus is pictured read =
@@ -53,13 +44,13 @@ word_read from to reading bytes kept told minus is pictured read =
     let sized : IsNumberRead (IsBinary (item_digits from) (signed from.picture.positions) (last_bytes (item_size from) bytes)) (item_digits to) s told minus kept =
     subst (λ n. IsNumberRead (IsBinary (item_digits from) (signed from.picture.positions) (last_bytes n bytes)) (item_digits to) s told minus kept) (sym (size_is from is)) read in
     let here : IsNumberRead (IsSentBy Pictured from (last_bytes (item_size from) bytes)) (item_digits to) s told minus kept =
-    subst (λ (f : Form). IsNumberRead (SentAs Pictured f (is_leading from.sign) from.picture (last_bytes (item_size from) bytes)) (item_digits to) s told minus kept) (sym (form_is from is)) sized in
+    subst (λ (f : StorageKind). IsNumberRead (SentAs Pictured f (is_leading from.sign) from.picture (last_bytes (item_size from) bytes)) (item_digits to) s told minus kept) (sym is) sized in
     subst (λ (r : Reading). IsNumberRead (IsSentBy r from (last_bytes (item_size from) bytes)) (item_digits to) s told minus kept) (sym pictured) here
 
 -- what is written of a binary item is what is written of the item
-pub word_written : (to : Item) (minus : Bool) (ds new : List ℕ) → is_binary to.usage ≡ true → new ≡ binary_form (item_digits to) (signed to.picture.positions && minus) ds → new ≡ received_form to minus ds
+pub word_written : (to : Item) (minus : Bool) (ds new : List ℕ) → storage_kind to ≡ kind.Binary → new ≡ binary_form (item_digits to) (signed to.picture.positions && minus) ds → new ≡ received_form to minus ds
 word_written to minus ds new is e =
-    e ∙ ap (λ (f : Form). written_as f (is_leading to.sign) to.picture (signed to.picture.positions && minus) ds) (sym (form_is to is))
+    e ∙ ap (λ (f : StorageKind). written_as f (is_leading to.sign) to.picture (signed to.picture.positions && minus) ds) (sym is)
 
 -- ---- the step
 

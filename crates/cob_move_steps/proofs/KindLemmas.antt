@@ -7,10 +7,11 @@ use Rattle.cob_codec.specs.Separate.{IsSignedSeparately, separate_form}
 use Rattle.cob_codec.specs.Packed.{IsPacked, packed_form}
 use Rattle.cob_codec.specs.declared.reading.Reading.{Reading}
 use Rattle.cob_codec.specs.declared.reading.Reading.TheVariants.{Pictured, Whole}
-use Rattle.cob_copybook_tree.specs.declared.form.Form.{Form}
-use Rattle.cob_copybook_tree.specs.declared.form.Form.TheVariants.{Zoned, Separate, Packed}
+use Rattle.cob_copybook_tree.specs.declared.kinds.StorageKind.{StorageKind}
+use Rattle.cob_copybook_tree.specs.declared.kinds.StorageKind.TheVariants.{Zoned, Separate, Packed}
 use Rattle.cob_copybook_tree.specs.declared.node.Item.{Item}
-use Rattle.cob_copybook_tree.specs.Items.{IsSentBy, SentAs, TakesPicture, IsNumberItem, form_of, is_leading, size_as, written_as}
+use Rattle.cob_copybook_tree.specs.Items.{IsSentBy, IsNumberItem, storage_kind}
+use Rattle.cob_copybook_tree.specs.Storage.{SentAs, TakesPicture, is_leading, size_as, written_as}
 use Rattle.cob_copybook_tree.specs.Lengths.{item_size}
 use Rattle.cob_codec_lanes.specs.Readers.{IsReaderOf}
 use Rattle.cob_codec_lanes.specs.Writers.{IsWriterOf}
@@ -33,14 +34,14 @@ sent_packed Pictured leading p n w s r h = h
 sent_packed Whole leading p n w s r h = h
 
 -- the reader of a form, at the item's length, is that of the item
-as_item : (i : Item) (f : Form) (count n w : ℕ) (s : ℤ) (r : LaneReader) → form_of i ≡ f → item_size i ≡ size_as (form_of i) count → size_as f count ≡ n
+as_item : (i : Item) (f : StorageKind) (count n w : ℕ) (s : ℤ) (r : LaneReader) → storage_kind i ≡ f → item_size i ≡ size_as (storage_kind i) count → size_as f count ≡ n
     → ((reading : Reading) → IsReaderOf (SentAs reading f (is_leading i.sign) i.picture) n w s r) → IsItemReader i w s r
 as_item i f count n w s r form size many h = λ reading.
     let e : n ≡ item_size i = sym (size ∙ ap (λ g. size_as g count) form ∙ many) in
-    let a : IsReaderOf (SentAs reading (form_of i) (is_leading i.sign) i.picture) n w s r = subst (λ g. IsReaderOf (SentAs reading g (is_leading i.sign) i.picture) n w s r) (sym form) (h reading) in
+    let a : IsReaderOf (SentAs reading (storage_kind i) (is_leading i.sign) i.picture) n w s r = subst (λ g. IsReaderOf (SentAs reading g (is_leading i.sign) i.picture) n w s r) (sym form) (h reading) in
     subst (λ m. IsReaderOf (IsSentBy reading i) m w s r) e a
 
-pub zoned_reader : (i : Item) (count : ℕ) (sign leading : Bool) (w : ℕ) (s : ℤ) (r : LaneReader) → form_of i ≡ Zoned → item_size i ≡ size_as (form_of i) count → count ≡ digits i.picture.positions → sign ≡ signed i.picture.positions → leading ≡ is_leading i.sign
+pub zoned_reader : (i : Item) (count : ℕ) (sign leading : Bool) (w : ℕ) (s : ℤ) (r : LaneReader) → storage_kind i ≡ Zoned → item_size i ≡ size_as (storage_kind i) count → count ≡ digits i.picture.positions → sign ≡ signed i.picture.positions → leading ≡ is_leading i.sign
     → IsReaderOf (IsZoned count sign leading) count w s r → IsItemReader i w s r
 zoned_reader i count sign leading w s r form size many has lead h =
     let a : IsReaderOf (IsZoned count (signed i.picture.positions) (is_leading i.sign)) count w s r =
@@ -48,14 +49,14 @@ zoned_reader i count sign leading w s r form size many has lead h =
     let b : IsReaderOf (IsZoned (digits i.picture.positions) (signed i.picture.positions) (is_leading i.sign)) count w s r = subst (λ n. IsReaderOf (IsZoned n (signed i.picture.positions) (is_leading i.sign)) count w s r) many a in
     as_item i Zoned count count w s r form size refl (λ reading. sent_zoned reading (is_leading i.sign) i.picture count w s r b)
 
-pub separate_reader : (i : Item) (count : ℕ) (leading : Bool) (w : ℕ) (s : ℤ) (r : LaneReader) → form_of i ≡ Separate → item_size i ≡ size_as (form_of i) count → count ≡ digits i.picture.positions → leading ≡ is_leading i.sign
+pub separate_reader : (i : Item) (count : ℕ) (leading : Bool) (w : ℕ) (s : ℤ) (r : LaneReader) → storage_kind i ≡ Separate → item_size i ≡ size_as (storage_kind i) count → count ≡ digits i.picture.positions → leading ≡ is_leading i.sign
     → IsReaderOf (IsSignedSeparately count leading) (count + 1) w s r → IsItemReader i w s r
 separate_reader i count leading w s r form size many lead h =
     let a : IsReaderOf (IsSignedSeparately count (is_leading i.sign)) (count + 1) w s r = subst (λ b. IsReaderOf (IsSignedSeparately count b) (count + 1) w s r) lead h in
     let b : IsReaderOf (IsSignedSeparately (digits i.picture.positions) (is_leading i.sign)) (count + 1) w s r = subst (λ n. IsReaderOf (IsSignedSeparately n (is_leading i.sign)) (count + 1) w s r) many a in
     as_item i Separate count (count + 1) w s r form size refl (λ reading. sent_separate reading (is_leading i.sign) i.picture (count + 1) w s r b)
 
-pub packed_reader : (i : Item) (count : ℕ) (sign : Bool) (w : ℕ) (s : ℤ) (r : LaneReader) → form_of i ≡ Packed → item_size i ≡ size_as (form_of i) count → count ≡ digits i.picture.positions → sign ≡ signed i.picture.positions
+pub packed_reader : (i : Item) (count : ℕ) (sign : Bool) (w : ℕ) (s : ℤ) (r : LaneReader) → storage_kind i ≡ Packed → item_size i ≡ size_as (storage_kind i) count → count ≡ digits i.picture.positions → sign ≡ signed i.picture.positions
     → IsReaderOf (IsPacked count sign) (count / 2 + 1) w s r → IsItemReader i w s r
 packed_reader i count sign w s r form size many has h =
     let a : IsReaderOf (IsPacked count (signed i.picture.positions)) (count / 2 + 1) w s r = subst (λ b. IsReaderOf (IsPacked count b) (count / 2 + 1) w s r) has h in
@@ -70,7 +71,7 @@ reader_as i w v s z r wanted shift h = λ reading.
 -- ---- writers
 
 -- a form that is written without looking at the minus of an unsigned item
-written : (i : Item) (f : Form) (count n : ℕ) (form : Bool → List ℕ → List ℕ) (w : LaneWriter) → form_of i ≡ f → item_size i ≡ size_as (form_of i) count → size_as f count ≡ n → count ≡ digits i.picture.positions
+written : (i : Item) (f : StorageKind) (count n : ℕ) (form : Bool → List ℕ → List ℕ) (w : LaneWriter) → storage_kind i ≡ f → item_size i ≡ size_as (storage_kind i) count → size_as f count ≡ n → count ≡ digits i.picture.positions
     → ((minus : Bool) (ds : List ℕ) → form minus ds ≡ written_as f (is_leading i.sign) i.picture (signed i.picture.positions && minus) ds) → IsWriterOf form count n w → IsWriterFor i w
 written i f count n form w is size many digits_are same h =
     let e : n ≡ item_size i = sym (size ∙ ap (λ g. size_as g count) is ∙ many) in
@@ -91,20 +92,20 @@ pub packed_same : (sign minus : Bool) (ds : List ℕ) → packed_form sign minus
 packed_same true minus ds = refl
 packed_same false minus ds = refl
 
-pub zoned_writer : (i : Item) (count : ℕ) (sign leading : Bool) (w : LaneWriter) → form_of i ≡ Zoned → item_size i ≡ size_as (form_of i) count → count ≡ digits i.picture.positions → sign ≡ signed i.picture.positions → leading ≡ is_leading i.sign
+pub zoned_writer : (i : Item) (count : ℕ) (sign leading : Bool) (w : LaneWriter) → storage_kind i ≡ Zoned → item_size i ≡ size_as (storage_kind i) count → count ≡ digits i.picture.positions → sign ≡ signed i.picture.positions → leading ≡ is_leading i.sign
     → IsWriterOf (zoned_form sign leading) count count w → IsWriterFor i w
 zoned_writer i count sign leading w form size many has lead h =
     written i Zoned count count (zoned_form sign leading) w form size refl many (λ minus ds.
     zoned_same sign leading minus ds ∙ ap (λ b. zoned_form b leading (b && minus) ds) has ∙ ap (λ b. zoned_form (signed i.picture.positions) b (signed i.picture.positions && minus) ds) lead) h
 
-pub separate_writer : (i : Item) (count : ℕ) (leading : Bool) (w : LaneWriter) → form_of i ≡ Separate → IsNumberItem i → item_size i ≡ size_as (form_of i) count → count ≡ digits i.picture.positions → leading ≡ is_leading i.sign
+pub separate_writer : (i : Item) (count : ℕ) (leading : Bool) (w : LaneWriter) → storage_kind i ≡ Separate → IsNumberItem i → item_size i ≡ size_as (storage_kind i) count → count ≡ digits i.picture.positions → leading ≡ is_leading i.sign
     → IsWriterOf (separate_form leading) count (count + 1) w → IsWriterFor i w
 separate_writer i count leading w form number size many lead h =
     let has : signed i.picture.positions ≡ true = subst (λ f. TakesPicture f i.picture) form number.taken in
     written i Separate count (count + 1) (separate_form leading) w form size refl many (λ minus ds.
     ap (λ b. separate_form b minus ds) lead ∙ sym (ap (λ b. separate_form (is_leading i.sign) (b && minus) ds) has)) h
 
-pub packed_writer : (i : Item) (count : ℕ) (sign : Bool) (w : LaneWriter) → form_of i ≡ Packed → item_size i ≡ size_as (form_of i) count → count ≡ digits i.picture.positions → sign ≡ signed i.picture.positions
+pub packed_writer : (i : Item) (count : ℕ) (sign : Bool) (w : LaneWriter) → storage_kind i ≡ Packed → item_size i ≡ size_as (storage_kind i) count → count ≡ digits i.picture.positions → sign ≡ signed i.picture.positions
     → IsWriterOf (packed_form sign) count (count / 2 + 1) w → IsWriterFor i w
 packed_writer i count sign w form size many has h =
     written i Packed count (count / 2 + 1) (packed_form sign) w form size refl many (λ minus ds. packed_same sign minus ds ∙ ap (λ b. packed_form b (b && minus) ds) has) h
@@ -112,13 +113,13 @@ packed_writer i count sign w form size many has h =
 -- ---- what lanes hold
 
 -- a zoned item has as many digits as bytes
-pub as_many_digits : (i : Item) (count : ℕ) → item_size i ≡ size_as (form_of i) count → form_of i ≡ Zoned → item_size i ≤ 16 → count ≤ 16
+pub as_many_digits : (i : Item) (count : ℕ) → item_size i ≡ size_as (storage_kind i) count → storage_kind i ≡ Zoned → item_size i ≤ 16 → count ≤ 16
 as_many_digits i count size form fits =
     let e : item_size i ≡ count = size ∙ ap (λ f. size_as f count) form in
     omega (arith, e)
 
 -- an item with a separate sign has fewer digits than bytes
-pub fewer_digits : (i : Item) (count : ℕ) → item_size i ≡ size_as (form_of i) count → form_of i ≡ Separate → item_size i ≤ 16 → count ≤ 15
+pub fewer_digits : (i : Item) (count : ℕ) → item_size i ≡ size_as (storage_kind i) count → storage_kind i ≡ Separate → item_size i ≤ 16 → count ≤ 15
 fewer_digits i count size form fits =
     let e : item_size i ≡ count + 1 = size ∙ ap (λ f. size_as f count) form in
     omega (arith, e)

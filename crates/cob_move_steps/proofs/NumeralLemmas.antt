@@ -16,11 +16,12 @@ use Rattle.cob_codec.specs.declared.reading.Reading.TheVariants.{Pictured, Whole
 use Rattle.cob_copybook_entry.specs.declared.kinds.Usage.{Usage}
 use Rattle.cob_copybook_entry.specs.declared.kinds.Usage.TheVariants.{Display, Packed, Binary}
 use Rattle.cob_copybook_entry.specs.declared.kinds.Sign.{Sign}
-use Rattle.cob_copybook_tree.specs.declared.form.Form.{Form}
-use Rattle.cob_copybook_tree.specs.declared.form.Form.TheVariants as form
+use Rattle.cob_copybook_tree.specs.declared.kinds.StorageKind.{StorageKind}
+use Rattle.cob_copybook_tree.specs.declared.kinds.StorageKind.TheVariants as kind
 use Rattle.cob_copybook_tree.specs.declared.node.Item.{Item}
 use Rattle.cob_copybook_tree.specs.declared.node.Kind.TheVariants.{Item as ItemKind}
-use Rattle.cob_copybook_tree.specs.Items.{display_form, form_by, form_of, is_leading, is_separate, IsNumberItem, IsSentBy, Represents, RepresentsAs, SentAs}
+use Rattle.cob_copybook_tree.specs.Items.{storage_kind, IsNumberItem, IsSentBy, Represents}
+use Rattle.cob_copybook_tree.specs.Storage.{is_leading, is_read_whole, RepresentsAs, SentAs}
 use Rattle.cob_copybook_tree.specs.Lengths.{item_size}
 use Rattle.cob_copybook_tree.specs.Resolving.{is_number}
 use Rattle.cob_copybook_tree.proofs.ItemLemmas as item_laws
@@ -35,7 +36,6 @@ use Rattle.cob_move_receive.specs.Sent.{Entry}
 use Rattle.cob_move_receive.specs.Characters.{Arranged, GivesDigits, Placement, numerals_to_point, padded, padded_left, placement_in}
 use Rattle.cob_move_receive.specs.Copying.{is_of_characters}
 use Rattle.cob_move_receive.specs.Received.{GetsCharacters, GetsNumber, Received, outcome}
-use Rattle.cob_move_steps.specs.Steps.{is_binary}
 use Rattle.cob_move_steps.specs.Ends.{Gives, item_digits, SuitsReading}
 use Rattle.cob_move_steps.specs.Numerals.{IsNumeralsStep, MakesNumerals, numeral_count, numeral_lane, numeral_zone}
 use Rattle.cob_move_steps.specs.Texts.{AreLed}
@@ -62,26 +62,17 @@ kept_own count s ds kept few many valid held =
 
 -- ---- how many they are
 
-pictured_as : (reading : Reading) (f : Form) (leading : Bool) (p : PlainPicture) (bytes : List ℕ) (negative : Bool) (ds : List ℕ) → (f ≡ form.Binary → reading ≡ Pictured) → SentAs reading f leading p bytes negative ds
+pictured_as : (reading : Reading) (f : StorageKind) (leading : Bool) (p : PlainPicture) (bytes : List ℕ) (negative : Bool) (ds : List ℕ) → (is_read_whole f ≡ true → reading ≡ Pictured) → SentAs reading f leading p bytes negative ds
     → RepresentsAs f leading p bytes negative ds
 pictured_as Pictured f leading p bytes negative ds suits sent = sent
-pictured_as Whole form.Zoned leading p bytes negative ds suits sent = sent
-pictured_as Whole form.Separate leading p bytes negative ds suits sent = sent
-pictured_as Whole form.Packed leading p bytes negative ds suits sent = sent
-pictured_as Whole form.Binary leading p bytes negative ds suits sent = let other : Whole ≡ Pictured = suits refl in absurd (cc)
-
-binary_by : (u : Usage) (sign : Option Sign) → form_by u sign ≡ form.Binary → is_binary u ≡ true
-binary_by Binary sign e = refl
-binary_by Packed sign e = absurd (cc)
-binary_by Display sign e = other (is_separate sign) e
-  where
-    other : (b : Bool) → display_form b ≡ form.Binary → is_binary Display ≡ true
-    other true e = absurd (cc)
-    other false e = absurd (cc)
+pictured_as Whole kind.Zoned leading p bytes negative ds suits sent = sent
+pictured_as Whole kind.Separate leading p bytes negative ds suits sent = sent
+pictured_as Whole kind.Packed leading p bytes negative ds suits sent = sent
+pictured_as Whole kind.Binary leading p bytes negative ds suits sent = let other : Whole ≡ Pictured = suits refl in absurd (cc)
 
 pub sent_long : (i : Item) (reading : Reading) (bytes : List ℕ) (negative : Bool) (ds : List ℕ) → IsNumberItem i → SuitsReading i reading → IsSentBy reading i bytes negative ds → length ds ≡ item_digits i
 sent_long i reading bytes negative ds n suits sent =
-    let there : Represents i bytes negative ds = pictured_as reading (form_of i) (is_leading i.sign) i.picture bytes negative ds (λ e. suits (binary_by i.usage i.sign e)) sent in
+    let there : Represents i bytes negative ds = pictured_as reading (storage_kind i) (is_leading i.sign) i.picture bytes negative ds suits sent in
     let held : IsHeld (digits i.picture.positions) (signed i.picture.positions) negative ds = item_laws.holds i bytes negative ds n there in
     held.count_is
 

@@ -6,7 +6,9 @@ use Rattle.cob_codec.specs.declared.reading.Reading.{Reading}
 use Rattle.cob_copybook_tree.specs.declared.node.Item.{Item}
 use Rattle.cob_copybook_tree.specs.declared.node.Kind.{Kind}
 use Rattle.cob_copybook_tree.specs.declared.node.Kind.TheVariants.{Group, Item as ItemKind}
+use Rattle.cob_copybook_tree.specs.Items.{storage_kind}
 use Rattle.cob_copybook_tree.specs.Lengths.{item_size}
+use Rattle.cob_copybook_tree.specs.Storage.{is_read_whole}
 use Rattle.cob_codec_lanes.specs.Windows.{last_bytes}
 use Rattle.cob_move_receive.specs.Received.{Received}
 use Rattle.cob_move_receive.specs.Sent.{Entry, Occupies}
@@ -16,7 +18,6 @@ use Rattle.cob_move_steps.specs.Deedits.{IsReceiverWriterFor, IsTextCarriedOut}
 use Rattle.cob_move_steps.specs.Numerals.{IsNumeralsCarriedOut}
 use Rattle.cob_move_steps.specs.Pool.{AreOccupied, BetweenItems, IsReceived, IsStepAt, IsStepBetween, KeepsSteps, MoveKinds, MovesNumber, MovesAnyNumber, MovesToEdited, MovesText, MovesToNumerals, MovesToWideEdited, MovesWide}
 use Rattle.cob_move_steps.specs.Running.{IsAnyNumberCarriedOut, IsCarriedOut, IsEditCarriedOut, IsWideEditCarriedOut}
-use Rattle.cob_move_steps.specs.Steps.{is_binary}
 use Rattle.cob_move_steps.specs.Wide.{IsWideCarriedOut}
 use Rattle.cob_move_steps.specs.declared.any_number_step.AnyNumberStep.{AnyNumberStep}
 use Rattle.cob_move_steps.specs.declared.characters_step.CharactersStep.{CharactersStep}
@@ -152,8 +153,8 @@ pub wide_received : (k : MoveKinds) (step : WideStep) (size : ℕ) (bytes : List
 wide_received k step size bytes outcome occupied between within same h =
     received_by (MovesWide step) k size bytes outcome occupied between within same (λ reading from to is fits long. h from to is fits long reading)
 
--- an item that isn't binary suits any reading
-suits : (from : Item) (reading : Reading) → is_binary from.usage ≡ false → SuitsReading from reading
+-- an item that is read in one way suits any reading
+suits : (from : Item) (reading : Reading) → is_read_whole (storage_kind from) ≡ false → SuitsReading from reading
 suits from reading other is = absurd (cc)
 
 pub any_number_received : (k : MoveKinds) (step : AnyNumberStep) (size : ℕ) (bytes : List ℕ) (outcome : Option (List ℕ)) → AreOccupied k → BetweenItems (MovesAnyNumber step) k.sender k.receiver → k.sent ≤ length bytes

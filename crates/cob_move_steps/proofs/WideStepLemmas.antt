@@ -5,11 +5,12 @@ use Rattle.cob_picture.specs.Counts.{scale, signed}
 use Rattle.cob_picture.specs.Positions.{shows_number}
 use Rattle.cob_codec.specs.Packed.{packed_form}
 use Rattle.cob_codec.specs.declared.reading.Reading.{Reading}
-use Rattle.cob_copybook_tree.specs.declared.form.Form.TheVariants as form
+use Rattle.cob_copybook_tree.specs.declared.kinds.StorageKind.TheVariants as kind
 use Rattle.cob_copybook_tree.specs.declared.node.Item.{Item}
 use Rattle.cob_copybook_tree.specs.declared.node.Kind.TheVariants.{Item as ItemKind}
 use Rattle.cob_copybook_tree.specs.Resolving.{is_number}
-use Rattle.cob_copybook_tree.specs.Items.{IsSentBy, OneSentNumber, form_of, is_leading, size_as, written_as}
+use Rattle.cob_copybook_tree.specs.Items.{IsSentBy, OneSentNumber, storage_kind}
+use Rattle.cob_copybook_tree.specs.Storage.{is_leading, size_as, written_as}
 use Rattle.cob_copybook_tree.specs.Lengths.{item_size}
 use Rattle.cob_edit.specs.Pictured.{IsEdited}
 use Rattle.cob_codec_lanes.specs.Lanes.{AreTens, AreZero}
@@ -34,7 +35,7 @@ use Rattle.cob_move_steps.proofs.StepLemmas.{from_match, holds_digits, match_tru
 -- ---- made ready
 
 -- the writer of packed items of so many digits is that of the item
-pub packed_wide_writer : (i : Item) (count : ℕ) (sign : Bool) (w : WideWriter) → form_of i ≡ form.Packed → item_size i ≡ size_as (form_of i) count → count ≡ item_digits i → sign ≡ signed i.picture.positions
+pub packed_wide_writer : (i : Item) (count : ℕ) (sign : Bool) (w : WideWriter) → storage_kind i ≡ kind.Packed → item_size i ≡ size_as (storage_kind i) count → count ≡ item_digits i → sign ≡ signed i.picture.positions
     → IsWideWriterOf (packed_form sign) count (count / 2 + 1) w → IsWideWriterOf (received_form i) (item_digits i) (item_size i) w
 packed_wide_writer i count sign w is size many has h =
     let e : count / 2 + 1 ≡ item_size i = sym (size ∙ ap (λ g. size_as g count) is) in

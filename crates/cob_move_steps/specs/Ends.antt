@@ -6,7 +6,9 @@ use Rattle.cob_picture.specs.declared.category.Category.TheVariants.{Alphanumeri
 use Rattle.cob_codec.specs.declared.reading.Reading.{Reading}
 use Rattle.cob_codec.specs.declared.reading.Reading.TheVariants.{Pictured}
 use Rattle.cob_copybook_tree.specs.declared.node.Item.{Item}
-use Rattle.cob_copybook_tree.specs.Items.{IsNumberItem}
+use Rattle.cob_copybook_tree.specs.declared.kinds.StorageKind.TheVariants.{Binary}
+use Rattle.cob_copybook_tree.specs.Items.{IsNumberItem, storage_kind}
+use Rattle.cob_copybook_tree.specs.Storage.{is_read_whole}
 use Rattle.cob_copybook_tree.specs.Lengths.{item_size}
 use Rattle.cob_codec_lanes.specs.Lanes.{AreTens}
 use Rattle.cob_codec_lanes.specs.Readers.{AreNumeralsOf, IsReaderOf}
@@ -16,7 +18,7 @@ use Rattle.cob_codec_lanes.specs.declared.binary.BinaryReader.{BinaryReader}
 use Rattle.cob_codec_lanes.specs.declared.binary.BinaryWriter.{BinaryWriter}
 use Rattle.cob_codec_lanes.specs.declared.reader.LaneReader.{LaneReader}
 use Rattle.cob_move_receive.specs.Numbers.{ItemGives}
-use Rattle.cob_move_steps.specs.Steps.{is_binary, IsLaneItem, IsReaderFor, IsWriterFor, received_form}
+use Rattle.cob_move_steps.specs.Steps.{IsLaneItem, IsReaderFor, IsWriterFor, received_form}
 use Rattle.cob_move_steps.specs.Texts.{IsPlainlyEdited}
 use Rattle.cob_move_steps.specs.declared.any_number_step.AnyNumberStep.{AnyNumberStep}
 use Rattle.cob_move_steps.specs.declared.number_ends.NumberReader.{NumberReader}
@@ -31,7 +33,7 @@ item_digits i = digits i.picture.positions
 -- The item is a binary number of at most sixteen digits.
 pub record IsWordItem (i : Item) : Type 0 where
   pub number : IsNumberItem i
-  pub binary : is_binary i.usage ≡ true
+  pub binary : storage_kind i ≡ Binary
   pub few : item_digits i ≤ 16
 
 -- The item is a number whose digits sixteen lanes hold.
@@ -57,7 +59,7 @@ SendsNumber i = IsNumberItem i ⊎ IsNumeralItem i ⊎ IsPlainlyEdited i
 abbrev pub Gives : Reading → Item → List ℕ → Bool → List ℕ → Type 0
 Gives reading i bytes negative ds = ItemGives reading i bytes (record { negative = negative; digits = ds; scale = scale i.picture.positions })
 
--- The reader reads the numbers of an item that isn't binary, and keeps the digits that another item has places for.
+-- The reader reads the numbers of an item by lanes, and keeps the digits that another item has places for.
 pub record IsLaneReaderFor (from to : Item) (r : LaneReader) : Type 0 where
   pub number : IsNumberItem from
   pub reads : IsReaderFor from to r
@@ -65,7 +67,7 @@ pub record IsLaneReaderFor (from to : Item) (r : LaneReader) : Type 0 where
 -- The reader reads the binary numbers of an item, and keeps the digits that another item has places for.
 pub record IsWordReaderFor (from to : Item) (r : BinaryReader) : Type 0 where
   pub number : IsNumberItem from
-  pub binary : is_binary from.usage ≡ true
+  pub binary : storage_kind from ≡ Binary
   pub reads : IsBinaryReaderOf (item_digits from) (signed from.picture.positions) (item_digits to) (scale to.picture.positions -ℤ scale from.picture.positions) r
 
 -- The reader reads the numbers that the characters of an item are, and keeps the digits that another item has places for.
@@ -75,7 +77,7 @@ pub record IsNumeralReaderFor (from to : Item) (r : LaneReader) : Type 0 where
 
 -- The writer writes the binary numbers of an item.
 pub record IsWordWriterFor (to : Item) (w : BinaryWriter) : Type 0 where
-  pub binary : is_binary to.usage ≡ true
+  pub binary : storage_kind to ≡ Binary
   pub writes : IsBinaryWriterOf (item_digits to) (signed to.picture.positions) w
 
 -- The reader is one for the item's kind of storage.
@@ -99,9 +101,9 @@ pub record IsNumberWriterFor (to : Item) (w : NumberWriter) : Type 0 where
   pub few : item_digits to ≤ 16
   pub own : IsOwnWriter to w
 
--- A binary sender is read as its picture says.
+-- A sender of which reading it whole differs is read as its picture says.
 abbrev pub SuitsReading : Item → Reading → Type 0
-SuitsReading from reading = is_binary from.usage ≡ true → reading ≡ Pictured
+SuitsReading from reading = is_read_whole (storage_kind from) ≡ true → reading ≡ Pictured
 
 -- What was read of the item at the end of bytes, for each two items whose reader this is.
 abbrev pub IsItemRead : NumberReader → List ℕ → (is_number minus : Bool) → List ℕ → Type 0

@@ -4,6 +4,8 @@ use Rattle.cob_codec.specs.declared.reading.Reading.{Reading}
 use Rattle.cob_copybook_tree.specs.declared.node.Item.{Item}
 use Rattle.cob_copybook_tree.specs.declared.node.Kind.{Kind}
 use Rattle.cob_copybook_tree.specs.declared.node.Kind.TheVariants.{Group, Item as ItemKind}
+use Rattle.cob_copybook_tree.specs.Items.{storage_kind}
+use Rattle.cob_copybook_tree.specs.Storage.{is_read_whole}
 use Rattle.cob_codec_lanes.specs.Windows.{last_bytes}
 use Rattle.cob_move_receive.specs.Received.{Received}
 use Rattle.cob_move_receive.specs.Sent.{Entry, Occupies}
@@ -12,7 +14,7 @@ use Rattle.cob_move_steps.specs.Deedits.{IsTextStep, ReceivesNumber}
 use Rattle.cob_move_steps.specs.Edits.{IsEditStep, IsWideEditStep}
 use Rattle.cob_move_steps.specs.Ends.{IsAnyNumberStep}
 use Rattle.cob_move_steps.specs.Numerals.{HaveAnyShortNumbers, IsNumeralsStep}
-use Rattle.cob_move_steps.specs.Steps.{IsNumberStep, is_binary}
+use Rattle.cob_move_steps.specs.Steps.{IsNumberStep}
 use Rattle.cob_move_steps.specs.Texts.{IsWideEditedItem}
 use Rattle.cob_move_steps.specs.Wide.{IsWideStep}
 use Rattle.cob_move_steps.specs.declared.any_number_step.AnyNumberStep.{AnyNumberStep}
@@ -57,21 +59,21 @@ MovesNumber step from to = IsNumberStep from to step
 abbrev pub MovesWide : WideStep → Item → Item → Type 0
 MovesWide step from to = IsWideStep from to step
 
--- the step moves the number that an item gives that isn't binary to another
+-- the step moves the number that an item gives, which is read in one way, to another
 abbrev pub MovesAnyNumber : AnyNumberStep → Item → Item → Type 0
-MovesAnyNumber step from to = (is_binary from.usage ≡ false) × IsAnyNumberStep from to step
+MovesAnyNumber step from to = (is_read_whole (storage_kind from) ≡ false) × IsAnyNumberStep from to step
 
--- the step moves the number that an item gives that isn't binary to an edited one
+-- the step moves the number that an item gives, which is read in one way, to an edited one
 abbrev pub MovesToEdited : EditStep → Item → Item → Type 0
-MovesToEdited step from to = (is_binary from.usage ≡ false) × IsEditStep from to step
+MovesToEdited step from to = (is_read_whole (storage_kind from) ≡ false) × IsEditStep from to step
 
--- the step moves the number that an item gives that isn't binary to an edited one of more bytes
+-- the step moves the number that an item gives, which is read in one way, to an edited one of more bytes
 abbrev pub MovesToWideEdited : WideEditStep → Item → Item → Type 0
-MovesToWideEdited step from to = (is_binary from.usage ≡ false) × IsWideEditStep from to step
+MovesToWideEdited step from to = (is_read_whole (storage_kind from) ≡ false) × IsWideEditStep from to step
 
--- the step moves the number of an item that isn't binary to characters
+-- the step moves the number of an item, which is read in one way, to characters
 abbrev pub MovesToNumerals : NumeralsStep → Item → Item → Type 0
-MovesToNumerals step from to = (is_binary from.usage ≡ false) × IsNumeralsStep from to step
+MovesToNumerals step from to = (is_read_whole (storage_kind from) ≡ false) × IsNumeralsStep from to step
 
 -- the step moves the number of an edited item to another item
 abbrev pub MovesText : TextStep → Item → Item → Type 0
@@ -114,18 +116,18 @@ abbrev pub PutsCharacters : MoveSteps → CharactersStep → (from before after 
 PutsCharacters steps step from before after = (k : MoveKinds) → IsMoveStep steps k (move_step.Characters step)
     → k.sent ≤ length from → length before ≡ k.received → IsReceived k from (Some after)
 
--- the sender gives a short number and isn't binary, and the receiver is a number of any kind of storage, edits one, or takes its digits as characters
+-- the sender gives a short number and is read in one way, and the receiver is a number of any kind of storage, edits one, or takes its digits as characters
 pub record HaveSteadyNumbers (from to : Item) : Type 0 where
-  pub steady : is_binary from.usage ≡ false
+  pub steady : is_read_whole (storage_kind from) ≡ false
   pub numbers : HaveAnyShortNumbers from to
 
 -- the sender is edited, and the receiver is a short number, or edits one
 pub record HaveTexts (from to : Item) : Type 0 where
-  pub steady : is_binary from.usage ≡ false
+  pub steady : is_read_whole (storage_kind from) ≡ false
   pub sends : IsWideEditedItem from
   pub receives : ReceivesNumber to
 
--- the items have a step: the sender isn't binary, and gives a short number that the receiver takes
+-- the items have a step: the sender is read in one way, and gives a short number that the receiver takes
 abbrev pub HaveShortNumbers : Item → Item → Type 0
 HaveShortNumbers from to = HaveSteadyNumbers from to ⊎ HaveTexts from to
 

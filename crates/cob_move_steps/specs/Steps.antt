@@ -1,13 +1,11 @@
 -- Single moves of numbers that are made ready.
-use Rattle.std.specs.Prelude.{◌≡◌, ◌≤◌, ℤ, ◌-ℤ◌, Bool, true, false, ◌&&◌, List, ℕ}
+use Rattle.std.specs.Prelude.{◌≤◌, ℤ, ◌-ℤ◌, Bool, ◌&&◌, List, ℕ, Option, Some, None, IsSome}
 use Rattle.cob_picture.specs.Counts.{digits, scale, signed}
 use Rattle.cob_codec.specs.declared.reading.Reading.{Reading}
-use Rattle.cob_copybook_entry.specs.declared.kinds.Usage.{Usage}
-use Rattle.cob_copybook_entry.specs.declared.kinds.Usage.TheVariants.{Display, Binary, Packed}
-use Rattle.cob_copybook_tree.specs.declared.form.Form.{Form}
-use Rattle.cob_copybook_tree.specs.declared.form.Form.TheVariants as form
+use Rattle.cob_copybook_tree.specs.declared.kinds.StorageKind.{StorageKind}
+use Rattle.cob_copybook_tree.specs.declared.kinds.StorageKind.TheVariants as kind
 use Rattle.cob_copybook_tree.specs.declared.node.Item.{Item}
-use Rattle.cob_copybook_tree.specs.Items.{IsNumberItem, IsSentBy, stored_form}
+use Rattle.cob_copybook_tree.specs.Items.{IsNumberItem, IsSentBy, storage_kind, stored_form}
 use Rattle.cob_copybook_tree.specs.Lengths.{item_size}
 use Rattle.cob_codec_lanes.specs.Readers.{IsReaderOf}
 use Rattle.cob_codec_lanes.specs.Writers.{IsWriterOf}
@@ -18,28 +16,29 @@ use Rattle.cob_move_steps.specs.declared.storage.LaneStorage.TheVariants as lane
 use Rattle.cob_move_steps.specs.declared.step.NumberStep.{NumberStep}
 
 -- The kind of storage that is meant.
-abbrev pub form_by_lanes : LaneStorage → Form
-form_by_lanes lane.Zoned = form.Zoned
-form_by_lanes lane.Separate = form.Separate
-form_by_lanes lane.Packed = form.Packed
+abbrev pub kind_by_lanes : LaneStorage → StorageKind
+kind_by_lanes lane.Zoned = kind.Zoned
+kind_by_lanes lane.Separate = kind.Separate
+kind_by_lanes lane.Packed = kind.Packed
 
--- The usage of numbers that are stored as such.
-abbrev pub is_binary : Usage → Bool
-is_binary Binary = true
-is_binary Display = false
-is_binary Packed = false
+-- What lanes read and write of a kind of storage, if they do.
+abbrev pub lanes_of : StorageKind → Option LaneStorage
+lanes_of kind.Zoned = Some lane.Zoned
+lanes_of kind.Separate = Some lane.Separate
+lanes_of kind.Packed = Some lane.Packed
+lanes_of _ = None
 
--- The item is a number whose digits and whose bytes are at most sixteen, and it is not binary.
+-- The item is a number whose digits and whose bytes are at most sixteen, of a kind of storage that lanes read and write.
 pub record IsLaneItem (i : Item) : Type 0 where
   pub number : IsNumberItem i
-  pub halves : is_binary i.usage ≡ false
+  pub halves : IsSome (lanes_of (storage_kind i))
   pub few : digits i.picture.positions ≤ 16
   pub fits : item_size i ≤ 16
 
--- The item is a number that is not binary, of at most sixteen bytes. A packed one may have more digits than bytes.
+-- The item is a number of a kind of storage that lanes read and write, of at most sixteen bytes. A packed one may have more digits than bytes.
 pub record IsWindowItem (i : Item) : Type 0 where
   pub number : IsNumberItem i
-  pub halves : is_binary i.usage ≡ false
+  pub halves : IsSome (lanes_of (storage_kind i))
   pub fits : item_size i ≤ 16
 
 -- What is stored in an item for a number of these digits that is negative or not: a minus only where the item has a sign.

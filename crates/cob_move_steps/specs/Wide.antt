@@ -1,9 +1,9 @@
 -- Single moves of numbers to packed items of more than sixteen digits that are made ready.
 use Rattle.std.specs.Prelude.{◌≡◌, ℕ, ◌-◌, ◌<◌, ◌≤◌, pos, ◌-ℤ◌, List, length, Option}
 use Rattle.cob_picture.specs.Counts.{scale}
-use Rattle.cob_copybook_tree.specs.declared.form.Form.TheVariants as form
+use Rattle.cob_copybook_tree.specs.declared.kinds.StorageKind.TheVariants as kind
 use Rattle.cob_copybook_tree.specs.declared.node.Item.{Item}
-use Rattle.cob_copybook_tree.specs.Items.{IsNumberItem, form_of}
+use Rattle.cob_copybook_tree.specs.Items.{IsNumberItem, storage_kind}
 use Rattle.cob_copybook_tree.specs.Lengths.{item_size}
 use Rattle.cob_codec_lanes.specs.Writers.{IsWideWriterOf}
 use Rattle.cob_move_steps.specs.Ends.{item_digits}
@@ -14,7 +14,7 @@ use Rattle.cob_move_steps.specs.declared.wide_step.WideStep.{WideStep}
 -- The item is a packed number of more than sixteen digits, and of at most sixteen bytes.
 pub record IsWideItem (i : Item) : Type 0 where
   pub number : IsNumberItem i
-  pub packed : form_of i ≡ form.Packed
+  pub packed : storage_kind i ≡ kind.Packed
   pub many : 16 < item_digits i
   pub fits : item_size i ≤ 16
 

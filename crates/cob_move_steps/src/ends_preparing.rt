@@ -2,28 +2,29 @@
 
 ghost use Rattle.std.specs.Prelude.{◌≡◌, ◌↔◌, ◌≤◌, IfSome, IsSome, IsTrue};
 ghost use Rattle.cob_picture.specs.Counts.{digits};
-ghost use Rattle.cob_move_steps.specs.Steps.{is_binary};
+ghost use Rattle.cob_copybook_tree.specs.declared.kinds.StorageKind.TheVariants.{Binary};
+ghost use Rattle.cob_copybook_tree.specs.Items.{storage_kind};
 ghost use Rattle.cob_move_steps.specs.Ends.{IsNumberReaderFor, IsNumberWriterFor, IsNumeralItem, IsShortNumber, IsShortSender, IsWordItem};
 
 use crate::number_ends::{NumberReader, NumberWriter};
 use crate::preparing::{reader_for, wanted_of, writer_for};
-use crate::storage::{lane_storage, number_shape, window_storage};
+use crate::storage::{lane_storage, window_storage};
 use cob_codec_lanes::{BinaryReader, BinaryWriter, LaneReader};
-use cob_copybook_tree::{Item, Usage, is_number_item};
+use cob_copybook_tree::{Item, StorageKind, is_number_item};
 use cob_picture::Category;
 
-/// Whether a usage is binary.
-pub(crate) fn is_binary(usage: Usage) -> bool
-    ensures { result ≡ is_binary usage }
+/// Whether an item is binary.
+fn is_binary(item: &Item) -> bool
+    ensures { IsTrue result ↔ (storage_kind item.now ≡ Binary) }
 {
-    matches!(usage, Usage::Binary)
+    matches!(item.storage_kind(), StorageKind::Binary)
 }
 
 /// Whether an item is a binary number of at most sixteen digits.
 fn is_word_item(item: &Item) -> bool
     ensures { IsTrue result ↔ IsWordItem item.now }
 {
-    is_number_item(item) && is_binary(item.usage) && item.picture.digits() <= 16
+    is_number_item(item) && is_binary(item) && item.picture.digits() <= 16
 }
 
 /// Whether an item holds from 1 to 16 characters. Its picture has no point.
@@ -46,7 +47,7 @@ pub(crate) fn stored_reader(sender: &Item, receiver: &Item) -> Option<NumberRead
         return Some(NumberReader::Lanes(reader_for(sender, storage, receiver)));
     }
     if is_word_item(sender) {
-        let shape = number_shape(sender);
+        let shape = sender.shape();
         let wanted = wanted_of(sender, receiver);
         Some(NumberReader::Binary(BinaryReader::of(&shape, wanted)))
     } else {
@@ -89,7 +90,7 @@ pub(crate) fn number_writer(receiver: &Item) -> Option<NumberWriter>
         return Some(NumberWriter::Lanes(writer_for(receiver, storage)));
     }
     if is_word_item(receiver) {
-        Some(NumberWriter::Binary(BinaryWriter::of(&number_shape(receiver))))
+        Some(NumberWriter::Binary(BinaryWriter::of(&receiver.shape())))
     } else {
         None
     }

@@ -2,7 +2,8 @@
 
 ghost use Rattle.std.specs.Prelude.{◌≡◌, ◌≤◌, false, length, Some, IfOk, IfSome, IsSome};
 ghost use Rattle.cob_move_steps.specs.Numerals.{HaveAnyShortNumbers};
-ghost use Rattle.cob_move_steps.specs.Steps.{is_binary};
+ghost use Rattle.cob_copybook_tree.specs.Items.{storage_kind};
+ghost use Rattle.cob_copybook_tree.specs.Storage.{is_read_whole};
 ghost use Rattle.cob_move_steps.specs.Pool.{AreOccupied, CarriesFromTo, CarriesItems, HasNoSteps, HaveShortNumbers, HaveStep, IsMoveStep, IsReceived, KeepsSteps, MoveKinds, MovesAnyNumber, MovesNumber, MovesText, MovesToEdited, MovesToNumerals, MovesToWideEdited, MovesWide, PutsCharacters};
 ghost use Rattle.cob_move_steps.specs.declared.pool.MoveStep.TheVariants.{Characters};
 ghost use Rattle.cob_move_receive.specs.Received.{outcome};
@@ -10,7 +11,6 @@ ghost use Rattle.cob_move_receive.specs.Received.{outcome};
 use crate::any_number_step::AnyNumberStep;
 use crate::characters_step::CharactersStep;
 use crate::edit_step::EditStep;
-use crate::ends_preparing::is_binary;
 use crate::numerals_step::NumeralsStep;
 use crate::step::NumberStep;
 use crate::text_step::TextStep;
@@ -190,7 +190,7 @@ impl MoveSteps {
     ///
     /// Where no memory is left.
     fn prepare_numbers(&mut self, from: &Item, to: &Item) -> Result<Option<MoveStep>, AllocError>
-        requires { is_binary from.now.usage ≡ false }
+        requires { is_read_whole (storage_kind from.now) ≡ false }
         ensures step { IfOk result (λ found. IfSome found
             (CarriesFromTo self.new from.now to.now)) }
         ensures must { HaveAnyShortNumbers from.now to.now → IfOk result (λ found. IsSome found) }
@@ -228,8 +228,8 @@ impl MoveSteps {
         ensures must { HaveShortNumbers from.now to.now → IfOk result (λ found. IsSome found) }
         ensures kept { KeepsSteps self.old self.new }
     {
-        // A sender that isn't binary is read in one way.
-        if is_binary(from.usage) {
+        // Another sender is read in one way.
+        if from.storage_kind().is_read_whole() {
             return Ok(None);
         }
         if let Some(step) = TextStep::prepare(self.alloc, from, to)? {
@@ -239,7 +239,7 @@ impl MoveSteps {
     }
 
     /// Makes the step of the move of an entry to another ready, by what they describe and how many bytes they have. There is one where the sender
-    /// gives its bytes as characters, and the receiver takes them without insertions; and where the sender isn't binary and gives a number of at
+    /// gives its bytes as characters, and the receiver takes them without insertions; and where the sender is read in one way and gives a number of at
     /// most sixteen digits, as a number or characters of at most sixteen bytes or an edited item of at most thirty-two, and the receiver is a
     /// number of at most sixteen digits of any kind of storage, edits one in at most thirty-two bytes, or takes the digits of a number as
     /// characters. The steps so far stay.

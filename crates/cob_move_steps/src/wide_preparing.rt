@@ -2,8 +2,8 @@
 
 ghost use Rattle.std.specs.Prelude.{◌≡◌, ◌-◌, ◌<◌, ◌≤◌, ◌↔◌, pos, ◌-ℤ◌, IfSome, IsSome, IsTrue};
 ghost use Rattle.cob_picture.specs.Counts.{scale};
-ghost use Rattle.cob_copybook_tree.specs.declared.form.Form.TheVariants.{Packed};
-ghost use Rattle.cob_copybook_tree.specs.Items.{form_of};
+ghost use Rattle.cob_copybook_tree.specs.declared.kinds.StorageKind.TheVariants.{Packed};
+ghost use Rattle.cob_copybook_tree.specs.Items.{storage_kind};
 ghost use Rattle.cob_codec_lanes.specs.Writers.{IsWideWriterOf};
 ghost use Rattle.cob_copybook_tree.specs.Lengths.{item_size};
 ghost use Rattle.cob_move_steps.specs.Ends.{item_digits};
@@ -11,16 +11,16 @@ ghost use Rattle.cob_move_steps.specs.Steps.{IsWindowItem, received_form};
 ghost use Rattle.cob_move_steps.specs.Wide.{IsWideItem, IsWideStep};
 
 use crate::preparing::item_reader;
-use crate::storage::{number_shape, window_storage};
+use crate::storage::window_storage;
 use crate::wide_step::WideStep;
 use cob_codec_lanes::{Wanted, WideWriter};
-use cob_copybook_tree::{Item, Usage, is_number_item};
+use cob_copybook_tree::{Item, StorageKind, is_number_item};
 
 /// Whether an item is packed.
 fn is_packed(item: &Item) -> bool
-    ensures { IsTrue result ↔ (form_of item.now ≡ Packed) }
+    ensures { IsTrue result ↔ (storage_kind item.now ≡ Packed) }
 {
-    matches!(item.usage, Usage::Packed)
+    matches!(item.storage_kind(), StorageKind::Packed)
 }
 
 /// Whether an item is a packed number of more than sixteen digits.
@@ -58,11 +58,11 @@ fn wide_writer(receiver: &Item) -> WideWriter
     ensures { IsWideWriterOf (received_form receiver.now)
         (item_digits receiver.now) (item_size receiver.now) result }
 {
-    WideWriter::packed(&number_shape(receiver))
+    WideWriter::packed(&receiver.shape())
 }
 
 impl WideStep {
-    /// The step of the move of one item to another. There is one where the sender is a number of at most sixteen bytes that isn't binary, and the
+    /// The step of the move of one item to another. There is one where the sender is a number of at most sixteen bytes that lanes read, and the
     /// receiver a packed one of more than sixteen digits.
     pub fn prepare(sender: &Item, receiver: &Item) -> Option<WideStep>
         ensures step { IfSome result (IsWideStep sender.now receiver.now) }

@@ -1,4 +1,0 @@
-pub mod HalfLemmas
-pub mod PackedLemmas
-pub mod ZonedLemmas
-pub mod SeparateLemmas

@@ -1,8 +1,7 @@
 //! What to do where an item has no value, by what its bytes look like.
 
-use cob_copybook_tree::{Item, Usage};
+use cob_copybook_tree::Item;
 use cob_move_data::Side;
-use cob_picture::Category;
 
 /// What bytes look like that give no value.
 #[derive(Clone, Copy)]
@@ -58,10 +57,7 @@ fn have_letters(bytes: &[u8]) -> bool {
 
 /// Whether an item holds a number, or the text of one.
 fn holds_number(item: &Item) -> bool {
-    matches!(
-        item.picture.category(),
-        Category::Numeric | Category::NumericEdited
-    )
+    item.picture.category().shows_number()
 }
 
 /// What the bytes of an item of this record look like.
@@ -112,11 +108,11 @@ fn advice_for(look: ByteLook) -> &'static str {
 
 /// What to do where an item of this side has no value, whose bytes these are, of the record that came.
 pub(crate) fn value_advice(side: Side, item: &Item, record: &[u8], bytes: &[u8]) -> &'static str {
-    match (side, item.usage) {
-        (Side::Out, _) => "give it such a value before this statement",
-        (Side::In, Usage::Binary) if !are_all(bytes, 0x40) => {
+    match side {
+        Side::Out => "give it such a value before this statement",
+        Side::In if item.storage_kind().is_read_whole() && !are_all(bytes, 0x40) => {
             "correct it, or read binary items as the numbers of all their bytes, by --binary whole"
         }
-        (Side::In, _) => advice_for(look_of(item, record, bytes)),
+        Side::In => advice_for(look_of(item, record, bytes)),
     }
 }

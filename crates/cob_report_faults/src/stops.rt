@@ -1,12 +1,12 @@
 //! Why moves stop, in words.
 
 use crate::advice::value_advice;
-use crate::flaws::{NumberFlaw, number_flaw};
+use crate::flaws::number_flaw;
 use crate::numbers::write_number;
 use crate::occurrences::{Occurrence, SentText};
 use crate::words::FlawText;
-use cob_codec::Reading;
-use cob_copybook_tree::{Item, Usage, is_number_item, read_sent};
+use cob_codec::{NumberFlaw, Reading};
+use cob_copybook_tree::{Item, is_number_item, read_sent};
 use cob_move_data::Side;
 use cob_picture::Category;
 use cob_report_words::ItemText;
@@ -71,18 +71,6 @@ fn write_bytes<W: fmt::Write>(f: &mut fmt::Formatter<W>, bytes: &[u8]) -> fmt::R
         write!(f, " {byte:02X}")?;
     }
     Ok(())
-}
-
-/// What the bytes of a number are to be.
-fn number_words(item: &Item) -> &'static str {
-    match item.usage {
-        Usage::Packed => "packed number",
-        Usage::Binary => "binary number of this picture",
-        Usage::Display => match item.sign {
-            Some(sign) if sign.separate => "number with a separate sign",
-            _ => "zoned number",
-        },
-    }
 }
 
 /// Writes the number that all bytes of a binary item are.
@@ -151,7 +139,7 @@ fn write_value_flaw<W: fmt::Write>(
     write!(f, "the bytes")?;
     write_bytes(f, bytes)?;
     if is_number_item(item) {
-        write!(f, " are no {}", number_words(item))?;
+        write!(f, " are no {}", item.storage_kind().number_words())?;
         return write_number_flaw(f, item, bytes, reading);
     }
     match item.picture.category() {

@@ -1,6 +1,6 @@
 //! The words that tell a flaw.
 
-use crate::flaw::{Flaw, Wanted};
+use cob_codec::{Flaw, Wanted};
 use std::fmt;
 
 /// A flaw of so many bytes, in words, as `the last half byte is 0, no sign`.

@@ -5,7 +5,7 @@ use crate::lacks::Lack;
 use crate::singles::{LinedSingle, singles_of, twice};
 use crate::storage::first_otherwise;
 use cob_back_moves::{Loss, MovesBetween, Way};
-use cob_copybook_tree::{Item, Kind, Name, Node, Usage, Value};
+use cob_copybook_tree::{Item, Kind, Name, Node, Value};
 use cob_layout::Layout;
 use cob_move_data::{Element, Sent, Side};
 use cob_report_words::{Named, entry_of};
@@ -177,7 +177,7 @@ fn told_reading<'a>(moves: &MovesBetween<'a>, single: &LinedSingle<'a>) -> Optio
         return None;
     };
     let named = named_in(moves.layouts.input, entry);
-    if !matches!(named.item()?.usage, Usage::Binary) {
+    if !named.item()?.storage_kind().is_read_whole() {
         return None;
     }
     Some(Reason::Whole(named))

@@ -1,10 +1,10 @@
 //! Entries for which a record doesn't stand in one way.
 
-use cob_copybook_tree::{Node, ResolvedOccurs};
+use cob_copybook_tree::Node;
 
 /// Whether an entry redefines another one, or is a table that varies.
 fn stands_otherwise(entry: &Node) -> bool {
-    entry.redefines.is_some() || matches!(entry.occurs, ResolvedOccurs::Varying { .. })
+    entry.redefines.is_some() || entry.occurs.is_varying()
 }
 
 /// The first entry, of this one and those beneath it, that redefines another one or is a table that varies.

@@ -6,9 +6,8 @@ use Rattle.cob_copybook_tree.specs.declared.node.Kind.{Kind}
 use Rattle.cob_copybook_tree.specs.declared.node.Node.{Node}
 use Rattle.cob_copybook_tree.specs.declared.node.Node.TheViews.{out-Node}
 use Rattle.cob_copybook_tree.specs.Forests.{Forest, NoEntries, AnEntry, Tree}
-use Rattle.cob_copybook_tree.specs.Nodes.{Resolved, node, tree_of}
+use Rattle.cob_copybook_tree.specs.Nodes.{Resolved, is_varying, node, tree_of}
 use Rattle.cob_copybook_tree.specs.Lengths.{greatest_number}
-use Rattle.cob_copybook_rules.specs.Areas.{is_varying}
 use Rattle.cob_copybook_names.specs.declared.bearer.Bearer.{Bearer as Listed}
 use Rattle.cob_copybook_names.specs.Listed.{bearer_by, texts}
 use Rattle.cob_copybook_names.specs.Naming.{Bearer, with_name}

@@ -4,7 +4,7 @@ ghost use Rattle.std.specs.Prelude.{◌≡◌, ◌+◌, ◌≤◌, [], ◌∷◌
 ghost use Rattle.cob_copybook_tree.specs.Lengths.{greatest_number};
 ghost use Rattle.cob_copybook_tree.specs.Nodes.{node, resolved_entry, tree_of};
 ghost use Rattle.cob_copybook_tree.specs.declared.node.Node.TheViews.{out-Node};
-ghost use Rattle.cob_copybook_rules.specs.Areas.{is_varying};
+ghost use Rattle.cob_copybook_names.specs.Listed.{texts};
 ghost use Rattle.cob_layout.specs.Sound.{AreNested, own_dimension};
 ghost use Rattle.cob_layout_places.specs.Places.{is_table};
 ghost use Rattle.cob_limits.specs.Limits.{most_dimensions};
@@ -13,7 +13,7 @@ ghost use Rattle.cob_report_partners.specs.Entries.{ListsBehind, ListsTree, draf
 
 use arrayvec::ArrayVec;
 use cob_copybook_names::{Bearer, name_of, names_beneath};
-use cob_copybook_tree::{Node, ResolvedOccurs};
+use cob_copybook_tree::Node;
 use cob_layout::{Layout, is_table, records_are_sound};
 use cob_layout_places::{Table, tables};
 use cob_limits::MAX_SUBSCRIPTS;
@@ -61,13 +61,6 @@ struct Setting {
     redefined: Option<usize>,
     /// The number of the last entry before it in its row that redefines nothing.
     latest: Option<usize>,
-}
-
-/// Whether an entry that occurs so is a table that varies.
-fn is_varying(occurs: ResolvedOccurs) -> bool
-    ensures { result ≡ is_varying occurs }
-{
-    matches!(occurs, ResolvedOccurs::Varying { .. })
 }
 
 /// The same tables once more.
@@ -127,7 +120,7 @@ fn inside(outer: &Setting, entry: &Node) -> Setting
 {
     Setting {
         tables: tables_with(entry, outer.tables.as_slice()),
-        steady: outer.steady && !is_varying(entry.occurs),
+        steady: outer.steady && !entry.occurs.is_varying(),
         own: outer.own && entry.redefines.is_none(),
         redefined: redefined_at(outer, entry),
         latest: None,

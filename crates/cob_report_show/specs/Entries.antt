@@ -4,17 +4,16 @@ use Rattle.cob_picture.specs.declared.category.Category.{Category}
 use Rattle.cob_picture.specs.declared.category.Category.TheVariants.{Alphabetic, Numeric, Alphanumeric, AlphanumericEdited, NumericEdited}
 use Rattle.cob_records.specs.declared.records.RecordFault.{RecordFault}
 use Rattle.cob_records.specs.Frame.{taken_of}
-use Rattle.cob_copybook_tree.specs.declared.form.Form.{Form}
-use Rattle.cob_copybook_tree.specs.declared.form.Form.TheVariants.{Zoned, Separate, Packed, Binary}
 use Rattle.cob_copybook_tree.specs.declared.node.Item.{Item}
 use Rattle.cob_copybook_tree.specs.declared.node.Kind.{Kind}
 use Rattle.cob_copybook_tree.specs.declared.node.Kind.TheVariants.{Group, Item as ItemKind}
 use Rattle.cob_copybook_tree.specs.declared.node.ResolvedOccurs.{ResolvedOccurs}
 use Rattle.cob_copybook_tree.specs.declared.node.ResolvedOccurs.TheVariants.{Once, Fixed, Varying}
 use Rattle.cob_copybook_tree.specs.Forests.{Forest, flat}
-use Rattle.cob_copybook_tree.specs.Items.{form_of}
+use Rattle.cob_copybook_tree.specs.Items.{storage_kind}
 use Rattle.cob_copybook_tree.specs.Nodes.{Resolved}
 use Rattle.cob_copybook_tree.specs.Resolving.{is_number}
+use Rattle.cob_copybook_tree.specs.Storage.{storage_word}
 use Rattle.cob_layout_places.specs.declared.spots.Spot.{Spot}
 use Rattle.cob_layout_places.specs.Lengths.{times}
 use Rattle.cob_layout_places.specs.Spots.{spots_of}
@@ -31,13 +30,6 @@ abbrev pub name_or_filler : Option (List ℕ) → List ℕ
 name_or_filler None = codes "FILLER"
 name_or_filler (Some name) = name
 
--- what a number is: its kind of storage
-abbrev pub form_word : Form → List ℕ
-form_word Zoned = codes "zoned"
-form_word Separate = codes "separate"
-form_word Packed = codes "packed"
-form_word Binary = codes "binary"
-
 -- what an item is that is no number: the category of its picture; a numeric one has BLANK WHEN ZERO, which makes it an edited one
 abbrev pub category_word : Category → List ℕ
 category_word Alphabetic = codes "alphabetic"
@@ -48,7 +40,7 @@ category_word Numeric = codes "numeric-edited"
 
 -- what an item is
 abbrev pub item_word : Item → List ℕ
-item_word i = if is_number i then form_word (form_of i) else category_word i.picture.category
+item_word i = if is_number i then storage_word (storage_kind i) else category_word i.picture.category
 
 -- what an entry is: a group, or what its item is
 abbrev pub kind_word : Kind → List ℕ

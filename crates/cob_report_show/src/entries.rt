@@ -2,36 +2,20 @@
 
 ghost use Rattle.std.specs.Prelude.{◌≡◌, ◌<◌, ◌≤◌, ◌+◌, ◌-◌, ◌*◌, ◌++◌, ◌∷◌, ℕ, length, nat_le, slice_index_or, decimal, IfErr, is_err, true, Err};
 ghost use Rattle.cob_copybook_tree.specs.Forests.{entries_in};
-ghost use Rattle.cob_copybook_tree.specs.Items.{form_of};
 ghost use Rattle.cob_copybook_tree.specs.Nodes.{forest, node, tree_of};
 ghost use Rattle.cob_layout.specs.Ways.{spot_at};
 ghost use Rattle.cob_layout_places.specs.Cover.{AreNumbered};
 ghost use Rattle.cob_limits.specs.Limits.{longest_name};
 ghost use Rattle.cob_records.specs.Device.{counted, Took};
 ghost use Rattle.cob_records.specs.Frame.{is_write_error, is_write_fault, taken_of};
-ghost use Rattle.cob_report_show.specs.Entries.{ListsEntries, entry_line, form_word, greatest_spot, item_word, kind_word, level_text, lines_among, longest_line, name_by_number, name_or_filler, occurs_text, redefines_text, spot_text};
+ghost use Rattle.cob_report_show.specs.Entries.{ListsEntries, entry_line, greatest_spot, item_word, kind_word, level_text, lines_among, longest_line, name_by_number, name_or_filler, occurs_text, redefines_text, spot_text};
 ghost use Rattle.cob_report_show.specs.Sent.{SendsText};
 
 use crate::text::{Line, push_number, push_text, put};
 use arrayvec::ArrayVec;
-use cob_layout::{
-    Item, Kind, Layout, Name, Node, ResolvedOccurs, Sign, Spot, Usage, records_are_sound,
-};
+use cob_layout::{Item, Kind, Layout, Name, Node, ResolvedOccurs, Spot, records_are_sound};
 use cob_picture::Category;
 use cob_records::{RecordFault, Sink};
-
-/// What a number is, in the words of its line.
-fn number_word(item: &Item) -> &'static str
-    ensures text { result.now ≡ form_word (form_of item.now) }
-    ensures short { length result.now ≤ 19 }
-{
-    match (item.usage, item.sign) {
-        (Usage::Packed, _) => "packed",
-        (Usage::Binary, _) => "binary",
-        (Usage::Display, Some(Sign { separate: true, .. })) => "separate",
-        (Usage::Display, _) => "zoned",
-    }
-}
 
 /// What an item is, in the words of its line.
 fn item_word(item: &Item) -> &'static str
@@ -44,7 +28,7 @@ fn item_word(item: &Item) -> &'static str
         Category::AlphanumericEdited => "alphanumeric-edited",
         Category::NumericEdited => "numeric-edited",
         Category::Numeric if item.blank => "numeric-edited",
-        Category::Numeric => number_word(item),
+        Category::Numeric => item.storage_kind().word(),
     }
 }
 

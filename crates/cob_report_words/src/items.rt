@@ -1,7 +1,7 @@
 //! What items are, as a copybook writes it.
 
 use crate::pictures::PictureText;
-use cob_copybook_tree::{Item, Sign, Usage};
+use cob_copybook_tree::{Item, Sign};
 use std::fmt;
 
 /// What an item is, which prints as its picture and what else a copybook says of its bytes: `PIC S9(7)V99 COMP-3`.
@@ -26,10 +26,8 @@ impl fmt::Display for ItemText<'_> {
             picture: &self.item.picture,
         };
         write!(f, "PIC {picture}")?;
-        match self.item.usage {
-            Usage::Display => {}
-            Usage::Packed => write!(f, " COMP-3")?,
-            Usage::Binary => write!(f, " COMP")?,
+        if !self.item.usage.is_display() {
+            write!(f, " {}", self.item.usage.name())?;
         }
         match self.item.sign {
             Some(sign) => write_sign(f, sign),

@@ -1,7 +1,8 @@
-use Rattle.std.proofs.Common.{◌≤◌, ◌-ℤ◌, ◌⊎◌, inl, inr, length, subst}
+use Rattle.std.proofs.Common.{◌≤◌, ◌-ℤ◌, ◌⊎◌, inl, inr, length, subst, ap}
 use Rattle.cob_picture.specs.Counts.{scale, signed}
 use Rattle.cob_codec.specs.Binary.{binary_length}
 use Rattle.cob_copybook_tree.specs.Lengths.{item_size}
+use Rattle.cob_copybook_tree.specs.Storage.{is_read_whole}
 use Rattle.cob_codec_lanes.specs.Readers.{AreNumeralsOf}
 use Rattle.cob_codec_lanes.specs.Windows.{last_bytes}
 use Rattle.cob_move_steps.specs.Ends.{IsLaneReaderFor, IsNumeralReaderFor, IsOwnReader, IsWordReaderFor, item_digits}
@@ -32,5 +33,5 @@ returns-in-Binary c = λ from to reading is suits within.
     let shift = scale to.picture.positions -ℤ scale from.picture.positions in
     let r = c.read_word.result in
     number_given reading from (last_bytes (item_size from) c.args.bytes.now) r.digits (item_digits to) shift r.is_number r.minus own.number
-    (word_read from to reading c.args.bytes.now r.digits r.is_number r.minus own.binary (suits own.binary)
+    (word_read from to reading c.args.bytes.now r.digits r.is_number r.minus own.binary (suits (ap is_read_whole own.binary))
     (c.read_word.ensures (item_digits from) (signed from.picture.positions) (item_digits to) shift own.reads long))

@@ -1,8 +1,0 @@
-use Rattle.cob_report_faults.proofs.HalfLemmas.{half_is, half_low}
-use Rattle.cob_report_faults.proofs.halves.half_at.Goals as goal
-
-pub returns-then-at-eq0 : goal.returns-then-at-eq0
-returns-then-at-eq0 c = half_is c.args.bytes.now c.args.at c.requires c.if-at-eq0.true
-
-pub returns-else-at-eq0 : goal.returns-else-at-eq0
-returns-else-at-eq0 c = half_low c.args.bytes.now c.args.at c.requires c.if-at-eq0.false

@@ -1,6 +1,0 @@
-use Rattle.std.proofs.Common.{◌≡◌, ◌<◌, ℕ, true, slice_index}
-use Rattle.cob_report_faults.specs.Flaws.{separate_wanted, suits}
-use Rattle.cob_report_faults.proofs.separate.first_in_separate.Given as goal
-
-abbrev pub invariant-loop-at : goal.invariant-loop-at
-invariant-loop-at l = (k : ℕ) → k < l.at → suits l.shape.signed (separate_wanted l.place k) (slice_index l.bytes k) ≡ true
