@@ -30,8 +30,8 @@ pub struct Named {
 
 /// An entry with its subscripts, if they are those of its tables.
 fn operand_of(candidate: &Bearer<'_, RecordEntry<'_>>, written: &[Token]) -> Option<Operand>
-    ensures found { IfSome result (λ o. o
-        ≡ operand (candidate_of candidate.now) (subscript_numbers (word_texts (lexemes written.now)))) }
+    ensures found { IfSome result (λ o. o ≡ operand (candidate_of candidate.now)
+        (subscript_numbers (word_texts (lexemes written.now)))) }
     ensures yes { IfSome result (λ o. AreSubscriptsOf
         (candidate_of candidate.now).entry.tables (word_texts (lexemes written.now))) }
     ensures no { IfNone result (AreSubscriptsOf

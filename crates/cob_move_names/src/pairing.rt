@@ -50,8 +50,8 @@ pub(crate) fn entry_pairs<'a>(
     to: &Partners<'a>,
 ) -> Result<Vec<EntryPair<'a>>, MoveRule>
     ensures found { IfOk result (λ v. AreFoundPairs
-        (pairs_among (subordinates_listed from.now.entries.items) (subordinates_listed to.now.entries.items))
-        v.items) }
+        (pairs_among (subordinates_listed from.now.entries.items)
+        (subordinates_listed to.now.entries.items)) v.items) }
     ensures fault { IfErr result (λ r. IsTwice r (pairs_among
         (subordinates_listed from.now.entries.items) (subordinates_listed to.now.entries.items))) }
 {

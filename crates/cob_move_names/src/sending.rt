@@ -56,7 +56,8 @@ impl<'a> SendingRecord<'a> {
         requires { receivers.old.top ≡ self.old.receiving }
         ensures found { OnOk result (IsSome (get_by (same_groups from to) self.new.lists)) }
         ensures fault { IfErr result (λ r. IsTwice r
-            (pairs_below (tree_of self.old.groups.top.now) (tree_of self.old.receiving.now) from to)) }
+            (pairs_below (tree_of self.old.groups.top.now) (tree_of self.old.receiving.now) from
+            to)) }
         ensures sending { self.new.groups.top ≡ self.old.groups.top }
         ensures receiving { self.new.receiving ≡ self.old.receiving }
         ensures receivers { receivers.new.top ≡ receivers.old.top }

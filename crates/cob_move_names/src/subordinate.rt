@@ -1,12 +1,12 @@
 //! The entries below a group that may be in a pair, and which of them correspond.
 
-ghost use Rattle.std.specs.Prelude.{◌≡◌, ◌||◌, List, [], ◌∷◌, ◌++◌, map, IfOk, OnOk, bytes_eq};
+ghost use Rattle.std.specs.Prelude.{◌≡◌, ◌||◌, List, [], ◌∷◌, map, IfOk, OnOk, bytes_eq};
 ghost use Rattle.cob_copybook_names.specs.Naming.{with_name};
 ghost use Rattle.cob_copybook_names.specs.Listed.{texts};
 ghost use Rattle.cob_copybook_tree.specs.declared.node.Node.TheViews.{out-Node};
-ghost use Rattle.cob_copybook_tree.specs.Nodes.{forest, resolved_entry};
-ghost use Rattle.cob_move_names.specs.PlainPairs.{subordinate, subordinates_listed};
-ghost use Rattle.cob_move_names.specs.Pairs.{correspond, is_elementary, is_left_out, may_correspond, own_subordinate, same_names, subordinates};
+ghost use Rattle.cob_copybook_tree.specs.Nodes.{resolved_entry};
+ghost use Rattle.cob_move_names.specs.PlainPairs.{ListsSubordinates, ListsSubordinate, subordinate};
+ghost use Rattle.cob_move_names.specs.Pairs.{correspond, is_elementary, is_left_out, may_correspond, same_names};
 
 use cob_layout_places::{Kind, Name, Node, is_table};
 use cob_move_receive::{SenderKind, may_move};
@@ -53,9 +53,8 @@ fn list_entry<'a>(
     entry: &'a Node,
     list: &mut Vec<Subordinate<'a>>,
 ) -> Result<(), AllocError>
-    ensures { OnOk result (subordinates_listed list.new.items ≡ subordinates_listed list.old.items
-        ++ own_subordinate (out-Node entry.now).name (texts between.now.value.items)
-        (resolved_entry (out-Node entry.now))) }
+    ensures { OnOk result (ListsSubordinate (texts between.now.value.items) entry.now list.old.items
+        list.new.items) }
 {
     if let Some(name) = &entry.name {
         list.push(Subordinate {
@@ -78,8 +77,8 @@ pub(crate) fn list_entries<'a>(
     entries: &'a [Node],
     list: &mut Vec<Subordinate<'a>>,
 ) -> Result<(), AllocError>
-    ensures { OnOk result (subordinates_listed list.new.items ≡ subordinates_listed list.old.items
-        ++ subordinates (texts between.now.value.items) (forest entries.now)) }
+    ensures { OnOk result (ListsSubordinates (texts between.now.value.items) entries.now
+        list.old.items list.new.items) }
 {
     for entry in entries {
         if is_left_out(entry) {
