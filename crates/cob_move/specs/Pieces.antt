@@ -1,15 +1,19 @@
 -- What a paragraph says as far as it is read, piece by piece.
-use Rattle.std.specs.Prelude.{◌≡◌, ℕ, Bool, List, ◌++◌}
+use Rattle.std.specs.Prelude.{◌≡◌, ℕ, Bool, true, List, ◌++◌}
 use Rattle.cob_source.specs.declared.ahead.WordsAhead.{WordsAhead}
-use Rattle.cob_source.specs.Ahead.{AreReadOf}
-use Rattle.cob_source.specs.Tokens.{Lexeme}
+use Rattle.cob_source.specs.declared.token.Token.{Token}
+use Rattle.cob_source.specs.Ahead.{AreReadOf, IsReadTo}
+use Rattle.cob_source.specs.Tokens.{Lexeme, lexemes}
 use Rattle.cob_move_data.specs.declared.operands.StatementMoves.{StatementMoves}
 use Rattle.cob_move_statements.specs.declared.fault.MoveFault.{MoveFault}
 use Rattle.cob_move_statements.specs.declared.fault.MoveRule.TheVariants as rule
 use Rattle.cob_move_statements.specs.Statements.{IsParagraph}
 use Rattle.cob_move_statements.specs.Written.{WrittenStatement}
 use Rattle.cob_move.specs.declared.entries.Entries.{Entries}
+use Rattle.cob_move_data.specs.Moves.{moves}
 use Rattle.cob_move.specs.Among.{AreMeaningsAmong}
+use Rattle.cob_move.specs.Entries.{records_of}
+use Rattle.cob_move.specs.Paragraphs.{IsParagraphOf}
 
 -- memory was refused
 abbrev pub IsRefusedMemory : MoveFault → Type 0
@@ -30,3 +34,16 @@ pub record SaysSoFar (text : List ℕ) (e : Entries) (list : List StatementMoves
   pub are_read : AreReadOf text words ahead more
   pub spelled : IsParagraph words statements
   pub meant : AreMeaningsAmong e statements list
+
+-- whatever words of a text stand in front, behind them it is read to these of the next piece, whether or not more are left
+abbrev pub ReadsPiece : (before after : WordsAhead) → List Token → Bool → Type 0
+ReadsPiece before after words more =
+    (text : List ℕ) (front : List Lexeme) → IsReadTo text front before → AreReadOf text (front ++ lexemes words) after more
+
+-- whatever the text, where its words so far mean the moves before, those up to the next piece mean the moves now
+abbrev pub SaysNext : Entries → (old new : List StatementMoves) → (before after : WordsAhead) → Bool → Type 0
+SaysNext e old new before after more = (text : List ℕ) → SaysSoFar text e old before true → SaysSoFar text e new after more
+
+-- the text is a paragraph among the entries that may be named, and means these moves
+abbrev pub IsParagraphAmong : List ℕ → Entries → List StatementMoves → Type 0
+IsParagraphAmong text e list = IsParagraphOf text e.input.now e.output.now (moves (records_of e) list)

@@ -1,16 +1,16 @@
 //! Paragraphs that are read piece by piece, so that the words and the statements of one piece alone are held.
 
-ghost use Rattle.std.specs.Prelude.{◌≡◌, ℕ, [], ◌++◌, List, true, IfErr, IfOk, IfSome, IsTrue};
+ghost use Rattle.std.specs.Prelude.{◌≡◌, ℕ, [], List, IfErr, IfOk, IfSome, IsTrue};
 ghost use Rattle.cob_move_data.specs.Moves.{moves};
 ghost use Rattle.cob_move.specs.Among.{AreMeaningsAmong, both};
 ghost use Rattle.cob_move.specs.Between.{ArePairsOf};
 ghost use Rattle.cob_move.specs.Entries.{AllMayBeNamed, records_of};
 ghost use Rattle.cob_move.specs.Paragraphs.{IsParagraphOf};
-ghost use Rattle.cob_move.specs.Pieces.{AddsMoves, IsRefusedMemory, SaysSoFar};
+ghost use Rattle.cob_move.specs.Pieces.{AddsMoves, IsParagraphAmong, IsRefusedMemory, ReadsPiece, SaysNext, SaysSoFar};
 ghost use Rattle.cob_move_statements.specs.Statements.{FollowsStatements, IsParagraph};
 ghost use Rattle.cob_move_statements.specs.Written.{written_statements};
-ghost use Rattle.cob_source.specs.Ahead.{AreNumbered, AreReadOf, IsNoted, IsReadTo};
-ghost use Rattle.cob_source.specs.Tokens.{Lexeme, lexemes};
+ghost use Rattle.cob_source.specs.Ahead.{AreNumbered, IsNoted, IsReadTo};
+ghost use Rattle.cob_source.specs.Tokens.{lexemes};
 
 use crate::entries::Entries;
 use crate::meaning::meanings_of;
@@ -57,9 +57,7 @@ fn read_piece(
 ) -> Result<Option<bool>, MoveFault>
     requires numbered { AreNumbered ahead.old }
     requires noted { IsNoted ahead.old }
-    ensures read { IfOk result (λ o. IfSome o (λ more. (text : List ℕ) (front : List Lexeme)
-        → IsReadTo text front ahead.old
-        → AreReadOf text (front ++ lexemes words.new.items) ahead.new more)) }
+    ensures read { IfOk result (λ o. IfSome o (ReadsPiece ahead.old ahead.new words.new.items)) }
     ensures numbered { IfOk result (λ o. IfSome o (λ more. AreNumbered ahead.new)) }
     ensures noted { IfOk result (λ o. IfSome o (λ more. IsNoted ahead.new)) }
     ensures fault { IfErr result IsRefusedMemory }
@@ -206,9 +204,8 @@ fn add_next(
     requires pairs { ArePairsOf (records_of entries.now) pairs.old }
     requires numbered { AreNumbered ahead.old }
     requires noted { IsNoted ahead.old }
-    ensures says { IfOk result (λ o. IfSome o (λ more. (text : List ℕ)
-        → SaysSoFar text entries.now list.old.items ahead.old true
-        → SaysSoFar text entries.now list.new.items ahead.new more)) }
+    ensures says { IfOk result (λ o. IfSome o (SaysNext entries.now list.old.items list.new.items
+        ahead.old ahead.new)) }
     ensures pairs { ArePairsOf (records_of entries.now) pairs.new }
     ensures numbered { IfOk result (λ o. IfSome o (λ more. AreNumbered ahead.new)) }
     ensures noted { IfOk result (λ o. IfSome o (λ more. IsNoted ahead.new)) }
@@ -241,9 +238,8 @@ fn all_pieces(
 ) -> Result<Option<Vec<StatementMoves>>, MoveFault>
     requires named { AllMayBeNamed entries.now }
     requires pairs { ArePairsOf (records_of entries.now) pairs.old }
-    ensures found { IfOk result (λ o. IfSome o
-        (λ v. IsParagraphOf text.now entries.now.input.now entries.now.output.now
-        (moves (records_of entries.now) v.items))) }
+    ensures found { IfOk result (λ o. IfSome o (λ v. IsParagraphAmong text.now entries.now
+        v.items)) }
     ensures fault { IfErr result IsRefusedMemory }
 {
     let Some(start) = WordsAhead::new(alloc, text) else {
