@@ -6,6 +6,7 @@ use Rattle.cob_records.specs.declared.records.Form.TheVariants.{Fixed, Variable,
 use Rattle.cob_limits.specs.Limits.{longest_block}
 use Rattle.cob_records.specs.BlockSize.{SaysBlockSize}
 use Rattle.cob_source.specs.Lines.{lines}
+use Rattle.cob_program_job.specs.declared.job_text.Lines.{Lines}
 use Rattle.cob_program_job.specs.JobData.{line_number_behind}
 
 -- behind the letter b, and a space, stands the greatest size of blocks
@@ -179,3 +180,8 @@ pub record IsPartBefore (text : List ℕ) (number : ℕ) (part rest : List ℕ) 
 abbrev pub is_part_end : List ℕ → Bool
 is_part_end [] = true
 is_part_end (b ∷ bs) = b == 61
+
+-- the next line is a mark that ends in this form
+abbrev pub TakesFormMark : List ℕ → Form → (before after : Lines) → Type 0
+TakesFormMark front form before after =
+    (mark : List ℕ) × IsFormMark front form mark × IsNextLine before.rest.now before.number mark after.rest.now after.number

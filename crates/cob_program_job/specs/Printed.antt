@@ -58,3 +58,7 @@ owes_begun (Some digit) begun = begun
 abbrev pub IsBegunBy : Bool → Option (List ℕ) → List ℕ → Type 0
 IsBegunBy begun None bytes = Unit {0}
 IsBegunBy begun (Some told) bytes = says_some begun (Some bytes) ≡ true
+
+-- of an end, with a digit that is due behind what it told, the text of bytes is printed behind what was told before
+abbrev pub Appends : (before now : Option (List ℕ)) → List ℕ → Type 0
+Appends before now bytes = now ≡ append_known before (hex_text bytes)

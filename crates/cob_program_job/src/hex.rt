@@ -1,8 +1,7 @@
 ghost use Rattle.std.specs.Prelude.{◌≡◌, ℕ, ◌<◌, ◌≤◌, ◌+◌, ◌*◌, ◌/◌, ◌%◌, List, ◌++◌, length, take, None, Some, Option, IfOk, OnErr, is_err, true, false};
-ghost use Rattle.std.specs.Io.KnownBytes.{append_known};
 ghost use Rattle.cob_records.specs.Device.{counted, took_nothing};
 ghost use Rattle.cob_records.specs.Hex.{digit_character, hex_text};
-ghost use Rattle.cob_program_job.specs.Printed.{IsTextBehind, bytes_behind, due_text, left_due, owes_begun, says_some, with_due};
+ghost use Rattle.cob_program_job.specs.Printed.{Appends, IsTextBehind, bytes_behind, due_text, left_due, owes_begun, says_some, with_due};
 
 use cob_records::{DeviceFault, Sink};
 use std::marker::{Brand, PhantomData};
@@ -130,9 +129,8 @@ impl<W: Sink, K: Opening> HexSink<W, K> {
         requires due { self.old.due ≡ None }
         requires some { 0 < length bytes.now }
         ensures count { IfOk result (λ n. n ≤ length bytes.now) }
-        ensures text { IfOk result (λ n. with_due (W.taken self.new.inner) self.new.due
-            ≡ append_known (with_due (W.taken self.old.inner) self.old.due)
-            (hex_text (take n bytes.now))) }
+        ensures text { IfOk result (λ n. Appends (with_due (W.taken self.old.inner) self.old.due)
+            (with_due (W.taken self.new.inner) self.new.due) (take n bytes.now)) }
         ensures kept { OnErr result (with_due (W.taken self.new.inner) self.new.due
             ≡ with_due (W.taken self.old.inner) self.old.due) }
         ensures cause { W.failures self.new.inner

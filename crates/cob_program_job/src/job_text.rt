@@ -1,6 +1,6 @@
 ghost use Rattle.std.specs.Prelude.{◌≡◌, ◌<◌, ◌+◌, ◌∷◌, ℕ, List, [], true, false, length, codes, IfOk, IfErr, IfSome, IfNone, OnOk, IsOkAnd, IsSomeAnd, Some, ◌++◌};
 ghost use Rattle.cob_source.specs.Lines.{lines, cut_return};
-ghost use Rattle.cob_program_job.specs.Marks.{IsJobOf, IsNextLine, IsNoJob, IsOtherLine, IsFormMark, IsPartBefore, Parts, SaysForm, SaysSize, behind_line, first_line_of, is_part_end};
+ghost use Rattle.cob_program_job.specs.Marks.{IsJobOf, IsNextLine, IsNoJob, IsOtherLine, IsFormMark, IsPartBefore, Parts, SaysForm, SaysSize, TakesFormMark, behind_line, first_line_of, is_part_end};
 ghost use Rattle.cob_records.specs.declared.records.Form.{Form};
 ghost use Rattle.cob_records.specs.Forms.{HasBlockSize};
 
@@ -166,8 +166,7 @@ impl<'a> Lines<'a> {
 
     /// Took a mark that ends in a record form.
     fn form_mark(&mut self, front: &[u8]) -> Result<Form, u32>
-        ensures ok { IfOk result (λ form. (mark : List ℕ) × IsFormMark front.now form mark
-            × IsNextLine self.old.rest.now self.old.number mark self.new.rest.now self.new.number) }
+        ensures ok { IfOk result (λ form. TakesFormMark front.now form self.old self.new) }
         ensures err { IfErr result (λ fault. IsOtherLine
             (λ line. (form : Form) × IsFormMark front.now form line)
             self.old.rest.now self.old.number fault) }
