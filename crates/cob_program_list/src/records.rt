@@ -95,8 +95,8 @@ fn shown_over<R: AllocGlobal + Eprint + Clock, S: Source + Drop, K: Sink>(
 ) -> Result<u64, ShowFault>
     requires listed { listed.now.book ≡ listed.now.layout }
     requires block { HasBlockSize form }
-    ensures shows { listing ≡ Listing.Text → ListsOver S.coming form listed.now.layout result incoming
-        (K.taken sink.old) (K.taken sink.new) }
+    ensures shows { listing ≡ Listing.Text → ListsOver S.coming form listed.now.layout result
+        incoming (K.taken sink.old) (K.taken sink.new) }
 {
     match incoming {
         Incoming::All(source) => shown(rt, listed, form, listing, telling, source, sink),
