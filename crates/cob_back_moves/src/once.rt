@@ -197,7 +197,8 @@ pub fn receive_once(statements: &[StatementMoves]) -> bool
 
 /// Whether no receiver of the statement with this number receives again, in it or in the statements behind it.
 fn once_from(statements: &[StatementMoves], number: usize) -> bool
-    ensures { IsFalse result → (x : Read) (r : Records) → ReceiveOnce (singles_by x r statements.now) → ⊥ }
+    ensures { IsFalse result → (x : Read) (r : Records)
+        → ReceiveOnce (singles_by x r statements.now) → ⊥ }
 {
     let (_, from) = statements.split_at(number.min(statements.len()));
     match from.split_first() {

@@ -71,7 +71,8 @@ pub(crate) fn element_of(entry: &Ref) -> Element<'_>
 
 /// What a sender sends.
 pub(crate) fn sent_of(sender: &Sender) -> Sent<'_>
-    ensures { (l : Layouts) → sender_of l result ≡ sender_by l.reading (layout_records l) sender.now }
+    ensures { (l : Layouts) → sender_of l result ≡ sender_by l.reading (layout_records l)
+        sender.now }
 {
     match sender {
         Sender::Entry { side, entry } => Sent::Entry {
