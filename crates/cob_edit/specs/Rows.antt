@@ -1,6 +1,7 @@
 -- Rows: texts of a picture that are made ready, for all numbers that have so many zeros in front.
-use Rattle.std.specs.Prelude.{◌≡◌, ℕ, ◌+◌, Bool, ◌||◌, ◌==◌, nat_le, if◌then◌else◌, List, length, map, take, slice_index, count_by}
+use Rattle.std.specs.Prelude.{◌≡◌, ℕ, ◌+◌, Bool, ◌||◌, ◌&&◌, ◌==◌, nat_le, if◌then◌else◌, List, Option, length, map, take, slice_index, count_by}
 use Rattle.std.specs.List.{prefix_len}
+use Rattle.std.specs.Option.{option_to_list}
 use Rattle.cob_cp037.specs.Named.{zero_byte}
 use Rattle.cob_decimal.specs.Decimal.{IsDigits}
 use Rattle.cob_picture.specs.Positions.{PlainPicture}
@@ -9,7 +10,7 @@ use Rattle.cob_edit.specs.declared.cell.Cell.{Cell}
 use Rattle.cob_edit.specs.declared.cell.Cell.TheVariants.{Same, Signed, Taken}
 use Rattle.cob_edit.specs.declared.place.Place.{Place}
 use Rattle.cob_edit.specs.Places.{is_digit}
-use Rattle.cob_edit.specs.Editing.{region_start, region_end}
+use Rattle.cob_edit.specs.Editing.{IsText, region_start, region_end}
 use Rattle.cob_edit.specs.Pictured.{places, IsEdited}
 
 -- the byte that a cell is in the text of a number with these digits that is negative or not
@@ -38,3 +39,13 @@ IsRowOf picture blank zeros row =
     → length ds ≡ digits picture.positions
     → prefix_len (λ d. d == 0) ds ≡ zeros
     → IsEdited picture blank negative ds (scale picture.positions) (row_bytes ds negative row)
+
+-- of the next digit, whichever digits and sign it is of, a cell or none shows these bytes, where a minus may show
+abbrev pub CellShows : Option Cell → (shows : Bool) → (next : ℕ) → (Bool → ℕ → List ℕ) → Type 0
+CellShows cell shows next bytes = (ds : List ℕ) (negative : Bool)
+    → map (cell_byte ds negative) (option_to_list cell) ≡ bytes (negative && shows) (slice_index ds next)
+
+-- of all digits with so many zeros in front, whatever their sign, a row is the text that the places show, where a minus may show
+abbrev pub RowShows : List Place → (blank shows : Bool) → (zeros : ℕ) → List Cell → Type 0
+RowShows ps blank shows zeros row = (ds : List ℕ) (negative : Bool) → length ds ≡ count_by is_digit ps
+    → prefix_len (λ d. d == 0) ds ≡ zeros → IsText ps blank (negative && shows) ds (row_bytes ds negative row)

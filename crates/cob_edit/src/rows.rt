@@ -1,14 +1,14 @@
 //! Texts made ready: what the places show of all numbers that have so many zeros in front.
 
-ghost use Rattle.std.specs.Prelude.{◌≡◌, ◌+◌, ◌<◌, ◌≤◌, ◌==◌, ◌&&◌, ◌||◌, not, nat_lt, if◌then◌else◌, ℕ, Bool, List, length, ◌++◌, map, take, count_by, slice_index, IsTrue};
+ghost use Rattle.std.specs.Prelude.{◌≡◌, ◌+◌, ◌<◌, ◌≤◌, ◌==◌, ◌&&◌, ◌||◌, not, nat_lt, if◌then◌else◌, ℕ, Bool, List, length, ◌++◌, map, take, count_by, IsTrue};
 ghost use Rattle.std.specs.List.{prefix_len, list_all, flat_map};
 ghost use Rattle.std.specs.Option.{option_to_list};
 ghost use Rattle.cob_limits.specs.Limits.{most_digits};
 ghost use Rattle.cob_picture.specs.Positions.{shows_number};
 ghost use Rattle.cob_picture.specs.Counts.{size};
 ghost use Rattle.cob_edit.specs.Places.{mark_byte, is_digit, is_nine, has_byte, bytes_of};
-ghost use Rattle.cob_edit.specs.Editing.{region_start, region_end, shows_sign, place_at, shown, cell, hidden, printed, empty_cell, has_stars, shows_nothing, IsSuppressedTo, IsText};
-ghost use Rattle.cob_edit.specs.Rows.{cell_byte, ArePlacesOf, row_bytes, zeros_tell, IsRowOf};
+ghost use Rattle.cob_edit.specs.Editing.{region_start, region_end, shows_sign, place_at, shown, cell, hidden, printed, empty_cell, has_stars, shows_nothing, IsSuppressedTo};
+ghost use Rattle.cob_edit.specs.Rows.{ArePlacesOf, CellShows, IsRowOf, RowShows, cell_byte, row_bytes, zeros_tell};
 
 use crate::MAX_PLACES;
 use crate::cell::Cell;
@@ -47,9 +47,7 @@ fn hidden_cell(first: &Place, shows: bool, at_cut: bool) -> Cell
 
 /// What another place shows, where the next digit has this number.
 fn shown_cell(place: &Place, shows: bool, next: u8) -> Option<Cell>
-    ensures bytes { (ds : List ℕ) (negative : Bool)
-        → map (cell_byte ds negative) (option_to_list result)
-        ≡ shown place.now (negative && shows) (slice_index ds next) }
+    ensures bytes { CellShows result shows next (shown place.now) }
     ensures count { length (option_to_list result) ≡ (if has_byte place.now then 1 else 0) }
 {
     match place {
@@ -75,9 +73,8 @@ fn cell_at(
     requires start { start ≡ region_start places.now }
     requires inside { at < length places.now }
     requires cut { cut ≤ region_end places.now }
-    ensures bytes { (ds : List ℕ) (negative : Bool)
-        → map (cell_byte ds negative) (option_to_list result)
-        ≡ cell places.now (negative && shows) cut at (place_at places.now at) (slice_index ds next) }
+    ensures bytes { CellShows result shows next
+        (λ minus digit. cell places.now minus cut at (place_at places.now at) digit) }
     ensures count { length (option_to_list result)
         ≡ (if has_byte (place_at places.now at) then 1 else 0) }
 {
@@ -228,9 +225,7 @@ fn row_at(places: &[Place], blank: bool, shows: bool, digits: usize, zeros: usiz
     requires few { count_by is_digit places.now ≤ most_digits }
     requires most { bytes_of places.now ≤ MAX_PLACES }
     requires told { IsTrue (zeros_tell places.now) }
-    ensures text { (ds : List ℕ) (negative : Bool) → length ds ≡ count_by is_digit places.now
-        → prefix_len (λ d. d == 0) ds ≡ zeros
-        → IsText places.now blank (negative && shows) ds (row_bytes ds negative result.items) }
+    ensures text { RowShows places.now blank shows zeros result.items }
     ensures count { length result.items ≡ bytes_of places.now }
 {
     if show_nothing(places, blank, digits, zeros) {
