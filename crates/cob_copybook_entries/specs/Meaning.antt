@@ -1,10 +1,11 @@
 -- What the texts of an entry mean.
-use Rattle.std.specs.Prelude.{◌≡◌, ℕ, ◌<◌, ◌≤◌, List, length, Option, Some, None, is_some}
+use Rattle.std.specs.Prelude.{◌≡◌, ℕ, ◌<◌, ◌≤◌, List, length, Option, Some, None, is_some, option_map}
 use Rattle.cob_decimal.specs.Decimal.{number_of}
 use Rattle.cob_decimal.specs.Literals.{Literal, IsLiteral, literal_text, IsValueOf, AreDigits, digits_in}
 use Rattle.cob_picture.specs.Pictures.{IsPictureOf}
+use Rattle.cob_copybook_clauses.specs.declared.parts.OccursClause.{OccursClause}
 use Rattle.cob_copybook_clauses.specs.Names.{IsName}
-use Rattle.cob_copybook_clauses.specs.Written.{WrittenValue, Word, Quoted as QuotedText, Figure as FigureWord, Repeated as RepeatedText, WrittenName, WrittenOccurs, WrittenEntry}
+use Rattle.cob_copybook_clauses.specs.Written.{WrittenValue, Word, Quoted as QuotedText, Figure as FigureWord, Repeated as RepeatedText, WrittenName, WrittenOccurs, WrittenEntry, written_occurs}
 use Rattle.cob_copybook_entry.specs.declared.entry.Qualified.{Qualified}
 use Rattle.cob_limits.specs.Limits.{longest_literal}
 use Rattle.cob_copybook_entry.specs.Described.{PlainValue, Numeric, Quoted, Figure, Repeated, PlainOccurs, Fixed, Varying, PlainEntry}
@@ -67,6 +68,10 @@ IsOption means None None = Unit {0}
 IsOption means (Some a) (Some b) = means a b
 IsOption means None (Some b) = ⊥
 IsOption means (Some a) None = ⊥
+
+-- an OCCURS clause of the code that isn't written isn't there; one that is, means this
+abbrev pub IsTimesOf : Option OccursClause → Option PlainOccurs → Type 0
+IsTimesOf table t = IsOption IsOccursOf (option_map written_occurs table) t
 
 -- a text that is a name means itself
 abbrev pub IsNameText : List ℕ → List ℕ → Type 0

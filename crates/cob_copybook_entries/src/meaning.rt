@@ -8,7 +8,7 @@ ghost use Rattle.cob_copybook_clauses.specs.Written.{written_value, written_entr
 ghost use Rattle.cob_copybook_entry.specs.declared.fault.BookRule.TheVariants as rule;
 ghost use Rattle.cob_copybook_entry.specs.Described.{PlainValue as Meant, PlainEntry, PlainOccurs, plain_value, plain_entry, plain_occurs};
 ghost use Rattle.cob_copybook_entry.specs.Faults.{MemoryAsideRule};
-ghost use Rattle.cob_copybook_entries.specs.Meaning.{IsConstantOf, IsNameText, IsOption, IsOccursOf, IsIntegerText, EntryMeans};
+ghost use Rattle.cob_copybook_entries.specs.Meaning.{EntryMeans, IsConstantOf, IsIntegerText, IsNameText, IsOption, IsTimesOf};
 ghost use Rattle.cob_copybook_entries.specs.Books.{BreaksEntry, IsNoName};
 ghost use Rattle.cob_copybook_entries.specs.Breaks.{IsConstantFault, IsTableFault, OfOption};
 ghost use Rattle.cob_copybook_entries.specs.Short.{HasShortCount};
@@ -127,11 +127,8 @@ fn picture_of(text: Option<&[u8]>) -> Result<Option<Picture>, BookRule>
 /// As [`occurs_of`].
 fn times_of(alloc: Global, table: Option<OccursClause<'_>>) -> Result<Option<Occurs>, BookRule>
     requires { HasShortCount (option_map written_occurs table) }
-    ensures found { IfOk result
-        (λ o. IsOption IsOccursOf (option_map written_occurs table.entry)
-        (option_map plain_occurs o)) }
-    ensures only { (t : Option PlainOccurs)
-        → IsOption IsOccursOf (option_map written_occurs table.entry) t
+    ensures found { IfOk result (λ o. IsTimesOf table.entry (option_map plain_occurs o)) }
+    ensures only { (t : Option PlainOccurs) → IsTimesOf table.entry t
         → MemoryAsideRule (λ o. option_map plain_occurs o ≡ t) result }
     ensures fault { IfErr result
         (λ r. OfOption (IsTableFault r) (option_map written_occurs table.entry)) }
