@@ -1,10 +1,11 @@
 -- Binary items as words.
-use Rattle.std.specs.Prelude.{◌≡◌, ℕ, ◌-◌, ◌*◌, ◌%◌, ◌^◌, ◌≤◌, ◌<◌, ◌&&◌, ℤ, Bool, true, false, IsTrue, if◌then◌else◌, List, length, take}
-use Rattle.cob_codec.specs.Binary.{IsBinary, binary_form, binary_length}
+use Rattle.std.specs.Prelude.{◌≡◌, ℕ, ◌+◌, ◌-◌, ◌*◌, ◌%◌, ◌^◌, ◌≤◌, ◌<◌, ◌&&◌, ℤ, Bool, true, false, IsTrue, if◌then◌else◌, List, length, slice_index, take}
+use Rattle.cob_codec.specs.Binary.{IsBinary, binary_form, binary_length, binary_number, signed_number}
 use Rattle.cob_decimal.specs.Decimal.{number_of}
 use Rattle.cob_codec_lanes.specs.Lanes.{AreTens}
 use Rattle.cob_codec_lanes.specs.Readers.{AreRead}
 use Rattle.cob_codec_lanes.specs.Windows.{ArePowerPicks, AreDigitPicks, last_bytes}
+use Rattle.cob_codec_lanes.specs.Widths.{greatest_plain}
 use Rattle.cob_codec_lanes.specs.declared.width.Width.{Width}
 use Rattle.cob_codec_lanes.specs.declared.width.Width.TheVariants.{Two, Four, Eight}
 use Rattle.cob_codec_lanes.specs.declared.binary.BinaryReader.{BinaryReader}
@@ -15,6 +16,15 @@ abbrev pub width_bytes : Width → ℕ
 width_bytes Two = 2
 width_bytes Four = 4
 width_bytes Eight = 8
+
+-- the number of the last bytes is below zero or not, and this is its magnitude, where words up to a plain one are not below zero
+abbrev pub IsSignedIn : Width → (plain : ℕ) → List ℕ → Bool → ℕ → Type 0
+IsSignedIn width plain bytes negative magnitude = (signed : Bool) → plain ≡ greatest_plain signed width
+    → signed_number negative magnitude ≡ binary_number signed (last_bytes (width_bytes width) bytes)
+
+-- the number of four digits, those of this number
+abbrev pub four_at : List ℕ → ℕ → ℕ
+four_at v i = slice_index v (4 * i) * 1000 + slice_index v (4 * i + 1) * 100 + slice_index v (4 * i + 2) * 10 + slice_index v (4 * i + 3)
 
 -- What was read of an item: a number that its bytes represent, of which the digits that are wanted are kept, or that they represent none.
 pub record IsNumberRead (represents : Bool → List ℕ → Type 0) (wanted : ℕ) (shift : ℤ) (is_number minus : Bool) (kept : List ℕ) : Type 0 where

@@ -1,11 +1,10 @@
 //! Numbers of binary items, read as digits in lanes.
 
-ghost use Rattle.std.specs.Prelude.{◌≡◌, ◌+◌, ◌^◌, ◌<◌, ◌≤◌, ℕ, ℤ, Bool, IsTrue, length};
+ghost use Rattle.std.specs.Prelude.{◌≡◌, ◌+◌, ◌^◌, ◌<◌, ◌≤◌, ℕ, ℤ, IsTrue, length};
 ghost use Rattle.byteorder.specs.Endian.{big_number};
-ghost use Rattle.cob_codec.specs.Binary.{binary_number, signed_number};
 ghost use Rattle.cob_codec_lanes.specs.Windows.{last_bytes};
 ghost use Rattle.cob_codec_lanes.specs.Widths.{greatest_plain};
-ghost use Rattle.cob_codec_lanes.specs.Words.{IsBinaryReaderOf, IsWordRead, width_bytes};
+ghost use Rattle.cob_codec_lanes.specs.Words.{IsBinaryReaderOf, IsSignedIn, IsWordRead, width_bytes};
 
 use crate::binary::BinaryReader;
 use crate::lanes::picked;
@@ -70,9 +69,7 @@ fn greatest_plain(signed: bool, width: Width) -> u64
 #[inline(always)]
 fn signed_in(width: Width, plain: u64, bytes: &[u8]) -> (bool, u64)
     requires { width_bytes width ≤ length bytes.now }
-    ensures value { (signed : Bool) → plain ≡ greatest_plain signed width
-        → signed_number result.0 result.1
-        ≡ binary_number signed (last_bytes (width_bytes width) bytes.now) }
+    ensures value { IsSignedIn width plain bytes.now result.0 result.1 }
     ensures nonzero { IsTrue result.0 → 0 < result.1 }
 {
     let number = word_in(width, bytes);

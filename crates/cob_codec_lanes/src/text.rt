@@ -225,7 +225,8 @@ impl DigitPlaces {
     /// The digits that stand at these places of a text; a byte that shows none is 0.
     #[inline(always)]
     pub fn digits(&self, text: &TextLanes) -> u8x16
-        ensures { (at : List ℕ) → ArePlacesAt at self.now → AreDigitsAt at (all_lanes text.now) result }
+        ensures { (at : List ℕ) → ArePlacesAt at self.now
+            → AreDigitsAt at (all_lanes text.now) result }
     {
         digits_shown(bytes_at(text.front, text.back, self))
     }

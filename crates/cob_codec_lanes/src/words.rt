@@ -3,6 +3,7 @@
 ghost use Rattle.std.specs.Prelude.{◌≡◌, ℕ, ◌+◌, ◌*◌, ◌/◌, ◌%◌, ◌<◌, ◌^◌, [], ◌∷◌, length, slice_index};
 ghost use Rattle.cob_decimal.specs.Decimal.{IsDigits, number_of};
 ghost use Rattle.cob_codec_lanes.specs.Lanes.{AreTens};
+ghost use Rattle.cob_codec_lanes.specs.Words.{four_at};
 
 use std::simd::prelude::*;
 
@@ -128,9 +129,7 @@ const BACK: [u8; 16] = [0, 0, 10, 1, 0, 0, 10, 1, 0, 0, 10, 1, 0, 0, 10, 1];
 #[inline(always)]
 fn fours_in(v: u8x16) -> u32x4
     ensures long { length result ≡ 4 }
-    ensures lanes { (i : ℕ) → i < 4 → slice_index result i
-        ≡ slice_index v (4 * i) * 1000 + slice_index v (4 * i + 1) * 100
-        + slice_index v (4 * i + 2) * 10 + slice_index v (4 * i + 3) }
+    ensures lanes { (i : ℕ) → i < 4 → slice_index result i ≡ four_at v i }
 {
     let front = v.dot4(u8x16::from_array(FRONT));
     let back = v.dot4(u8x16::from_array(BACK));
