@@ -1,5 +1,5 @@
 -- What has been read of a text at the end of a line.
-use Rattle.std.specs.Prelude.{◌≡◌, ℕ, ◌+◌, ◌-◌, ◌<◌, ◌⊎◌, true, false, List, [], ◌∷◌, ◌++◌, length, drop, Option, None, is_some}
+use Rattle.std.specs.Prelude.{◌≡◌, ℕ, ◌+◌, ◌-◌, ◌<◌, ◌⊎◌, true, false, List, [], ◌∷◌, ◌++◌, length, drop, Option, None, is_some, OnOk, Result}
 use Rattle.std.specs.List.{AllByRecursion}
 use Rattle.cob_source.specs.declared.joined.Joined.{Joined}
 use Rattle.cob_source.specs.declared.token.Cell.{Cell}
@@ -57,6 +57,10 @@ pub record HasRead (m : Cutting) (before : List (List ℕ)) (cells : List Cell) 
 -- These lines are read to these words, these tokens behind them, and to the last joined line.
 abbrev pub HasReadLines : Cutting → List (List ℕ) → Joined → List Lexeme → List Token → Type 0
 HasReadLines m before joined front tokens = HasRead m before joined.cells.items joined.quote joined.last (front ++ lexemes tokens)
+
+-- where an answer is Ok, they are with this line behind them
+abbrev pub HasReadLine : {A E : Type 0} → Cutting → List ℕ → Joined → List Token → Result A E → List Lexeme → List (List ℕ) → Type 0
+HasReadLine m line joined tokens answer front before = OnOk answer (HasReadLines m (before ++ line ∷ []) joined front tokens)
 
 -- Whatever the lines before the one with this number are, and the words in front, where they are read so, this is true of them.
 abbrev pub AfterLines : Cutting → ℕ → Joined → List Token → (List Lexeme → List (List ℕ) → Type 0) → Type 0

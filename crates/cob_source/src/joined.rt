@@ -137,8 +137,8 @@ fn drop_end(cells: &mut Vec<Cell>)
 
 /// Begins a new line.
 pub fn begin_line(number: u32, line: &[u8], joined: &mut Joined) -> Result<(), AllocError>
-    ensures cells { OnOk result
-        (LeavesOutSpaces joined.new.cells.items (line_end number ∷ cells_behind number 0 line.now)) }
+    ensures cells { OnOk result (LeavesOutSpaces joined.new.cells.items
+        (line_end number ∷ cells_behind number 0 line.now)) }
     ensures quote { OnOk result (joined.new.quote ≡ open_quote joined.new.cells.items) }
     ensures last { OnOk result (joined.new.last ≡ number) }
 {

@@ -1,8 +1,8 @@
-ghost use Rattle.std.specs.Prelude.{◌≡◌, ℕ, ◌+◌, ◌<◌, ◌≤◌, List, [], ◌∷◌, ◌++◌, length, IfOk, IfErr, OnOk};
+ghost use Rattle.std.specs.Prelude.{◌≡◌, ℕ, ◌<◌, ◌≤◌, List, length, IfOk, IfErr, OnOk};
 ghost use Rattle.cob_source.specs.Tokens.{Lexeme, lexemes};
 ghost use Rattle.cob_source.specs.Cuts.{open_quote};
 ghost use Rattle.cob_source.specs.Words.{IsSourceRefusal, AreCutsOf, AreWordsOf, AreParagraphWordsOf};
-ghost use Rattle.cob_source.specs.Reading.{AfterLines, HasReadLines, LineRefused};
+ghost use Rattle.cob_source.specs.Reading.{AfterLines, HasReadLine, LineRefused};
 ghost use Rattle.cob_source.specs.declared.fault.SourceRule.TheVariants.{Memory};
 
 use crate::fault::{SourceFault, SourceRule};
@@ -25,8 +25,8 @@ pub(crate) fn take_line(
     out: &mut Vec<Token>,
 ) -> Result<(), SourceFault>
     requires { joined.old.quote ≡ open_quote joined.old.cells.items }
-    ensures ok { AfterLines cutting number joined.old out.old.items (λ front before. OnOk result
-        (HasReadLines cutting (before ++ line.now ∷ []) joined.new front out.new.items)) }
+    ensures ok { AfterLines cutting number joined.old out.old.items
+        (HasReadLine cutting line.now joined.new out.new.items result) }
     ensures fault { AfterLines cutting number joined.old out.old.items (λ front before.
         IfErr result (λ f. LineRefused f.rule f.line before line.now)) }
     ensures quote { OnOk result (joined.new.quote ≡ open_quote joined.new.cells.items) }
