@@ -90,6 +90,11 @@ HasPassed bytes passed = Counts passed.form passed.greatest passed.place passed.
 abbrev pub Passes : List ℕ → Passed → Passed → Type 0
 Passes part before now = (bytes : List ℕ) → HasPassed bytes before → HasPassed (bytes ++ part) now
 
+-- so does the rest of a record, which has so many bytes, where the open block holds so many behind it
+abbrev pub PassesRecord : (left room : ℕ) → Passed → Passed → Type 0
+PassesRecord left room before now = (bytes part : List ℕ) → HasPassed bytes before → length part ≡ left
+    → before.place ≡ place.Record left room → HasPassed (bytes ++ part) now
+
 -- this part leads from where the next byte stands to this place
 abbrev pub LeadsTo : Passed → Place → List ℕ → Type 0
 LeadsTo passed at part = (left : ℕ) (rest : List ℕ) → IsAt passed.form passed.greatest left passed.place rest

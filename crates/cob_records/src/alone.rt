@@ -14,7 +14,8 @@ use byteorder::{BigEndian, ByteOrder};
 /// Writes the frame of a record behind the descriptor of its block.
 fn put_in_block<W: Sink>(sink: &mut W, body: &[u8]) -> Result<(), RecordFault>
     requires high { length body.now ≤ longest_record }
-    ensures taken { PutsPart 4 (framed Variable body.now) result (W.taken sink.old) (W.taken sink.new) }
+    ensures taken { PutsPart 4 (framed Variable body.now) result (W.taken sink.old)
+        (W.taken sink.new) }
     ensures kind { IfErr result (λ fault. is_write_fault fault ≡ true) }
     ensures cause { W.failures sink.new ≡ counted (is_err result) (W.failures sink.old) }
     ensures errors { W.errors sink.new ≡ counted (is_write_error result) (W.errors sink.old) }

@@ -1,9 +1,9 @@
 ghost use Rattle.std.specs.Prelude.{◌≡◌, ◌+◌, ◌<◌, ◌≤◌, length, drop, IfErr, IfOk, IfSome, MatchResult, true, false};
 ghost use Rattle.cob_limits.specs.Limits.{longest_block, longest_record};
 ghost use Rattle.cob_records.specs.Device.{Told, counted};
-ghost use Rattle.cob_records.specs.Frame.{IsLength, IsSeen, descriptor, is_read_failure, is_write_fault};
+ghost use Rattle.cob_records.specs.Frame.{IsLength, IsSeen, is_read_failure, is_write_fault};
 ghost use Rattle.cob_records.specs.Blocks.{IsBlockSize};
-ghost use Rattle.cob_records.specs.BlockReads.{IfTruncated, OpensBlock, ReadsFrame, ReadsInBlock, behind_block, failed_read, is_no_block};
+ghost use Rattle.cob_records.specs.BlockReads.{IfTruncated, Leads, OpensBlock, ReadsFrame, ReadsInBlock, behind_block, failed_read, is_no_block};
 ghost use Rattle.cob_records.specs.declared.records.Form.TheVariants.{Blocked, Variable};
 ghost use Rattle.cob_records.specs.declared.records.RecordFault.TheVariants.{BlockDescriptor};
 
@@ -15,7 +15,7 @@ use byteorder::{BigEndian, ByteOrder};
 pub(crate) fn described_block(head: &[u8], most: usize) -> Result<usize, RecordFault>
     requires head { length head.now ≡ 4 }
     requires most { most ≤ longest_block }
-    ensures { MatchResult result (λ room. (head.now ≡ descriptor room) × (4 ≤ room) × (4 + room ≤ most))
+    ensures { MatchResult result (λ room. Leads most 0 room head.now)
         (λ fault. (fault ≡ BlockDescriptor) × (is_no_block most head.now ≡ true)) }
 {
     if head[2] != 0 || head[3] != 0 {
@@ -59,8 +59,10 @@ fn next_in_block<R: Source>(
 ) -> Result<usize, RecordFault>
     requires low { 0 < length slot.old }
     requires high { length slot.old ≤ longest_record }
-    ensures frame { Told (R.coming source.old) (R.coming source.new) (ReadsFrame (length slot.old) room slot.new result) }
-    ensures size { IfOk result (λ count. IsLength Variable (length slot.old) count × (4 + count ≤ room)) }
+    ensures frame { Told (R.coming source.old) (R.coming source.new)
+        (ReadsFrame (length slot.old) room slot.new result) }
+    ensures size { IfOk result (λ count. IsLength Variable (length slot.old) count
+        × (4 + count ≤ room)) }
     ensures kind { IfErr result (λ fault. is_write_fault fault ≡ false) }
     ensures few { IfErr result (λ fault. IfTruncated fault (λ seen. seen ≤ longest_record + 4)) }
     ensures seen { IfErr result (λ fault. IfTruncated fault (λ seen. seen < 4 + length slot.old)) }

@@ -109,7 +109,8 @@ impl Gather {
     pub fn add<W: Sink>(&mut self, sink: &mut W, body: &[u8]) -> Result<(), RecordFault>
         requires low { 0 < length body.now }
         requires high { 8 + length body.now ≤ self.old.size }
-        ensures blocks { Took (W.taken sink.old) (W.taken sink.new) (Puts (closed_by self.old (framed Variable body.now)) result) }
+        ensures blocks { Took (W.taken sink.old) (W.taken sink.new)
+            (Puts (closed_by self.old (framed Variable body.now)) result) }
         ensures gathered { OnOk result (self.new ≡ with_frame self.old (framed Variable body.now)) }
         ensures emptied { OnErr result (self.new ≡ empty self.old.size) }
         ensures kind { IfErr result (λ fault. is_write_fault fault ≡ true) }
@@ -136,7 +137,8 @@ impl Gather {
     ///
     /// [`RecordFault::WriteFailed`] and [`RecordFault::TookNothing`]: the sink took a beginning of the block.
     pub fn finish<W: Sink>(&mut self, sink: &mut W) -> Result<(), RecordFault>
-        ensures blocks { Took (W.taken sink.old) (W.taken sink.new) (Puts (closed_block self.old.frames) result) }
+        ensures blocks { Took (W.taken sink.old) (W.taken sink.new)
+            (Puts (closed_block self.old.frames) result) }
         ensures emptied { self.new ≡ empty self.old.size }
         ensures kind { IfErr result (λ fault. is_write_fault fault ≡ true) }
         ensures cause { W.failures sink.new ≡ counted (is_err result) (W.failures sink.old) }

@@ -22,8 +22,7 @@ pub(crate) struct Passed {
 }
 
 impl Passed {
-    ghost use Rattle.cob_records.specs.Progress.{HasPassed, IsReportOf, LeadsTo, Passes};
-    ghost use Rattle.cob_records.specs.declared.place.Place.TheVariants.{Record};
+    ghost use Rattle.cob_records.specs.Progress.{HasPassed, IsReportOf, LeadsTo, Passes, PassesRecord};
 
     /// What has passed of a stream before its first byte.
     pub(crate) fn new(form: Form, greatest: u16) -> Passed
@@ -62,8 +61,7 @@ impl Passed {
     fn end_record(&mut self, left: usize, room: usize) -> usize
         requires { room ≤ longest_block }
         ensures count { result ≡ left }
-        ensures passed { (bytes part : List ℕ) → HasPassed bytes self.old → length part ≡ left
-            → self.old.place ≡ Record left room → HasPassed (bytes ++ part) self.new }
+        ensures passed { PassesRecord left room self.old self.new }
         ensures form { self.new.form ≡ self.old.form }
         ensures greatest { self.new.greatest ≡ self.old.greatest }
     {

@@ -128,7 +128,8 @@ pub(crate) fn behind(
     requires greatest { greatest ≤ longest_record }
     requires room { room ≤ longest_block }
     ensures place { is_place result ≡ true }
-    ensures at { (left : ℕ) (bytes : List ℕ) → IsAt form greatest left (Descriptor head seen room) bytes
+    ensures at { (left : ℕ) (bytes : List ℕ)
+        → IsAt form greatest left (Descriptor head seen room) bytes
         → IsAt form greatest left result (bytes ++ byte ∷ []) }
 {
     head[seen] = byte;
