@@ -36,7 +36,8 @@ fn symbol_at(runs: &[Run], place: usize) -> Option<Symbol>
 
 /// Whether two runs' symbols are the same at a place.
 fn is_same_at(runs: &[Run], others: &[Run], place: usize) -> bool
-    ensures { Decides result (slice_get (written_out runs.now) place ≡ slice_get (written_out others.now) place) }
+    ensures { Decides result (slice_get (written_out runs.now) place
+        ≡ slice_get (written_out others.now) place) }
 {
     match (symbol_at(runs, place), symbol_at(others, place)) {
         (Some(symbol), Some(other)) => symbol == other,
