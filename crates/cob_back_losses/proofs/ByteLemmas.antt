@@ -13,7 +13,7 @@ use Rattle.cob_copybook_tree.specs.Nodes.{Resolved, forest, node, tree_of}
 use Rattle.cob_copybook_tree.specs.Lengths.{element_length, greatest_number, greatest_number_by, item_size, length_by_kind, own_length, sum_of}
 use Rattle.cob_layout_places.specs.Cover.{several, unless}
 use Rattle.cob_layout_places.proofs.ForestLemmas.{below, left, left_end, left_is, node_out}
-use Rattle.cob_back_losses.specs.Bytes.{ItemByte, bytes_by_kind, bytes_in, element_bytes, item_bytes}
+use Rattle.cob_back_losses.specs.Bytes.{ItemByte, bytes_by_kind, bytes_beneath, element_bytes, item_bytes}
 
 pub less : (a b : ℕ) → nat_lt a b ≡ true → a < b
 less a b h = grind (arith, nat_tests, h)
@@ -73,17 +73,17 @@ left_none {X} l now all le is = sym (take_all l now le) ∙ ap (take l) (sym (ap
 -- ---- entries
 
 -- one element of a node, by what the node describes
-pub element_out : (n : Node) → element_bytes (node n) ≡ bytes_by_kind (out-Node n).number (out-Node n).kind (bytes_in (below n))
+pub element_out : (n : Node) → element_bytes (node n) ≡ bytes_by_kind (out-Node n).number (out-Node n).kind (bytes_beneath (below n))
 element_out n = ap element_bytes (node_out n)
 
-pub element_group : (n : Node) → (out-Node n).kind ≡ Group → element_bytes (node n) ≡ bytes_in (below n)
-element_group n is = element_out n ∙ ap (λ (k : Kind). bytes_by_kind (out-Node n).number k (bytes_in (below n))) is
+pub element_group : (n : Node) → (out-Node n).kind ≡ Group → element_bytes (node n) ≡ bytes_beneath (below n)
+element_group n is = element_out n ∙ ap (λ (k : Kind). bytes_by_kind (out-Node n).number k (bytes_beneath (below n))) is
 
 pub element_item : (n : Node) (i : Item) → (out-Node n).kind ≡ ItemKind i → element_bytes (node n) ≡ item_bytes (out-Node n).number i (item_size i)
-element_item n i is = element_out n ∙ ap (λ (k : Kind). bytes_by_kind (out-Node n).number k (bytes_in (below n))) is
+element_item n i is = element_out n ∙ ap (λ (k : Kind). bytes_by_kind (out-Node n).number k (bytes_beneath (below n))) is
 
 -- all elements of an entry
-pub all_elements : (n : Node) → bytes_in (tree_of n) ≡ unless (out-Node n).redefines (several (λ k. element_bytes (node n)) (greatest_number (node n).top))
+pub all_elements : (n : Node) → bytes_beneath (tree_of n) ≡ unless (out-Node n).redefines (several (λ k. element_bytes (node n)) (greatest_number (node n).top))
 all_elements n =
     append-nil (unless (node n).top.redefines (several (λ k. element_bytes (node n)) (greatest_number (node n).top)))
     ∙ ap (λ (t : Tree Resolved). unless t.top.redefines (several (λ k. element_bytes (node n)) (greatest_number (node n).top))) (node_out n)
@@ -96,10 +96,10 @@ unless_none : {X : Type 0} (o : Option (List ℕ)) (xs : List X) → is_some o �
 unless_none None xs h = refl
 unless_none (Some a) xs h = absurd (cc (h))
 
-pub redefinition_has_none : (n : Node) → is_some (out-Node n).redefines ≡ true → bytes_in (tree_of n) ≡ []
+pub redefinition_has_none : (n : Node) → is_some (out-Node n).redefines ≡ true → bytes_beneath (tree_of n) ≡ []
 redefinition_has_none n is = all_elements n ∙ unless_some (out-Node n).redefines _ is
 
-pub entry_has : (n : Node) → is_some (out-Node n).redefines ≡ false → bytes_in (tree_of n) ≡ several (λ k. element_bytes (node n)) (greatest_number (node n).top)
+pub entry_has : (n : Node) → is_some (out-Node n).redefines ≡ false → bytes_beneath (tree_of n) ≡ several (λ k. element_bytes (node n)) (greatest_number (node n).top)
 entry_has n is = all_elements n ∙ unless_none (out-Node n).redefines _ is
 
 -- one of them and the others behind it
@@ -109,33 +109,33 @@ several_first {X} xs (suc n) = ap (λ (ys : List X). ys ++ xs) (several_first xs
 
 -- the bytes of the entries that are left are those of the next one and of those behind it
 pub bytes_left : (children : List Node) (k : ℕ) (n : Node) → k < length children → n ≡ get_or children k n
-    → bytes_in (left children k) ≡ bytes_in (tree_of n) ++ bytes_in (left children (k + 1))
+    → bytes_beneath (left children k) ≡ bytes_beneath (tree_of n) ++ bytes_beneath (left children (k + 1))
 bytes_left children k n lt is =
     let one = unless (node n).top.redefines (several (λ k. element_bytes (node n)) (greatest_number (node n).top)) in
-    ap bytes_in (left_is children k n lt is) ∙ ap (λ (xs : List ItemByte). xs ++ bytes_in (left children (k + 1))) (sym (append-nil one))
+    ap bytes_beneath (left_is children k n lt is) ∙ ap (λ (xs : List ItemByte). xs ++ bytes_beneath (left children (k + 1))) (sym (append-nil one))
 
 most_of : (n : Node) → greatest_number (node n).top ≡ greatest_number_by (out-Node n).occurs
 most_of n = ap (λ (t : Tree Resolved). greatest_number t.top) (node_out n)
 
 -- the bytes of the entries that are left, before an entry's elements
 pub begin_child : (children : List Node) (k : ℕ) (n : Node) (m : ℕ) → k < length children → n ≡ get_or children k n → is_some (out-Node n).redefines ≡ false → m ≡ greatest_number_by (out-Node n).occurs
-    → several (λ j. element_bytes (node n)) (m - 0) ++ bytes_in (left children (k + 1)) ≡ bytes_in (left children k)
+    → several (λ j. element_bytes (node n)) (m - 0) ++ bytes_beneath (left children (k + 1)) ≡ bytes_beneath (left children k)
 begin_child children k n m lt is own most =
     let count : m - 0 ≡ greatest_number (node n).top = omega (arith, most, most_of n) in
-    ap (λ (j : ℕ). several (λ i. element_bytes (node n)) j ++ bytes_in (left children (k + 1))) count
-    ∙ ap (λ (xs : List ItemByte). xs ++ bytes_in (left children (k + 1))) (sym (entry_has n own))
+    ap (λ (j : ℕ). several (λ i. element_bytes (node n)) j ++ bytes_beneath (left children (k + 1))) count
+    ∙ ap (λ (xs : List ItemByte). xs ++ bytes_beneath (left children (k + 1))) (sym (entry_has n own))
     ∙ sym (bytes_left children k n lt is)
 
 pub skip_child : (children : List Node) (k : ℕ) (n : Node) → k < length children → n ≡ get_or children k n → is_some (out-Node n).redefines ≡ true
-    → bytes_in (left children (k + 1)) ≡ bytes_in (left children k)
-skip_child children k n lt is own = ap (λ (xs : List ItemByte). xs ++ bytes_in (left children (k + 1))) (sym (redefinition_has_none n own)) ∙ sym (bytes_left children k n lt is)
+    → bytes_beneath (left children (k + 1)) ≡ bytes_beneath (left children k)
+skip_child children k n lt is own = ap (λ (xs : List ItemByte). xs ++ bytes_beneath (left children (k + 1))) (sym (redefinition_has_none n own)) ∙ sym (bytes_left children k n lt is)
 
-pub no_child : (children : List Node) (k : ℕ) → length children ≤ k → bytes_in (left children k) ≡ []
-no_child children k past = ap bytes_in (left_end children k past)
+pub no_child : (children : List Node) (k : ℕ) → length children ≤ k → bytes_beneath (left children k) ≡ []
+no_child children k past = ap bytes_beneath (left_end children k past)
 
 -- the bytes of a group are those of the entries beneath it
-pub group_bytes : (n : Node) (children : List Node) → (out-Node n).kind ≡ Group → children ≡ (out-Node n).children.items → bytes_in (forest children) ≡ element_bytes (node n)
-group_bytes n children kind is = ap (λ (ns : List Node). bytes_in (forest ns)) is ∙ sym (element_group n kind)
+pub group_bytes : (n : Node) (children : List Node) → (out-Node n).kind ≡ Group → children ≡ (out-Node n).children.items → bytes_beneath (forest children) ≡ element_bytes (node n)
+group_bytes n children kind is = ap (λ (ns : List Node). bytes_beneath (forest ns)) is ∙ sym (element_group n kind)
 
 -- one more element
 pub next_element : {X : Type 0} (l m j : ℕ) (now new one rest all : List X) → j < m → new ≡ take l (now ++ one) → take l (now ++ (several (λ k. one) (m - j) ++ rest)) ≡ all
@@ -176,14 +176,14 @@ unless_long : (o : Option (List ℕ)) (bytes : List ItemByte) (n : ℕ) → leng
 unless_long None bytes n is = is
 unless_long (Some a) bytes n is = refl
 
-pub long_in : (f : Forest Resolved) → length (bytes_in f) ≡ sum_of greatest_number f
+pub long_in : (f : Forest Resolved) → length (bytes_beneath f) ≡ sum_of greatest_number f
 long_in NoEntries = refl
 long_in (AnEntry e children more) =
-    let element = by_kind_long e.number e.kind (bytes_in children) (sum_of greatest_number children) (long_in children) in
-    let elements = several_length (λ k. bytes_by_kind e.number e.kind (bytes_in children)) _ (λ k. element) (greatest_number e) in
+    let element = by_kind_long e.number e.kind (bytes_beneath children) (sum_of greatest_number children) (long_in children) in
+    let elements = several_length (λ k. bytes_by_kind e.number e.kind (bytes_beneath children)) _ (λ k. element) (greatest_number e) in
     let own = unless_long e.redefines _ _ elements in
-    length-append (unless e.redefines (several (λ k. bytes_by_kind e.number e.kind (bytes_in children)) (greatest_number e))) (bytes_in more)
+    length-append (unless e.redefines (several (λ k. bytes_by_kind e.number e.kind (bytes_beneath children)) (greatest_number e))) (bytes_beneath more)
     ∙ omega (arith, own, long_in more)
 
 pub element_long : (t : Tree Resolved) → length (element_bytes t) ≡ element_length greatest_number t.top t.beneath
-element_long t = by_kind_long t.top.number t.top.kind (bytes_in t.beneath) (sum_of greatest_number t.beneath) (long_in t.beneath)
+element_long t = by_kind_long t.top.number t.top.kind (bytes_beneath t.beneath) (sum_of greatest_number t.beneath) (long_in t.beneath)

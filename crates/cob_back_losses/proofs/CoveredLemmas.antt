@@ -17,8 +17,8 @@ use Rattle.cob_move_data.specs.Singles.{occurrence, occurrence_by}
 use Rattle.cob_back_losses.specs.Keeping.{IsMarked, KeepsDescription}
 use Rattle.cob_back_losses.specs.declared.keeping.Unkept.{Unkept}
 use Rattle.cob_back_losses.proofs.KeepingLemmas.{keeps_as, tells_as}
-use Rattle.cob_back_losses.specs.Moved.{AreTold, HasByte, IsCoveredBy, Moved, StandsAt, TellsOf}
-use Rattle.cob_back_losses.specs.Seen.{AreMarks, TellsIn}
+use Rattle.cob_back_losses.specs.Moved.{TellsEach, HasByte, IsCoveredBy, Moved, StandsAt, TellsOf}
+use Rattle.cob_back_losses.specs.Seen.{MarkCoveredBytes, TellsIn}
 
 -- ---- places
 
@@ -71,11 +71,11 @@ one_place tree x p q a b = ap (λ (f : Found). place_at f.offset f.length) (some
 
 -- ---- marks
 
-pub none_covered : (tree : Forest Resolved) (marks : List Bool) → length marks ≡ sum_of greatest_number tree → ((byte : ℕ) → get_or marks byte false ≡ false) → AreMarks tree [] marks
+pub none_covered : (tree : Forest Resolved) (marks : List Bool) → length marks ≡ sum_of greatest_number tree → ((byte : ℕ) → get_or marks byte false ≡ false) → MarkCoveredBytes tree [] marks
 none_covered tree marks all none = record { all = all; covered = λ byte. (λ is. absurd (cc (none byte, is)), λ h. absurd h) }
 
 pub covered_next : (tree : Forest Resolved) (m : Moved) (later : List Moved) (p : Place) (old new : List Bool) → StandsAt tree m.receiver p → length new ≡ length old
-    → ((byte : ℕ) → get_or new byte false ≡ (holds byte p.offset p.length || get_or old byte false)) → AreMarks tree later old → AreMarks tree (m ∷ later) new
+    → ((byte : ℕ) → get_or new byte false ≡ (holds byte p.offset p.length || get_or old byte false)) → MarkCoveredBytes tree later old → MarkCoveredBytes tree (m ∷ later) new
 covered_next tree m later p old new stands long marked before = record { all = long ∙ before.all; covered = λ byte. (there_is byte, back byte) }
   where
     either : (byte : ℕ) (a b : Bool) → holds byte p.offset p.length ≡ a → get_or old byte false ≡ b → (a || b) ≡ true → IsCoveredBy tree (m ∷ later) byte
@@ -99,7 +99,7 @@ covered_next tree m later p old new stands long marked before = record { all = l
         (subst (λ (q : Place). holds byte q.offset q.length ≡ true) (one_place tree m.receiver h.place p h.stands stands) h.holds)
     back byte (inr h) = marked byte ∙ or_second (holds byte p.offset p.length) (get_or old byte false) ((before.covered byte).1 h)
 
-pub same_next : (tree : Forest Resolved) (m : Moved) (later : List Moved) (marks : List Bool) → ((p : Place) → StandsAt tree m.receiver p → ⊥) → AreMarks tree later marks → AreMarks tree (m ∷ later) marks
+pub same_next : (tree : Forest Resolved) (m : Moved) (later : List Moved) (marks : List Bool) → ((p : Place) → StandsAt tree m.receiver p → ⊥) → MarkCoveredBytes tree later marks → MarkCoveredBytes tree (m ∷ later) marks
 same_next tree m later marks none before = record { all = before.all; covered = λ byte. (λ is. inr ((before.covered byte).0 is), back byte) }
   where
     back : (byte : ℕ) → HasByte tree m.receiver byte ⊎ IsCoveredBy tree later byte → get_or marks byte false ≡ true
@@ -111,7 +111,7 @@ same_next tree m later marks none before = record { all = before.all; covered = 
 pub none_told : (tree : Forest Resolved) (m : Moved) (later : List Moved) → ((p : Place) → StandsAt tree m.receiver p → ⊥) → TellsOf tree m later None
 none_told tree m later none = λ from to place goes. absurd (none place goes.stands)
 
-pub told_of : (tree : Forest Resolved) (m : Moved) (later : List Moved) (p : Place) (marks : List Bool) (lost : Option Unkept) → StandsAt tree m.receiver p → AreMarks tree later marks
+pub told_of : (tree : Forest Resolved) (m : Moved) (later : List Moved) (p : Place) (marks : List Bool) (lost : Option Unkept) → StandsAt tree m.receiver p → MarkCoveredBytes tree later marks
     → TellsIn tree m (drop p.offset marks) lost → TellsOf tree m later lost
 told_of tree m later p marks lost stands before tells = by lost tells
   where
@@ -136,13 +136,13 @@ told_of tree m later p marks lost stands before tells = by lost tells
 
 -- one more single move in front of those that are told
 pub told_next : (tree : Forest Resolved) (ms : List Moved) (i : ℕ) (m : Moved) (all new : List (Option Unkept)) (one : Option Unkept) → i < length ms → m ≡ get_or ms i m → new ≡ all ++ one ∷ []
-    → TellsOf tree m (drop (i + 1) ms) one → AreTold tree (drop (i + 1) ms) (reverse all) → AreTold tree (drop i ms) (reverse new)
+    → TellsOf tree m (drop (i + 1) ms) one → TellsEach tree (drop (i + 1) ms) (reverse all) → TellsEach tree (drop i ms) (reverse new)
 told_next tree ms i m all new one lt is added tells before =
     let cut : drop i ms ≡ m ∷ drop (i + 1) ms = drop_more ms i m lt ∙ ap (λ (x : Moved). x ∷ drop (i + 1) ms) (sym is) in
     let front : reverse new ≡ one ∷ reverse all = ap reverse added ∙ reverse-append all (one ∷ []) in
-    subst (λ (xs : List Moved). AreTold tree xs (reverse new)) (sym cut) (one, reverse all, front, tells, before)
+    subst (λ (xs : List Moved). TellsEach tree xs (reverse new)) (sym cut) (one, reverse all, front, tells, before)
 
-pub marks_next : (tree : Forest Resolved) (ms : List Moved) (i : ℕ) (m : Moved) (marks : List Bool) → i < length ms → m ≡ get_or ms i m → AreMarks tree (m ∷ drop (i + 1) ms) marks → AreMarks tree (drop i ms) marks
+pub marks_next : (tree : Forest Resolved) (ms : List Moved) (i : ℕ) (m : Moved) (marks : List Bool) → i < length ms → m ≡ get_or ms i m → MarkCoveredBytes tree (m ∷ drop (i + 1) ms) marks → MarkCoveredBytes tree (drop i ms) marks
 marks_next tree ms i m marks lt is h =
     let cut : drop i ms ≡ m ∷ drop (i + 1) ms = drop_more ms i m lt ∙ ap (λ (x : Moved). x ∷ drop (i + 1) ms) (sym is) in
-    subst (λ (xs : List Moved). AreMarks tree xs marks) (sym cut) h
+    subst (λ (xs : List Moved). MarkCoveredBytes tree xs marks) (sym cut) h

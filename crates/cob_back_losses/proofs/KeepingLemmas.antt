@@ -11,8 +11,8 @@ use Rattle.cob_copybook_tree.specs.Nodes.{Resolved}
 use Rattle.cob_back_losses.specs.declared.bytes.ItemByte as code_bytes
 use Rattle.cob_back_losses.specs.declared.keeping.Unkept.{Unkept}
 use Rattle.cob_back_losses.specs.Bytes.{ItemByte, element_bytes, item_byte}
-use Rattle.cob_back_losses.specs.Keeping.{Element, IsKept, IsMarked, IsUnkept, KeepsDescription, Nothing, Sent, Tells, TellsAmong, byte_sense, gets_byte, gets_of, moves_bytes, sent_sense}
-use Rattle.cob_back_losses.specs.Senses.{Keeps, Sense, item_sense}
+use Rattle.cob_back_losses.specs.Keeping.{Element, KeepsByte, IsMarked, IsUnkept, KeepsDescription, Nothing, SentElement, TellsFirstUnkept, TellsAmong, byte_sense, gets_byte, gets_of, moves_bytes, sent_sense}
+use Rattle.cob_back_losses.specs.Senses.{KeepsSense, Sense, item_sense}
 
 -- what is cut has the same before its end
 pub get_take : {X : Type 0} (l : ℕ) (xs : List X) (at : ℕ) → at < l → slice_get (take l xs) at ≡ slice_get xs at
@@ -39,12 +39,12 @@ pub there_is : (xs : List code_bytes.ItemByte) (at : ℕ) (x : code_bytes.ItemBy
 there_is xs at x lt is = slice_get-map item_byte xs at ∙ ap (option_map item_byte) (slice_get_read xs (length xs) at x refl lt is)
 
 -- what is decided of two bytes is decided of what is sent and received
-decided : (from : Sent) (at : ℕ) (byte : ItemByte) (kept : Bool) (s r : Sense) → s ≡ sent_sense from at → r ≡ item_sense byte.item byte.at → Decides kept (Keeps s r)
-    → Decides kept (Keeps (sent_sense from at) (item_sense byte.item byte.at))
-decided from at byte kept s r sends receives h = subst (λ (t : Sense). Decides kept (Keeps (sent_sense from at) t)) receives (subst (λ (t : Sense). Decides kept (Keeps t r)) sends h)
+decided : (from : SentElement) (at : ℕ) (byte : ItemByte) (kept : Bool) (s r : Sense) → s ≡ sent_sense from at → r ≡ item_sense byte.item byte.at → Decides kept (KeepsSense s r)
+    → Decides kept (KeepsSense (sent_sense from at) (item_sense byte.item byte.at))
+decided from at byte kept s r sends receives h = subst (λ (t : Sense). Decides kept (KeepsSense (sent_sense from at) t)) receives (subst (λ (t : Sense). Decides kept (KeepsSense t r)) sends h)
 
-pub open_unkept : (from : Sent) (bytes : List ItemByte) (marks : List Bool) (at : ℕ) (byte : ItemByte) (kept : Bool) (s r : Sense) → slice_get bytes at ≡ Some byte
-    → s ≡ sent_sense from at → r ≡ item_sense byte.item byte.at → Decides kept (Keeps s r) → get_or marks at false ≡ false → IsTrue (not kept) → IsUnkept from bytes (IsMarked marks) at
+pub open_unkept : (from : SentElement) (bytes : List ItemByte) (marks : List Bool) (at : ℕ) (byte : ItemByte) (kept : Bool) (s r : Sense) → slice_get bytes at ≡ Some byte
+    → s ≡ sent_sense from at → r ≡ item_sense byte.item byte.at → Decides kept (KeepsSense s r) → get_or marks at false ≡ false → IsTrue (not kept) → IsUnkept from bytes (IsMarked marks) at
 open_unkept from bytes marks at byte kept s r there sends receives h bare is = record {
   byte = byte;
   there = there;
@@ -52,11 +52,11 @@ open_unkept from bytes marks at byte kept s r there sends receives h bare is = r
   unkept = λ k. absurd (cc (is, (decided from at byte kept s r sends receives h).1 k));
 }
 
-pub open_kept : (from : Sent) (bytes : List ItemByte) (marks : List Bool) (at : ℕ) (byte : ItemByte) (kept : Bool) (s r : Sense) → slice_get bytes at ≡ Some byte
-    → s ≡ sent_sense from at → r ≡ item_sense byte.item byte.at → Decides kept (Keeps s r) → IsFalse (not kept) → IsKept from bytes (IsMarked marks) at
+pub open_kept : (from : SentElement) (bytes : List ItemByte) (marks : List Bool) (at : ℕ) (byte : ItemByte) (kept : Bool) (s r : Sense) → slice_get bytes at ≡ Some byte
+    → s ≡ sent_sense from at → r ≡ item_sense byte.item byte.at → Decides kept (KeepsSense s r) → IsFalse (not kept) → KeepsByte from bytes (IsMarked marks) at
 open_kept from bytes marks at byte false s r there sends receives h is = absurd (cc (is))
 open_kept from bytes marks at byte true s r there sends receives h is = λ other also bare. subst
-    (λ (b : ItemByte). Keeps (sent_sense from at) (item_sense b.item b.at))
+    (λ (b : ItemByte). KeepsSense (sent_sense from at) (item_sense b.item b.at))
     (same_byte byte other (sym there ∙ also))
     ((decided from at byte true s r sends receives h).0 refl)
 
@@ -66,40 +66,40 @@ whole_taken n xs items is lt = is ∙ take_all n xs (omega (arith, lt, ap length
 
 -- ---- a whole move
 
-pub all_kept : (from : Sent) (bytes : List ItemByte) (Covered : ℕ → Type 0) (n : ℕ) → length bytes ≤ n → ((at : ℕ) → at < n → IsKept from bytes Covered at)
-    → (at : ℕ) → IsKept from bytes Covered at
+pub all_kept : (from : SentElement) (bytes : List ItemByte) (Covered : ℕ → Type 0) (n : ℕ) → length bytes ≤ n → ((at : ℕ) → at < n → KeepsByte from bytes Covered at)
+    → (at : ℕ) → KeepsByte from bytes Covered at
 all_kept from bytes Covered n le kept at byte there = kept at (omega (arith, le, slice_get_within bytes at byte there)) byte there
 
 -- one more byte is kept
-pub next_kept : (from : Sent) (bytes : List ItemByte) (Covered : ℕ → Type 0) (n : ℕ) → ((at : ℕ) → at < n → IsKept from bytes Covered at)
-    → IsKept from bytes Covered n → (at : ℕ) → at < n + 1 → IsKept from bytes Covered at
+pub next_kept : (from : SentElement) (bytes : List ItemByte) (Covered : ℕ → Type 0) (n : ℕ) → ((at : ℕ) → at < n → KeepsByte from bytes Covered at)
+    → KeepsByte from bytes Covered n → (at : ℕ) → at < n + 1 → KeepsByte from bytes Covered at
 next_kept from bytes Covered n kept here at lt = by (nat_lt at n) refl
   where
-    by : (before : Bool) → nat_lt at n ≡ before → IsKept from bytes Covered at
+    by : (before : Bool) → nat_lt at n ≡ before → KeepsByte from bytes Covered at
     by true is = kept at (less at n is)
     by false is =
         let same : n ≡ at = omega (arith, lt, not_less at n is) in
-        subst (IsKept from bytes Covered) same here
+        subst (KeepsByte from bytes Covered) same here
 
-pub told : (from : Sent) (to : Tree Resolved) (Covered : ℕ → Type 0) (o : Option Unkept) → IsTrue (moves_bytes from to) → TellsAmong from (element_bytes to) Covered o → Tells from to Covered o
+pub told : (from : SentElement) (to : Tree Resolved) (Covered : ℕ → Type 0) (o : Option Unkept) → IsTrue (moves_bytes from to) → TellsAmong from (element_bytes to) Covered o → TellsFirstUnkept from to Covered o
 told from to Covered (Some u) moves h = (moves, h)
 told from to Covered None moves h = λ also. h
 
-pub moves_none : (from : Sent) (to : Tree Resolved) (Covered : ℕ → Type 0) → moves_bytes from to ≡ false → KeepsDescription from to Covered
+pub moves_none : (from : SentElement) (to : Tree Resolved) (Covered : ℕ → Type 0) → moves_bytes from to ≡ false → KeepsDescription from to Covered
 moves_none from to Covered is moves = absurd (cc (is, moves))
 
-pub covered_none : (from : Sent) (to : Tree Resolved) (Covered : ℕ → Type 0) → ((at : ℕ) → at < length (element_bytes to) → Covered at) → KeepsDescription from to Covered
+pub covered_none : (from : SentElement) (to : Tree Resolved) (Covered : ℕ → Type 0) → ((at : ℕ) → at < length (element_bytes to) → Covered at) → KeepsDescription from to Covered
 covered_none from to Covered all moves at byte there bare = absurd (bare (all at (slice_get_within (element_bytes to) at byte there)))
 
 -- ---- what is covered, said in another way
 
-pub kept_as : (from : Sent) (bytes : List ItemByte) (C D : ℕ → Type 0) → ((at : ℕ) → C at → D at) → (at : ℕ) → IsKept from bytes C at → IsKept from bytes D at
+pub kept_as : (from : SentElement) (bytes : List ItemByte) (C D : ℕ → Type 0) → ((at : ℕ) → C at → D at) → (at : ℕ) → KeepsByte from bytes C at → KeepsByte from bytes D at
 kept_as from bytes C D there at kept byte is bare = kept byte is (λ c. bare (there at c))
 
-pub keeps_as : (from : Sent) (to : Tree Resolved) (C D : ℕ → Type 0) → ((at : ℕ) → C at → D at) → KeepsDescription from to C → KeepsDescription from to D
+pub keeps_as : (from : SentElement) (to : Tree Resolved) (C D : ℕ → Type 0) → ((at : ℕ) → C at → D at) → KeepsDescription from to C → KeepsDescription from to D
 keeps_as from to C D there keeps moves at = kept_as from (element_bytes to) C D there at (keeps moves at)
 
-pub tells_as : (from : Sent) (to : Tree Resolved) (C D : ℕ → Type 0) → ((at : ℕ) → C at → D at) → ((at : ℕ) → D at → C at) → (o : Option Unkept) → Tells from to C o → Tells from to D o
+pub tells_as : (from : SentElement) (to : Tree Resolved) (C D : ℕ → Type 0) → ((at : ℕ) → C at → D at) → ((at : ℕ) → D at → C at) → (o : Option Unkept) → TellsFirstUnkept from to C o → TellsFirstUnkept from to D o
 tells_as from to C D there back (Some u) (moves, f) = (
   moves,
   record {

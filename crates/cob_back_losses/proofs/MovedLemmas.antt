@@ -6,8 +6,8 @@ use Rattle.cob_move_data.specs.Moves.{Records, moves_by}
 use Rattle.cob_move_data.specs.declared.operands.StatementMoves.{StatementMoves}
 use Rattle.cob_move_data.proofs.SingleLemmas.{of_placed}
 use Rattle.cob_move_data.specs.Singles.{Entry, Literal, PlainSent, PlainSingle, all_singles, sender_between, single_between, singles_of}
-use Rattle.cob_back_losses.specs.Keeping.{Sent}
-use Rattle.cob_back_losses.specs.Moved.{Moved, moved, sent_of}
+use Rattle.cob_back_losses.specs.Keeping.{SentElement}
+use Rattle.cob_back_losses.specs.Moved.{Moved, moved_single, sent_of}
 use Rattle.cob_back_losses.specs.Seen.{moved_by, sent_by}
 
 -- ---- of statements
@@ -16,18 +16,18 @@ of_sent : (reading : Reading) (records : Records) (s : PlainSent) → sent_of re
 of_sent reading records (Entry side x) = refl
 of_sent reading records (Literal c) = refl
 
-abbrev moved_of : PlainSingle → Option Sent → Moved
+abbrev moved_of : PlainSingle → Option SentElement → Moved
 moved_of s sent = record { sent = sent; receiver = s.receiver }
 
-of_singles : (reading : Reading) (records : Records) (ss : List PlainSingle) → map (moved records) (map (single_between reading records) ss) ≡ map (moved_by records) ss
+of_singles : (reading : Reading) (records : Records) (ss : List PlainSingle) → map (moved_single records) (map (single_between reading records) ss) ≡ map (moved_by records) ss
 of_singles reading records [] = refl
 of_singles reading records (s ∷ ss) =
-    ap (λ (ms : List Moved). moved records (single_between reading records s) ∷ ms) (of_singles reading records ss)
-    ∙ ap (λ (sent : Option Sent). moved_of s sent ∷ map (moved_by records) ss) (of_sent reading records s.sent)
+    ap (λ (ms : List Moved). moved_single records (single_between reading records s) ∷ ms) (of_singles reading records ss)
+    ∙ ap (λ (sent : Option SentElement). moved_of s sent ∷ map (moved_by records) ss) (of_sent reading records s.sent)
 
 -- the single moves of the moves that statements mean, by what they send
-pub of_all : (reading : Reading) (records : Records) (ss : List StatementMoves) → map (moved records) (all_singles (moves_by reading records ss)) ≡ map (moved_by records) (singles_of ss)
-of_all reading records ss = ap (map (moved records)) (of_placed reading records 0 ss) ∙ of_singles reading records (singles_of ss)
+pub of_all : (reading : Reading) (records : Records) (ss : List StatementMoves) → map (moved_single records) (all_singles (moves_by reading records ss)) ≡ map (moved_by records) (singles_of ss)
+of_all reading records ss = ap (map (moved_single records)) (of_placed reading records 0 ss) ∙ of_singles reading records (singles_of ss)
 
 -- ---- one of them
 

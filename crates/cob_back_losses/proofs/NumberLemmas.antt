@@ -21,10 +21,10 @@ use Rattle.cob_copybook_tree.specs.Lengths.{greatest_number, item_size}
 use Rattle.cob_copybook_tree.specs.Resolving.{is_number, is_numeric}
 use Rattle.cob_copybook_tree.specs.Storage.{RepresentsAs, TakesPicture, is_leading, is_zoned, stored_size}
 use Rattle.cob_layout_places.specs.Cover.{several, unless}
-use Rattle.cob_back_losses.specs.Bytes.{ItemByte, bytes_by_kind, bytes_in, element_bytes, item_bytes}
+use Rattle.cob_back_losses.specs.Bytes.{ItemByte, bytes_by_kind, bytes_beneath, element_bytes, item_bytes}
 use Rattle.cob_back_losses.specs.Keeping.{byte_sense}
-use Rattle.cob_back_losses.specs.Numbers.{AreDigits, HoldsNumber, IsDigitByte, IsKeptNumber, KeepsNumbers, RepresentsSome, StandsFrom, part_of}
-use Rattle.cob_back_losses.specs.Senses.{Digit, Fill, Keeps, Part, Sense, Text, is_digit, is_plain_digits, is_whole, item_sense}
+use Rattle.cob_back_losses.specs.Numbers.{AreDigitBytes, HoldsReadableNumber, IsDigitByte, IsKeptNumber, KeepsNumbers, RepresentsSome, StandsFrom, bytes_of_item_at}
+use Rattle.cob_back_losses.specs.Senses.{Digit, Fill, KeepsSense, Part, Sense, Text, is_digit_sense, is_plain_digits, is_whole, item_sense}
 use Rattle.cob_back_losses.proofs.ByteLemmas.{item_long, less, not_less}
 
 -- ---- lists
@@ -136,16 +136,16 @@ whole_unless : (o : Option (List ℕ)) (bytes : List ItemByte) → IsWhole bytes
 whole_unless None bytes w = w
 whole_unless (Some a) bytes w = whole_none
 
-whole_in : (f : Forest Resolved) → IsWhole (bytes_in f)
+whole_in : (f : Forest Resolved) → IsWhole (bytes_beneath f)
 whole_in NoEntries = whole_none
 whole_in (AnEntry e children more) =
-    let element = whole_kind e.number e.kind (bytes_in children) (whole_in children) in
-    whole_append (unless e.redefines (several (λ k. bytes_by_kind e.number e.kind (bytes_in children)) (greatest_number e))) (bytes_in more)
-    (whole_unless e.redefines _ (whole_several (λ k. bytes_by_kind e.number e.kind (bytes_in children)) (λ k. element) (greatest_number e)))
+    let element = whole_kind e.number e.kind (bytes_beneath children) (whole_in children) in
+    whole_append (unless e.redefines (several (λ k. bytes_by_kind e.number e.kind (bytes_beneath children)) (greatest_number e))) (bytes_beneath more)
+    (whole_unless e.redefines _ (whole_several (λ k. bytes_by_kind e.number e.kind (bytes_beneath children)) (λ k. element) (greatest_number e)))
     (whole_in more)
 
 whole : (t : Tree Resolved) → IsWhole (element_bytes t)
-whole t = whole_kind t.top.number t.top.kind (bytes_in t.beneath) (whole_in t.beneath)
+whole t = whole_kind t.top.number t.top.kind (bytes_beneath t.beneath) (whole_in t.beneath)
 
 -- ---- plain digits
 
@@ -206,17 +206,17 @@ plain i is =
     let (number, zone, unsigned) = all_four (is_number i) (is_zoned (storage_kind i)) (signed i.picture.positions) (is_whole (scale i.picture.positions)) is in
     record { number = number; zone = zone; unsigned = unsigned }
 
-digits_represent : (i : Item) (from : ℕ) (bytes : List ℕ) → is_plain_digits i ≡ true → digits i.picture.positions ≡ size i.picture.positions → 0 < item_size i → AreDigits i from bytes
-    → RepresentsSome i (part_of i from bytes)
+digits_represent : (i : Item) (from : ℕ) (bytes : List ℕ) → is_plain_digits i ≡ true → digits i.picture.positions ≡ size i.picture.positions → 0 < item_size i → AreDigitBytes i from bytes
+    → RepresentsSome i (bytes_of_item_at i from bytes)
 digits_represent i from bytes is even some all =
     let p = plain i is in
     let first = part_all IsDigitByte from (item_size i) bytes all in
     let count : item_size i ≡ digits i.picture.positions = size_by (storage_kind i) i.picture p.zone ∙ sym even in
-    let z = zoned (digits i.picture.positions) (is_leading i.sign) (part_of i from bytes) (omega (arith, some, count)) (first.long ∙ count) first.all in (
+    let z = zoned (digits i.picture.positions) (is_leading i.sign) (bytes_of_item_at i from bytes) (omega (arith, some, count)) (first.long ∙ count) first.all in (
       false,
-      map low_digit (part_of i from bytes),
-      zoned_by (storage_kind i) (is_leading i.sign) i.picture (part_of i from bytes) (map low_digit (part_of i from bytes)) p.zone
-          (subst (λ (b : Bool). IsZoned (digits i.picture.positions) b (is_leading i.sign) (part_of i from bytes) false (map low_digit (part_of i from bytes))) (sym p.unsigned) z),
+      map low_digit (bytes_of_item_at i from bytes),
+      zoned_by (storage_kind i) (is_leading i.sign) i.picture (bytes_of_item_at i from bytes) (map low_digit (bytes_of_item_at i from bytes)) p.zone
+          (subst (λ (b : Bool). IsZoned (digits i.picture.positions) b (is_leading i.sign) (bytes_of_item_at i from bytes) false (map low_digit (bytes_of_item_at i from bytes))) (sym p.unsigned) z),
     )
 
 -- ---- what items are described as
@@ -260,7 +260,7 @@ is_plain true n i at h = refl
 is_plain false true i at h = absurd (cc (h))
 is_plain false false i at h = absurd (cc (h))
 
-is_the_digit : (s : Sense) → is_digit s ≡ true → s ≡ Digit
+is_the_digit : (s : Sense) → is_digit_sense s ≡ true → s ≡ Digit
 is_the_digit Digit h = refl
 is_the_digit Text h = absurd (cc (h))
 is_the_digit Fill h = absurd (cc (h))
@@ -301,7 +301,7 @@ keeps_numbers t to covered bytes got moves keeps long all gets from number i sta
     items : List ItemByte
     items = element_bytes t
 
-    kept : (k : ℕ) → k < item_size i → Keeps (byte_sense (slice_get (element_bytes t) (from + k))) (item_sense i k)
+    kept : (k : ℕ) → k < item_size i → KeepsSense (byte_sense (slice_get (element_bytes t) (from + k))) (item_sense i k)
     kept k lt = keeps moves (from + k) (byte_at number i k) (stands.bytes k lt) (bare k lt)
 
     room : (k : ℕ) → k < item_size i → from + k < length (element_bytes to)
@@ -311,42 +311,42 @@ keeps_numbers t to covered bytes got moves keeps long all gets from number i sta
     same_at k lt b there = gets.same (from + k) (omega (arith, long, slice_get_within (element_bytes t) (from + k) b there)) (room k lt)
 
     digit_there : is_plain_digits i ≡ true → (k : ℕ) → k < item_size i → (b : ItemByte) × (slice_get (element_bytes t) (from + k) ≡ Some b) × (item_sense b.item b.at ≡ Digit)
-    digit_there digital k lt = of_byte (slice_get (element_bytes t) (from + k)) Digit (is_the_digit _ (subst (λ (s : Sense). Keeps (byte_sense (slice_get (element_bytes t) (from + k))) s) (plain_sense i k digital) (kept k lt))) refl
+    digit_there digital k lt = of_byte (slice_get (element_bytes t) (from + k)) Digit (is_the_digit _ (subst (λ (s : Sense). KeepsSense (byte_sense (slice_get (element_bytes t) (from + k))) s) (plain_sense i k digital) (kept k lt))) refl
 
-    digit_sent : is_plain_digits i ≡ true → AreDigits i from bytes
+    digit_sent : is_plain_digits i ≡ true → AreDigitBytes i from bytes
     digit_sent digital k lt =
         let (b, there, sense) = digit_there digital k lt in
         let (le, within, st) = whole t (from + k) b there in
         let own : is_plain_digits b.item ≡ true = is_plain (is_plain_digits b.item) (shows_number b.item.picture.category) b.item b.at sense in
-        let holds : HoldsNumber b.item (from + k - b.at) bytes = all (from + k - b.at) b.number b.item st (plain_is_number b.item own) in
-        let digits_there : AreDigits b.item (from + k - b.at) bytes = subst (λ (p : Bool). MatchBool p (AreDigits b.item (from + k - b.at) bytes) (RepresentsSome b.item (part_of b.item (from + k - b.at) bytes))) own holds in
+        let holds : HoldsReadableNumber b.item (from + k - b.at) bytes = all (from + k - b.at) b.number b.item st (plain_is_number b.item own) in
+        let digits_there : AreDigitBytes b.item (from + k - b.at) bytes = subst (λ (p : Bool). MatchBool p (AreDigitBytes b.item (from + k - b.at) bytes) (RepresentsSome b.item (bytes_of_item_at b.item (from + k - b.at) bytes))) own holds in
         let e : from + k - b.at + b.at ≡ from + k = omega (arith, le) in
         subst (λ (n : ℕ). IsSomeAnd (slice_get bytes n) IsDigitByte) e (digits_there b.at within)
 
     by : (p : Bool) → is_plain_digits i ≡ p → IsKeptNumber (element_bytes t) bytes got from i
     by true digital =
         let same = λ (k : ℕ) (lt : k < item_size i). let (b, there, sense) = digit_there digital k lt in same_at k lt b there in
-        let got_digits : AreDigits i from got = λ k lt. subst (λ (o : Option ℕ). IsSomeAnd o IsDigitByte) (sym (same k lt)) (digit_sent digital k lt) in
+        let got_digits : AreDigitBytes i from got = λ k lt. subst (λ (o : Option ℕ). IsSomeAnd o IsDigitByte) (sym (same k lt)) (digit_sent digital k lt) in
         record {
           represents = digits_represent i from got digital even stands.some got_digits;
-          holds = subst (λ (p : Bool). MatchBool p (AreDigits i from got) (RepresentsSome i (part_of i from got))) (sym digital) got_digits;
+          holds = subst (λ (p : Bool). MatchBool p (AreDigitBytes i from got) (RepresentsSome i (bytes_of_item_at i from got))) (sym digital) got_digits;
           same = part_same from (item_size i) got bytes same;
           described = λ other. absurd (cc (digital, other));
         }
     by false other =
-        let at_first : byte_sense (slice_get (element_bytes t) (from + 0)) ≡ Part i 0 = subst (λ (s : Sense). Keeps (byte_sense (slice_get (element_bytes t) (from + 0))) s) (part_sense i 0 other is) (kept 0 stands.some) in
+        let at_first : byte_sense (slice_get (element_bytes t) (from + 0)) ≡ Part i 0 = subst (λ (s : Sense). KeepsSense (byte_sense (slice_get (element_bytes t) (from + 0))) s) (part_sense i 0 other is) (kept 0 stands.some) in
         let (b, there, sense) = of_byte (slice_get (element_bytes t) (from + 0)) (Part i 0) at_first refl in
         let (le, within, st) = whole t (from + 0) b there in
         let (item, first) = is_part (is_plain_digits b.item) (shows_number b.item.picture.category) b.item i b.at 0 sense in
         let e : from + 0 - b.at ≡ from = omega (arith, first) in
         let sender : StandsFrom (element_bytes t) from b.number i = subst (λ (j : Item). StandsFrom (element_bytes t) from b.number j) item (subst (λ (n : ℕ). StandsFrom (element_bytes t) n b.number b.item) e st) in
-        let holds : HoldsNumber i from bytes = all from b.number i sender is in
-        let represents : RepresentsSome i (part_of i from bytes) = subst (λ (p : Bool). MatchBool p (AreDigits i from bytes) (RepresentsSome i (part_of i from bytes))) other holds in
-        let same : part_of i from got ≡ part_of i from bytes = part_same from (item_size i) got bytes (λ k lt. same_at k lt (byte_at b.number i k) (sender.bytes k lt)) in
-        let got_represents : RepresentsSome i (part_of i from got) = subst (RepresentsSome i) (sym same) represents in
+        let holds : HoldsReadableNumber i from bytes = all from b.number i sender is in
+        let represents : RepresentsSome i (bytes_of_item_at i from bytes) = subst (λ (p : Bool). MatchBool p (AreDigitBytes i from bytes) (RepresentsSome i (bytes_of_item_at i from bytes))) other holds in
+        let same : bytes_of_item_at i from got ≡ bytes_of_item_at i from bytes = part_same from (item_size i) got bytes (λ k lt. same_at k lt (byte_at b.number i k) (sender.bytes k lt)) in
+        let got_represents : RepresentsSome i (bytes_of_item_at i from got) = subst (RepresentsSome i) (sym same) represents in
         record {
           represents = got_represents;
-          holds = subst (λ (p : Bool). MatchBool p (AreDigits i from got) (RepresentsSome i (part_of i from got))) (sym other) got_represents;
+          holds = subst (λ (p : Bool). MatchBool p (AreDigitBytes i from got) (RepresentsSome i (bytes_of_item_at i from got))) (sym other) got_represents;
           same = same;
           described = λ is_other. (b.number, sender);
         }

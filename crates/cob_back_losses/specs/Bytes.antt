@@ -29,10 +29,10 @@ bytes_by_kind number Group beneath = beneath
 bytes_by_kind number (ItemKind i) beneath = item_bytes number i (item_size i)
 
 -- The bytes of entries side by side, in their order: of each all its elements, and none of a redefinition.
-abbrev pub bytes_in : Forest Resolved → List ItemByte
-bytes_in NoEntries = []
-bytes_in (AnEntry e children more) = unless e.redefines (several (λ k. bytes_by_kind e.number e.kind (bytes_in children)) (greatest_number e)) ++ bytes_in more
+abbrev pub bytes_beneath : Forest Resolved → List ItemByte
+bytes_beneath NoEntries = []
+bytes_beneath (AnEntry e children more) = unless e.redefines (several (λ k. bytes_by_kind e.number e.kind (bytes_beneath children)) (greatest_number e)) ++ bytes_beneath more
 
 -- the bytes of one element of an entry, be it a redefinition or not
 abbrev pub element_bytes : Tree Resolved → List ItemByte
-element_bytes t = bytes_by_kind t.top.number t.top.kind (bytes_in t.beneath)
+element_bytes t = bytes_by_kind t.top.number t.top.kind (bytes_beneath t.beneath)

@@ -49,14 +49,14 @@ kind_room Group bytes = bytes
 kind_room (ItemKind r) bytes = item_room r bytes
 
 -- of what a sender gives; where a group is on either side, each byte has room for one
-abbrev pub room_for : SenderKind → Kind → ℕ → ℕ
-room_for (Entry Group) to bytes = bytes
-room_for (Entry (ItemKind i)) to bytes = kind_room to bytes
-room_for (Literal c) to bytes = kind_room to bytes
+abbrev pub room_to_receive : SenderKind → Kind → ℕ → ℕ
+room_to_receive (Entry Group) to bytes = bytes
+room_to_receive (Entry (ItemKind i)) to bytes = kind_room to bytes
+room_to_receive (Literal c) to bytes = kind_room to bytes
 
 -- a character is lost: the sender gives more than the receiver has room for
 abbrev pub LosesCharacters : SenderKind → ℕ → Kind → ℕ → Type 0
-LosesCharacters s sent to room = room_for s to room < characters_of s sent to
+LosesCharacters s sent to room = room_to_receive s to room < characters_of s sent to
 
 -- a constant is a numeric literal
 abbrev pub is_numeric_literal : PlainValue → Bool

@@ -10,7 +10,7 @@ use Rattle.cob_move_data.specs.Moves.{Entry, Literal, Records, Sender, record_of
 use Rattle.cob_layout_places.specs.Places.{choose, or_else, place_of}
 use Rattle.cob_layout_places.specs.References.{Refers}
 use Rattle.cob_move_data.specs.Singles.{SingleMove, occurrence_of}
-use Rattle.cob_back_losses.specs.Keeping.{Constant, Element, KeepsDescription, Sent, Tells}
+use Rattle.cob_back_losses.specs.Keeping.{Constant, Element, KeepsDescription, SentElement, TellsFirstUnkept}
 use Rattle.cob_back_losses.specs.declared.keeping.Unkept.{Unkept}
 
 -- ---- what is sent, and what receives
@@ -21,18 +21,18 @@ entry_in number NoEntries = None
 entry_in number (AnEntry e children more) = or_else (choose (e.number == number) (record { top = e; beneath = children }) (entry_in number children)) (entry_in number more)
 
 -- what a sender sends, if its record has such an entry
-abbrev pub sent_of : Records → Sender → Option Sent
+abbrev pub sent_of : Records → Sender → Option SentElement
 sent_of records (Entry side reading o) = option_map Element (entry_in o.entry.node (record_of records side))
 sent_of records (Literal c) = Some (Constant c)
 
 -- what is sent, and the occurrence of an entry of the output record that receives it
 pub record Moved : Type 0 where
-  pub sent : Option Sent
+  pub sent : Option SentElement
   pub receiver : Occurrence
 
 -- a single move, by what it sends
-abbrev pub moved : Records → SingleMove → Moved
-moved records s = record { sent = sent_of records s.sender; receiver = occurrence_of s.receiver }
+abbrev pub moved_single : Records → SingleMove → Moved
+moved_single records s = record { sent = sent_of records s.sender; receiver = occurrence_of s.receiver }
 
 -- ---- which bytes are covered
 
@@ -55,7 +55,7 @@ IsCoveredBy tree (m ∷ ms) byte = HasByte tree m.receiver byte ⊎ IsCoveredBy 
 -- ---- what each may lose
 
 -- the single move sends this to this entry of the record, which stands there
-pub record Goes (tree : Forest Resolved) (m : Moved) (from : Sent) (to : Tree Resolved) (p : Place) : Type 0 where
+pub record SendsThere (tree : Forest Resolved) (m : Moved) (from : SentElement) (to : Tree Resolved) (p : Place) : Type 0 where
   pub sends : m.sent ≡ Some from
   pub receives : entry_in m.receiver.number tree ≡ Some to
   pub stands : StandsAt tree m.receiver p
@@ -64,15 +64,15 @@ pub record Goes (tree : Forest Resolved) (m : Moved) (from : Sent) (to : Tree Re
 -- may lose it.
 abbrev pub KeepsIts : Forest Resolved → Moved → List Moved → Type 0
 KeepsIts tree m later =
-    (from : Sent) (to : Tree Resolved) (place : Place) → Goes tree m from to place → KeepsDescription from to (λ at. IsCoveredBy tree later (place.offset + at))
+    (from : SentElement) (to : Tree Resolved) (place : Place) → SendsThere tree m from to place → KeepsDescription from to (λ at. IsCoveredBy tree later (place.offset + at))
 
 -- this is the first byte by which it loses it
 pub record LosesFirst (tree : Forest Resolved) (m : Moved) (later : List Moved) (u : Unkept) : Type 0 where
-  pub from : Sent
+  pub from : SentElement
   pub to : Tree Resolved
   pub place : Place
-  pub goes : Goes tree m from to place
-  pub tells : Tells from to (λ at. IsCoveredBy tree later (place.offset + at)) (Some u)
+  pub goes : SendsThere tree m from to place
+  pub tells : TellsFirstUnkept from to (λ at. IsCoveredBy tree later (place.offset + at)) (Some u)
 
 -- the answer is this byte, or that the single move keeps its description
 abbrev pub TellsOf : Forest Resolved → Moved → List Moved → Option Unkept → Type 0
@@ -80,6 +80,6 @@ TellsOf tree m later (Some u) = LosesFirst tree m later u
 TellsOf tree m later None = KeepsIts tree m later
 
 -- of each single move, in their order, by those behind it
-abbrev pub AreTold : Forest Resolved → List Moved → List (Option Unkept) → Type 0
-AreTold tree [] all = all ≡ []
-AreTold tree (m ∷ later) all = (one : Option Unkept) × (rest : List (Option Unkept)) × (all ≡ one ∷ rest) × TellsOf tree m later one × AreTold tree later rest
+abbrev pub TellsEach : Forest Resolved → List Moved → List (Option Unkept) → Type 0
+TellsEach tree [] all = all ≡ []
+TellsEach tree (m ∷ later) all = (one : Option Unkept) × (rest : List (Option Unkept)) × (all ≡ one ∷ rest) × TellsOf tree m later one × TellsEach tree later rest

@@ -23,32 +23,32 @@ abbrev pub RepresentsSome : Item → List ℕ → Type 0
 RepresentsSome i part = (negative : Bool) × (ds : List ℕ) × Represents i part negative ds
 
 -- the bytes of the item that stands from there on
-abbrev pub part_of : Item → ℕ → List ℕ → List ℕ
-part_of i from bytes = bytes_at from (item_size i) bytes
+abbrev pub bytes_of_item_at : Item → ℕ → List ℕ → List ℕ
+bytes_of_item_at i from bytes = bytes_at from (item_size i) bytes
 
 -- the character of a digit
 abbrev pub IsDigitByte : ℕ → Type 0
 IsDigitByte byte = (zero_byte ≤ byte) × (byte < zero_byte + 10)
 
 -- each byte of the item that stands from there on is the character of a digit
-abbrev pub AreDigits : Item → ℕ → List ℕ → Type 0
-AreDigits i from bytes = (k : ℕ) → k < item_size i → IsSomeAnd (slice_get bytes (from + k)) IsDigitByte
+abbrev pub AreDigitBytes : Item → ℕ → List ℕ → Type 0
+AreDigitBytes i from bytes = (k : ℕ) → k < item_size i → IsSomeAnd (slice_get bytes (from + k)) IsDigitByte
 
 -- The item holds a number: plain digits are their characters, as they are written, and no other zone in the last one, which would be read as a plus; another
 -- number is one that the bytes represent.
-abbrev pub HoldsNumber : Item → ℕ → List ℕ → Type 0
-HoldsNumber i from bytes = MatchBool (is_plain_digits i) (AreDigits i from bytes) (RepresentsSome i (part_of i from bytes))
+abbrev pub HoldsReadableNumber : Item → ℕ → List ℕ → Type 0
+HoldsReadableNumber i from bytes = MatchBool (is_plain_digits i) (AreDigitBytes i from bytes) (RepresentsSome i (bytes_of_item_at i from bytes))
 
 -- each item of these that is a number holds one
 abbrev pub HoldNumbers : List ItemByte → List ℕ → Type 0
-HoldNumbers items bytes = (from number : ℕ) (i : Item) → StandsFrom items from number i → IsNumberItem i → HoldsNumber i from bytes
+HoldNumbers items bytes = (from number : ℕ) (i : Item) → StandsFrom items from number i → IsNumberItem i → HoldsReadableNumber i from bytes
 
 -- The item that gets these bytes represents a number. It has the bytes that were sent there: plain digits are the same digits, and a number that is stored in
 -- another way is one of the sender, of the same description.
 pub record IsKeptNumber (items : List ItemByte) (bytes got : List ℕ) (from : ℕ) (i : Item) : Type 0 where
-  pub represents : RepresentsSome i (part_of i from got)
-  pub holds : HoldsNumber i from got
-  pub same : part_of i from got ≡ part_of i from bytes
+  pub represents : RepresentsSome i (bytes_of_item_at i from got)
+  pub holds : HoldsReadableNumber i from got
+  pub same : bytes_of_item_at i from got ≡ bytes_of_item_at i from bytes
   pub described : is_plain_digits i ≡ false → (other : ℕ) × StandsFrom items from other i
 
 -- the receiver gets the sender's bytes, from the left on, as far as both go

@@ -7,17 +7,17 @@ use Rattle.cob_copybook_tree.specs.Nodes.{Resolved}
 use Rattle.cob_move_data.specs.Moves.{Records, record_of}
 use Rattle.cob_move_data.specs.Singles.{PlainSent, PlainSingle, occurrence}
 use Rattle.cob_move_data.specs.Singles as given
-use Rattle.cob_back_losses.specs.Keeping.{Constant, Element, IsMarked, KeepsDescription, Sent, Tells, sent}
+use Rattle.cob_back_losses.specs.Keeping.{Constant, Element, IsMarked, KeepsDescription, SentElement, TellsFirstUnkept, sent_element}
 use Rattle.cob_back_losses.specs.declared.keeping.Unkept.{Unkept}
 use Rattle.cob_back_losses.specs.declared.singles.Single.{Single}
 use Rattle.cob_back_losses.specs.Moved.{IsCoveredBy, Moved, entry_in}
 
 -- what the code's value stands for
-abbrev pub seen : Single → Moved
-seen s = record { sent = option_map sent s.sent; receiver = occurrence s.receiver s.subscripts.now }
+abbrev pub seen_single : Single → Moved
+seen_single s = record { sent = option_map sent_element s.sent; receiver = occurrence s.receiver s.subscripts.now }
 
 -- what is sent, if its record has such an entry
-abbrev pub sent_by : Records → PlainSent → Option Sent
+abbrev pub sent_by : Records → PlainSent → Option SentElement
 sent_by records (given.Entry side x) = option_map Element (entry_in x.number (record_of records side))
 sent_by records (given.Literal c) = Some (Constant c)
 
@@ -26,12 +26,12 @@ abbrev pub moved_by : Records → PlainSingle → Moved
 moved_by records s = record { sent = sent_by records s.sent; receiver = s.receiver }
 
 -- the marks say of each byte of the record whether one of these covers it
-pub record AreMarks (tree : Forest Resolved) (ms : List Moved) (marks : List Bool) : Type 0 where
+pub record MarkCoveredBytes (tree : Forest Resolved) (ms : List Moved) (marks : List Bool) : Type 0 where
   pub all : length marks ≡ sum_of greatest_number tree
   pub covered : (byte : ℕ) → Decides (get_or marks byte false) (IsCoveredBy tree ms byte)
 
 -- what is told of a single move, where these bytes from its receiver's beginning on are covered
 abbrev pub TellsIn : Forest Resolved → Moved → List Bool → Option Unkept → Type 0
-TellsIn tree m marks (Some u) = (from : Sent) × (to : Tree Resolved) × (m.sent ≡ Some from) × (entry_in m.receiver.number tree ≡ Some to) × Tells from to (IsMarked marks) (Some u)
+TellsIn tree m marks (Some u) = (from : SentElement) × (to : Tree Resolved) × (m.sent ≡ Some from) × (entry_in m.receiver.number tree ≡ Some to) × TellsFirstUnkept from to (IsMarked marks) (Some u)
 TellsIn tree m marks None =
-    (from : Sent) (to : Tree Resolved) → m.sent ≡ Some from → entry_in m.receiver.number tree ≡ Some to → KeepsDescription from to (IsMarked marks)
+    (from : SentElement) (to : Tree Resolved) → m.sent ≡ Some from → entry_in m.receiver.number tree ≡ Some to → KeepsDescription from to (IsMarked marks)

@@ -81,16 +81,16 @@ is_shown Fill = true
 is_shown (Part i at) = false
 
 -- the byte is a plain digit
-abbrev pub is_digit : Sense → Bool
-is_digit Digit = true
-is_digit Text = false
-is_digit Fill = false
-is_digit (Part i at) = false
+abbrev pub is_digit_sense : Sense → Bool
+is_digit_sense Digit = true
+is_digit_sense Text = false
+is_digit_sense Fill = false
+is_digit_sense (Part i at) = false
 
 -- A byte that is described as the second and gets the first keeps its description: a character gets any that is one, a digit gets a digit, and a byte of
 -- another number the same byte of an item of the same description.
-abbrev pub Keeps : Sense → Sense → Type 0
-Keeps sent Text = IsTrue (is_shown sent)
-Keeps sent Digit = IsTrue (is_digit sent)
-Keeps sent (Part i at) = sent ≡ Part i at
-Keeps sent Fill = ⊥
+abbrev pub KeepsSense : Sense → Sense → Type 0
+KeepsSense sent Text = IsTrue (is_shown sent)
+KeepsSense sent Digit = IsTrue (is_digit_sense sent)
+KeepsSense sent (Part i at) = sent ≡ Part i at
+KeepsSense sent Fill = ⊥

@@ -8,7 +8,7 @@ ghost use Rattle.cob_copybook_entry.specs.Described.{plain_value};
 ghost use Rattle.cob_move_receive.specs.Characters.{has_insertions};
 ghost use Rattle.cob_move_receive.specs.Table.{sender_kind};
 ghost use Rattle.cob_back_losses.specs.Given.{characters_of, characters_to, constant_characters, constant_characters_to, item_characters};
-ghost use Rattle.cob_back_losses.specs.Losses.{character_places, item_room, kind_room, room_for};
+ghost use Rattle.cob_back_losses.specs.Losses.{character_places, item_room, kind_room, room_to_receive};
 
 use cob_copybook_tree::{Item, Kind, Value, is_number};
 use cob_move_receive::SenderKind;
@@ -144,7 +144,7 @@ fn kind_room(to: &Kind, bytes: u32) -> u32
 
 /// For how many characters of a sender a receiver of so many bytes has room.
 pub(crate) fn room_for(from: &SenderKind<'_>, to: &Kind, bytes: u32) -> u32
-    ensures { result ≡ room_for (sender_kind from.now) to.now bytes }
+    ensures { result ≡ room_to_receive (sender_kind from.now) to.now bytes }
 {
     match from {
         SenderKind::Entry(Kind::Group) => bytes,

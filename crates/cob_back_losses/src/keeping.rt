@@ -3,7 +3,7 @@
 ghost use Rattle.std.specs.Prelude.{◌≡◌, ◌<◌, ℕ, IsFalse, IsTrue, false, get_or, length, map};
 ghost use Rattle.std.specs.List.{slice_get};
 ghost use Rattle.cob_back_losses.specs.Bytes.{item_byte};
-ghost use Rattle.cob_back_losses.specs.Keeping.{HoldsSent, IsKept, IsMarked, IsUnkept, TellsAmong, byte_sense, gets_byte, gets_character, gets_of, sent, sent_sense};
+ghost use Rattle.cob_back_losses.specs.Keeping.{HoldsSent, KeepsByte, IsMarked, IsUnkept, TellsAmong, byte_sense, gets_byte, gets_character, gets_of, sent_element, sent_sense};
 ghost use Rattle.cob_back_losses.specs.Senses.{sense};
 
 use crate::bytes::ItemByte;
@@ -53,8 +53,8 @@ fn sense_at<'a>(bytes: &[ItemByte<'a>], at: usize) -> Sense<'a>
 
 /// What the byte at this place that is sent is described as. These are the bytes of an entry that is sent.
 fn sent_sense<'a>(from: &Sent<'a>, bytes: &[ItemByte<'a>], at: usize) -> Sense<'a>
-    ensures { (limit : ℕ) → HoldsSent (sent from.now) bytes.now limit → at < limit
-        → sense result ≡ sent_sense (sent from.now) at }
+    ensures { (limit : ℕ) → HoldsSent (sent_element from.now) bytes.now limit → at < limit
+        → sense result ≡ sent_sense (sent_element from.now) at }
 {
     match from {
         Sent::Constant(value) => constant_sense(value, at),
@@ -86,8 +86,8 @@ fn gets_character(character: Sense<'_>) -> Gets
 
 /// What the byte at this place gets. These are the bytes of an entry that is sent.
 fn gets_of(from: &Sent<'_>, bytes: &[ItemByte<'_>], at: usize) -> Gets
-    ensures { (limit : ℕ) → HoldsSent (sent from.now) bytes.now limit → at < limit
-        → result ≡ gets_of (sent from.now) at }
+    ensures { (limit : ℕ) → HoldsSent (sent_element from.now) bytes.now limit → at < limit
+        → result ≡ gets_of (sent_element from.now) at }
 {
     match from {
         Sent::Constant(value) => gets_character(constant_sense(value, at)),
@@ -113,11 +113,11 @@ fn is_unkept(
     covered: &[bool],
     at: usize,
 ) -> bool
-    requires sent { HoldsSent (sent from.now) bytes.now (length received.now) }
+    requires sent_element { HoldsSent (sent_element from.now) bytes.now (length received.now) }
     requires there { at < length received.now }
-    ensures unkept { IsTrue result → IsUnkept (sent from.now) (map item_byte received.now)
+    ensures unkept { IsTrue result → IsUnkept (sent_element from.now) (map item_byte received.now)
         (IsMarked covered.now) at }
-    ensures kept { IsFalse result → IsKept (sent from.now) (map item_byte received.now)
+    ensures kept { IsFalse result → KeepsByte (sent_element from.now) (map item_byte received.now)
         (IsMarked covered.now) at }
 {
     let byte = received[at];
@@ -131,8 +131,8 @@ pub(crate) fn first_unkept(
     received: &[ItemByte<'_>],
     covered: &[bool],
 ) -> Option<Unkept>
-    requires sent { HoldsSent (sent from.now) bytes.now (length received.now) }
-    ensures { TellsAmong (sent from.now) (map item_byte received.now)
+    requires sent_element { HoldsSent (sent_element from.now) bytes.now (length received.now) }
+    ensures { TellsAmong (sent_element from.now) (map item_byte received.now)
         (IsMarked covered.now) result }
 {
     for at in 0..received.len() {

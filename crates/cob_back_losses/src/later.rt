@@ -7,7 +7,7 @@ ghost use Rattle.cob_layout_places.specs.Cover.{holds};
 ghost use Rattle.cob_layout_places.specs.References.{Refers};
 ghost use Rattle.cob_move_data.specs.Singles.{occurrence, occurrence_by};
 ghost use Rattle.cob_back_losses.specs.Moved.{StandsAt};
-ghost use Rattle.cob_back_losses.specs.Seen.{AreMarks};
+ghost use Rattle.cob_back_losses.specs.Seen.{MarkCoveredBytes};
 
 use cob_layout::{Layout, Place, PlaceFault, Ref};
 use std::alloc::{AllocError, Global};
@@ -41,7 +41,7 @@ pub(crate) fn place_of(layout: &Layout, number: usize, subscripts: &[u32]) -> Op
 
 /// Marks of a record, none of whose bytes is covered.
 pub(crate) fn uncovered(alloc: Global, layout: &Layout) -> Result<Vec<bool>, AllocError>
-    ensures { IfOk result (λ marks. AreMarks layout.now [] marks.items) }
+    ensures { IfOk result (λ marks. MarkCoveredBytes layout.now [] marks.items) }
 {
     let mut marks = Vec::new(alloc);
     for _ in 0..layout.greatest() {

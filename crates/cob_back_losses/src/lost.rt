@@ -3,7 +3,7 @@
 ghost use Rattle.std.specs.Prelude.{◌≡◌, ◌<◌, ℕ, IfOk, IsTrue, length};
 ghost use Rattle.cob_copybook_tree.specs.Nodes.{node};
 ghost use Rattle.cob_back_losses.specs.Bytes.{element_bytes};
-ghost use Rattle.cob_back_losses.specs.Keeping.{HoldsSent, IsMarked, Nothing, Tells, is_group, moves_bytes, sent};
+ghost use Rattle.cob_back_losses.specs.Keeping.{HoldsSent, IsMarked, Nothing, TellsFirstUnkept, is_group_kind, moves_bytes, sent_element};
 
 use crate::bytes::{ItemByte, bytes_of};
 use crate::keeping::{Sent, Unkept, first_unkept, is_marked};
@@ -12,14 +12,14 @@ use std::alloc::{AllocError, Global};
 
 /// Whether an entry is a group.
 fn is_group(kind: &Kind) -> bool
-    ensures { result ≡ is_group kind.now }
+    ensures { result ≡ is_group_kind kind.now }
 {
     matches!(kind, Kind::Group)
 }
 
 /// Whether a move copies bytes, whatever they are: a group is on either side.
 fn moves_bytes(from: &Sent<'_>, to: &Node) -> bool
-    ensures { result ≡ moves_bytes (sent from.now) (node to.now) }
+    ensures { result ≡ moves_bytes (sent_element from.now) (node to.now) }
 {
     match from {
         Sent::Entry(entry) => is_group(&entry.kind) || is_group(&to.kind),
@@ -33,7 +33,7 @@ fn sent_bytes<'a>(
     from: &Sent<'a>,
     limit: usize,
 ) -> Result<Vec<ItemByte<'a>>, AllocError>
-    ensures { IfOk result (λ bytes. HoldsSent (sent from.now) bytes.items limit) }
+    ensures { IfOk result (λ bytes. HoldsSent (sent_element from.now) bytes.items limit) }
 {
     match from {
         Sent::Entry(entry) => bytes_of(alloc, entry, limit),
@@ -65,8 +65,8 @@ fn unkept_byte(
     to: &Node,
     covered: &[bool],
 ) -> Result<Option<Unkept>, AllocError>
-    requires { IsTrue (moves_bytes (sent from.now) (node to.now)) }
-    ensures { IfOk result (λ lost. Tells (sent from.now) (node to.now)
+    requires { IsTrue (moves_bytes (sent_element from.now) (node to.now)) }
+    ensures { IfOk result (λ lost. TellsFirstUnkept (sent_element from.now) (node to.now)
         (IsMarked covered.now) lost) }
 {
     if are_marked(covered, to) {
@@ -89,7 +89,7 @@ pub fn description_lost_among(
     to: &Node,
     covered: &[bool],
 ) -> Result<Option<Unkept>, AllocError>
-    ensures { IfOk result (λ lost. Tells (sent from.now) (node to.now)
+    ensures { IfOk result (λ lost. TellsFirstUnkept (sent_element from.now) (node to.now)
         (IsMarked covered.now) lost) }
 {
     if !moves_bytes(from, to) {
@@ -108,7 +108,7 @@ pub fn description_lost(
     from: &Sent<'_>,
     to: &Node,
 ) -> Result<Option<Unkept>, AllocError>
-    ensures { IfOk result (λ lost. Tells (sent from.now) (node to.now) Nothing lost) }
+    ensures { IfOk result (λ lost. TellsFirstUnkept (sent_element from.now) (node to.now) Nothing lost) }
 {
     description_lost_among(alloc, from, to, &[])
 }

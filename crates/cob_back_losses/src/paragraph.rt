@@ -4,8 +4,8 @@ ghost use Rattle.std.specs.Prelude.{◌≡◌, ◌∷◌, List, IfOk, OnOk, leng
 ghost use Rattle.cob_copybook_tree.specs.Lengths.{greatest_number, sum_of};
 ghost use Rattle.cob_back_moves.specs.Brought.{singles_in};
 ghost use Rattle.cob_back_moves.specs.Tested.{layout_records};
-ghost use Rattle.cob_back_losses.specs.Moved.{AreTold, Moved, TellsOf, moved};
-ghost use Rattle.cob_back_losses.specs.Seen.{AreMarks, TellsIn, seen};
+ghost use Rattle.cob_back_losses.specs.Moved.{TellsEach, Moved, TellsOf, moved_single};
+ghost use Rattle.cob_back_losses.specs.Seen.{MarkCoveredBytes, TellsIn, seen_single};
 
 use crate::entries::entry_in;
 use crate::keeping::Unkept;
@@ -23,7 +23,7 @@ fn lost_among(
     single: &Single<'_>,
     covered: &[bool],
 ) -> Result<Option<Unkept>, AllocError>
-    ensures { IfOk result (λ lost. TellsIn output.now (seen single.now) covered.now lost) }
+    ensures { IfOk result (λ lost. TellsIn output.now (seen_single single.now) covered.now lost) }
 {
     let Some(from) = single.sent else {
         return Ok(None);
@@ -43,10 +43,10 @@ fn lost_before(
     covered: &mut [bool],
 ) -> Result<Option<Unkept>, AllocError>
     requires all { length covered.old ≡ sum_of greatest_number output.now }
-    ensures told { IfOk result (λ lost. (later : List Moved) → AreMarks output.now later covered.old
-        → TellsOf output.now (seen single.now) later lost) }
-    ensures marks { OnOk result ((later : List Moved) → AreMarks output.now later covered.old
-        → AreMarks output.now (seen single.now ∷ later) covered.new) }
+    ensures told { IfOk result (λ lost. (later : List Moved) → MarkCoveredBytes output.now later covered.old
+        → TellsOf output.now (seen_single single.now) later lost) }
+    ensures marks { OnOk result ((later : List Moved) → MarkCoveredBytes output.now later covered.old
+        → MarkCoveredBytes output.now (seen_single single.now ∷ later) covered.new) }
     ensures room { length covered.new ≡ length covered.old }
 {
     let Some(place) = place_of(output, single.receiver, single.subscripts) else {
@@ -64,7 +64,7 @@ fn lost_from_end(
     output: &Layout,
     singles: &[Single<'_>],
 ) -> Result<Vec<Option<Unkept>>, AllocError>
-    ensures { IfOk result (λ all. AreTold output.now (map seen singles.now) (reverse all.items)) }
+    ensures { IfOk result (λ all. TellsEach output.now (map seen_single singles.now) (reverse all.items)) }
 {
     let mut covered = uncovered(alloc, output)?;
     let mut all = Vec::new(alloc);
@@ -86,8 +86,8 @@ pub fn descriptions_lost(
     alloc: Global,
     moves: &MovesBetween<'_>,
 ) -> Result<Vec<Option<Unkept>>, AllocError>
-    ensures { IfOk result (λ all. AreTold moves.now.layouts.output.now
-        (map (moved (layout_records moves.now.layouts)) (singles_in moves.now)) all.items) }
+    ensures { IfOk result (λ all. TellsEach moves.now.layouts.output.now
+        (map (moved_single (layout_records moves.now.layouts)) (singles_in moves.now)) all.items) }
 {
     let singles = singles_of(alloc, moves)?;
     let mut all = lost_from_end(alloc, moves.layouts.output, &singles)?;

@@ -4,7 +4,7 @@ ghost use Rattle.std.specs.Prelude.{◌≡◌, ℕ, Bool};
 ghost use Rattle.std.specs.Bool.{Decides};
 ghost use Rattle.std.specs.List.{slice_get};
 ghost use Rattle.cob_copybook_entry.specs.Described.{plain_value};
-ghost use Rattle.cob_back_losses.specs.Senses.{Keeps, Part, character_sense, constant_sense, figurative_sense, is_digit, is_plain_digits, is_shown, is_whole, item_sense, repeated_sense, sense, sense_if};
+ghost use Rattle.cob_back_losses.specs.Senses.{KeepsSense, Part, character_sense, constant_sense, figurative_sense, is_digit_sense, is_plain_digits, is_shown, is_whole, item_sense, repeated_sense, sense, sense_if};
 
 use cob_copybook_same::is_same_item;
 use cob_copybook_tree::{Figurative, Item, Value, is_number};
@@ -128,7 +128,7 @@ fn is_shown(sent: Sense<'_>) -> bool
 
 /// Whether a byte is a plain digit.
 fn is_digit(sent: Sense<'_>) -> bool
-    ensures { result ≡ is_digit (sense sent.entry) }
+    ensures { result ≡ is_digit_sense (sense sent.entry) }
 {
     match sent {
         Sense::Digit => true,
@@ -155,7 +155,7 @@ fn is_part(sent: Sense<'_>, item: &Item, byte: u16) -> bool
 
 /// Whether a byte that is described as the second and gets the first keeps its description.
 pub(crate) fn is_kept(sent: Sense<'_>, received: Sense<'_>) -> bool
-    ensures { Decides result (Keeps (sense sent.entry) (sense received.entry)) }
+    ensures { Decides result (KeepsSense (sense sent.entry) (sense received.entry)) }
 {
     match received {
         Sense::Text => is_shown(sent),

@@ -5,9 +5,9 @@ ghost use Rattle.cob_move_data.specs.Moves.{record_of};
 ghost use Rattle.cob_move_data.specs.Singles.{plain_sent, plain_single, singles_of};
 ghost use Rattle.cob_back_moves.specs.Brought.{singles_in};
 ghost use Rattle.cob_back_moves.specs.Tested.{layout_records};
-ghost use Rattle.cob_back_losses.specs.Moved.{entry_in, moved};
-ghost use Rattle.cob_back_losses.specs.Seen.{moved_by, seen, sent_by};
-ghost use Rattle.cob_back_losses.specs.Keeping.{Element, sent};
+ghost use Rattle.cob_back_losses.specs.Moved.{entry_in, moved_single};
+ghost use Rattle.cob_back_losses.specs.Seen.{moved_by, seen_single, sent_by};
+ghost use Rattle.cob_back_losses.specs.Keeping.{Element, sent_element};
 
 use crate::entries::entry_in;
 use crate::keeping::Sent;
@@ -37,7 +37,7 @@ fn layout_of<'a>(layouts: &Layouts<'a>, side: Side) -> &'a Layout
 
 /// An element of the entry with this number of a side's record.
 fn sent_entry<'a>(layouts: &Layouts<'a>, side: Side, number: usize) -> Option<Sent<'a>>
-    ensures { option_map sent result
+    ensures { option_map sent_element result
         ≡ option_map Element (entry_in number (record_of (layout_records layouts.now) side)) }
 {
     match entry_in(layout_of(layouts, side).root(), number) {
@@ -48,7 +48,7 @@ fn sent_entry<'a>(layouts: &Layouts<'a>, side: Side, number: usize) -> Option<Se
 
 /// What a single move sends.
 fn sent_by<'a>(layouts: &Layouts<'a>, given: Given<'a>) -> Option<Sent<'a>>
-    ensures { option_map sent result
+    ensures { option_map sent_element result
         ≡ sent_by (layout_records layouts.now) (plain_sent given.entry) }
 {
     match given {
@@ -59,7 +59,7 @@ fn sent_by<'a>(layouts: &Layouts<'a>, given: Given<'a>) -> Option<Sent<'a>>
 
 /// A single move, by what it sends.
 fn single_by<'a>(layouts: &Layouts<'a>, single: SingleMove<'a>) -> Single<'a>
-    ensures { seen result ≡ moved_by (layout_records layouts.now) (plain_single single.entry) }
+    ensures { seen_single result ≡ moved_by (layout_records layouts.now) (plain_single single.entry) }
 {
     Single {
         sent: sent_by(layouts, single.sent),
@@ -74,7 +74,7 @@ fn singles_by<'a>(
     layouts: &Layouts<'a>,
     statements: &'a [StatementMoves],
 ) -> Result<Vec<Single<'a>>, AllocError>
-    ensures { IfOk result (λ singles. map seen singles.items
+    ensures { IfOk result (λ singles. map seen_single singles.items
         ≡ map (moved_by (layout_records layouts.now)) (singles_of statements.now)) }
 {
     let mut singles = Vec::new(alloc);
@@ -89,8 +89,8 @@ pub(crate) fn singles_of<'a>(
     alloc: Global,
     moves: &MovesBetween<'a>,
 ) -> Result<Vec<Single<'a>>, AllocError>
-    ensures { IfOk result (λ singles. map seen singles.items
-        ≡ map (moved (layout_records moves.now.layouts)) (singles_in moves.now)) }
+    ensures { IfOk result (λ singles. map seen_single singles.items
+        ≡ map (moved_single (layout_records moves.now.layouts)) (singles_in moves.now)) }
 {
     let singles = singles_by(alloc, &moves.layouts, moves.statements)?;
     Ok(singles)

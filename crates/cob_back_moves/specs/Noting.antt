@@ -22,7 +22,7 @@ abbrev pub IsNotedAt : List (Option ℕ) → ℕ → Type 0
 IsNotedAt noted at = IsSome (get_or noted at None)
 
 -- a statement is noted at the byte at which the occurrence begins
-pub record IsNoted (tree : Forest Resolved) (noted : List (Option ℕ)) (x : Occurrence) : Type 0 where
+pub record HasNotedBegin (tree : Forest Resolved) (noted : List (Option ℕ)) (x : Occurrence) : Type 0 where
   pub at : ℕ
   pub begins : BeginsAt tree x at
   pub there : IsNotedAt noted at
@@ -43,7 +43,7 @@ pub record NotesFirst (tree : Forest Resolved) (noted : List (Option ℕ)) (x : 
 -- no occurrence receives twice in these, and none receives that is noted
 pub record ReceiveFirst (tree : Forest Resolved) (noted : List (Option ℕ)) (ss : List SingleMove) : Type 0 where
   pub once : ReceiveOnce ss
-  pub fresh : (x : Occurrence) → IsNoted tree noted x → Spares x ss
+  pub fresh : (x : Occurrence) → HasNotedBegin tree noted x → Spares x ss
 
 -- these notes become those by noting the receivers of single moves: if others behind them are so with regard to the notes that were made, all are so
 -- with regard to those before

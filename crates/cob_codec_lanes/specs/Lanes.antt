@@ -30,8 +30,8 @@ pub record AreBounded (least_high most_high most_low v : List ℕ) : Type 0 wher
   pub low : (i : ℕ) → i < 16 → slice_index v i % 16 ≤ slice_index most_low i
 
 -- The sums of half bytes with these numbers have their highest bit just where the half bytes are out of their bounds.
-abbrev pub Tells : (ℕ → ℕ) → (ℕ → ℕ) → List ℕ → Type 0
-Tells least most added =
+abbrev pub MarksBounds : (ℕ → ℕ) → (ℕ → ℕ) → List ℕ → Type 0
+MarksBounds least most added =
     (i x : ℕ) → i < 16 → x < 16 → ((x + slice_index added i) % 256 / 128 ≡ 0) ↔ ((least i ≤ x) × (x ≤ most i))
 
 -- The number of the lowest bit of a mask that is set, and 16 where none is.

@@ -2,7 +2,7 @@
 
 ghost use Rattle.std.specs.Prelude.{◌≡◌, ◌==◌, ℕ, ◌+◌, ◌-◌, ◌*◌, ◌/◌, ◌%◌, ◌<◌, ◌↔◌, Bool, ◌&&◌, not, true, length, slice_index, IsTrue};
 ghost use Rattle.std.specs.List.{prefix_len};
-ghost use Rattle.cob_codec_lanes.specs.Lanes.{first_set, is_pick, picked_at, halves_at, AreZero, AreBounded, Tells};
+ghost use Rattle.cob_codec_lanes.specs.Lanes.{first_set, is_pick, picked_at, halves_at, AreZero, AreBounded, MarksBounds};
 
 use std::simd::prelude::*;
 
@@ -154,8 +154,8 @@ pub struct Bounds {
     pub high: [u8; 16],
     /// What is added to the low halves likewise.
     pub low: [u8; 16],
-    pub ghost highs: { Tells (slice_index least_high) (slice_index most_high) high },
-    pub ghost lows: { Tells (λ _. 0) (slice_index most_low) low },
+    pub ghost highs: { MarksBounds (slice_index least_high) (slice_index most_high) high },
+    pub ghost lows: { MarksBounds (λ _. 0) (slice_index most_low) low },
 }
 
 /// Whether these high halves and low halves of sixteen bytes are within their bounds.

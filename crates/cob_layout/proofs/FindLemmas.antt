@@ -18,8 +18,8 @@ use Rattle.cob_layout_places.specs.References.{Refers}
 use Rattle.cob_layout_places.specs.Spots.{spots_of}
 use Rattle.cob_layout.specs.declared.counts.StoredCount.{StoredCount}
 use Rattle.cob_layout.specs.Counting.{greatest_counts, NeededOf}
-use Rattle.cob_layout.specs.Finding.{StandsFor, are_all_met, are_met, is_kept_as, is_met}
-use Rattle.cob_layout.specs.Kept.{AreKept, AreKeptOf, IsIn, IsKeptCount, IsStoredCount, TakenAnew, TakenBy, kept_after, kept_read, number_of, numbers_of, stored_at}
+use Rattle.cob_layout.specs.Finding.{PlacesAlike, are_all_met, are_met, is_kept_as, is_met}
+use Rattle.cob_layout.specs.Kept.{AreKept, AreKeptOf, IsIn, IsKeptCount, IsStoredCount, TakenAnew, TakenBy, kept_after, kept_read, kept_number, kept_numbers, stored_at}
 use Rattle.cob_layout.specs.Sound.{IsSound}
 use Rattle.cob_layout.specs.Ways.{first_element}
 use Rattle.cob_layout.proofs.ByteLemmas.{in_back, in_front}
@@ -85,7 +85,7 @@ over_own (x ∷ xs) c d z room (inr i) =
 
 -- counts that agree on the tables below the reach of an entry put it in one place
 place_below : NeedsAreRead → OnePlace → (t : Forest Resolved) (r : ℕ) (c d : List ℕ) → IsSound t → Has r t → length d ≡ entries_in t
-    → ((x : Table) → IsIn x (tables_of t) → x.number < number_behind true r t → slice_index c x.number ≡ slice_index d x.number) → StandsFor t r c d
+    → ((x : Table) → IsIn x (tables_of t) → x.number < number_behind true r t → slice_index c x.number ≡ slice_index d x.number) → PlacesAlike t r c d
 place_below read place t r c d s has long agree subscripts =
     let xs : List Table = tables_of t in
     let m : List ℕ = over xs c d in
@@ -140,7 +140,7 @@ met_spared behind last r x k n met lt skips =
 
 -- none is read anew
 taken_met : (t : Forest Resolved) (bytes : List ℕ) (behind : ℕ) (last : Bool) (r : ℕ) (e : List ℕ) (xs : List Table) (ks : List (Option StoredCount)) (c : List ℕ) → are_met behind last r e xs ks ≡ true
-    → (d : List ℕ) × TakenAnew t bytes (is_needed behind last r) xs (numbers_of ks) c (Ok d) 0
+    → (d : List ℕ) × TakenAnew t bytes (is_needed behind last r) xs (kept_numbers ks) c (Ok d) 0
 taken_met t bytes behind last r e [] ks c h = (c, (refl, refl))
 taken_met t bytes behind last r e (x ∷ xs) [] c h = absurd (cc)
 taken_met t bytes behind last r e (x ∷ xs) (k ∷ ks) c h =
@@ -149,24 +149,24 @@ taken_met t bytes behind last r e (x ∷ xs) (k ∷ ks) c h =
       | inl reads ↦ (let (j, is, same) = met_read behind last r x k (slice_index e x.number) own reads in
           let (d, taken) = taken_met t bytes behind last r e xs ks (slice_set c x.number j.number) rest in (
             d,
-            yes_of (is_needed behind last r x) (TakenBy t bytes x (number_of k) c (Ok d) 0 (λ b m. TakenAnew t bytes (is_needed behind last r) xs (numbers_of ks) b (Ok d) m)) (TakenAnew t bytes (is_needed behind last r) xs (numbers_of ks) c (Ok d) 0) reads
-                (subst (λ (o : Option StoredCount). TakenBy t bytes x (number_of o) c (Ok d) 0 (λ b m. TakenAnew t bytes (is_needed behind last r) xs (numbers_of ks) b (Ok d) m)) (sym is) taken),
+            yes_of (is_needed behind last r x) (TakenBy t bytes x (kept_number k) c (Ok d) 0 (λ b m. TakenAnew t bytes (is_needed behind last r) xs (kept_numbers ks) b (Ok d) m)) (TakenAnew t bytes (is_needed behind last r) xs (kept_numbers ks) c (Ok d) 0) reads
+                (subst (λ (o : Option StoredCount). TakenBy t bytes x (kept_number o) c (Ok d) 0 (λ b m. TakenAnew t bytes (is_needed behind last r) xs (kept_numbers ks) b (Ok d) m)) (sym is) taken),
           ))
       | inr skips ↦ (let (d, taken) = taken_met t bytes behind last r e xs ks c rest in (
         d,
-        no_of (is_needed behind last r x) (TakenBy t bytes x (number_of k) c (Ok d) 0 (λ b m. TakenAnew t bytes (is_needed behind last r) xs (numbers_of ks) b (Ok d) m)) (TakenAnew t bytes (is_needed behind last r) xs (numbers_of ks) c (Ok d) 0) skips taken,
+        no_of (is_needed behind last r x) (TakenBy t bytes x (kept_number k) c (Ok d) 0 (λ b m. TakenAnew t bytes (is_needed behind last r) xs (kept_numbers ks) b (Ok d) m)) (TakenAnew t bytes (is_needed behind last r) xs (kept_numbers ks) c (Ok d) 0) skips taken,
       ))
     ]
 
 -- the counts that are read are those of the storage
-stored_met : (t : Forest Resolved) (bytes : List ℕ) (behind : ℕ) (last : Bool) (r : ℕ) (e : List ℕ) (xs : List Table) (ks : List (Option StoredCount)) (y : Table) → AreKept t bytes xs (numbers_of ks)
+stored_met : (t : Forest Resolved) (bytes : List ℕ) (behind : ℕ) (last : Bool) (r : ℕ) (e : List ℕ) (xs : List Table) (ks : List (Option StoredCount)) (y : Table) → AreKept t bytes xs (kept_numbers ks)
     → are_met behind last r e xs ks ≡ true → IsIn y xs → is_needed behind last r y ≡ true → IsStoredCount t bytes y (slice_index e y.number)
 stored_met t bytes behind last r e [] ks y kept h i reads = absurd i
 stored_met t bytes behind last r e (x ∷ xs) [] y kept h i reads = absurd (cc)
 stored_met t bytes behind last r e (x ∷ xs) (k ∷ ks) y kept h (inl same) reads =
     let (own, rest) = and_both (is_met behind last r x k (slice_index e x.number)) (are_met behind last r e xs ks) h in
     let (j, is, number) = met_read behind last r x k (slice_index e x.number) own (subst (λ (z : Table). is_needed behind last r z ≡ true) same reads) in
-    let stored : IsStoredCount t bytes x j.number = subst (λ (o : Option StoredCount). IsKeptCount t bytes x (number_of o)) is kept.0 in
+    let stored : IsStoredCount t bytes x j.number = subst (λ (o : Option StoredCount). IsKeptCount t bytes x (kept_number o)) is kept.0 in
     subst (λ (z : Table). IsStoredCount t bytes z (slice_index e z.number)) (sym same) (subst (λ (n : ℕ). IsStoredCount t bytes x n) number stored)
 stored_met t bytes behind last r e (x ∷ xs) (k ∷ ks) y kept h (inr i) reads =
     let (own, rest) = and_both (is_met behind last r x k (slice_index e x.number)) (are_met behind last r e xs ks) h in
@@ -189,16 +189,16 @@ most_met behind last r e (x ∷ xs) (k ∷ ks) y h (inr i) lt skips =
 
 -- what is kept is as it was
 after_met : (behind : ℕ) (last : Bool) (r : ℕ) (d e : List ℕ) (xs : List Table) (ks : List (Option StoredCount)) → length ks ≡ length xs → are_met behind last r e xs ks ≡ true
-    → ((y : Table) → IsIn y xs → is_needed behind last r y ≡ true → slice_index d y.number ≡ slice_index e y.number) → numbers_of ks ≡ kept_after (is_needed behind last r) d xs (numbers_of ks)
+    → ((y : Table) → IsIn y xs → is_needed behind last r y ≡ true → slice_index d y.number ≡ slice_index e y.number) → kept_numbers ks ≡ kept_after (is_needed behind last r) d xs (kept_numbers ks)
 after_met behind last r d e [] [] long h same = refl
 after_met behind last r d e [] (k ∷ ks) long h same = absurd (omega (arith, long))
 after_met behind last r d e (x ∷ xs) [] long h same = absurd (omega (arith, long))
 after_met behind last r d e (x ∷ xs) (k ∷ ks) long h same =
     let (own, rest) = and_both (is_met behind last r x k (slice_index e x.number)) (are_met behind last r e xs ks) h in
-    let first : number_of k ≡ (if is_needed behind last r x then Some (slice_index d x.number) else number_of k) = elim (two_ways (is_needed behind last r x)) [
+    let first : kept_number k ≡ (if is_needed behind last r x then Some (slice_index d x.number) else kept_number k) = elim (two_ways (is_needed behind last r x)) [
       | inl reads ↦ (let (j, is, number) = met_read behind last r x k (slice_index e x.number) own reads in
-          ap number_of is ∙ ap (λ (n : ℕ). Some n) (number ∙ sym (same x (inl refl) reads)) ∙ sym (if_true (is_needed behind last r x) (Some (slice_index d x.number)) (number_of k) reads))
-      | inr skips ↦ sym (if_false (is_needed behind last r x) (Some (slice_index d x.number)) (number_of k) skips)
+          ap kept_number is ∙ ap (λ (n : ℕ). Some n) (number ∙ sym (same x (inl refl) reads)) ∙ sym (if_true (is_needed behind last r x) (Some (slice_index d x.number)) (kept_number k) reads))
+      | inr skips ↦ sym (if_false (is_needed behind last r x) (Some (slice_index d x.number)) (kept_number k) skips)
     ] in
     let others = after_met behind last r d e xs ks (omega (arith, long)) rest (λ y i. same y (inr i)) in
     λ i. first i ∷ others i
@@ -225,10 +225,10 @@ greatest_stays t bytes read d y s taken i skips =
 -- the place that it has under these counts.
 pub record MeetsBy (t : Forest Resolved) (bytes : List ℕ) (r : ℕ) (receiving : Bool) (ks : List (Option StoredCount)) (e : List ℕ) : Type 0 where
   pub counts : List ℕ
-  pub taken : TakenAnew t bytes (is_read t r receiving) (tables_of t) (numbers_of ks) (greatest_counts t) (Ok counts) 0
+  pub taken : TakenAnew t bytes (is_read t r receiving) (tables_of t) (kept_numbers ks) (greatest_counts t) (Ok counts) 0
   pub needed : NeededOf t r receiving bytes (Ok counts)
-  pub place : StandsFor t r e counts
-  pub kept : numbers_of ks ≡ kept_after (is_read t r receiving) counts (tables_of t) (numbers_of ks)
+  pub place : PlacesAlike t r e counts
+  pub kept : kept_numbers ks ≡ kept_after (is_read t r receiving) counts (tables_of t) (kept_numbers ks)
 
 pub meets_by : NeedsAreRead → OnePlace → (t : Forest Resolved) (bytes : List ℕ) (r : ℕ) (receiving : Bool) (subscripts : List ℕ) (ks : List (Option StoredCount)) (e : List ℕ) → IsSound t → Refers r subscripts t
     → length ks ≡ length (tables_of t) → AreKeptOf t bytes ks → are_met (number_behind true r t) (receiving && (number_behind false r t == entries_in t)) r e (tables_of t) ks ≡ true
@@ -238,12 +238,12 @@ meets_by read place t bytes r receiving subscripts ks e sound refers long keeps 
     let last : Bool = receiving && (number_behind false r t == entries_in t) in
     let xs : List Table = tables_of t in
     let has : Has r t = refers_has r subscripts t refers in
-    let kept : AreKept t bytes xs (numbers_of ks) = numbers_kept t bytes ks long keeps in
+    let kept : AreKept t bytes xs (kept_numbers ks) = numbers_kept t bytes ks long keeps in
     let (d, taken) = taken_met t bytes behind last r e xs ks (greatest_counts t) met in
-    let so : Sofar t bytes (is_read t r receiving) [] d = ends place t bytes (is_read t r receiving) sound (reads_closed t r receiving sound) xs (numbers_of ks) (greatest_counts t) d 0 (start t bytes (is_read t r receiving) sound) kept taken in
+    let so : Sofar t bytes (is_read t r receiving) [] d = ends place t bytes (is_read t r receiving) sound (reads_closed t r receiving sound) xs (kept_numbers ks) (greatest_counts t) d 0 (start t bytes (is_read t r receiving) sound) kept taken in
     let agree : (y : Table) → IsIn y xs → is_needed behind last r y ≡ true → slice_index d y.number ≡ slice_index e y.number =
     λ y i reads. one place t bytes sound y (slice_index d y.number) (slice_index e y.number) i (so.before y i reads (λ j. j)) (stored_met t bytes behind last r e xs ks y kept met i reads) in
-    let own : Taken t bytes (keep (is_read t r receiving) xs) (greatest_counts t) (Ok d) = kept_give_needed place t bytes r receiving (numbers_of ks) (Ok d) 0 sound kept taken in
+    let own : Taken t bytes (keep (is_read t r receiving) xs) (greatest_counts t) (Ok d) = kept_give_needed place t bytes r receiving (kept_numbers ks) (Ok d) 0 sound kept taken in
     let below : (x : Table) → IsIn x xs → x.number < behind → slice_index e x.number ≡ slice_index d x.number = λ x i lt. elim (two_ways (is_needed behind last r x)) [
       | inl reads ↦ sym (agree x i reads)
       | inr skips ↦ most_met behind last r e xs ks x met i lt skips ∙ sym (greatest_stays t bytes (is_read t r receiving) d x sound own i skips)
@@ -269,8 +269,8 @@ met_in t u r receiving behind last number tables e ks same all b l m =
 -- What a reference has where the counts were read that it needs, and the record was let stand under these below its reach.
 pub record Comes (t : Forest Resolved) (bytes : List ℕ) (r : ℕ) (receiving : Bool) (ks now : List (Option StoredCount)) (d e : List ℕ) : Type 0 where
   pub needed : NeededOf t r receiving bytes (Ok d)
-  pub place : StandsFor t r e d
-  pub kept : numbers_of now ≡ kept_after (is_read t r receiving) d (tables_of t) (numbers_of ks)
+  pub place : PlacesAlike t r e d
+  pub kept : kept_numbers now ≡ kept_after (is_read t r receiving) d (tables_of t) (kept_numbers ks)
   pub keeps : AreKeptOf t bytes now
 
 -- what is kept behind a reading rests on the counts of the tables that are read alone
@@ -304,19 +304,19 @@ stored_same place t behind x d e spots places s i lt agree are stand =
 
 pub comes : NeedsAreRead → OnePlace → (t : Forest Resolved) (bytes : List ℕ) (r : ℕ) (receiving : Bool) (subscripts : List ℕ) (ks now : List (Option StoredCount)) (d e : List ℕ) (spots : List Spot) (n : ℕ) → IsSound t
     → Refers r subscripts t → length ks ≡ length (tables_of t) → AreKeptOf t bytes ks
-    → TakenAnew t bytes (is_read t r receiving) (tables_of t) (numbers_of ks) (greatest_counts t) (Ok d) n
+    → TakenAnew t bytes (is_read t r receiving) (tables_of t) (kept_numbers ks) (greatest_counts t) (Ok d) n
     → ((k : ℕ) → k < number_behind true r t → slice_index e k ≡ slice_index d k) → spots ≡ spots_of (times e) t 0 0
     → now ≡ kept_read (is_read t r receiving) e spots (tables_of t) ks → Comes t bytes r receiving ks now d e
 comes read place t bytes r receiving subscripts ks now d e spots n s refers long kept taken agree stand is =
     let xs : List Table = tables_of t in
     let reads : Table → Bool = is_read t r receiving in
     let least : List Spot = spots_of (times d) t 0 0 in
-    let so : Sofar t bytes reads [] d = ends place t bytes reads s (reads_closed t r receiving s) xs (numbers_of ks) (greatest_counts t) d n (start t bytes reads s) (numbers_kept t bytes ks long kept) taken in
+    let so : Sofar t bytes reads [] d = ends place t bytes reads s (reads_closed t r receiving s) xs (kept_numbers ks) (greatest_counts t) d n (start t bytes reads s) (numbers_kept t bytes ks long kept) taken in
     let same : now ≡ kept_read reads d least xs ks = is
     ∙ read_same reads e d spots least xs ks (λ x i it. stored_same place t (number_behind true r t) x d e least spots s i (below_reach (number_behind true r t) (receiving && (number_behind false r t == entries_in t)) r x it) agree refl stand) in
     record {
       needed = needed_anew read place t bytes r receiving subscripts ks (Ok d) n s refers long kept taken;
       place = place_below read place t r e d s (refers_has r subscripts t refers) so.long (λ x i lt. agree x.number lt);
-      kept = ap numbers_of same ∙ numbers_read reads d least xs ks long;
+      kept = ap kept_numbers same ∙ numbers_read reads d least xs ks long;
       keeps = subst (λ (js : List (Option StoredCount)). AreKeptOf t bytes js) (sym same) (kept_behind place t bytes r receiving ks d n least s long kept refl taken);
     }

@@ -14,7 +14,7 @@ use Rattle.cob_layout.specs.declared.shifts.Shift.{Shift}
 use Rattle.cob_layout.specs.declared.ways.Way.{Way}
 use Rattle.cob_layout.specs.Finding.{SparesNone}
 use Rattle.cob_layout.specs.Footings.{AreFootings, first_by, footing_of}
-use Rattle.cob_layout.specs.Shifts.{all_shifted, shifts_from, CanShift, IsWithin}
+use Rattle.cob_layout.specs.Shifts.{all_shifted, shifts_from, CanShift, FitsSums}
 use Rattle.cob_layout.specs.Sound.{IsSound}
 use Rattle.cob_layout.specs.Ways.{end_of_table, first_element, held, held_at, held_in}
 use Rattle.cob_layout.proofs.ReadLaw.{Known, last_is}
@@ -29,7 +29,7 @@ use Rattle.cob_layout.proofs.WayLaw.{reach_table_end}
 
 -- What is known of what the place of an entry rests on, where these sums shift the spots of a record: so its first element stands.
 pub record Rests (shifts : List Shift) (least : List Spot) (sums counts : List ℕ) (r : ℕ) (f : Footing) : Type 0 where
-  pub within : IsWithin sums f.shift
+  pub within : FitsSums sums f.shift
   pub small : f.least.offset + f.least.length ≤ 32752
   pub first : first_by sums f ≡ first_element (all_shifted sums counts 0 shifts least) r
 
@@ -39,7 +39,7 @@ rests ways shifts least sums counts r f can lt is =
     let s : Shift = record { before = 0; through = 0; most = 0; only_moves = false } in
     let x : Spot = record { offset = 0; length = 0; times = 0 } in
     record {
-      within = subst (λ (g : Footing). IsWithin sums g.shift) (sym is) (all_at (IsWithin sums) shifts r s lt can.within);
+      within = subst (λ (g : Footing). FitsSums sums g.shift) (sym is) (all_at (FitsSums sums) shifts r s lt can.within);
       small = subst (λ (g : Footing). g.least.offset + g.least.length ≤ 32752) (sym is) (all_at (λ (l : Spot). l.offset + l.length ≤ 32752) least r x (omega (arith, lt, can.as_many)) can.small);
       first = ap (first_by sums) is
           ∙ ap (λ (l : Spot). record { offset = l.offset; length = l.length; within = true }) (shifted_there sums counts r (slice_index counts r) shifts least s x x refl lt can.as_many);

@@ -9,7 +9,7 @@ use Rattle.cob_layout_places.specs.declared.varying.Table.{Table}
 use Rattle.cob_layout_places.specs.Counts.{tables_of}
 use Rattle.cob_layout.specs.Counting.{greatest_counts}
 use Rattle.cob_layout.specs.declared.counts.StoredCount.{StoredCount}
-use Rattle.cob_layout.specs.Kept.{IsReadOne, TakenAnew, TakenBy, first_kept, number_of, numbers_of, others_kept}
+use Rattle.cob_layout.specs.Kept.{IsReadOne, TakenAnew, TakenBy, first_kept, kept_number, kept_numbers, others_kept}
 
 -- whatever the tables from place i on come to now, all come to from the counts before; m counts were read so far
 abbrev pub Onward : Forest Resolved → List ℕ → (Table → Bool) → List Table → List (Option ℕ) → List ℕ → ℕ → List ℕ → ℕ → Type 0
@@ -85,14 +85,14 @@ counted_more t bytes read xs ks before reads i d f now so new v lt below reads_i
 
 -- the number of a count that is kept, among those of all
 pub known_at : (t : Forest Resolved) (bytes : List ℕ) (x : Table) (ks : List (Option StoredCount)) (i : ℕ) (known : Option ℕ) (c : List ℕ) (r : Result ℕ CountFault) (so new : ℕ)
-    → i < length ks → known ≡ number_of (get_or ks i None)
+    → i < length ks → known ≡ kept_number (get_or ks i None)
     → (n : ℕ) × IsReadOne t bytes x known c r n × (new ≡ min (so + n) 18446744073709551615)
-    → (n : ℕ) × IsReadOne t bytes x (get_or (numbers_of ks) i None) c r n × (new ≡ min (so + n) 18446744073709551615)
+    → (n : ℕ) × IsReadOne t bytes x (get_or (kept_numbers ks) i None) c r n × (new ≡ min (so + n) 18446744073709551615)
 known_at t bytes x ks i known c r so new lt e h =
-    subst (λ (k : Option ℕ). (n : ℕ) × IsReadOne t bytes x k c r n × (new ≡ min (so + n) 18446744073709551615)) (e ∙ sym (get_or-map number_of ks i None None lt)) h
+    subst (λ (k : Option ℕ). (n : ℕ) × IsReadOne t bytes x k c r n × (new ≡ min (so + n) 18446744073709551615)) (e ∙ sym (get_or-map kept_number ks i None None lt)) h
 
-pub below_numbers : (ks : List (Option StoredCount)) (i : ℕ) → i < length ks → i < length (numbers_of ks)
-below_numbers ks i lt = omega (arith, lt, length-map ks number_of)
+pub below_numbers : (ks : List (Option StoredCount)) (i : ℕ) → i < length ks → i < length (kept_numbers ks)
+below_numbers ks i lt = omega (arith, lt, length-map ks kept_number)
 
 -- a table isn't read
 pub counted_skips : (t : Forest Resolved) (bytes : List ℕ) (read : Table → Bool) (xs : List Table) (ks : List (Option ℕ)) (before : List ℕ) (reads i : ℕ) (d : Table) (f : Option ℕ) (now : List ℕ) (so : ℕ)

@@ -19,9 +19,9 @@ use Rattle.cob_layout.specs.declared.footings.Footing.{Footing}
 use Rattle.cob_layout.specs.declared.shifts.Shift.{Shift}
 use Rattle.cob_layout.specs.declared.ways.Way.{Way}
 use Rattle.cob_layout.specs.Counting.{greatest_counts, NeededOf}
-use Rattle.cob_layout.specs.Finding.{StandsFor, are_met, is_kept_as, is_met}
+use Rattle.cob_layout.specs.Finding.{PlacesAlike, are_met, is_kept_as, is_met}
 use Rattle.cob_layout.specs.Footings.{footing_of}
-use Rattle.cob_layout.specs.Kept.{AreKeptOf, IsIn, IsKeptAs, IsReadOne, IsStoredCount, counted, TakenAnew, TakenBy, first_kept, kept_after, numbers_of, others_kept}
+use Rattle.cob_layout.specs.Kept.{AreKeptOf, IsIn, IsKeptAs, IsReadOne, IsStoredCount, counted, TakenAnew, TakenBy, first_kept, kept_after, kept_numbers, others_kept}
 use Rattle.cob_layout.specs.Sound.{IsSound}
 use Rattle.cob_layout.specs.Standing.{LieWithin}
 use Rattle.cob_layout.specs.Ways.{end_of_table, held}
@@ -138,7 +138,7 @@ lone_refused t bytes read x ks e n lone reads one =
 
 -- ---- counts that are what a reference asks of it
 
-met_both : (behind : ℕ) (last : Bool) (r : ℕ) (e : List ℕ) (x : Table) (ks : List (Option StoredCount)) (v : ℕ) → numbers_of ks ≡ Some v ∷ [] → slice_index e x.number ≡ v
+met_both : (behind : ℕ) (last : Bool) (r : ℕ) (e : List ℕ) (x : Table) (ks : List (Option StoredCount)) (v : ℕ) → kept_numbers ks ≡ Some v ∷ [] → slice_index e x.number ≡ v
     → ((k : StoredCount) → k.number ≡ slice_index e x.number → is_met behind last r x (Some k) (slice_index e x.number) ≡ true) → are_met behind last r e (x ∷ []) ks ≡ true
 met_both behind last r e x [] v is own one = absurd (omega (arith, ap length is))
 met_both behind last r e x (None ∷ ks) v is own one = absurd (cc)
@@ -159,7 +159,7 @@ met_within behind x n k same = elim (two_ways (nat_le behind x.number)) [
 ]
 
 -- so they are whatever its reach
-pub lone_met : (t : Forest Resolved) (behind : ℕ) (e : List ℕ) (x : Table) (ks : List (Option StoredCount)) (v : ℕ) → tables_of t ≡ x ∷ [] → numbers_of ks ≡ Some v ∷ [] → slice_index e x.number ≡ v
+pub lone_met : (t : Forest Resolved) (behind : ℕ) (e : List ℕ) (x : Table) (ks : List (Option StoredCount)) (v : ℕ) → tables_of t ≡ x ∷ [] → kept_numbers ks ≡ Some v ∷ [] → slice_index e x.number ≡ v
     → are_met behind false 0 e (tables_of t) ks ≡ true
 lone_met t behind e x ks v lone is own =
     ap (λ (xs : List Table). are_met behind false 0 e xs ks) lone ∙ met_both behind false 0 e x ks v is own (λ k same. met_within behind x (slice_index e x.number) k same)
@@ -176,11 +176,11 @@ same_after t read c x ks js lone reads =
 pub record HasLone (t : Forest Resolved) (bytes : List ℕ) (r : ℕ) (receiving : Bool) (ks : List (Option ℕ)) (now : List (Option StoredCount)) (e : List ℕ) : Type 0 where
   pub counts : List ℕ
   pub needed : NeededOf t r receiving bytes (Ok counts)
-  pub place : StandsFor t r e counts
-  pub kept : numbers_of now ≡ kept_after (is_read t r receiving) counts (tables_of t) ks
+  pub place : PlacesAlike t r e counts
+  pub kept : kept_numbers now ≡ kept_after (is_read t r receiving) counts (tables_of t) ks
 
 pub has_lone : NeedsAreRead → OnePlace → (t : Forest Resolved) (bytes : List ℕ) (r : ℕ) (receiving : Bool) (subscripts : List ℕ) (x : Table) (ks : List (Option ℕ)) (now : List (Option StoredCount)) (e : List ℕ) (v : ℕ)
-    → IsSound t → Refers r subscripts t → tables_of t ≡ x ∷ [] → is_read t r receiving x ≡ true → AreKeptOf t bytes now → numbers_of now ≡ Some v ∷ [] → slice_index e x.number ≡ v → HasLone t bytes r receiving ks now e
+    → IsSound t → Refers r subscripts t → tables_of t ≡ x ∷ [] → is_read t r receiving x ≡ true → AreKeptOf t bytes now → kept_numbers now ≡ Some v ∷ [] → slice_index e x.number ≡ v → HasLone t bytes r receiving ks now e
 has_lone read place t bytes r receiving subscripts x ks now e v sound refers lone reads keeps is own =
     let behind : ℕ = number_behind true r t in
     let last : Bool = receiving && (number_behind false r t == entries_in t) in
@@ -192,10 +192,10 @@ has_lone read place t bytes r receiving subscripts x ks now e v sound refers lon
       counts = m.counts;
       needed = m.needed;
       place = m.place;
-      kept = m.kept ∙ same_after t (is_read t r receiving) m.counts x (numbers_of now) ks lone reads;
+      kept = m.kept ∙ same_after t (is_read t r receiving) m.counts x (kept_numbers now) ks lone reads;
     }
   where
-    as_many : (js : List (Option StoredCount)) → numbers_of js ≡ Some v ∷ [] → length js ≡ 1
+    as_many : (js : List (Option StoredCount)) → kept_numbers js ≡ Some v ∷ [] → length js ≡ 1
     as_many [] h = absurd (omega (arith, ap length h))
     as_many (j ∷ []) h = refl
     as_many (j ∷ i ∷ js) h = absurd (omega (arith, ap length h))

@@ -22,7 +22,7 @@ use Rattle.cob_layout.specs.declared.counts.StoredCount.{StoredCount}
 use Rattle.cob_layout.specs.declared.fields.Place.{Place}
 use Rattle.cob_layout.specs.Counting.{greatest_counts, NeededOf}
 use Rattle.cob_layout.specs.Fields.{with_field}
-use Rattle.cob_layout.specs.Kept.{AreKept, AreKeptOf, HasItemAt, IsIn, IsKeptAs, IsNoTable, IsStoredCount, counted, TakenAnew, kept_after, kept_read, number_of, numbers_of, stored_at}
+use Rattle.cob_layout.specs.Kept.{AreKept, AreKeptOf, HasItemAt, IsIn, IsKeptAs, IsNoTable, IsStoredCount, counted, TakenAnew, kept_after, kept_read, kept_number, kept_numbers, stored_at}
 use Rattle.cob_layout.specs.Sound.{IsSound}
 use Rattle.cob_layout.specs.Standing.{are_unkept, meets, meets_item, meets_kept}
 use Rattle.cob_layout.specs.Ways.{first_element}
@@ -63,17 +63,17 @@ unkept_none t (k ∷ ks) long none = absurd (omega (arith, long, ap length none)
 -- ---- what is kept behind a reading
 
 kept_numbers : (t : Forest Resolved) (bytes : List ℕ) (xs : List Table) (ks : List (Option StoredCount)) → length ks ≡ length xs
-    → ((x : Table) (k : StoredCount) → IsKeptAs x k xs ks → IsStoredCount t bytes x k.number) → AreKept t bytes xs (numbers_of ks)
+    → ((x : Table) (k : StoredCount) → IsKeptAs x k xs ks → IsStoredCount t bytes x k.number) → AreKept t bytes xs (kept_numbers ks)
 kept_numbers t bytes [] ks e h = tt
 kept_numbers t bytes (x ∷ xs) [] e h = absurd (omega (arith, e))
 kept_numbers t bytes (x ∷ xs) (None ∷ ks) e h = (tt, kept_numbers t bytes xs ks (omega (arith, e)) (λ y k is. h y k (inr is)))
 kept_numbers t bytes (x ∷ xs) (Some j ∷ ks) e h = (h x j (inl (refl, refl)), kept_numbers t bytes xs ks (omega (arith, e)) (λ y k is. h y k (inr is)))
 
-pub numbers_kept : (t : Forest Resolved) (bytes : List ℕ) (ks : List (Option StoredCount)) → length ks ≡ length (tables_of t) → AreKeptOf t bytes ks → AreKept t bytes (tables_of t) (numbers_of ks)
+pub numbers_kept : (t : Forest Resolved) (bytes : List ℕ) (ks : List (Option StoredCount)) → length ks ≡ length (tables_of t) → AreKeptOf t bytes ks → AreKept t bytes (tables_of t) (kept_numbers ks)
 numbers_kept t bytes ks long kept = kept_numbers t bytes (tables_of t) ks long kept.numbers
 
 pub numbers_read : (read : Table → Bool) (d : List ℕ) (spots : List Spot) (xs : List Table) (ks : List (Option StoredCount)) → length ks ≡ length xs
-    → numbers_of (kept_read read d spots xs ks) ≡ kept_after read d xs (numbers_of ks)
+    → kept_numbers (kept_read read d spots xs ks) ≡ kept_after read d xs (kept_numbers ks)
 numbers_read read d spots [] [] e = refl
 numbers_read read d spots [] (k ∷ ks) e = absurd (omega (arith, e))
 numbers_read read d spots (x ∷ xs) [] e = absurd (omega (arith, e))
@@ -81,7 +81,7 @@ numbers_read read d spots (x ∷ xs) (k ∷ ks) e =
     let rest = numbers_read read d spots xs ks (omega (arith, e)) in
     λ i. own (read x) i ∷ rest i
   where
-    own : (b : Bool) → number_of (if b then Some (stored_at d spots x) else k) ≡ (if b then Some (slice_index d x.number) else number_of k)
+    own : (b : Bool) → kept_number (if b then Some (stored_at d spots x) else k) ≡ (if b then Some (slice_index d x.number) else kept_number k)
     own true = refl
     own false = refl
 
@@ -135,13 +135,13 @@ still_kept read d spots x k (y ∷ ys) (j ∷ js) (inr rest) skips = inr (still_
 
 pub kept_behind : OnePlace → (t : Forest Resolved) (bytes : List ℕ) (node : ℕ) (receiving : Bool) (ks : List (Option StoredCount)) (d : List ℕ) (n : ℕ) (spots : List Spot) → IsSound t
     → length ks ≡ length (tables_of t) → AreKeptOf t bytes ks → spots ≡ spots_of (times d) t 0 0
-    → TakenAnew t bytes (is_read t node receiving) (tables_of t) (numbers_of ks) (greatest_counts t) (Ok d) n
+    → TakenAnew t bytes (is_read t node receiving) (tables_of t) (kept_numbers ks) (greatest_counts t) (Ok d) n
     → AreKeptOf t bytes (kept_read (is_read t node receiving) d spots (tables_of t) ks)
 kept_behind place t bytes node receiving ks d n spots s long kept are taken =
     let read : Table → Bool = is_read t node receiving in
     let xs : List Table = tables_of t in
     let closed : Closed t read = reads_closed t node receiving s in
-    let so : Sofar t bytes read [] d = ends place t bytes read s closed xs (numbers_of ks) (greatest_counts t) d n (start t bytes read s) (numbers_kept t bytes ks long kept) taken in
+    let so : Sofar t bytes read [] d = ends place t bytes read s closed xs (kept_numbers ks) (greatest_counts t) d n (start t bytes read s) (numbers_kept t bytes ks long kept) taken in
     let all : List (Option StoredCount) = kept_read read d spots xs ks in record {
       numbers = λ x k is. elim (came_from read d spots x k xs ks is) [
         | inl own ↦ subst (λ (j : StoredCount). IsStoredCount t bytes x j.number) (sym own.1) (so.before x (among x k xs all is) own.0 (λ i. i))
@@ -178,24 +178,24 @@ kept_behind place t bytes node receiving ks d n spots s long kept are taken =
 pub anew_is : (t u : Forest Resolved) (bytes : List ℕ) (r : ℕ) (receiving : Bool) (behind : ℕ) (last : Bool) (number : ℕ) (tables : List Table) (now ks : List (Option StoredCount)) (start : List ℕ)
     (outcome : Result (List ℕ) CountFault) (n : ℕ) → t ≡ u → tables ≡ tables_of t → behind ≡ number_behind true r u → last ≡ (receiving && (number_behind false r u == entries_in u)) → number ≡ r
     → start ≡ greatest_counts t → now ≡ ks
-    → TakenAnew t bytes (is_needed behind last number) tables (numbers_of now) start outcome n
-    → TakenAnew u bytes (is_read u r receiving) (tables_of u) (numbers_of ks) (greatest_counts u) outcome n
+    → TakenAnew t bytes (is_needed behind last number) tables (kept_numbers now) start outcome n
+    → TakenAnew u bytes (is_read u r receiving) (tables_of u) (kept_numbers ks) (greatest_counts u) outcome n
 anew_is t u bytes r receiving behind last number tables now ks start outcome n same all b l m s k taken =
-    subst (λ (v : Forest Resolved). TakenAnew v bytes (is_read u r receiving) (tables_of v) (numbers_of ks) (greatest_counts v) outcome n) same
-    (subst (λ (xs : List Table). TakenAnew t bytes (is_read u r receiving) xs (numbers_of ks) (greatest_counts t) outcome n) all
-    (subst (λ (c : List ℕ). TakenAnew t bytes (is_read u r receiving) tables (numbers_of ks) c outcome n) s
-    (subst (λ (js : List (Option StoredCount)). TakenAnew t bytes (is_read u r receiving) tables (numbers_of js) start outcome n) k
-    (subst (λ (x : ℕ). TakenAnew t bytes (is_needed x (receiving && (number_behind false r u == entries_in u)) r) tables (numbers_of now) start outcome n) b
-    (subst (λ (x : Bool). TakenAnew t bytes (is_needed behind x r) tables (numbers_of now) start outcome n) l
-    (subst (λ (x : ℕ). TakenAnew t bytes (is_needed behind last x) tables (numbers_of now) start outcome n) m taken))))))
+    subst (λ (v : Forest Resolved). TakenAnew v bytes (is_read u r receiving) (tables_of v) (kept_numbers ks) (greatest_counts v) outcome n) same
+    (subst (λ (xs : List Table). TakenAnew t bytes (is_read u r receiving) xs (kept_numbers ks) (greatest_counts t) outcome n) all
+    (subst (λ (c : List ℕ). TakenAnew t bytes (is_read u r receiving) tables (kept_numbers ks) c outcome n) s
+    (subst (λ (js : List (Option StoredCount)). TakenAnew t bytes (is_read u r receiving) tables (kept_numbers js) start outcome n) k
+    (subst (λ (x : ℕ). TakenAnew t bytes (is_needed x (receiving && (number_behind false r u == entries_in u)) r) tables (kept_numbers now) start outcome n) b
+    (subst (λ (x : Bool). TakenAnew t bytes (is_needed behind x r) tables (kept_numbers now) start outcome n) l
+    (subst (λ (x : ℕ). TakenAnew t bytes (is_needed behind last x) tables (kept_numbers now) start outcome n) m taken))))))
 
 pub needed_anew : NeedsAreRead → OnePlace → (u : Forest Resolved) (bytes : List ℕ) (r : ℕ) (receiving : Bool) (subscripts : List ℕ) (ks : List (Option StoredCount)) (outcome : Result (List ℕ) CountFault) (n : ℕ)
     → IsSound u → Refers r subscripts u → length ks ≡ length (tables_of u) → AreKeptOf u bytes ks
-    → TakenAnew u bytes (is_read u r receiving) (tables_of u) (numbers_of ks) (greatest_counts u) outcome n → NeededOf u r receiving bytes outcome
+    → TakenAnew u bytes (is_read u r receiving) (tables_of u) (kept_numbers ks) (greatest_counts u) outcome n → NeededOf u r receiving bytes outcome
 needed_anew read place u bytes r receiving subscripts ks outcome n s refers long kept taken = (
   needed_tables u r receiving (tables_of u),
   those_needed read u r receiving s (refers_has r subscripts u refers),
-  kept_give_needed place u bytes r receiving (numbers_of ks) outcome n s (numbers_kept u bytes ks long kept) taken,
+  kept_give_needed place u bytes r receiving (kept_numbers ks) outcome n s (numbers_kept u bytes ks long kept) taken,
 )
 
 pub kept_is : (t u : Forest Resolved) (r : ℕ) (receiving : Bool) (behind : ℕ) (last : Bool) (number : ℕ) (tables : List Table) (d e : List ℕ) (spots places : List Spot) (now ks : List (Option StoredCount)) → t ≡ u

@@ -18,7 +18,7 @@ use Rattle.cob_layout_places.specs.Spots.{spots_of}
 use Rattle.cob_layout_places.proofs.SpotLemmas.{length_spots}
 use Rattle.cob_layout.specs.Counting.{varying}
 use Rattle.cob_layout.specs.declared.shifts.Shift.{Shift}
-use Rattle.cob_layout.specs.Shifts.{all_shifted, grow_in, own_bytes, own_growth, shifted, shifts_from}
+use Rattle.cob_layout.specs.Shifts.{all_shifted, grow_in, own_bytes, own_growth, shifted_spot, shifts_from}
 
 pub both : (a b : Bool) → (a && b) ≡ true → (a ≡ true) × (b ≡ true)
 both true b e = (refl, e)
@@ -222,7 +222,7 @@ shifted_append sums counts k [] ts [] ys e =
 shifted_append sums counts k [] ts (x ∷ xs) ys e = absurd (omega (arith, e))
 shifted_append sums counts k (s ∷ ss) ts [] ys e = absurd (omega (arith, e))
 shifted_append sums counts k (s ∷ ss) ts (x ∷ xs) ys e =
-    let here = shifted sums (slice_index counts k) s x in
+    let here = shifted_spot sums (slice_index counts k) s x in
     let same : k + 1 + length ss ≡ k + length (s ∷ ss) = omega arith in
     ap (λ (zs : List Spot). here ∷ zs) (shifted_append sums counts (k + 1) ss ts xs ys (omega (arith, e)))
     ∙ ap (λ (j : ℕ). here ∷ (all_shifted sums counts (k + 1) ss xs ++ all_shifted sums counts j ts ys)) same

@@ -26,7 +26,7 @@ use Rattle.cob_layout.specs.Sound.{IsSound}
 use Rattle.cob_layout.specs.Ways.{spot_at}
 use Rattle.cob_layout.specs.declared.shifts.Growth.{Growth}
 use Rattle.cob_layout.specs.declared.shifts.Shift.{Shift}
-use Rattle.cob_layout.specs.Shifts.{all_shifted, grow_in, growth_of, growths_from, next_sum, own_bytes, own_growth, shift_of, shifted, shifts_from, sums_by, sums_of, CanAllGrow, CanGrow, CanShift, IsWithin}
+use Rattle.cob_layout.specs.Shifts.{all_shifted, grow_in, growth_of, growths_from, next_sum, own_bytes, own_growth, shift_of, shifted_spot, shifts_from, sums_by, sums_of, CanAllGrow, CanGrow, CanShift, FitsSums}
 use Rattle.cob_layout.proofs.EndLemmas.{same}
 use Rattle.cob_layout.proofs.SpotLaw.{are_spots, at_seam, nowhere, one_longer, AreSpots}
 use Rattle.cob_layout.proofs.ShiftLaw.{adds, both, length_shifts, none_redefining, often, product_le, rises, stand_shifted, sum_grows, Adds, Grow}
@@ -309,7 +309,7 @@ can_all sums counts least (AnEntry e children more) areas n at area sp leaves ar
 
 -- ---- the shifts are within the sums, and the least spots within the record
 
-all_within_append : (sums : List ℕ) (ss ts : List Shift) → AllByRecursion (IsWithin sums) ss → AllByRecursion (IsWithin sums) ts → AllByRecursion (IsWithin sums) (ss ++ ts)
+all_within_append : (sums : List ℕ) (ss ts : List Shift) → AllByRecursion (FitsSums sums) ss → AllByRecursion (FitsSums sums) ts → AllByRecursion (FitsSums sums) (ss ++ ts)
 all_within_append sums [] ts h k = k
 all_within_append sums (s ∷ ss) ts h k = (h.0, all_within_append sums ss ts h.1 k)
 
@@ -318,7 +318,7 @@ plain_is a b m is =
     let (here, most) = both (a == b) (m == 0) is in
     (same a b here, same m 0 most)
 
-within_from : (sums counts : List ℕ) (n : ℕ) (f : Forest Resolved) (areas : List (Tree Resolved)) → AreLeaves f → AreAreas areas f → Grow sums counts n f → n + grow_in f < length sums → AllByRecursion (IsWithin sums) (shifts_from n f)
+within_from : (sums counts : List ℕ) (n : ℕ) (f : Forest Resolved) (areas : List (Tree Resolved)) → AreLeaves f → AreAreas areas f → Grow sums counts n f → n + grow_in f < length sums → AllByRecursion (FitsSums sums) (shifts_from n f)
 within_from sums counts n NoEntries areas leaves are g lt = tt
 within_from sums counts n (AnEntry e children more) areas leaves are g lt =
     let many = grow_in children in
@@ -439,7 +439,7 @@ can_shift t least shifts growths sums counts u are =
     let m = summed t counts s in
     subst (λ (ns : List ℕ). CanShift ns shifts least) (sym are) (record {
       as_many = ap length u.least_are ∙ length_spots (times []) t 0 0 ∙ sym (ap length u.shifts_are ∙ length_shifts 0 t);
-      within = subst (AllByRecursion (IsWithin (sums_of t counts))) (sym u.shifts_are) (within_from (sums_of t counts) counts 0 t [] s.fit.leaves s.areas m.grows (omega (arith, m.long)));
+      within = subst (AllByRecursion (FitsSums (sums_of t counts))) (sym u.shifts_are) (within_from (sums_of t counts) counts 0 t [] s.fit.leaves s.areas m.grows (omega (arith, m.long)));
       small = least_small t least s u.least_are;
       low = m.low;
     })
@@ -477,7 +477,7 @@ all_at P (x ∷ xs) (suc k) d lt h = all_at P xs k d (omega (arith, lt)) h.1
 
 -- the spot of the next entry was written
 pub shifted_more : (sums counts : List ℕ) (ss : List Shift) (ls xs : List Spot) (i : ℕ) (s : Shift) (d v : Spot) (all : List Spot) → i < length ss → i < length ls → i < length xs
-    → v ≡ shifted sums (slice_index counts i) (get_or ss i s) (get_or ls i d)
+    → v ≡ shifted_spot sums (slice_index counts i) (get_or ss i s) (get_or ls i d)
     → take i xs ++ all_shifted sums counts i (drop i ss) (drop i ls) ≡ all
     → take (i + 1) (slice_set xs i v) ++ all_shifted sums counts (i + 1) (drop (i + 1) ss) (drop (i + 1) ls) ≡ all
 shifted_more sums counts ss ls xs i s d v all lt below here is so =
@@ -539,7 +539,7 @@ set_there front rest x y all n is cut = ap (λ (zs : List Shift). slice_set zs n
 
 -- an entry that only moves
 pub only_moved : (sums : List ℕ) (count : ℕ) (s : Shift) (x : Spot) → (s.through ≡ s.before) × (s.most ≡ 0)
-    → record { offset = x.offset + slice_index sums s.before; length = x.length; times = x.times } ≡ shifted sums count s x
+    → record { offset = x.offset + slice_index sums s.before; length = x.length; times = x.times } ≡ shifted_spot sums count s x
 only_moved sums count s x (here, none) =
     let long : x.length ≡ x.length + slice_index sums s.through - slice_index sums s.before = omega (arith, ap (λ (k : ℕ). slice_index sums k) here) in
     let often : x.times ≡ max x.times (min count s.most) = omega (arith, none) in

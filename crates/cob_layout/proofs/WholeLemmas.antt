@@ -27,7 +27,7 @@ use Rattle.cob_layout.specs.declared.counts.StoredCount.{StoredCount}
 use Rattle.cob_layout.specs.declared.fields.Place.{Place}
 use Rattle.cob_layout.specs.declared.layout.PlaceFault.{PlaceFault}
 use Rattle.cob_layout.specs.Counting.{greatest_counts, AreThose, CountsOf, IsRead, NeededOf}
-use Rattle.cob_layout.specs.Kept.{IsIn, all_kept, first_kept, kept_after, numbers_of, others_kept}
+use Rattle.cob_layout.specs.Kept.{IsIn, all_kept, first_kept, kept_after, kept_numbers, others_kept}
 use Rattle.cob_layout.specs.Placed.{placed, placed_under}
 use Rattle.cob_layout.specs.Sound.{IsSound}
 use Rattle.cob_layout.specs.Standing.{IsRoomFor, Standing}
@@ -158,13 +158,13 @@ needs_all t r bytes result s own needed =
 is_zero : (n : ℕ) → false ≡ not (n == 0) → n ≡ 0
 is_zero n h = grind (arith, nat_tests)
 
-none_each : (d : List ℕ) (xs : List Table) (ks : List (Option StoredCount)) → length xs ≡ 0 → length ks ≡ length xs → numbers_of ks ≡ all_kept d xs
+none_each : (d : List ℕ) (xs : List Table) (ks : List (Option StoredCount)) → length xs ≡ 0 → length ks ≡ length xs → kept_numbers ks ≡ all_kept d xs
 none_each d [] [] none long = refl
 none_each d [] (k ∷ ks) none long = absurd (omega (arith, long))
 none_each d (x ∷ xs) ks none long = absurd (omega (arith, none))
 
 -- those of no table are none
-pub keeps_none : (t : Forest Resolved) (s : Standing) (d : List ℕ) → IsRoomFor t s → false ≡ not (length (tables_of t) == 0) → numbers_of s.kept ≡ all_kept d (tables_of t)
+pub keeps_none : (t : Forest Resolved) (s : Standing) (d : List ℕ) → IsRoomFor t s → false ≡ not (length (tables_of t) == 0) → kept_numbers s.kept ≡ all_kept d (tables_of t)
 keeps_none t s d room none = none_each d (tables_of t) s.kept (is_zero (length (tables_of t)) none) (room_tables t s room)
 
 kept_each : (read : Table → Bool) (d : List ℕ) (xs : List Table) (ks : List (Option ℕ)) → ((x : Table) → IsIn x xs → read x ≡ true) → kept_after read d xs ks ≡ all_kept d xs

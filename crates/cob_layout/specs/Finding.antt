@@ -17,7 +17,7 @@ use Rattle.cob_layout.specs.declared.finding.FindFault.{FindFault}
 use Rattle.cob_layout.specs.declared.finding.FindFault.TheVariants.{Count, Subscript}
 use Rattle.cob_layout.specs.declared.shifts.Growth.{Growth}
 use Rattle.cob_layout.specs.Counting.{greatest_counts, NeededOf}
-use Rattle.cob_layout.specs.Kept.{AreKeptOf, kept_after, numbers_of, TakenAnew}
+use Rattle.cob_layout.specs.Kept.{AreKeptOf, kept_after, kept_numbers, TakenAnew}
 use Rattle.cob_layout.specs.Placed.{element_under, placed_under}
 use Rattle.cob_layout.specs.Shifts.{growths_from, sums_by}
 
@@ -50,31 +50,31 @@ EndsInLength tree r receiving bytes p =
 -- the counts that a reference needs are kept, and those that were kept before
 abbrev pub KeepsNeeded : Forest Resolved → Ref → Bool → List ℕ → (before now : List (Option StoredCount)) → Type 0
 KeepsNeeded tree r receiving bytes before now = (c : List ℕ) × NeededOf tree r.node receiving bytes (Ok c)
-    × (numbers_of now ≡ kept_after (is_read tree r.node receiving) c (tables_of tree) (numbers_of before))
+    × (kept_numbers now ≡ kept_after (is_read tree r.node receiving) c (tables_of tree) (kept_numbers before))
 
 -- these counts put each element of an entry where those do
-abbrev pub StandsFor : Forest Resolved → ℕ → List ℕ → List ℕ → Type 0
-StandsFor tree r counts those =
+abbrev pub PlacesAlike : Forest Resolved → ℕ → List ℕ → List ℕ → Type 0
+PlacesAlike tree r counts those =
     (subscripts : List ℕ) → place_of (times counts) r tree 0 0 subscripts ≡ place_of (times those) r tree 0 0 subscripts
 
 -- these counts stand for those that a reference needs, and so many are kept then
 abbrev pub HasNeeded : Forest Resolved → Ref → Bool → List ℕ → List ℕ → (before now : List (Option StoredCount)) → Type 0
 HasNeeded tree r receiving bytes counts before now = (c : List ℕ) × NeededOf tree r.node receiving bytes (Ok c)
-    × StandsFor tree r.node counts c
-    × (numbers_of now ≡ kept_after (is_read tree r.node receiving) c (tables_of tree) (numbers_of before))
+    × PlacesAlike tree r.node counts c
+    × (kept_numbers now ≡ kept_after (is_read tree r.node receiving) c (tables_of tree) (kept_numbers before))
 
 -- a reference has this element under the counts that it needs, and so many are kept then
 abbrev pub FindsNeeded : Forest Resolved → Ref → Bool → List ℕ → (before now : List (Option StoredCount)) → Found → Type 0
 FindsNeeded tree r receiving bytes before now found = (c : List ℕ) × NeededOf tree r.node receiving bytes (Ok c)
     × (element_under c tree r ≡ Some found)
-    × (numbers_of now ≡ kept_after (is_read tree r.node receiving) c (tables_of tree) (numbers_of before))
+    × (kept_numbers now ≡ kept_after (is_read tree r.node receiving) c (tables_of tree) (kept_numbers before))
 
 -- A reference has this element where all counts that it needs are kept: it stands so under them, none of them is read anew, and what is kept stays.
 abbrev pub IsFoundKept : Forest Resolved → Ref → Bool → (bytes : List ℕ) → List (Option StoredCount) → Found → Type 0
 IsFoundKept tree r receiving bytes ks found =
     (counts : List ℕ) × NeededOf tree r.node receiving bytes (Ok counts) × (element_under counts tree r ≡ Some found)
-    × (numbers_of ks ≡ kept_after (is_read tree r.node receiving) counts (tables_of tree) (numbers_of ks))
-    × TakenAnew tree bytes (is_read tree r.node receiving) (tables_of tree) (numbers_of ks) (greatest_counts tree) (Ok counts) 0
+    × (kept_numbers ks ≡ kept_after (is_read tree r.node receiving) counts (tables_of tree) (kept_numbers ks))
+    × TakenAnew tree bytes (is_read tree r.node receiving) (tables_of tree) (kept_numbers ks) (greatest_counts tree) (Ok counts) 0
 
 -- the count that is kept is this one
 abbrev pub is_kept_as : Option StoredCount → ℕ → Bool

@@ -5,7 +5,7 @@ use Rattle.cob_layout_places.specs.declared.spots.Spot.{Spot}
 use Rattle.cob_layout.specs.declared.footings.Footing.{Footing}
 use Rattle.cob_layout.specs.declared.shifts.Shift.{Shift}
 use Rattle.cob_layout.specs.declared.ways.Way.{Way}
-use Rattle.cob_layout.specs.Shifts.{shifted}
+use Rattle.cob_layout.specs.Shifts.{shifted_spot}
 use Rattle.cob_layout.specs.Ways.{end_of_table, held, held_at, spot_at}
 
 -- the shift of an entry
@@ -30,5 +30,5 @@ pub record AreFootings (ways : List Way) (shifts : List Shift) (least : List Spo
 -- the first element of an entry under counts whose sums these are
 abbrev pub first_by : List ℕ → Footing → Found
 first_by sums f =
-    let own = shifted sums 0 f.shift f.least in
+    let own = shifted_spot sums 0 f.shift f.least in
     record { offset = own.offset; length = own.length; within = true }

@@ -167,12 +167,12 @@ pub record AreKeptOf (tree : Forest Resolved) (bytes : List ℕ) (ks : List (Opt
       → (j : StoredCount) × IsKeptAs y j (tables_of tree) ks
 
 -- the number of a count that is kept
-abbrev pub number_of : Option StoredCount → Option ℕ
-number_of k = option_map (λ (stored : StoredCount). stored.number) k
+abbrev pub kept_number : Option StoredCount → Option ℕ
+kept_number k = option_map (λ (stored : StoredCount). stored.number) k
 
 -- those of several
-abbrev pub numbers_of : List (Option StoredCount) → List (Option ℕ)
-numbers_of ks = map number_of ks
+abbrev pub kept_numbers : List (Option StoredCount) → List (Option ℕ)
+kept_numbers ks = map kept_number ks
 
 -- the count of a table, where the counts are these and the entries stand at these spots
 abbrev pub stored_at : List ℕ → List Spot → Table → StoredCount
@@ -191,7 +191,7 @@ kept_read read d spots (x ∷ xs) (k ∷ ks) = (if read x then Some (stored_at d
 -- so many reads are counted as it takes to get this of a lone table, where so much is kept
 abbrev pub ReadsLone : Forest Resolved → Table → List ℕ → List (Option StoredCount) → Result ℕ CountFault → (before now : ℕ) → Type 0
 ReadsLone tree x bytes ks outcome before now =
-    (n : ℕ) × IsReadOne tree bytes x (first_kept (numbers_of ks)) (greatest_counts tree) outcome n × (now ≡ min (before + n) most_reads)
+    (n : ℕ) × IsReadOne tree bytes x (first_kept (kept_numbers ks)) (greatest_counts tree) outcome n × (now ≡ min (before + n) most_reads)
 
 -- the table is one of those whose counts are needed
 abbrev pub is_asked_by : Needed → Table → Bool
@@ -200,10 +200,10 @@ is_asked_by needed = is_needed needed.behind needed.last needed.number
 -- so many reads are counted as it takes to get this of the tables that are read, where so much is kept
 abbrev pub TakesAnew : Forest Resolved → (Table → Bool) → List ℕ → List (Option StoredCount) → Result (List ℕ) CountFault → (before now : ℕ) → Type 0
 TakesAnew tree read bytes ks outcome before now =
-    (n : ℕ) × TakenAnew tree bytes read (tables_of tree) (numbers_of ks) (greatest_counts tree) outcome n × (now ≡ min (before + n) most_reads)
+    (n : ℕ) × TakenAnew tree bytes read (tables_of tree) (kept_numbers ks) (greatest_counts tree) outcome n × (now ≡ min (before + n) most_reads)
 
 -- so many reads are counted as a reference takes, whatever it finds
 abbrev pub ReadsAnew : Forest Resolved → Ref → Bool → List ℕ → List (Option StoredCount) → (before now : ℕ) → Type 0
 ReadsAnew tree r receiving bytes ks before now = (c : Result (List ℕ) CountFault) × (n : ℕ)
-    × TakenAnew tree bytes (is_read tree r.node receiving) (tables_of tree) (numbers_of ks) (greatest_counts tree) c n
+    × TakenAnew tree bytes (is_read tree r.node receiving) (tables_of tree) (kept_numbers ks) (greatest_counts tree) c n
     × (now ≡ min (before + n) most_reads)

@@ -79,8 +79,8 @@ sums_of tree counts = sums_by counts (growths_from (spots_of (times []) tree 0 0
 
 -- The spot of an entry with this count, from its spot where the tables that vary have no element: it begins behind the sum before it, and is longer by what
 -- grows beneath it.
-abbrev pub shifted : List ℕ → ℕ → Shift → Spot → Spot
-shifted sums count s least = record {
+abbrev pub shifted_spot : List ℕ → ℕ → Shift → Spot → Spot
+shifted_spot sums count s least = record {
   offset = least.offset + slice_index sums s.before;
   length = least.length + slice_index sums s.through - slice_index sums s.before;
   times = max least.times (min count s.most);
@@ -90,10 +90,10 @@ shifted sums count s least = record {
 abbrev pub all_shifted : List ℕ → List ℕ → ℕ → List Shift → List Spot → List Spot
 all_shifted sums counts k [] least = []
 all_shifted sums counts k (s ∷ ss) [] = []
-all_shifted sums counts k (s ∷ ss) (x ∷ xs) = shifted sums (slice_index counts k) s x ∷ all_shifted sums counts (k + 1) ss xs
+all_shifted sums counts k (s ∷ ss) (x ∷ xs) = shifted_spot sums (slice_index counts k) s x ∷ all_shifted sums counts (k + 1) ss xs
 
 -- an entry's tables are among those that the sums are of, what grows beneath it makes it no shorter, and where it only moves, nothing does
-pub record IsWithin (sums : List ℕ) (s : Shift) : Type 0 where
+pub record FitsSums (sums : List ℕ) (s : Shift) : Type 0 where
   pub there : (s.before < length sums) × (s.through < length sums)
   pub rises : slice_index sums s.before ≤ slice_index sums s.through
   pub plain : s.only_moves ≡ true → (s.through ≡ s.before) × (s.most ≡ 0)
@@ -101,7 +101,7 @@ pub record IsWithin (sums : List ℕ) (s : Shift) : Type 0 where
 -- these sums shift these spots: there is one for each entry, and each sum and each spot lies within the longest record
 pub record CanShift (sums : List ℕ) (shifts : List Shift) (spots : List Spot) : Type 0 where
   pub as_many : length spots ≡ length shifts
-  pub within : AllByRecursion (IsWithin sums) shifts
+  pub within : AllByRecursion (FitsSums sums) shifts
   pub small : AllByRecursion (λ (s : Spot). s.offset + s.length ≤ longest_record) spots
   pub low : (k : ℕ) → slice_index sums k ≤ longest_record
 

@@ -7,7 +7,7 @@ ghost use Rattle.std.specs.Prelude.{◌≡◌, ◌+◌, ◌≤◌, ℕ, length, 
 ghost use Rattle.cob_limits.specs.Limits.{longest_record};
 ghost use Rattle.cob_layout.specs.Kept.{is_asked_by, kept_read, stored_at};
 ghost use Rattle.cob_layout.specs.Footings.{first_by};
-ghost use Rattle.cob_layout.specs.Shifts.{all_shifted, CanShift, IsWithin};
+ghost use Rattle.cob_layout.specs.Shifts.{all_shifted, CanShift, FitsSums};
 ghost use Rattle.cob_layout.specs.Ways.{moved, spot_at};
 
 use crate::counts::{StoredCount, count_at};
@@ -40,7 +40,7 @@ pub(crate) fn spot_by(
 /// The first element of an entry under counts whose sums these are, from what its place rests on.
 #[inline(always)]
 pub(crate) fn first_by(footing: Footing, sums: &[u32]) -> Found
-    requires within { IsWithin sums.now footing.shift }
+    requires within { FitsSums sums.now footing.shift }
     requires small { footing.least.offset + footing.least.length ≤ longest_record }
     requires low { (k : ℕ) → slice_index sums.now k ≤ longest_record }
     ensures { result ≡ first_by sums.now footing }

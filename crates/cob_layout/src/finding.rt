@@ -13,7 +13,7 @@ ghost use Rattle.cob_layout_places.specs.Needs.{is_read};
 ghost use Rattle.cob_layout_places.specs.References.{Refers};
 ghost use Rattle.cob_layout.specs.Counting.{greatest_counts, NeededOf};
 ghost use Rattle.cob_layout.specs.Finding.{EndsInLength, IsFound, KeepsNeeded, OnCountFault, OnCounts, are_met, is_met};
-ghost use Rattle.cob_layout.specs.Kept.{ReadsAnew, TakenAnew, kept_after, most_reads, numbers_of};
+ghost use Rattle.cob_layout.specs.Kept.{ReadsAnew, TakenAnew, kept_after, most_reads, kept_numbers};
 ghost use Rattle.cob_layout.specs.Standing.{IsRoomFor, KeepsOf};
 
 use crate::counts::{Counts, StoredCount, count_at};
@@ -206,13 +206,13 @@ impl Layout {
         ensures keeps { KeepsOf self.now bytes.now counts.new }
         ensures kept { OnCounts result ((c : List ℕ)
             × NeededOf self.now reference.now.node receiving bytes.now (Ok c)
-            × (numbers_of counts.new.kept
+            × (kept_numbers counts.new.kept
             ≡ kept_after (is_read self.now reference.now.node receiving) c (tables_of self.now)
-            (numbers_of counts.old.kept))) }
+            (kept_numbers counts.old.kept))) }
         // So many counts were read, none of them one that was kept.
         ensures reads { (c : Result (List ℕ) CountFault) × (n : ℕ)
             × TakenAnew self.now bytes.now (is_read self.now reference.now.node receiving)
-            (tables_of self.now) (numbers_of counts.old.kept) (greatest_counts self.now) c n
+            (tables_of self.now) (kept_numbers counts.old.kept) (greatest_counts self.now) c n
             × (reads.new ≡ min (reads.old + n) most_reads) }
         ensures room { IsRoomFor self.now counts.new }
     {

@@ -5,7 +5,7 @@ ghost use Rattle.cob_copybook_tree.specs.Forests.{entries_in};
 ghost use Rattle.cob_layout_places.specs.Counts.{tables_of};
 ghost use Rattle.cob_layout_places.specs.Needs.{is_needed};
 ghost use Rattle.cob_layout.specs.Counting.{greatest_counts};
-ghost use Rattle.cob_layout.specs.Kept.{IsIn, IsReadOne, TakesAnew, is_asked_by, kept_read, most_reads, number_of, outcome_of, stored_at};
+ghost use Rattle.cob_layout.specs.Kept.{IsIn, IsReadOne, TakesAnew, is_asked_by, kept_read, most_reads, kept_number, outcome_of, stored_at};
 ghost use Rattle.cob_layout.specs.Standing.{first_number, meets, meets_kept, LieWithin};
 
 use crate::counts::{KeptRange, NO_RANGE, StoredCount, count_at};
@@ -24,7 +24,7 @@ pub(crate) struct Needed {
 
 /// The number of a count, where it is kept.
 fn number_of(kept: Option<StoredCount>) -> Option<u32>
-    ensures { result ≡ number_of kept }
+    ensures { result ≡ kept_number kept }
 {
     match kept {
         Some(stored) => Some(stored.number),

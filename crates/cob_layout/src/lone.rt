@@ -14,7 +14,7 @@ ghost use Rattle.cob_layout_places.specs.Places.{place_of};
 ghost use Rattle.cob_layout_places.specs.References.{Refers};
 ghost use Rattle.cob_layout.specs.Counting.{greatest_counts, NeededOf};
 ghost use Rattle.cob_layout.specs.Finding.{HasNeeded, ReachIn};
-ghost use Rattle.cob_layout.specs.Kept.{AreKeptOf, IsIn, ReadsAnew, ReadsLone, numbers_of};
+ghost use Rattle.cob_layout.specs.Kept.{AreKeptOf, IsIn, ReadsAnew, ReadsLone, kept_numbers};
 ghost use Rattle.cob_layout.specs.Shifts.{grow_in, sums_of};
 ghost use Rattle.cob_layout.specs.Sound.{IsSound};
 ghost use Rattle.cob_layout.specs.Standing.{LieWithin};
@@ -110,7 +110,7 @@ impl Layout {
         requires within { LieWithin range.old kept.old }
         ensures read { ReadsLone self.now table bytes.now kept.old result reads.old reads.new }
         ensures same { OnErr result (kept.new ≡ kept.old) }
-        ensures kept { IfOk result (λ v. numbers_of kept.new ≡ Some v ∷ []) }
+        ensures kept { IfOk result (λ v. kept_numbers kept.new ≡ Some v ∷ []) }
         ensures within { LieWithin range.new kept.new }
         ensures keeps { OnOk result (AreKeptOf self.now bytes.now kept.new) }
     {

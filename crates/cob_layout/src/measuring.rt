@@ -6,7 +6,7 @@ ghost use Rattle.cob_copybook_tree.specs.Lengths.{greatest_number, sum_of};
 ghost use Rattle.cob_layout_places.specs.Counts.{tables_of};
 ghost use Rattle.cob_layout_places.specs.Lengths.{times};
 ghost use Rattle.cob_layout.specs.Counting.{CountsOf};
-ghost use Rattle.cob_layout.specs.Kept.{all_kept, numbers_of};
+ghost use Rattle.cob_layout.specs.Kept.{all_kept, kept_numbers};
 ghost use Rattle.cob_layout.specs.Standing.{IsRoomFor, KeepsOf};
 
 use crate::counts::Counts;
@@ -94,7 +94,7 @@ impl Layout {
         ensures keeps { KeepsOf self.now bytes.now counts.new }
         // The count of each table is kept then.
         ensures kept { IfOk result (λ _. (c : List ℕ) × CountsOf self.now bytes.now (Ok c)
-            × (numbers_of counts.new.kept ≡ all_kept c (tables_of self.now))) }
+            × (kept_numbers counts.new.kept ≡ all_kept c (tables_of self.now))) }
         ensures room { IsRoomFor self.now counts.new }
     {
         // For `least` and `most`: a record description is sound, and the layout is that of one.

@@ -9,7 +9,7 @@ ghost use Rattle.cob_layout_places.specs.References.{Refers};
 ghost use Rattle.cob_layout_places.specs.Spots.{spots_of};
 ghost use Rattle.cob_layout.specs.Counting.{greatest_counts, NeededOf};
 ghost use Rattle.cob_layout.specs.Fields.{with_field};
-ghost use Rattle.cob_layout.specs.Kept.{AreKeptOf, TakenAnew, TakesAnew, kept_read, most_reads, numbers_of, outcome_of};
+ghost use Rattle.cob_layout.specs.Kept.{AreKeptOf, TakenAnew, TakesAnew, kept_read, most_reads, kept_numbers, outcome_of};
 ghost use Rattle.cob_layout.specs.Standing.{AreSomePlaces, IsRoomFor, KeepsOf, written};
 
 use crate::counts::{Counts, StoredCount};
@@ -121,7 +121,7 @@ impl Layout {
         // So many counts were read, none of them one that was kept.
         ensures reads { (n : ℕ) × TakenAnew self.now bytes.now
             (is_read self.now reference.now.node receiving) (tables_of self.now)
-            (numbers_of counts.old.kept) (greatest_counts self.now)
+            (kept_numbers counts.old.kept) (greatest_counts self.now)
             (outcome_of result counts.new.counts) n
             × (reads.new ≡ min (reads.old + n) most_reads) }
         ensures room { IsRoomFor self.now counts.new }

@@ -11,7 +11,7 @@ ghost use Rattle.cob_copybook_tree.specs.Nodes.{node, tree_of};
 ghost use Rattle.cob_limits.specs.Limits.{longest_record};
 ghost use Rattle.cob_layout_places.specs.Lengths.{times};
 ghost use Rattle.cob_layout_places.specs.Spots.{spots_of};
-ghost use Rattle.cob_layout.specs.Shifts.{AddsGrowth, CanAllGrow, CanGrow, CanShift, IsWithin, all_shifted, grow_in, growth_of, growths_from, next_sum, own_bytes, own_growth, shift_of, shifted, shifts_from, sums_by, sums_of};
+ghost use Rattle.cob_layout.specs.Shifts.{AddsGrowth, CanAllGrow, CanGrow, CanShift, FitsSums, all_shifted, grow_in, growth_of, growths_from, next_sum, own_bytes, own_growth, shift_of, shifted_spot, shifts_from, sums_by, sums_of};
 
 use crate::counts::{count_at, greatest_count};
 use crate::layout::Layout;
@@ -211,10 +211,10 @@ fn put_sums(growths: &[Growth], counts: &[u32], sums: &mut [u32])
 /// The spot of an entry with this count, from its least one.
 #[inline(always)]
 pub(crate) fn shifted(shift: Shift, least: Spot, sums: &[u32], count: u32) -> Spot
-    requires within { IsWithin sums.now shift }
+    requires within { FitsSums sums.now shift }
     requires small { least.offset + least.length ≤ longest_record }
     requires low { (k : ℕ) → slice_index sums.now k ≤ longest_record }
-    ensures { result ≡ shifted sums.now count shift least }
+    ensures { result ≡ shifted_spot sums.now count shift least }
 {
     let before = sums[shift.before];
     let offset = least.offset + before;

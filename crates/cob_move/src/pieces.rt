@@ -9,7 +9,7 @@ ghost use Rattle.cob_move.specs.Paragraphs.{IsParagraphOf};
 ghost use Rattle.cob_move.specs.Pieces.{AddsMoves, IsParagraphAmong, IsRefusedMemory, ReadsPiece, SaysNext, SaysSoFar};
 ghost use Rattle.cob_move_statements.specs.Statements.{FollowsStatements, IsParagraph};
 ghost use Rattle.cob_move_statements.specs.Written.{written_statements};
-ghost use Rattle.cob_source.specs.Ahead.{AreNumbered, IsNoted, IsReadTo};
+ghost use Rattle.cob_source.specs.Ahead.{HaveLineNumbers, IsNoted, IsReadTo};
 ghost use Rattle.cob_source.specs.Tokens.{lexemes};
 
 use crate::entries::Entries;
@@ -55,10 +55,10 @@ fn read_piece(
     ahead: &mut WordsAhead<'_>,
     words: &mut Vec<Token>,
 ) -> Result<Option<bool>, MoveFault>
-    requires numbered { AreNumbered ahead.old }
+    requires numbered { HaveLineNumbers ahead.old }
     requires noted { IsNoted ahead.old }
     ensures read { IfOk result (λ o. IfSome o (ReadsPiece ahead.old ahead.new words.new.items)) }
-    ensures numbered { IfOk result (λ o. IfSome o (λ more. AreNumbered ahead.new)) }
+    ensures numbered { IfOk result (λ o. IfSome o (λ more. HaveLineNumbers ahead.new)) }
     ensures noted { IfOk result (λ o. IfSome o (λ more. IsNoted ahead.new)) }
     ensures fault { IfErr result IsRefusedMemory }
 {
@@ -166,13 +166,13 @@ fn add_first(
 ) -> Result<Option<bool>, MoveFault>
     requires named { AllMayBeNamed entries.now }
     requires pairs { ArePairsOf (records_of entries.now) pairs.old }
-    requires numbered { AreNumbered ahead.old }
+    requires numbered { HaveLineNumbers ahead.old }
     requires noted { IsNoted ahead.old }
     requires none { list.old.items ≡ [] }
     ensures says { IfOk result (λ o. IfSome o (λ more. (text : List ℕ)
         → IsReadTo text [] ahead.old → SaysSoFar text entries.now list.new.items ahead.new more)) }
     ensures pairs { ArePairsOf (records_of entries.now) pairs.new }
-    ensures numbered { IfOk result (λ o. IfSome o (λ more. AreNumbered ahead.new)) }
+    ensures numbered { IfOk result (λ o. IfSome o (λ more. HaveLineNumbers ahead.new)) }
     ensures noted { IfOk result (λ o. IfSome o (λ more. IsNoted ahead.new)) }
     ensures fault { IfErr result IsRefusedMemory }
 {
@@ -202,12 +202,12 @@ fn add_next(
 ) -> Result<Option<bool>, MoveFault>
     requires named { AllMayBeNamed entries.now }
     requires pairs { ArePairsOf (records_of entries.now) pairs.old }
-    requires numbered { AreNumbered ahead.old }
+    requires numbered { HaveLineNumbers ahead.old }
     requires noted { IsNoted ahead.old }
     ensures says { IfOk result (λ o. IfSome o (SaysNext entries.now list.old.items list.new.items
         ahead.old ahead.new)) }
     ensures pairs { ArePairsOf (records_of entries.now) pairs.new }
-    ensures numbered { IfOk result (λ o. IfSome o (λ more. AreNumbered ahead.new)) }
+    ensures numbered { IfOk result (λ o. IfSome o (λ more. HaveLineNumbers ahead.new)) }
     ensures noted { IfOk result (λ o. IfSome o (λ more. IsNoted ahead.new)) }
     ensures fault { IfErr result IsRefusedMemory }
 {

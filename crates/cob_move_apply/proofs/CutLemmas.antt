@@ -8,7 +8,7 @@ use Rattle.cob_move_data.specs.declared.operands.Operand.{Operand}
 use Rattle.cob_move_data.specs.Moves.{Sender, Entry, Literal, Move, Records}
 use Rattle.cob_move_apply.specs.declared.stop.Stop.{Stop}
 use Rattle.cob_move_apply.specs.Applied.{AllGet, Applied, Content, Ending, Gives, IsMoved, done, stopped}
-use Rattle.cob_move_apply.specs.Steps.{AreMovesCut, AreReceived, IsMoveCut, IsSteady, singles}
+use Rattle.cob_move_apply.specs.Steps.{AreMovesCut, AreReceived, IsMoveCut, SendsTheSame, singles}
 use Rattle.cob_move_apply.proofs.OneLemmas.{one_given, ok_is, ok_not, stop_of}
 
 -- ---- moves behind moves
@@ -52,13 +52,13 @@ Gained r content os ms input before end =
     ⊎ ((stop : Stop) × (after : List ℕ) × AllGet r.output content os before (stopped stop after) × (end ≡ stopped stop after))
 
 -- a steady sender gives the same, whatever the output is
-pub gives_on : (r : Records) (s : Sender) (input a b : List ℕ) (g : Result Content Stop) → IsSteady s → Gives r s input a g → Gives r s input b g
+pub gives_on : (r : Records) (s : Sender) (input a b : List ℕ) (g : Result Content Stop) → SendsTheSame s → Gives r s input a g → Gives r s input b g
 gives_on r (Entry In reading o) input a b g steady h = h
 gives_on r (Entry Out reading o) input a b g steady h = absurd steady
 gives_on r (Literal c) input a b g steady h = h
 
 -- a part of a move gets the same content
-part_gets : OneOfNeeded → (r : Records) (s : Sender) (p : Move) (content : Content) (input first before : List ℕ) (end : Ending) → IsSteady s → p.sender ≡ s
+part_gets : OneOfNeeded → (r : Records) (s : Sender) (p : Move) (content : Content) (input first before : List ℕ) (end : Ending) → SendsTheSame s → p.sender ≡ s
     → Gives r s input first (Ok content) → IsMoved r p input before end → AllGet r.output content p.receivers before end
 part_gets law r s p content input first before end steady is gives (inl (other, g, x)) =
     let given : Gives r s input before (Ok other) = subst (λ (q : Sender). Gives r q input before (Ok other)) is g in
@@ -68,7 +68,7 @@ part_gets law r s p content input first before end steady is gives (inr (stop, g
     let given : Gives r s input before (Err stop) = subst (λ (q : Sender). Gives r q input before (Err stop)) is g in
     absurd (ok_not content stop (one_given law r s input before (Ok content) (Err stop) (gives_on r s input first before (Ok content) steady gives) given))
 
-parts_get : OneOfNeeded → (r : Records) (s : Sender) (ps : List Move) (os : List Operand) (content : Content) (rest : List Move) (input first before : List ℕ) (end : Ending) → IsSteady s
+parts_get : OneOfNeeded → (r : Records) (s : Sender) (ps : List Move) (os : List Operand) (content : Content) (rest : List Move) (input first before : List ℕ) (end : Ending) → SendsTheSame s
     → Gives r s input first (Ok content) → AreReceived s ps os → Applied r (ps ++ rest) input before end → Gained r content os rest input before end
 parts_get law r s [] os content rest input first before end steady gives none x =
     subst (λ (xs : List Operand). Gained r content xs rest input before end) (sym none) (inl (before, refl, x))
@@ -85,7 +85,7 @@ parts_get law r s (p ∷ ps) os content rest input first before end steady gives
     (inr (stop, after, get_stopped r.output content p.receivers others before after stop got, e))
 
 -- with the content that the move's sender gives
-with_content : OneOfNeeded → (r : Records) (m : Move) (ps rest : List Move) (content : Content) (input before : List ℕ) (end : Ending) → IsSteady m.sender
+with_content : OneOfNeeded → (r : Records) (m : Move) (ps rest : List Move) (content : Content) (input before : List ℕ) (end : Ending) → SendsTheSame m.sender
     → Gives r m.sender input before (Ok content) → AreReceived m.sender ps m.receivers → Applied r (ps ++ rest) input before end → Follows r m rest input before end
 with_content law r m ps rest content input before end steady gives h x =
     elim (parts_get law r m.sender ps m.receivers content rest input before before end steady gives h x) [
@@ -94,7 +94,7 @@ with_content law r m ps rest content input before end steady gives h x =
     ]
 
 -- the first part says whether there is a content
-first_part : OneOfNeeded → (r : Records) (m p : Move) (ps rest : List Move) (input before : List ℕ) (end : Ending) → IsSteady m.sender
+first_part : OneOfNeeded → (r : Records) (m p : Move) (ps rest : List Move) (input before : List ℕ) (end : Ending) → SendsTheSame m.sender
     → AreReceived m.sender (p ∷ ps) m.receivers → Applied r (p ∷ (ps ++ rest)) input before end → Follows r m rest input before end
 first_part law r m p ps rest input before end steady h (inl (after, inl (content, g, x), y)) =
     with_content law r m (p ∷ ps) rest content input before end steady (subst (λ (s : Sender). Gives r s input before (Ok content)) h.0 g) h
@@ -140,11 +140,11 @@ singles_received : (s : Sender) (os : List Operand) → AreReceived s (singles s
 singles_received s [] = refl
 singles_received s (o ∷ os) = (refl, (os, refl, singles_received s os))
 
-singles_cut : (m : Move) (os : List Operand) → IsSteady m.sender → (os ≡ [] → ⊥) → AreReceived m.sender (singles m.sender os) m.receivers → IsMoveCut m (singles m.sender os)
+singles_cut : (m : Move) (os : List Operand) → SendsTheSame m.sender → (os ≡ [] → ⊥) → AreReceived m.sender (singles m.sender os) m.receivers → IsMoveCut m (singles m.sender os)
 singles_cut m [] steady some h = absurd (some refl)
 singles_cut m (o ∷ os) steady some h = inr (steady, h)
 
 -- a move that is cut into its single moves
-pub cut_singles : (m : Move) → IsSteady m.sender → (m.receivers ≡ [] → ⊥) → AreMovesCut (m ∷ []) (singles m.sender m.receivers)
+pub cut_singles : (m : Move) → SendsTheSame m.sender → (m.receivers ≡ [] → ⊥) → AreMovesCut (m ∷ []) (singles m.sender m.receivers)
 cut_singles m steady some =
     (singles m.sender m.receivers, [], sym (append-nil (singles m.sender m.receivers)), singles_cut m m.receivers steady some (singles_received m.sender m.receivers), refl)

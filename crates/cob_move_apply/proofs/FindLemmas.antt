@@ -10,7 +10,7 @@ use Rattle.cob_layout.specs.declared.finding.FindFault.{FindFault}
 use Rattle.cob_layout.specs.declared.finding.FindFault.TheVariants.{Count, Subscript}
 use Rattle.cob_layout.specs.Counting.{NeededOf, greatest_counts}
 use Rattle.cob_layout.specs.Finding.{IsFound, OnCounts}
-use Rattle.cob_layout.specs.Kept.{KeptGiveNeeded, ReadOnce, TakenAnew, kept_after, most_reads, numbers_of}
+use Rattle.cob_layout.specs.Kept.{KeptGiveNeeded, ReadOnce, TakenAnew, kept_after, most_reads, kept_numbers}
 use Rattle.cob_layout.specs.declared.layout.PlaceFault.{PlaceFault}
 use Rattle.cob_layout.specs.Laws.{OneOfNeeded}
 use Rattle.cob_layout.specs.Sound.{IsSound}
@@ -35,24 +35,24 @@ pub record Laws : Type 0 where
 abbrev pub ReadsFor : Forest Resolved → List ℕ → Operand → Bool → Survey → Survey → Type 0
 ReadsFor t bytes o receiving old new =
     (c : Result (List ℕ) CountFault) × (n : ℕ)
-    × TakenAnew t bytes (is_read t o.entry.node receiving) (tables_of t) (numbers_of old.counts.kept) (greatest_counts t) c n
+    × TakenAnew t bytes (is_read t o.entry.node receiving) (tables_of t) (kept_numbers old.counts.kept) (greatest_counts t) c n
     × (new.reads ≡ min (old.reads + n) most_reads)
 
 -- what is kept behind the operand's counts
 abbrev pub KeptFor : Forest Resolved → List ℕ → Operand → Bool → Survey → Survey → Type 0
 KeptFor t bytes o receiving old new =
     (c : List ℕ) × NeededOf t o.entry.node receiving bytes (Ok c)
-    × (numbers_of new.counts.kept ≡ kept_after (is_read t o.entry.node receiving) c (tables_of t) (numbers_of old.counts.kept))
+    × (kept_numbers new.counts.kept ≡ kept_after (is_read t o.entry.node receiving) c (tables_of t) (kept_numbers old.counts.kept))
 
 -- counts that are kept and those that are read anew are those that the operand needs
 outcome_is : Laws → (t : Forest Resolved) (bytes : List ℕ) (o : Operand) (receiving : Bool) (old : Survey) (a b : Result (List ℕ) CountFault) (n : ℕ) → IsSound t → IsOperand t o → IsSurvey t bytes old
-    → TakenAnew t bytes (is_read t o.entry.node receiving) (tables_of t) (numbers_of old.counts.kept) (greatest_counts t) a n
+    → TakenAnew t bytes (is_read t o.entry.node receiving) (tables_of t) (kept_numbers old.counts.kept) (greatest_counts t) a n
     → NeededOf t o.entry.node receiving bytes b → a ≡ b
 outcome_is laws t bytes o receiving old a b n sound is survey taken needed =
     laws.one t o.entry.node receiving bytes a b (
       needed_tables t o.entry.node receiving (tables_of t),
       those_needed laws.read t o.entry.node receiving sound (refers_has o.entry.node o.entry.subscripts.items t is.refers),
-      laws.needed t bytes o.entry.node receiving (numbers_of old.counts.kept) a n sound (numbers_kept t bytes old.counts.kept (as_many t old survey.room) survey.kept) taken,
+      laws.needed t bytes o.entry.node receiving (kept_numbers old.counts.kept) a n sound (numbers_kept t bytes old.counts.kept (as_many t old survey.room) survey.kept) taken,
     )
     needed
 
@@ -61,14 +61,14 @@ kept_spends : Laws → (t : Forest Resolved) (bytes : List ℕ) (o : Operand) (r
 kept_spends laws t bytes o receiving old new sound is survey (d, needed, kept) (c, n, taken, reads) =
     let same : c ≡ Ok d = outcome_is laws t bytes o receiving old c (Ok d) n sound is survey taken needed in
     read_spends laws.once t bytes (is_read t o.entry.node receiving) (greatest_counts t) d n old new
-    (subst (λ (r : Result (List ℕ) CountFault). TakenAnew t bytes (is_read t o.entry.node receiving) (tables_of t) (numbers_of old.counts.kept) (greatest_counts t) r n) same taken) reads kept
+    (subst (λ (r : Result (List ℕ) CountFault). TakenAnew t bytes (is_read t o.entry.node receiving) (tables_of t) (kept_numbers old.counts.kept) (greatest_counts t) r n) same taken) reads kept
 
 fault_spends : Laws → (t : Forest Resolved) (bytes : List ℕ) (o : Operand) (receiving : Bool) (old new : Survey) (f : CountFault) → IsSound t → IsOperand t o → IsSurvey t bytes old
     → NeededOf t o.entry.node receiving bytes (Err f) → ReadsFor t bytes o receiving old new → IsSpentAtStop t 0 old new
 fault_spends laws t bytes o receiving old new f sound is survey needed (c, n, taken, reads) =
     let same : c ≡ Err f = outcome_is laws t bytes o receiving old c (Err f) n sound is survey taken needed in
     refused_spends laws.once t bytes (is_read t o.entry.node receiving) (greatest_counts t) f n old new
-    (subst (λ (r : Result (List ℕ) CountFault). TakenAnew t bytes (is_read t o.entry.node receiving) (tables_of t) (numbers_of old.counts.kept) (greatest_counts t) r n) same taken) reads
+    (subst (λ (r : Result (List ℕ) CountFault). TakenAnew t bytes (is_read t o.entry.node receiving) (tables_of t) (kept_numbers old.counts.kept) (greatest_counts t) r n) same taken) reads
 
 -- where a place is found
 pub found_spends : Laws → (t : Forest Resolved) (bytes : List ℕ) (o : Operand) (receiving : Bool) (old new : Survey) (r : Result Place FindFault) (p : Place) → r ≡ Ok p → IsSound t → IsOperand t o

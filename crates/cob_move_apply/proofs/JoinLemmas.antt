@@ -7,7 +7,7 @@ use Rattle.cob_move_data.specs.declared.operands.Side.TheVariants.{In, Out}
 use Rattle.cob_move_data.specs.Moves.{Entry, Literal, Move, Records, Sender}
 use Rattle.cob_move_apply.specs.Joined.{CopyEnds, begun, begun_by, copies_of, copy_ends, last_end, plain_copy, steps_behind, steps_in}
 use Rattle.cob_move_apply.specs.Planned.{AreMore, HasOneMoveMore, counted_steps, end_behind, last_step_ends, step_count, step_ends}
-use Rattle.cob_move_apply.specs.Steps.{IsSteady, alone, singles}
+use Rattle.cob_move_apply.specs.Steps.{SendsTheSame, alone, singles}
 use Rattle.cob_move_apply.specs.declared.step.MovePlaces.{MovePlaces}
 use Rattle.cob_move_apply.specs.declared.step.Part.{Part}
 use Rattle.cob_move_apply.specs.declared.step.Step.{Step}
@@ -101,20 +101,20 @@ more_whole r m a b some h = record {
 }
 
 -- what the output record sends is no copy
-no_steps : (r : Records) (before : Option CopyEnds) (s : Sender) (os : List Operand) → (IsSteady s → ⊥) → begun_by before (map (plain_copy r s) os) ≡ length os
+no_steps : (r : Records) (before : Option CopyEnds) (s : Sender) (os : List Operand) → (SendsTheSame s → ⊥) → begun_by before (map (plain_copy r s) os) ≡ length os
 no_steps r before s [] never = refl
 no_steps r before (Entry In x q) (o ∷ os) never = absurd (never tt)
 no_steps r before (Literal c) (o ∷ os) never = absurd (never tt)
 no_steps r before (Entry Out x q) (o ∷ os) never = omega (arith, begun_none before, no_steps r None (Entry Out x q) os never)
 
-no_ends : (r : Records) (s : Sender) (os : List Operand) → (IsSteady s → ⊥) → last_end (map (plain_copy r s) os) ≡ None
+no_ends : (r : Records) (s : Sender) (os : List Operand) → (SendsTheSame s → ⊥) → last_end (map (plain_copy r s) os) ≡ None
 no_ends r s [] never = refl
 no_ends r (Entry In x q) (o ∷ os) never = absurd (never tt)
 no_ends r (Literal c) (o ∷ os) never = absurd (never tt)
 no_ends r (Entry Out x q) (o ∷ []) never = refl
 no_ends r (Entry Out x q) (o ∷ p ∷ os) never = no_ends r (Entry Out x q) (p ∷ os) never
 
-pub more_unsteady : (r : Records) (m : Move) (p : Part) (a b : List Step) → (IsSteady m.sender → ⊥) → b ≡ a ++ step.Part p ∷ [] → p.count ≡ length m.receivers → AreMore r (m ∷ []) a b
+pub more_unsteady : (r : Records) (m : Move) (p : Part) (a b : List Step) → (SendsTheSame m.sender → ⊥) → b ≡ a ++ step.Part p ∷ [] → p.count ≡ length m.receivers → AreMore r (m ∷ []) a b
 more_unsteady r m p a b never added size = record {
   counts = omega (arith, ap counted_steps added, counted_behind a (step.Part p), size, no_steps r (last_step_ends a) m.sender m.receivers never);
   last = ap last_step_ends added ∙ ends_behind a (step.Part p) ∙ sym (no_ends r m.sender m.receivers never);

@@ -12,7 +12,7 @@ use Rattle.cob_move_apply.specs.Applied.{AllGet, Applied, Content, Gets, Gives, 
 use Rattle.cob_move_apply.specs.Located.{Located}
 use Rattle.cob_move_apply.specs.Met.{HaveMet, ReceiverMet, ReceiversMet}
 use Rattle.cob_move_apply.specs.Spent.{PlaceMet}
-use Rattle.cob_move_apply.specs.Steps.{AreMovesCut, AreReceived, IsMoveCut, IsSteady}
+use Rattle.cob_move_apply.specs.Steps.{AreMovesCut, AreReceived, IsMoveCut, SendsTheSame}
 use Rattle.cob_move_apply.proofs.CutLemmas.{gives_on}
 use Rattle.cob_move_apply.proofs.ListLemmas.{next}
 use Rattle.cob_move_apply.proofs.OneLemmas.{ok_is, one_given, stop_of}
@@ -105,7 +105,7 @@ past_moves r (m ∷ own) ms input before after n (inr (stop, mid, moved, e)) h =
 
 -- ---- parts of moves
 
-parts_met : OneOfNeeded → (r : Records) (s : Sender) (ps : List Move) (os : List Operand) (content : Content) (rest : List Move) (input first before : List ℕ) (n : ℕ) → IsSteady s
+parts_met : OneOfNeeded → (r : Records) (s : Sender) (ps : List Move) (os : List Operand) (content : Content) (rest : List Move) (input first before : List ℕ) (n : ℕ) → SendsTheSame s
     → Gives r s input first (Ok content) → AreReceived s ps os → HaveMet r (ps ++ rest) input before n → ReceiversMet r.output content os before n (λ b k. HaveMet r rest input b k)
 parts_met law r s [] os content rest input first before n steady gives none h =
     subst (λ (xs : List Operand). ReceiversMet r.output content xs before n (λ b k. HaveMet r rest input b k)) (sym none) h

@@ -5,7 +5,7 @@ use Rattle.cob_copybook_tree.specs.Forests.{Forest}
 use Rattle.cob_copybook_tree.specs.Nodes.{Resolved}
 use Rattle.cob_layout.specs.declared.counts.StoredCount.{StoredCount}
 use Rattle.cob_layout.specs.declared.fields.Place.{Place}
-use Rattle.cob_layout.specs.Kept.{IsIn, IsKeptAs, ReadOnce, TakenAnew, kept_after, kept_in, most_reads, numbers_of, one_if, first_kept, others_kept}
+use Rattle.cob_layout.specs.Kept.{IsIn, IsKeptAs, ReadOnce, TakenAnew, kept_after, kept_in, most_reads, kept_numbers, one_if, first_kept, others_kept}
 use Rattle.cob_layout.specs.Standing.{RoomForCounts, Standing, forgotten, meets, meets_kept, written}
 use Rattle.cob_layout_places.specs.declared.counts.CountFault.{CountFault}
 use Rattle.cob_layout_places.specs.declared.varying.Table.{Table}
@@ -25,9 +25,9 @@ kept_below [] ks = omega arith
 kept_below (x ∷ xs) ks = omega (arith, at_most_one (first_kept ks), kept_below xs (others_kept ks))
 
 pub most_kept : (t : Forest Resolved) (s : Survey) → kept_of t s ≤ length (tables_of t)
-most_kept t s = kept_below (tables_of t) (numbers_of s.counts.kept)
+most_kept t s = kept_below (tables_of t) (kept_numbers s.counts.kept)
 
-none_kept : (xs : List Table) (n : ℕ) → kept_in xs (numbers_of (replicate n None)) ≡ 0
+none_kept : (xs : List Table) (n : ℕ) → kept_in xs (kept_numbers (replicate n None)) ≡ 0
 none_kept [] n = refl
 none_kept (x ∷ xs) zero = omega (arith, none_kept_of xs)
   where
@@ -77,19 +77,19 @@ as_many t s room = ap (λ (counts : RoomForCounts). counts.tables) room
 
 -- where none was refused
 pub read_spends : ReadOnce → (t : Forest Resolved) (bytes : List ℕ) (read : Table → Bool) (c d : List ℕ) (n : ℕ) (old new : Survey)
-    → TakenAnew t bytes read (tables_of t) (numbers_of old.counts.kept) c (Ok d) n → new.reads ≡ min (old.reads + n) most_reads
-    → numbers_of new.counts.kept ≡ kept_after read d (tables_of t) (numbers_of old.counts.kept) → IsSpent t 0 old new
+    → TakenAnew t bytes read (tables_of t) (kept_numbers old.counts.kept) c (Ok d) n → new.reads ≡ min (old.reads + n) most_reads
+    → kept_numbers new.counts.kept ≡ kept_after read d (tables_of t) (kept_numbers old.counts.kept) → IsSpent t 0 old new
 read_spends law t bytes read c d n old new taken reads kept =
     let xs : List Table = tables_of t in
-    let once = (law t bytes read xs (numbers_of old.counts.kept) c d (record { offset = 0; short = false }) n).0 taken in
-    let same : kept_of t new ≡ kept_in xs (kept_after read d xs (numbers_of old.counts.kept)) = ap (kept_in xs) kept in
+    let once = (law t bytes read xs (kept_numbers old.counts.kept) c d (record { offset = 0; short = false }) n).0 taken in
+    let same : kept_of t new ≡ kept_in xs (kept_after read d xs (kept_numbers old.counts.kept)) = ap (kept_in xs) kept in
     record { most = omega (arith, once, same, reads, allowed_none t) }
 
 -- where one was refused
 pub refused_spends : ReadOnce → (t : Forest Resolved) (bytes : List ℕ) (read : Table → Bool) (c : List ℕ) (e : CountFault) (n : ℕ) (old new : Survey)
-    → TakenAnew t bytes read (tables_of t) (numbers_of old.counts.kept) c (Err e) n → new.reads ≡ min (old.reads + n) most_reads → IsSpentAtStop t 0 old new
+    → TakenAnew t bytes read (tables_of t) (kept_numbers old.counts.kept) c (Err e) n → new.reads ≡ min (old.reads + n) most_reads → IsSpentAtStop t 0 old new
 refused_spends law t bytes read c e n old new taken reads =
-    let once = (law t bytes read (tables_of t) (numbers_of old.counts.kept) c [] e n).1 taken in
+    let once = (law t bytes read (tables_of t) (kept_numbers old.counts.kept) c [] e n).1 taken in
     record { most = omega (arith, once, reads, allowed_none t) }
 
 -- ---- a write
@@ -116,7 +116,7 @@ written_spends t before p old new true e long survey reads counts =
     let (x, k, is, kept, at) = met_kept p (tables_of t) old.counts.kept long e in
     (1, inr (refl, (x, k.place, is, survey.kept.items x k kept, at)), record { most = omega (arith, reads, most_kept t old, allowed_one t) })
 written_spends t before p old new false e long survey reads counts =
-    let same : kept_of t new ≡ kept_of t old = ap (λ (s : Standing). kept_in (tables_of t) (numbers_of s.kept)) counts in
+    let same : kept_of t new ≡ kept_of t old = ap (λ (s : Standing). kept_in (tables_of t) (kept_numbers s.kept)) counts in
     (0, inl refl, record { most = omega (arith, reads, same, allowed_none t) })
 
 pub wrote_spends : (t : Forest Resolved) (before : List ℕ) (p : Place) (old new : Survey) → IsSurvey t before old → new.reads ≡ old.reads → new.counts ≡ written p old.counts → PlaceSpends t before p old new
@@ -125,5 +125,5 @@ wrote_spends t before p old new survey reads counts =
 
 -- ---- nothing is kept
 
-pub forgotten_none : (t : Forest Resolved) (old new : Standing) → new ≡ forgotten old → kept_in (tables_of t) (numbers_of new.kept) ≡ 0
-forgotten_none t old new same = ap (λ (s : Standing). kept_in (tables_of t) (numbers_of s.kept)) same ∙ none_kept (tables_of t) (length old.kept)
+pub forgotten_none : (t : Forest Resolved) (old new : Standing) → new ≡ forgotten old → kept_in (tables_of t) (kept_numbers new.kept) ≡ 0
+forgotten_none t old new same = ap (λ (s : Standing). kept_in (tables_of t) (kept_numbers s.kept)) same ∙ none_kept (tables_of t) (length old.kept)

@@ -42,12 +42,12 @@ abbrev pub copy_ends : MovePlaces → CopyEnds
 copy_ends c = record { from = c.from.offset + c.from.length; to = c.to.offset + c.to.length }
 
 -- the copy begins on both sides where the one before ends
-abbrev pub meets : CopyEnds → MovePlaces → Bool
-meets e c = (e.from == c.from.offset) && (e.to == c.to.offset)
+abbrev pub goes_on_from : CopyEnds → MovePlaces → Bool
+goes_on_from e c = (e.from == c.from.offset) && (e.to == c.to.offset)
 
 -- a single move begins a step, but where it is a copy that begins on both sides where the copy before ends
 abbrev pub begun : Option CopyEnds → Option MovePlaces → ℕ
-begun (Some e) (Some c) = if meets e c then 0 else 1
+begun (Some e) (Some c) = if goes_on_from e c then 0 else 1
 begun _ _ = 1
 
 -- the steps that single moves begin, behind a copy that ends there

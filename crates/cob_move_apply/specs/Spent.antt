@@ -3,7 +3,7 @@ use Rattle.std.specs.Prelude.{◌≡◌, ◌⊎◌, ℕ, ◌+◌, ◌*◌, ◌�
 use Rattle.cob_copybook_tree.specs.Forests.{Forest}
 use Rattle.cob_copybook_tree.specs.Nodes.{Resolved}
 use Rattle.cob_layout.specs.declared.fields.Place.{Place}
-use Rattle.cob_layout.specs.Kept.{kept_in, numbers_of}
+use Rattle.cob_layout.specs.Kept.{kept_in, kept_numbers}
 use Rattle.cob_move_data.specs.declared.operands.Operand.{Operand}
 use Rattle.cob_layout_places.specs.Counts.{tables_of}
 use Rattle.cob_move_data.specs.Moves.{Move, Records}
@@ -14,7 +14,7 @@ use Rattle.cob_move_apply.specs.declared.survey.Survey.{Survey}
 
 -- how many counts are kept
 abbrev pub kept_of : Forest Resolved → Survey → ℕ
-kept_of tree s = kept_in (tables_of tree) (numbers_of s.counts.kept)
+kept_of tree s = kept_in (tables_of tree) (kept_numbers s.counts.kept)
 
 -- how many reads are allowed for receivers that met the item of a count: one of each table for each of them
 abbrev pub allowed : Forest Resolved → ℕ → ℕ

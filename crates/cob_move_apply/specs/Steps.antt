@@ -178,17 +178,17 @@ abbrev pub IsLocatedConstant : Records → List ConstantStep → List LocatedCon
 IsLocatedConstant r steps located number own = IsStepAt LocatedConstant (IsOfConstant r steps own) located number
 
 -- the move that the step of this number, of a kind, carries out
-abbrev pub numbered : (ℕ → MoveStep) → NumberedMove → PreparedMove
-numbered kind p = record { places = p.places; step = kind p.number }
+abbrev pub numbered_step : (ℕ → MoveStep) → NumberedMove → PreparedMove
+numbered_step kind p = record { places = p.places; step = kind p.number }
 
 -- a step stands for these moves: for one part, for a single move that was made ready, of one of the kinds that have a step of their own or of another kind,
 -- whatever the reading or as pictures say, or of a constant, or wherever its items stand, of an entry or of a constant, or for those that are a copy
 abbrev pub IsStep : Reading → Records → List StatementMoves → Support → Step → List Move → Type 0
 IsStep reading r given on (step.Part p) own = (m : Move) × (own ≡ m ∷ []) × IsMoveOfPart reading r given on.bases p m
-IsStep reading r given on (step.Number p) own = IsPreparedMove reading r on.prepared (numbered move_step.Number p) own
-IsStep reading r given on (step.Wide p) own = IsPreparedMove reading r on.prepared (numbered move_step.Wide p) own
-IsStep reading r given on (step.AnyNumber p) own = IsPreparedMove reading r on.prepared (numbered move_step.AnyNumber p) own
-IsStep reading r given on (step.Edited p) own = IsPreparedMove reading r on.prepared (numbered move_step.Edited p) own
+IsStep reading r given on (step.Number p) own = IsPreparedMove reading r on.prepared (numbered_step move_step.Number p) own
+IsStep reading r given on (step.Wide p) own = IsPreparedMove reading r on.prepared (numbered_step move_step.Wide p) own
+IsStep reading r given on (step.AnyNumber p) own = IsPreparedMove reading r on.prepared (numbered_step move_step.AnyNumber p) own
+IsStep reading r given on (step.Edited p) own = IsPreparedMove reading r on.prepared (numbered_step move_step.Edited p) own
 IsStep reading r given on (step.Characters p) own = IsPreparedMove reading r on.prepared (record { places = p.places; step = move_step.Characters p.step }) own
 IsStep reading r given on (step.Prepared p) own = IsPreparedMove reading r on.prepared p own
 IsStep reading r given on (step.Pictured q p) own = (m : Move) × (own ≡ m ∷ []) × IsPicturedPart reading r given on.bases on.pictured q p m
@@ -222,15 +222,15 @@ abbrev pub singles_of : Move → List Move
 singles_of m = singles m.sender m.receivers
 
 -- what is sent is the same before and behind a receiver: an entry of the input record, or a constant
-abbrev pub IsSteady : Sender → Type 0
-IsSteady (Entry In reading o) = Unit {0}
-IsSteady (Entry Out reading o) = ⊥
-IsSteady (Literal c) = Unit {0}
+abbrev pub SendsTheSame : Sender → Type 0
+SendsTheSame (Entry In reading o) = Unit {0}
+SendsTheSame (Entry Out reading o) = ⊥
+SendsTheSame (Literal c) = Unit {0}
 
 -- A move is cut into these: it is one, or what it sends is the same before and behind each receiver.
 abbrev pub IsMoveCut : Move → List Move → Type 0
 IsMoveCut m [] = ⊥
-IsMoveCut m (p ∷ ps) = ((p ≡ m) × (ps ≡ [])) ⊎ (IsSteady m.sender × AreReceived m.sender (p ∷ ps) m.receivers)
+IsMoveCut m (p ∷ ps) = ((p ≡ m) × (ps ≡ [])) ⊎ (SendsTheSame m.sender × AreReceived m.sender (p ∷ ps) m.receivers)
 
 -- moves are cut into these, one move's behind another's
 abbrev pub AreMovesCut : List Move → List Move → Type 0

@@ -20,7 +20,7 @@ ghost use Rattle.cob_move_data.specs.declared.operands.StatementMoves.TheVariant
 ghost use Rattle.cob_move_apply.specs.Joined.{begun, copy_ends, neither_varies};
 ghost use Rattle.cob_move_apply.specs.Planned.{AlwaysCopied, AlwaysGains, AlwaysGainsCut, AlwaysLocated, AlwaysLocatedConstant, AlwaysMore, AreBetween, AreReadyAs, AreWithinLongest, HasOneMore, HasOneMoveMore, IsPartIn, IsPictured, IsReady, IsStatementAt, copied_by, counted_steps, entry_alone, last_step_ends, pair_alone, part_alone, records_between, single_alone, step_count, step_ends};
 ghost use Rattle.cob_move_apply.specs.Planning.{CountsSteps, GainsAny, GainsStatement, HasPartMore, IsPlanFor, MoreByStatement, StepTakesCopy, StepsTakeCopy, entry_copy, move_alone, moves_alone, single_copy, singles_alone};
-ghost use Rattle.cob_move_apply.specs.Steps.{IsPreparedMove, IsSteady, alone, pair_at};
+ghost use Rattle.cob_move_apply.specs.Steps.{IsPreparedMove, SendsTheSame, alone, pair_at};
 ghost use Rattle.cob_move_steps.specs.Pictured.{KeepsPictured};
 ghost use Rattle.cob_move_steps.specs.Pool.{KeepsSteps};
 
@@ -443,9 +443,9 @@ fn push_singles(
 /// Whether what a sender gives is the same before and behind each receiver.
 fn is_steady(given: &Sender) -> bool
     ensures yes { (reading : Reading) (r : Records)
-        → IsTrue result → IsSteady (sender_by reading r given.now) }
+        → IsTrue result → SendsTheSame (sender_by reading r given.now) }
     ensures only { (reading : Reading) (r : Records)
-        → IsFalse result → IsSteady (sender_by reading r given.now) → ⊥ }
+        → IsFalse result → SendsTheSame (sender_by reading r given.now) → ⊥ }
 {
     !matches!(
         given,

@@ -3,7 +3,7 @@
 ghost use Rattle.std.specs.Prelude.{◌≡◌, ◌+◌, ◌≤◌, false, length, min, IfNone, IfSome, None, IfOk};
 ghost use Rattle.cob_limits.specs.Limits.{longest_record};
 ghost use Rattle.cob_layout.specs.Fields.{field_of, with_field};
-ghost use Rattle.cob_move_apply.specs.Joined.{copy_ends, meets};
+ghost use Rattle.cob_move_apply.specs.Joined.{copy_ends, goes_on_from};
 ghost use Rattle.cob_move_apply.specs.Planned.{AreWithinLongest, counted_steps, step_count, step_ends};
 ghost use Rattle.cob_move_apply.specs.Steps.{StandsForPrepared};
 ghost use Rattle.cob_move_apply.specs.Told.{most_moves_told};
@@ -221,7 +221,7 @@ pub(crate) fn both_copies(front: MovePlaces, next: MovePlaces) -> Option<MovePla
     requires short { AreWithinLongest next }
     ensures from { IfSome result (λ both. IsBoth front.from next.from both.from) }
     ensures to { IfSome result (λ both. IsBoth front.to next.to both.to) }
-    ensures none { IfNone result (meets (copy_ends front) next ≡ false) }
+    ensures none { IfNone result (goes_on_from (copy_ends front) next ≡ false) }
 {
     let from = both_places(front.from, next.from)?;
     let to = both_places(front.to, next.to)?;

@@ -25,7 +25,7 @@ use Rattle.cob_move_receive.specs.Sent.{Amount, Entry}
 use Rattle.cob_move_receive.specs.Numbers.{HoldsAligned}
 use Rattle.cob_move_receive.specs.Received.{Received, GetsNumber, GetsCharacters, outcome}
 use Rattle.cob_move_steps.specs.Steps.{received_form}
-use Rattle.cob_move_steps.specs.Ends.{Gives, IsNumberWriterFor, item_digits, SendsNumber}
+use Rattle.cob_move_steps.specs.Ends.{GivesSigned, IsNumberWriterFor, item_digits, SendsNumber}
 use Rattle.cob_move_steps.specs.declared.number_ends.NumberWriter.{NumberWriter}
 use Rattle.cob_move_steps.proofs.GivenLemmas.{gives_scaled}
 use Rattle.cob_move_steps.proofs.StepLemmas.{holds, match_true, not_false, not_true, number_item, number_shows}
@@ -61,7 +61,7 @@ left_nonzero false zero_is n h e = absurd (cc)
 left_nonzero true false n h e = elim (cases_eq n 0) [ inl z ↦ (let no : IsTrue false = h z in absurd (cc)) | inr p ↦ omega arith ]
 
 pub moved_number : (s r : Item) (w : NumberWriter) (reading : Reading) (bytes : List ℕ) (told minus left zero_is : Bool) (kept new : List ℕ) (n : ℕ) → IsNumberWriterFor r w → n ≡ item_size r → not told ≡ false
-    → IsNumberRead (Gives reading s (last_bytes (item_size s) bytes)) (item_digits r) (scale r.picture.positions -ℤ scale s.picture.positions) told minus kept
+    → IsNumberRead (GivesSigned reading s (last_bytes (item_size s) bytes)) (item_digits r) (scale r.picture.positions -ℤ scale s.picture.positions) told minus kept
     → IsTrue zero_is ↔ AreZero kept → left ≡ (minus && not zero_is)
     → (AreTens kept → (IsTrue left → 0 < number_of (take (item_digits r) kept)) → new ≡ received_form r left (take (item_digits r) kept))
     → Received (Entry (ItemKind s) (last_bytes (item_size s) bytes) reading) (ItemKind r) n (outcome true new)
@@ -69,14 +69,14 @@ moved_number s r w reading bytes told minus left zero_is kept new n is size numb
     let item : List ℕ = last_bytes (item_size s) bytes in
     let count : ℕ = item_digits r in
     let shift : ℤ = scale r.picture.positions -ℤ scale s.picture.positions in
-    let a : AreRead (Gives reading s item) count shift minus kept = read.number (not_false told number) in
+    let a : AreRead (GivesSigned reading s item) count shift minus kept = read.number (not_false told number) in
     let v : Amount = record { negative = a.negative; digits = a.digits; scale = scale s.picture.positions } in
     let both = wanted_zero count shift (number_of a.digits) kept is.few a.held in
     let some : IsTrue left → 0 < number_of (take count kept) =
     λ t. left_nonzero minus zero_is (number_of (take count kept)) (λ e. zero.1 (both.1 e)) (subst (λ b. IsTrue b) left_is t) in
     let stored : new ≡ received_form r (minus && not zero_is) (take count kept) =
     written (wanted_tens count shift (number_of a.digits) kept a.held) some ∙ ap (λ b. received_form r b (take count kept)) left_is in
-    let h : HoldsAligned r v new = holds s r (Gives reading s item) minus zero_is kept new is.few a zero stored in
+    let h : HoldsAligned r v new = holds s r (GivesSigned reading s item) minus zero_is kept new is.few a zero stored in
     match_true (shows_number r.picture.category) (GetsNumber (Entry (ItemKind s) item reading) r (Some new)) (GetsCharacters (Entry (ItemKind s) item reading) (ItemKind r) n (Some new)) (number_shows r (number_item r is.number)) (
       v,
       a.represented,
@@ -84,7 +84,7 @@ moved_number s r w reading bytes told minus left zero_is kept new n is size numb
     )
 
 pub no_number_moved : (s r : Item) (w : NumberWriter) (reading : Reading) (bytes : List ℕ) (told minus : Bool) (kept new : List ℕ) (n : ℕ) → IsNumberWriterFor r w → SendsNumber s → not told ≡ true
-    → IsNumberRead (Gives reading s (last_bytes (item_size s) bytes)) (item_digits r) (scale r.picture.positions -ℤ scale s.picture.positions) told minus kept
+    → IsNumberRead (GivesSigned reading s (last_bytes (item_size s) bytes)) (item_digits r) (scale r.picture.positions -ℤ scale s.picture.positions) told minus kept
     → Received (Entry (ItemKind s) (last_bytes (item_size s) bytes) reading) (ItemKind r) n (outcome false new)
 no_number_moved s r w reading bytes told minus kept new n is sends none read =
     let item : List ℕ = last_bytes (item_size s) bytes in

@@ -28,7 +28,7 @@ use Rattle.cob_codec_lanes.specs.Texts.{AreDigitsAt, AreWidelyShown, digit_shown
 use Rattle.cob_codec_lanes.specs.Words.{IsNumberRead}
 use Rattle.cob_codec_lanes.specs.declared.text.WideText.{WideText}
 use Rattle.cob_move_receive.specs.Numbers.{IsUnedited}
-use Rattle.cob_move_steps.specs.Ends.{Gives, item_digits}
+use Rattle.cob_move_steps.specs.Ends.{GivesSigned, item_digits}
 use Rattle.cob_move_steps.specs.Texts.{AreLed, digit_bytes_from, IsWideEditedItem, IsWideTextFor}
 use Rattle.cob_move_steps.proofs.GivenLemmas.{at_scale, edited_given, edited_gives}
 use Rattle.cob_move_steps.proofs.TextLemmas.{led_digits}
@@ -240,7 +240,7 @@ module _ (i : Item) (item lanes : List ℕ) (zeros : ℕ) (t : WideText) (c : Ar
 
 read_as : (from to : Item) (reading : Reading) (item ds kept : List ℕ) (negative : Bool) → IsWideEditedItem from → IsUnedited from item (at_scale from negative ds)
     → AreWanted (item_digits to) (scale to.picture.positions -ℤ scale from.picture.positions) (number_of ds) kept
-    → AreRead (Gives reading from item) (item_digits to) (scale to.picture.positions -ℤ scale from.picture.positions) negative kept
+    → AreRead (GivesSigned reading from item) (item_digits to) (scale to.picture.positions -ℤ scale from.picture.positions) negative kept
 read_as from to reading item ds kept negative edited u held = record {
   negative = negative;
   digits = ds;
@@ -255,7 +255,7 @@ pub text_read : (from to : Item) (reading : Reading) (item lanes kept plain : Li
     → AreWidelyShown t false lanes plain → (IsTrue plus ↔ (plain ≡ padded_text item)) → (IsTrue plus → IsTrue told)
     → (IsFalse plus → (made : List ℕ) × AreWidelyShown t true lanes made × (IsTrue told ↔ (made ≡ padded_text item)))
     → AreWanted (item_digits to) (scale to.picture.positions -ℤ scale from.picture.positions) (number_of (own_digits from lanes)) kept
-    → IsNumberRead (Gives reading from item) (item_digits to) (scale to.picture.positions -ℤ scale from.picture.positions) told (not plus) kept
+    → IsNumberRead (GivesSigned reading from item) (item_digits to) (scale to.picture.positions -ℤ scale from.picture.positions) told (not plus) kept
 text_read from to reading item lanes kept plain zeros t true told c shown is_plus tells other held = record {
   number = λ e. read_as from to reading item (own_digits from lanes) kept false c.edited (plus_unedited from item lanes zeros t c plain shown (is_plus.0 refl)) held;
   nothing = λ e negative ds gives. true≢false (sym (tells refl) ∙ e);

@@ -21,7 +21,7 @@ use Rattle.cob_codec_lanes.proofs.WantedLemmas.{wanted_aligned, wanted_valid, wa
 use Rattle.cob_move_receive.specs.Sent.{Amount, Entry}
 use Rattle.cob_move_receive.specs.Numbers.{HoldsAligned}
 use Rattle.cob_move_receive.specs.Received.{Received, GetsNumber, GetsCharacters, outcome}
-use Rattle.cob_move_steps.specs.Ends.{Gives, SendsNumber}
+use Rattle.cob_move_steps.specs.Ends.{GivesSigned, SendsNumber}
 use Rattle.cob_move_steps.specs.Texts.{AreLed, IsPlainlyEdited, MakesTextsFor}
 use Rattle.cob_move_steps.proofs.GivenLemmas.{gives_scaled, match_false}
 use Rattle.cob_move_steps.proofs.StepLemmas.{match_true, not_false, not_true}
@@ -60,14 +60,14 @@ led_by represents count shift told minus kept number read =
 
 -- what an edited receiver gets of a number that was read, where the text of what is kept was written
 pub edited_as : (s r : Item) (reading : Reading) (bytes : List ℕ) (told minus : Bool) (kept new : List ℕ) (n : ℕ) → IsPlainlyEdited r → digits r.picture.positions ≤ 16 → not told ≡ false
-    → IsNumberRead (Gives reading s (last_bytes (item_size s) bytes)) (digits r.picture.positions) (scale r.picture.positions -ℤ scale s.picture.positions) told minus kept
+    → IsNumberRead (GivesSigned reading s (last_bytes (item_size s) bytes)) (digits r.picture.positions) (scale r.picture.positions -ℤ scale s.picture.positions) told minus kept
     → IsEdited r.picture r.blank minus (take (digits r.picture.positions) kept) (scale r.picture.positions) new
     → Received (Entry (ItemKind s) (last_bytes (item_size s) bytes) reading) (ItemKind r) n (outcome true new)
 edited_as s r reading bytes told minus kept new n receives few number read there =
     let item : List ℕ = last_bytes (item_size s) bytes in
     let count : ℕ = digits r.picture.positions in
     let shift : ℤ = scale r.picture.positions -ℤ scale s.picture.positions in
-    let a : AreRead (Gives reading s item) count shift minus kept = read.number (not_false told number) in
+    let a : AreRead (GivesSigned reading s item) count shift minus kept = read.number (not_false told number) in
     let v : Amount = record { negative = a.negative; digits = a.digits; scale = scale s.picture.positions } in
     let h : IsEdited r.picture r.blank a.negative a.digits (scale s.picture.positions) new =
     edited_of_sent r.picture r.blank minus a.negative (take count kept) a.digits new (scale s.picture.positions)
@@ -82,19 +82,19 @@ edited_as s r reading bytes told minus kept new n receives few number read there
 -- the same, where it was made of what is kept
 pub edited : (s r : Item) (reading : Reading) (bytes : List ℕ) (told minus : Bool) (kept made new : List ℕ) (is_made : Bool → List ℕ → List ℕ → Type 0) (n front : ℕ) → IsPlainlyEdited r → digits r.picture.positions ≤ 16
     → n ≡ item_size r → not told ≡ false
-    → IsNumberRead (Gives reading s (last_bytes (item_size s) bytes)) (digits r.picture.positions) (scale r.picture.positions -ℤ scale s.picture.positions) told minus kept
+    → IsNumberRead (GivesSigned reading s (last_bytes (item_size s) bytes)) (digits r.picture.positions) (scale r.picture.positions -ℤ scale s.picture.positions) told minus kept
     → MakesTextsFor r front is_made → front ≡ prefix_len (λ d. d == 0) (take (digits r.picture.positions) kept) → is_made minus kept made → new ≡ take n made
     → Received (Entry (ItemKind s) (last_bytes (item_size s) bytes) reading) (ItemKind r) n (outcome true new)
 edited s r reading bytes told minus kept made new is_made n front receives few size number read text zeros_are shown cut =
     let count : ℕ = digits r.picture.positions in
-    let led : AreLed count kept = led_by (Gives reading s (last_bytes (item_size s) bytes)) count (scale r.picture.positions -ℤ scale s.picture.positions) told minus kept number read in
+    let led : AreLed count kept = led_by (GivesSigned reading s (last_bytes (item_size s) bytes)) count (scale r.picture.positions -ℤ scale s.picture.positions) told minus kept number read in
     let own : IsEdited r.picture r.blank minus (take count kept) (scale r.picture.positions) (take (item_size r) made) = text minus kept made led (sym zeros_are) shown in
     edited_as s r reading bytes told minus kept new n receives few number read
     (subst (λ xs. IsEdited r.picture r.blank minus (take count kept) (scale r.picture.positions) xs) (ap (λ m. take m made) (sym size) ∙ sym cut) own)
 
 -- what it gets where no number was read
 pub not_edited : (s r : Item) (reading : Reading) (bytes : List ℕ) (told minus : Bool) (kept new : List ℕ) (n : ℕ) → IsPlainlyEdited r → SendsNumber s → not told ≡ true
-    → IsNumberRead (Gives reading s (last_bytes (item_size s) bytes)) (digits r.picture.positions) (scale r.picture.positions -ℤ scale s.picture.positions) told minus kept
+    → IsNumberRead (GivesSigned reading s (last_bytes (item_size s) bytes)) (digits r.picture.positions) (scale r.picture.positions -ℤ scale s.picture.positions) told minus kept
     → Received (Entry (ItemKind s) (last_bytes (item_size s) bytes) reading) (ItemKind r) n (outcome false new)
 not_edited s r reading bytes told minus kept new n receives sends none read =
     let item : List ℕ = last_bytes (item_size s) bytes in

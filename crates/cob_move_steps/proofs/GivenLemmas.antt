@@ -17,7 +17,7 @@ use Rattle.cob_codec_lanes.specs.Readers.{AreNumeralsOf, AreRead}
 use Rattle.cob_codec_lanes.specs.Words.{IsNumberRead}
 use Rattle.cob_move_receive.specs.Sent.{Amount}
 use Rattle.cob_move_receive.specs.Numbers.{AreNumerals, digits_of, is_numeral, GivesUnder, IsNumberIn, IsReadAs, IsUnedited, ItemGives}
-use Rattle.cob_move_steps.specs.Ends.{Gives, IsNumeralItem, SendsNumber}
+use Rattle.cob_move_steps.specs.Ends.{GivesSigned, IsNumeralItem, SendsNumber}
 use Rattle.cob_move_steps.specs.Texts.{IsPlainlyEdited}
 use Rattle.cob_move_steps.proofs.StepLemmas.{from_match, match_true, number_item}
 
@@ -33,7 +33,7 @@ at_scale i negative ds = record { negative = negative; digits = ds; scale = scal
 
 -- ---- numbers
 
-pub number_gives : (reading : Reading) (i : Item) (bytes : List ℕ) (negative : Bool) (ds : List ℕ) → IsNumberItem i → IsSentBy reading i bytes negative ds → Gives reading i bytes negative ds
+pub number_gives : (reading : Reading) (i : Item) (bytes : List ℕ) (negative : Bool) (ds : List ℕ) → IsNumberItem i → IsSentBy reading i bytes negative ds → GivesSigned reading i bytes negative ds
 number_gives reading i bytes negative ds n sent =
     match_true (is_number i) (IsNumberIn reading i bytes (at_scale i negative ds)) (GivesUnder i.picture.category i bytes (at_scale i negative ds)) (number_item i n) (record { represents = sent; point = refl })
 
@@ -44,7 +44,7 @@ number_sent reading i bytes v n gives =
 
 -- what was read of a number is what it gives
 pub number_given : (reading : Reading) (i : Item) (bytes kept : List ℕ) (wanted : ℕ) (shift : ℤ) (told minus : Bool) → IsNumberItem i → IsNumberRead (IsSentBy reading i bytes) wanted shift told minus kept
-    → IsNumberRead (Gives reading i bytes) wanted shift told minus kept
+    → IsNumberRead (GivesSigned reading i bytes) wanted shift told minus kept
 number_given reading i bytes kept wanted shift told minus n read = record {
   number = λ e.
       let a : AreRead (IsSentBy reading i bytes) wanted shift minus kept = read.number e in
@@ -109,7 +109,7 @@ numeral_scaled i bytes v n r = record {
 -- ---- any item that gives a number
 
 -- it gives it at the scale of its picture
-pub gives_scaled : (reading : Reading) (i : Item) (bytes : List ℕ) (v : Amount) → SendsNumber i → ItemGives reading i bytes v → Gives reading i bytes v.negative v.digits
+pub gives_scaled : (reading : Reading) (i : Item) (bytes : List ℕ) (v : Amount) → SendsNumber i → ItemGives reading i bytes v → GivesSigned reading i bytes v.negative v.digits
 gives_scaled reading i bytes v sends g =
     elim sends [
       | inl n ↦ number_gives reading i bytes v.negative v.digits n (number_sent reading i bytes v n g)
@@ -158,7 +158,7 @@ numeral_digits (b ∷ bs) are =
     let small : b % 16 < 10 = omega (arith, within.0, within.1) in
     (small, numeral_digits bs are.1)
 
-numerals_give : (reading : Reading) (i : Item) (bytes : List ℕ) (negative : Bool) (ds : List ℕ) → IsNumeralItem i → AreNumeralsOf (item_size i) bytes negative ds → Gives reading i bytes negative ds
+numerals_give : (reading : Reading) (i : Item) (bytes : List ℕ) (negative : Bool) (ds : List ℕ) → IsNumeralItem i → AreNumeralsOf (item_size i) bytes negative ds → GivesSigned reading i bytes negative ds
 numerals_give reading i bytes negative ds n are =
     let valid : IsDigits (map low_digit bytes) = subst (λ xs. IsDigits xs) are.low_halves are.valid in
     let each : AreNumerals bytes = numerals_are bytes valid (λ k lt. are.zones k (omega (arith, are.long))) in
@@ -170,7 +170,7 @@ numerals_give reading i bytes negative ds n are =
           ∙ ap (λ z. record { negative = false; digits = digits_of bytes; scale = z }) n.whole;
     })
 
-numerals_of : (reading : Reading) (i : Item) (bytes : List ℕ) (negative : Bool) (ds : List ℕ) → IsNumeralItem i → length bytes ≡ item_size i → Gives reading i bytes negative ds → AreNumeralsOf (item_size i) bytes negative ds
+numerals_of : (reading : Reading) (i : Item) (bytes : List ℕ) (negative : Bool) (ds : List ℕ) → IsNumeralItem i → length bytes ≡ item_size i → GivesSigned reading i bytes negative ds → AreNumeralsOf (item_size i) bytes negative ds
 numerals_of reading i bytes negative ds n long gives =
     let r : IsReadAs bytes (at_scale i negative ds) = numeral_given reading i bytes (at_scale i negative ds) n gives in
     record {
@@ -183,7 +183,7 @@ numerals_of reading i bytes negative ds n long gives =
 
 -- what was read of characters is what they give
 pub numerals_given : (reading : Reading) (i : Item) (bytes kept : List ℕ) (wanted : ℕ) (shift : ℤ) (told minus : Bool) → IsNumeralItem i → length bytes ≡ item_size i
-    → IsNumberRead (AreNumeralsOf (item_size i) bytes) wanted shift told minus kept → IsNumberRead (Gives reading i bytes) wanted shift told minus kept
+    → IsNumberRead (AreNumeralsOf (item_size i) bytes) wanted shift told minus kept → IsNumberRead (GivesSigned reading i bytes) wanted shift told minus kept
 numerals_given reading i bytes kept wanted shift told minus n long read = record {
   number = λ e.
       let a : AreRead (AreNumeralsOf (item_size i) bytes) wanted shift minus kept = read.number e in

@@ -36,7 +36,7 @@ use Rattle.cob_move_receive.specs.Sent.{Entry}
 use Rattle.cob_move_receive.specs.Characters.{Arranged, GivesDigits, Placement, numerals_to_point, padded, padded_left, placement_in}
 use Rattle.cob_move_receive.specs.Copying.{is_of_characters}
 use Rattle.cob_move_receive.specs.Received.{GetsCharacters, GetsNumber, Received, outcome}
-use Rattle.cob_move_steps.specs.Ends.{Gives, item_digits, SuitsReading}
+use Rattle.cob_move_steps.specs.Ends.{GivesSigned, item_digits, SuitsReading}
 use Rattle.cob_move_steps.specs.Numerals.{IsNumeralsStep, MakesNumerals, numeral_count, numeral_lane, numeral_zone}
 use Rattle.cob_move_steps.specs.Texts.{AreLed}
 use Rattle.cob_move_steps.specs.declared.numerals_step.NumeralsStep.{NumeralsStep}
@@ -136,7 +136,7 @@ digits_received s r reading item text new right n number receives side gives lef
     (no_number r.picture.category receives) (text, given, stands)
 
 pub numerals_moved : (s r : Item) (step : NumeralsStep) (reading : Reading) (bytes kept made text new : List ℕ) (told minus : Bool) (n : ℕ) → IsNumeralsStep s r step → SuitsReading s reading → not told ≡ false
-    → IsNumberRead (Gives reading s (last_bytes (item_size s) bytes)) (item_digits s) (scale s.picture.positions -ℤ scale s.picture.positions) told minus kept
+    → IsNumberRead (GivesSigned reading s (last_bytes (item_size s) bytes)) (item_digits s) (scale s.picture.positions -ℤ scale s.picture.positions) told minus kept
     → AreShown step.text false kept made → text ≡ take step.count made → (step.right ≡ false → new ≡ padded n text) → (step.right ≡ true → new ≡ padded_left n text)
     → Received (Entry (ItemKind s) (last_bytes (item_size s) bytes) reading) (ItemKind r) n (outcome true new)
 numerals_moved s r step reading bytes kept made text new told minus n is suits number read shown cut left other =
@@ -144,7 +144,7 @@ numerals_moved s r step reading bytes kept made text new told minus n is suits n
     let count : ℕ = item_digits s in
     let point : ℤ = scale s.picture.positions in
     let few : count ≤ 16 = omega (arith, is.sends.few) in
-    let a : AreRead (Gives reading s item) count (point -ℤ point) minus kept = read.number (not_false told number) in
+    let a : AreRead (GivesSigned reading s item) count (point -ℤ point) minus kept = read.number (not_false told number) in
     let sent : IsSentBy reading s item a.negative a.digits = number_sent reading s item (at_scale s a.negative a.digits) is.sends.number a.represented in
     let many : length a.digits ≡ count = sent_long s reading item a.negative a.digits is.sends.number suits sent in
     let own : take count kept ≡ a.digits = kept_own count point a.digits kept few many a.valid a.held in
@@ -154,7 +154,7 @@ numerals_moved s r step reading bytes kept made text new told minus n is suits n
     digits_received s r reading item text new step.right n (number_item s is.sends.number) is.receives is.side (a.negative, a.digits, sent, written) left other
 
 pub no_numerals_moved : (s r : Item) (step : NumeralsStep) (reading : Reading) (bytes kept new : List ℕ) (told minus : Bool) (n : ℕ) → IsNumeralsStep s r step → not told ≡ true
-    → IsNumberRead (Gives reading s (last_bytes (item_size s) bytes)) (item_digits s) (scale s.picture.positions -ℤ scale s.picture.positions) told minus kept
+    → IsNumberRead (GivesSigned reading s (last_bytes (item_size s) bytes)) (item_digits s) (scale s.picture.positions -ℤ scale s.picture.positions) told minus kept
     → Received (Entry (ItemKind s) (last_bytes (item_size s) bytes) reading) (ItemKind r) n (outcome false new)
 no_numerals_moved s r step reading bytes kept new told minus n is none read =
     let item : List ℕ = last_bytes (item_size s) bytes in

@@ -17,7 +17,7 @@ use Rattle.cob_codec_lanes.specs.Texts.{AreShown, AreWidelyShown}
 use Rattle.cob_codec_lanes.specs.declared.text.LaneText.{LaneText}
 use Rattle.cob_codec_lanes.specs.declared.text.WideText.{WideText}
 use Rattle.cob_codec_lanes.proofs.HalfLemmas.{all_digits}
-use Rattle.cob_move_steps.specs.Texts.{AreLed, AreNumbered, AreTextsFor, AreWideTextsFor, IsTextFor, IsTextOf, IsWideTextFor, IsWideTextOf, MakesTextsFor, added_to, cell_in, shown_lane}
+use Rattle.cob_move_steps.specs.Texts.{AreLed, HoldInTurn, AreTextsFor, AreWideTextsFor, IsTextFor, IsTextOf, IsWideTextFor, IsWideTextOf, MakesTextsFor, added_to, cell_in, shown_lane}
 
 -- ---- zeros in front of the first lanes
 
@@ -181,13 +181,13 @@ wide_text_made to front row t few fits size is texts = record {
 
 -- ---- many texts
 
-numbered_more : {A : Type 0} (IsRight : ℕ → A → Type 0) (first : ℕ) (xs : List A) (x : A) → AreNumbered IsRight first xs → IsRight (first + length xs) x → AreNumbered IsRight first (xs ++ x ∷ [])
+numbered_more : {A : Type 0} (IsRight : ℕ → A → Type 0) (first : ℕ) (xs : List A) (x : A) → HoldInTurn IsRight first xs → IsRight (first + length xs) x → HoldInTurn IsRight first (xs ++ x ∷ [])
 numbered_more IsRight first [] x all one = let none : first + 0 ≡ first = omega arith in (subst (λ k. IsRight k x) none one, tt)
 numbered_more IsRight first (y ∷ xs) x all one =
     let next : first + length (y ∷ xs) ≡ first + 1 + length xs = omega arith in
     (all.0, numbered_more IsRight (first + 1) xs x all.1 (subst (λ k. IsRight k x) next one))
 
-numbered_at : {A : Type 0} (IsRight : ℕ → A → Type 0) (first : ℕ) (xs : List A) (i : ℕ) (d : A) → AreNumbered IsRight first xs → i < length xs → IsRight (first + i) (get_or xs i d)
+numbered_at : {A : Type 0} (IsRight : ℕ → A → Type 0) (first : ℕ) (xs : List A) (i : ℕ) (d : A) → HoldInTurn IsRight first xs → i < length xs → IsRight (first + i) (get_or xs i d)
 numbered_at IsRight first [] i d all lt = absurd (omega arith)
 numbered_at IsRight first (x ∷ xs) zero d all lt = let none : first ≡ first + 0 = omega arith in subst (λ k. IsRight k x) none all.0
 numbered_at IsRight first (x ∷ xs) (suc i) d all lt =
@@ -195,12 +195,12 @@ numbered_at IsRight first (x ∷ xs) (suc i) d all lt =
     subst (λ k. IsRight k (get_or xs i d)) next (numbered_at IsRight (first + 1) xs i d all.1 (omega arith))
 
 -- one more behind the texts for so many zeros
-more_numbered : {A : Type 0} (IsRight : ℕ → A → Type 0) (zeros : ℕ) (before after : List A) (x : A) → length before ≡ zeros → AreNumbered IsRight 0 before → IsRight zeros x → after ≡ before ++ x ∷ []
-    → (length after ≡ zeros + 1) × AreNumbered IsRight 0 after
+more_numbered : {A : Type 0} (IsRight : ℕ → A → Type 0) (zeros : ℕ) (before after : List A) (x : A) → length before ≡ zeros → HoldInTurn IsRight 0 before → IsRight zeros x → after ≡ before ++ x ∷ []
+    → (length after ≡ zeros + 1) × HoldInTurn IsRight 0 after
 more_numbered IsRight zeros before after x long all one is =
     let place : zeros ≡ 0 + length before = omega arith in (
       omega (arith, ap length is, length-append before (x ∷ [])),
-      subst (λ xs. AreNumbered IsRight 0 xs) (sym is) (numbered_more IsRight 0 before x all (subst (λ k. IsRight k x) place one)),
+      subst (λ xs. HoldInTurn IsRight 0 xs) (sym is) (numbered_more IsRight 0 before x all (subst (λ k. IsRight k x) place one)),
     )
 
 pub texts_more : (to : Item) (zeros : ℕ) (before after : List LaneText) (t : LaneText) → length before ≡ zeros → AreTextsFor to 0 before → IsTextFor to zeros t → after ≡ before ++ t ∷ []
@@ -211,7 +211,7 @@ pub wide_texts_more : (to : Item) (zeros : ℕ) (before after : List WideText) (
     → (length after ≡ zeros + 1) × AreWideTextsFor to 0 after
 wide_texts_more to zeros before after t long all one is = more_numbered (IsWideTextFor to) zeros before after t long all one is
 
-first_numbered : {A : Type 0} (IsRight : ℕ → A → Type 0) (xs : List A) (i : ℕ) (d : A) → AreNumbered IsRight 0 xs → i < length xs → IsRight i (get_or xs i d)
+first_numbered : {A : Type 0} (IsRight : ℕ → A → Type 0) (xs : List A) (i : ℕ) (d : A) → HoldInTurn IsRight 0 xs → i < length xs → IsRight i (get_or xs i d)
 first_numbered IsRight xs i d all lt = let none : 0 + i ≡ i = omega arith in subst (λ k. IsRight k (get_or xs i d)) none (numbered_at IsRight 0 xs i d all lt)
 
 pub text_at : (to : Item) (ts : List LaneText) (i : ℕ) (d : LaneText) → AreTextsFor to 0 ts → i < length ts → IsTextFor to i (get_or ts i d)

@@ -10,7 +10,7 @@ use Rattle.cob_codec_lanes.specs.Words.{IsNumberRead}
 use Rattle.cob_move_receive.specs.Sent.{Entry}
 use Rattle.cob_move_receive.specs.Received.{Received, outcome}
 use Rattle.cob_move_steps.specs.Deedits.{IsReceiverWriterFor, IsTextStep}
-use Rattle.cob_move_steps.specs.Ends.{Gives, item_digits}
+use Rattle.cob_move_steps.specs.Ends.{GivesSigned, item_digits}
 use Rattle.cob_move_steps.specs.declared.number_ends.ReceiverWriter.{ReceiverWriter}
 use Rattle.cob_move_steps.specs.declared.number_ends.ReceiverWriter.TheVariants as receiver
 use Rattle.cob_move_steps.specs.declared.text_step.TextStep.{TextStep}
@@ -19,7 +19,7 @@ use Rattle.cob_move_steps.proofs.EditLemmas.{not_edited}
 
 -- what a receiver gets where the sender's bytes are no number's text
 pub no_text_moved : (s r : Item) (step : TextStep) (reading : Reading) (bytes : List ℕ) (told minus : Bool) (kept new : List ℕ) (n : ℕ) → IsTextStep s r step → not told ≡ true
-    → IsNumberRead (Gives reading s (last_bytes (item_size s) bytes)) (item_digits r) (scale r.picture.positions -ℤ scale s.picture.positions) told minus kept
+    → IsNumberRead (GivesSigned reading s (last_bytes (item_size s) bytes)) (item_digits r) (scale r.picture.positions -ℤ scale s.picture.positions) told minus kept
     → Received (Entry (ItemKind s) (last_bytes (item_size s) bytes) reading) (ItemKind r) n (outcome false new)
 no_text_moved s r step reading bytes told minus kept new n is none read = go step.writer is.writer
   where

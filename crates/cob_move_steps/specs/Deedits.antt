@@ -10,7 +10,7 @@ use Rattle.cob_codec_lanes.specs.Texts.{ArePlacesAt, IsKeeperOf}
 use Rattle.cob_codec_lanes.specs.Windows.{last_bytes}
 use Rattle.cob_codec_lanes.specs.Words.{IsNumberRead}
 use Rattle.cob_move_steps.specs.Edits.{IsTextWriterFor}
-use Rattle.cob_move_steps.specs.Ends.{Gives, IsNumberWriterFor, IsShortNumber, item_digits}
+use Rattle.cob_move_steps.specs.Ends.{GivesSigned, IsNumberWriterFor, IsShortNumber, item_digits}
 use Rattle.cob_move_steps.specs.Running.{ReceivedAtEnd}
 use Rattle.cob_move_steps.specs.Texts.{AreWideTextsFor, digit_bytes_from, IsWideEditedItem}
 use Rattle.cob_move_steps.specs.declared.number_ends.ReceiverWriter.{ReceiverWriter}
@@ -35,7 +35,7 @@ IsKeeperFor from to kept = IsKeeperOf (item_digits from) (item_digits to) (scale
 abbrev pub IsTextRead : TextReader → List ℕ → (is_number minus : Bool) → List ℕ → Type 0
 IsTextRead r bytes is_number minus kept =
     (from to : Item) (reading : Reading) → IsTextReaderFor from to r → item_size from ≤ length bytes
-    → IsNumberRead (Gives reading from (last_bytes (item_size from) bytes)) (item_digits to) (scale to.picture.positions -ℤ scale from.picture.positions) is_number minus kept
+    → IsNumberRead (GivesSigned reading from (last_bytes (item_size from) bytes)) (item_digits to) (scale to.picture.positions -ℤ scale from.picture.positions) is_number minus kept
 
 -- The item is a short number, or edits one.
 abbrev pub ReceivesNumber : Item → Type 0

@@ -56,8 +56,8 @@ abbrev pub SendsNumber : Item → Type 0
 SendsNumber i = IsNumberItem i ⊎ IsNumeralItem i ⊎ IsPlainlyEdited i
 
 -- The bytes of an item, read so, give the number with this sign and these digits, at the scale of its picture.
-abbrev pub Gives : Reading → Item → List ℕ → Bool → List ℕ → Type 0
-Gives reading i bytes negative ds = ItemGives reading i bytes (record { negative = negative; digits = ds; scale = scale i.picture.positions })
+abbrev pub GivesSigned : Reading → Item → List ℕ → Bool → List ℕ → Type 0
+GivesSigned reading i bytes negative ds = ItemGives reading i bytes (record { negative = negative; digits = ds; scale = scale i.picture.positions })
 
 -- The reader reads the numbers of an item by lanes, and keeps the digits that another item has places for.
 pub record IsLaneReaderFor (from to : Item) (r : LaneReader) : Type 0 where
@@ -109,7 +109,7 @@ SuitsReading from reading = is_read_whole (storage_kind from) ≡ true → readi
 abbrev pub IsItemRead : NumberReader → List ℕ → (is_number minus : Bool) → List ℕ → Type 0
 IsItemRead r bytes is_number minus kept =
     (from to : Item) (reading : Reading) → IsNumberReaderFor from to r → SuitsReading from reading → item_size from ≤ length bytes
-    → IsNumberRead (Gives reading from (last_bytes (item_size from) bytes)) (item_digits to) (scale to.picture.positions -ℤ scale from.picture.positions) is_number minus kept
+    → IsNumberRead (GivesSigned reading from (last_bytes (item_size from) bytes)) (item_digits to) (scale to.picture.positions -ℤ scale from.picture.positions) is_number minus kept
 
 -- What was written into n bytes, for each item whose writer this is: its first digits, which are not all 0 below zero.
 abbrev pub IsItemWritten : NumberWriter → List ℕ → Bool → ℕ → List ℕ → Type 0

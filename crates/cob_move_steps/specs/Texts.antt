@@ -98,14 +98,14 @@ pub record IsWideTextFor (to : Item) (zeros : ℕ) (t : WideText) : Type 0 where
   pub rest : (negative : Bool) (lanes bytes : List ℕ) → AreWidelyShown t negative lanes bytes → drop (item_size to) bytes ≡ replicate (32 - item_size to) 0
 
 -- What is first in a list is right for this number, what is next for the number behind it, and so on.
-abbrev pub AreNumbered : {A : Type 0} → (ℕ → A → Type 0) → (first : ℕ) → List A → Type 0
-AreNumbered IsRight first [] = Unit {0}
-AreNumbered IsRight first (x ∷ xs) = IsRight first x × AreNumbered IsRight (first + 1) xs
+abbrev pub HoldInTurn : {A : Type 0} → (ℕ → A → Type 0) → (first : ℕ) → List A → Type 0
+HoldInTurn IsRight first [] = Unit {0}
+HoldInTurn IsRight first (x ∷ xs) = IsRight first x × HoldInTurn IsRight (first + 1) xs
 
 -- These texts are those of numbers with so many zeros in front, with one more, and so on.
 abbrev pub AreTextsFor : Item → (front : ℕ) → List LaneText → Type 0
-AreTextsFor to front texts = AreNumbered (IsTextFor to) front texts
+AreTextsFor to front texts = HoldInTurn (IsTextFor to) front texts
 
 -- The same of texts of at most thirty-two bytes.
 abbrev pub AreWideTextsFor : Item → (front : ℕ) → List WideText → Type 0
-AreWideTextsFor to front texts = AreNumbered (IsWideTextFor to) front texts
+AreWideTextsFor to front texts = HoldInTurn (IsWideTextFor to) front texts

@@ -3,7 +3,7 @@ use Rattle.std.specs.Prelude.{◌≡◌, ℕ, List, None, Option, Ok, Err, Resul
 use Rattle.cob_records.specs.Device.{Told}
 use Rattle.cob_convert_stream.specs.declared.fault.RunFault.{RunFault}
 use Rattle.cob_records_parts.specs.Comings.{chosen_coming}
-use Rattle.cob_records_parts.specs.Rests.{rest_coming, rest_of}
+use Rattle.cob_records_parts.specs.Rests.{rest_coming, rest_inside}
 use Rattle.cob_records_parts.specs.declared.choice.Stopped.{Stopped}
 use Rattle.cob_records_parts.specs.declared.chosen.Chosen.{Chosen}
 use Rattle.cob_records_parts.specs.declared.incoming.Incoming.{Incoming}
@@ -45,7 +45,7 @@ AnswersOverChosen coming cause means answer (Err chosen) = AnswersOverApart comi
 abbrev pub AnswersOver : {S D F : Type 0} → (coming : S → Option (List ℕ)) → (cause : Option Stopped → F → F)
     → (means : Result D F → List ℕ → List ℕ → Type 0) → Result D F → Incoming S → Type 0
 AnswersOver coming cause means answer (incoming.All source) = AnswersFrom means answer (coming source)
-AnswersOver coming cause means answer (incoming.Some chosen) = AnswersOverChosen coming cause means answer (rest_of chosen)
+AnswersOver coming cause means answer (incoming.Some chosen) = AnswersOverChosen coming cause means answer (rest_inside chosen)
 
 -- ---- a run that stops at the first record that does not convert
 

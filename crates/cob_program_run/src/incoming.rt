@@ -1,7 +1,7 @@
 //! A run over the records that come of a source: over all, or over those that are chosen.
 
 ghost use Rattle.cob_records.specs.Forms.{HasBlockSize};
-ghost use Rattle.cob_records_parts.specs.Rests.{rest_of};
+ghost use Rattle.cob_records_parts.specs.Rests.{rest_inside};
 ghost use Rattle.cob_program_run.specs.Ran.{AnswersFrom, AnswersOver, AnswersOverApart, AnswersOverChosen};
 
 use crate::run::Run;
@@ -61,7 +61,7 @@ fn run_over_chosen<T: Eprint + Clock, S: Source + Drop, R: Run>(
 ) -> Result<R::Done, R::Fault>
     requires { HasBlockSize form }
     ensures ran { AnswersOverChosen S.coming R.cause (R.means run.old run.new) result
-        (rest_of chosen) }
+        (rest_inside chosen) }
 {
     match chosen.into_rest() {
         Ok(rest) => run_over_source(rt, form, telling, rest, run),

@@ -10,7 +10,7 @@ use Rattle.std.specs.List.{before_first, position_or_len}
 use Rattle.std.specs.Option.{IfSome}
 use Rattle.std.specs.Prelude.{◌==◌}
 use Rattle.std.specs.Result.{result_ok}
-use Rattle.cob_program_runtime.specs.Limits.{IsSize, SaysSize, StandsBehind, TellsLimit, TellsLimitInFront}
+use Rattle.cob_program_runtime.specs.Limits.{IsSize, SaysLimit, StandsBehind, TellsLimit, TellsLimitInFront}
 
 -- a name that stands somewhere stands at the length of what stands before it
 stands_at : (name text front back : List ℕ) → text ≡ front ++ (name ++ back) → drop (length front) text ≡ name ++ back
@@ -44,7 +44,7 @@ one_behind name text one other first second =
 
 -- a number that was read from the word behind white space, where a space stands behind it, is said there
 pub size_read : {E : Type 0} (words trimmed word : List ℕ) (parsed : Result ℕ E) → trimmed ≡ trim_start words → word ≡ before_first (λ byte. byte == 32) trimmed
-    → position_or_len (λ byte. byte == 32) trimmed < length trimmed → ParsesUnsigned 64 10 word parsed → IfSome (result_ok parsed) (SaysSize words)
+    → position_or_len (λ byte. byte == 32) trimmed < length trimmed → ParsesUnsigned 64 10 word parsed → IfSome (result_ok parsed) (SaysLimit words)
 size_read words trimmed word (Ok size) is_trimmed is_word space ((digits, fits), value) =
     let read : IsSize word size = record { digits = digits; value = sym value; fits = subst (λ n. n < 2 ^ 64) (sym value) fits } in
     record {

@@ -4,7 +4,7 @@ use Rattle.std.specs.Fs.{IsFile, file_type, metadata_len}
 use Rattle.std.specs.declared.fs.Metadata.{Metadata}
 use Rattle.std.specs.declared.io.Error.{Error}
 use Rattle.cob_program_runtime.specs.declared.extent.Extent.{Extent}
-use Rattle.cob_program_runtime.specs.Extents.{AtLimit, IsTooLarge, front_of, moved_by}
+use Rattle.cob_program_runtime.specs.Extents.{AtLimit, IsTooLarge, front_that_fits, advanced_by}
 
 -- how many bytes stand before the next one that is written to a file, of which the system says this: all that it has, or none
 abbrev pub first_position : Metadata → Bool → ℕ
@@ -17,19 +17,19 @@ pub record IsExtentOf (limit : ℕ) (at_end : Bool) (metadata : Metadata) (exten
   pub from : extent.position ≡ first_position metadata at_end
 
 -- a file that has a limit, and has room for no byte
-abbrev pub IsFull : Option Extent → Type 0
-IsFull None = ⊥
-IsFull (Some extent) = AtLimit extent
+abbrev pub IsAtItsLimit : Option Extent → Type 0
+IsAtItsLimit None = ⊥
+IsAtItsLimit (Some extent) = AtLimit extent
 
 -- as many of these bytes as there is room for: all where there is no limit
 abbrev pub front_within : Option Extent → List ℕ → List ℕ
 front_within None bytes = bytes
-front_within (Some extent) bytes = front_of extent bytes
+front_within (Some extent) bytes = front_that_fits extent bytes
 
 -- the extent behind so many bytes more, where there is one
 abbrev pub extent_behind : ℕ → Option Extent → Option Extent
 extent_behind bytes None = None
-extent_behind bytes (Some extent) = Some (moved_by bytes extent)
+extent_behind bytes (Some extent) = Some (advanced_by bytes extent)
 
 -- the extent behind what a call wrote or read: it is the same where the call failed
 abbrev pub extent_after : {E : Type 0} → Result ℕ E → Option Extent → Option Extent
@@ -43,8 +43,8 @@ extent_at moved extent = extent
 
 -- these bytes are as many as there is room for, and where there is room for none, there were none
 abbrev pub IsFrontWithin : Option Extent → (bytes front : List ℕ) → Type 0
-IsFrontWithin extent bytes front = (front ≡ front_within extent bytes) × (IsFull extent → length bytes ≡ 0)
+IsFrontWithin extent bytes front = (front ≡ front_within extent bytes) × (IsAtItsLimit extent → length bytes ≡ 0)
 
 -- there are bytes, there is room for none, and this is the error
 abbrev pub HasNoRoom : Option Extent → List ℕ → Error → Type 0
-HasNoRoom extent bytes error = IsTooLarge error × IsFull extent × (0 < length bytes)
+HasNoRoom extent bytes error = IsTooLarge error × IsAtItsLimit extent × (0 < length bytes)

@@ -21,13 +21,13 @@ pub record IsSize (word : List ℕ) (size : ℕ) : Type 0 where
   pub fits : size < 2 ^ 64
 
 -- white space stands there, then this number, and behind it a space
-pub record SaysSize (words : List ℕ) (size : ℕ) : Type 0 where
+pub record SaysLimit (words : List ℕ) (size : ℕ) : Type 0 where
   pub space : position_or_len (λ byte. byte == 32) (trim_start words) < length (trim_start words)
   pub number : IsSize (before_first (λ byte. byte == 32) (trim_start words)) size
 
 -- The text tells this soft limit on the size of a file: the number behind the first such name, in front of the hard limit.
 abbrev pub TellsLimit : List ℕ → ℕ → Type 0
-TellsLimit text size = (behind : List ℕ) × StandsBehind size_name text behind × SaysSize behind size
+TellsLimit text size = (behind : List ℕ) × StandsBehind size_name text behind × SaysLimit behind size
 
 -- a front of the text tells it
 abbrev pub TellsLimitInFront : List ℕ → ℕ → Type 0

@@ -1,7 +1,7 @@
 //! How far a file may be written.
 
 ghost use Rattle.std.specs.Prelude.{◌≡◌, ◌<◌, ◌≤◌, ◌↔◌, length, IfErr, IfOk, IsTrue, MatchResult, OnErr};
-ghost use Rattle.cob_program_runtime.specs.Extents.{AtLimit, IsTooLarge, front_of, room_of, moved_by};
+ghost use Rattle.cob_program_runtime.specs.Extents.{AtLimit, IsTooLarge, front_that_fits, room_left, advanced_by};
 
 use std::io;
 
@@ -42,7 +42,7 @@ impl Extent {
 
     /// How many bytes there is room for.
     pub fn room(&self) -> u64
-        ensures { result ≡ room_of self.now }
+        ensures { result ≡ room_left self.now }
     {
         self.limit.saturating_sub(self.position)
     }
@@ -53,7 +53,7 @@ impl Extent {
     ///
     /// Where there are some, and there is room for none.
     pub fn front_of<'a>(&self, bytes: &'a [u8]) -> io::Result<&'a [u8]>
-        ensures { MatchResult result (λ front. (front.now ≡ front_of self.now bytes.now)
+        ensures { MatchResult result (λ front. (front.now ≡ front_that_fits self.now bytes.now)
             × (AtLimit self.now → length bytes.now ≡ 0))
             (λ error. IsTooLarge error × AtLimit self.now × (0 < length bytes.now)) }
     {
@@ -70,8 +70,8 @@ impl Extent {
     ///
     /// Where there is not.
     pub fn fits(&self, bytes: u64) -> io::Result<()>
-        ensures room { IfOk result (λ _. bytes ≤ room_of self.now) }
-        ensures full { OnErr result (room_of self.now < bytes) }
+        ensures room { IfOk result (λ _. bytes ≤ room_left self.now) }
+        ensures full { OnErr result (room_left self.now < bytes) }
         ensures error { IfErr result IsTooLarge }
     {
         if bytes <= self.room() {
@@ -83,7 +83,7 @@ impl Extent {
 
     /// The extent behind so many bytes more.
     pub fn moved_by(&self, bytes: usize) -> Extent
-        ensures { result ≡ moved_by bytes self.now }
+        ensures { result ≡ advanced_by bytes self.now }
     {
         Extent {
             position: self.position.saturating_add(bytes as u64),

@@ -1,7 +1,7 @@
 //! The limit on the size of a file, as the system tells it.
 
 ghost use Rattle.std.specs.Prelude.{◌≡◌, ℕ, IfSome, IsSomeAnd, List, Some};
-ghost use Rattle.cob_program_runtime.specs.Limits.{SaysSize, StandsBehind, TellsLimit, TellsLimitInFront, size_name};
+ghost use Rattle.cob_program_runtime.specs.Limits.{SaysLimit, StandsBehind, TellsLimit, TellsLimitInFront, size_name};
 
 use std::fs::File;
 use std::io::Read;
@@ -28,8 +28,8 @@ fn behind_name(limits: &str) -> Option<&str>
 
 /// The number behind white space, where a space stands behind it.
 fn size_said(words: &str) -> Option<u64>
-    ensures found { IfSome result (SaysSize words.now) }
-    ensures only { (size : ℕ) → SaysSize words.now size → result ≡ Some size }
+    ensures found { IfSome result (SaysLimit words.now) }
+    ensures only { (size : ℕ) → SaysLimit words.now size → result ≡ Some size }
 {
     match words.trim_start().split_once(' ') {
         Some((word, _)) => word.parse().ok(),

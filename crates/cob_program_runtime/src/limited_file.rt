@@ -6,7 +6,7 @@ ghost use Rattle.std.specs.Io.{ReadsAtMost, WritesAtMost};
 ghost use Rattle.std.specs.Io.KnownBytes.{Keeps, ReadConsumes, WriteAppends};
 ghost use Rattle.std.specs.Io.Seek.{SeekMoves};
 ghost use Rattle.cob_program_runtime.specs.Extents.{IsTooLarge};
-ghost use Rattle.cob_program_runtime.specs.Files.{HasNoRoom, IsExtentOf, IsFrontWithin, IsFull, extent_after, extent_at, first_position, front_within};
+ghost use Rattle.cob_program_runtime.specs.Files.{HasNoRoom, IsExtentOf, IsFrontWithin, IsAtItsLimit, extent_after, extent_at, first_position, front_within};
 
 use crate::extent::{Extent, too_large};
 use std::fs::{FileTimes, Metadata, OpenFile, OpenOptions, Permissions};
@@ -132,7 +132,7 @@ impl<F: Write> Write for LimitedFile<F> {
         ensures within { IfOk result (λ bytes. bytes ≤ length
             (front_within self.old.extent buf.now)) }
         ensures extent { self.new.extent ≡ extent_after result self.old.extent }
-        ensures full { IsFull self.old.extent → 0 < length buf.now → IsErrAnd result IsTooLarge }
+        ensures full { IsAtItsLimit self.old.extent → 0 < length buf.now → IsErrAnd result IsTooLarge }
     {
         match front_within(self.extent, buf) {
             Ok(front) => {

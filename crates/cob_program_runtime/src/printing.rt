@@ -1,7 +1,7 @@
 //! What is printed on a standard stream that may be a regular file.
 
 ghost use Rattle.std.specs.Prelude.{◌≡◌, ◌+◌, length, IfOk, IfSome, IsOk, None, Some};
-ghost use Rattle.cob_program_runtime.specs.Prints.{FitsIn, counted};
+ghost use Rattle.cob_program_runtime.specs.Prints.{FitsExtent, saturated};
 
 use crate::extent::Extent;
 use crate::limited_file::extent_in;
@@ -27,7 +27,7 @@ impl Write for Counter {
 /// How many bytes are printed of a value.
 fn length_of<D: Display>(value: &D) -> io::Result<u64>
     ensures { IfSome (D.output value.now) (λ text. IfOk result
-        (λ bytes. bytes ≡ counted (length text))) }
+        (λ bytes. bytes ≡ saturated (length text))) }
 {
     let mut counter = Counter { bytes: 0 };
     match counter.write(value) {
@@ -56,7 +56,7 @@ pub(crate) fn extent_behind<R: Files>(rt: &R, limit: Option<u64>, path: &str) ->
 pub(crate) fn fits<D: Display>(extent: Option<Extent>, value: &D, more: u64) -> io::Result<()>
     ensures unlimited { extent ≡ None → IsOk result }
     ensures fits { IfSome (D.output value.now)
-        (λ text. IfOk result (λ _. FitsIn extent (length text + more))) }
+        (λ text. IfOk result (λ _. FitsExtent extent (length text + more))) }
 {
     match extent {
         None => Ok(()),

@@ -11,7 +11,7 @@ use Rattle.cob_records.specs.declared.records.RecordFault.TheVariants.{Truncated
 use Rattle.cob_records.specs.Forms.{HasBlockSize, ReadsInForm}
 use Rattle.cob_records.specs.Frame.{Reads, Refuses, descriptor, framed, is_read_failure, number_in, refusal}
 use Rattle.cob_records.specs.Unique.{record_in}
-use Rattle.cob_records_parts.specs.Firsts.{by_refusal, first, first_fixed, first_of, first_variable, in_block, leaving}
+use Rattle.cob_records_parts.specs.Firsts.{by_refusal, first, first_fixed, first_frame_in, first_variable, in_block, leaving}
 use Rattle.cob_records_parts.proofs.FirstBlocked.{comes_to, few_bytes, less, not_less, number_front, refused, whole_frame}
 
 -- ---- records of one length
@@ -113,7 +113,7 @@ variable greatest left slice (Err _) after bytes rest high reads same works = ab
 
 pub first_is : (form : Form) (greatest left : ℕ) (slice : List ℕ) (answer : Result (Option ℕ) RecordFault) (after : ℕ) (bytes rest : List ℕ)
     → HasBlockSize form → 0 < greatest → greatest ≤ longest_record → ReadsInForm form greatest left slice answer after bytes rest
-    → is_read_failure answer ≡ false → first_of form greatest left bytes ≡ first answer (record_in slice answer) after rest
+    → is_read_failure answer ≡ false → first_frame_in form greatest left bytes ≡ first answer (record_in slice answer) after rest
 first_is Fixed greatest left slice answer after bytes rest block some high (reads, same) works =
     fixed greatest left slice answer after bytes rest some reads same works
 first_is Variable greatest left slice answer after bytes rest block some high (reads, same) works =

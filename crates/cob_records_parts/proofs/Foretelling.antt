@@ -10,7 +10,7 @@ use Rattle.cob_records.specs.Frame.{is_read_failure}
 use Rattle.cob_records.specs.declared.records.Form.{Form}
 use Rattle.cob_records.specs.declared.records.RecordFault.{RecordFault}
 use Rattle.cob_records_parts.specs.Firsts.{First}
-use Rattle.cob_records_parts.specs.StillGiven.{given_by, given_of, mark_of, one_given, told_by}
+use Rattle.cob_records_parts.specs.StillGiven.{given_by, given_of, fault_mark, one_given, told_by}
 use Rattle.cob_records_parts.proofs.FirstLaw.{first_is}
 use Rattle.cob_records_parts.proofs.Stepping.{at_end, told_then}
 
@@ -78,7 +78,7 @@ told_still form greatest skip last number left after slice r0 r1 reads =
 pub told_mark : (form : Form) (greatest skip last number left after : ℕ) (fault : RecordFault) (slice : List ℕ) (r0 r1 : Option (List ℕ)) → HasBlockSize form
     → 0 < greatest → greatest ≤ longest_record → number < last → Told r0 r1 (ReadsInForm form greatest left slice (Err fault) after)
     → is_read_failure (Err fault) ≡ false
-    → Told r0 r1 (λ bytes rest. given_of form greatest (skip - number) (last - number) left bytes ≡ mark_of fault)
+    → Told r0 r1 (λ bytes rest. given_of form greatest (skip - number) (last - number) left bytes ≡ fault_mark fault)
 told_mark form greatest skip last number left after fault slice r0 r1 block low high below reads works =
     told_as r0 r1 _ _ reads (λ bytes rest stops. ap (λ (n : ℕ). given_of form greatest (skip - number) n left bytes) (one_more last number below)
     ∙ ap (given_at form greatest (skip - number) (last - (number + 1))) (first_is form greatest left slice (Err fault) after bytes rest block low high stops works))

@@ -9,7 +9,7 @@ use Rattle.cob_records.specs.Frame.{IsRecord, is_read_failure}
 use Rattle.cob_records.specs.declared.records.Form.{Form}
 use Rattle.cob_records.specs.declared.records.Form.TheVariants.{Fixed, Variable, Blocked}
 use Rattle.cob_records_parts.specs.Choices.{HasCome, HasStopped, all_alone}
-use Rattle.cob_records_parts.specs.StillGiven.{GivenAreChosen, given_of, mark_of, one_given}
+use Rattle.cob_records_parts.specs.StillGiven.{GivenAreChosen, given_of, fault_mark, one_given}
 use Rattle.cob_records_parts.specs.declared.choice.Stopped.{Stopped}
 use Rattle.cob_records_parts.proofs.FirstLaw.{first_is}
 use Rattle.cob_records_parts.proofs.Foretelling.{given_at}
@@ -76,7 +76,7 @@ come_given form greatest skip last number left chosen bytes rest block low high 
 
 stopped_given : (form : Form) (greatest skip last : ℕ) (stop : Stopped) (chosen bytes rest : List ℕ) → HasBlockSize form → 0 < greatest → greatest ≤ longest_record
     → stop.number ≤ last → is_read_failure (Err stop.fault) ≡ false → HasStopped form greatest skip stop chosen bytes rest
-    → given_of form greatest skip last 0 bytes ≡ chosen ++ mark_of stop.fault
+    → given_of form greatest skip last 0 bytes ≡ chosen ++ fault_mark stop.fault
 stopped_given form greatest skip last stop chosen bytes rest block low high within works stops =
     let n : ℕ = length stops.bodies in
     let more : last - n ≡ suc (last - (n + 1)) = omega (arith, stops.next, within) in

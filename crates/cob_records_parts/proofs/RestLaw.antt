@@ -9,12 +9,12 @@ use Rattle.cob_records.specs.Forms.{Come}
 use Rattle.cob_records.specs.Frame.{IsRecord, descriptor, framed, is_unblocked}
 use Rattle.cob_records.specs.declared.records.Form.{Form}
 use Rattle.cob_records.specs.declared.records.Form.TheVariants.{Fixed, Variable, Blocked}
-use Rattle.cob_records_parts.specs.Aheads.{ahead_in, ahead_of}
+use Rattle.cob_records_parts.specs.Aheads.{ahead_in, chosen_ahead_of}
 use Rattle.cob_records_parts.specs.Choices.{HasCome, all_alone}
 use Rattle.cob_records_parts.specs.Helds.{held_bytes, holds_none}
 use Rattle.cob_records_parts.specs.Incomings.{GivesAllBehind}
 use Rattle.cob_records_parts.specs.Parts.{at_most}
-use Rattle.cob_records_parts.specs.Rests.{IsBehind, RestGives, RestIsBehind, ahead_behind, chosen_ahead, rest_by}
+use Rattle.cob_records_parts.specs.Rests.{IsGivenBehind, RestGives, RestIsBehind, ahead_behind, chosen_ahead, rest_by}
 use Rattle.cob_records_parts.specs.Walks.{HasWalkedTo}
 use Rattle.cob_records_parts.specs.declared.ahead.Ahead.{Ahead}
 use Rattle.cob_records_parts.specs.declared.ahead.Ahead.TheVariants as ahead
@@ -81,7 +81,7 @@ abbrev Joined : Ahead → Type 0
 Joined a = a ≡ ahead.Apart → ⊥
 
 joined_of : (stop : Option Stopped) (spent : Bool) (walk : Walk) (a : Ahead) → ahead_behind stop spent walk ≡ a → Joined a
-    → (spent ≡ true) × (ahead_of walk ≡ a)
+    → (spent ≡ true) × (chosen_ahead_of walk ≡ a)
 joined_of None true walk a e joined = (refl, e)
 joined_of None false walk a e joined = absurd (joined (sym e))
 joined_of (Some stop) spent walk a e joined = absurd (joined (sym e))
@@ -97,7 +97,7 @@ unblocked (Blocked most) greatest is_all count a e joined = absurd (joined (sym 
 
 -- what stands behind the records that are passed over
 behind : (form : Form) (greatest skip number left : ℕ) (held first mid : List ℕ) → is_unblocked form ≡ true → 0 < greatest → nat_lt number skip ≡ false
-    → held ≡ [] → HasCome form greatest skip number left held first mid → (bound : Option ℕ) → IsBehind form greatest skip bound first (at_most bound mid)
+    → held ≡ [] → HasCome form greatest skip number left held first mid → (bound : Option ℕ) → IsGivenBehind form greatest skip bound first (at_most bound mid)
 behind form greatest skip number left held first mid plain low reaches none come bound =
     let dropped : drop skip come.bodies ≡ [] =
     none_alone form greatest (drop skip come.bodies) plain low (all_dropped (IsRecord form greatest) skip come.bodies come.each) (sym come.those ∙ none) in
@@ -129,8 +129,8 @@ joined_rest coming source a bound is joined form greatest choice first gives =
   where
     told : (now : Option (List ℕ)) → Told (Some first) now (HasWalkedTo source.walk (held_bytes source.held))
         → ((mid : List ℕ) → HasWalkedTo source.walk (held_bytes source.held) first mid
-        → IsBehind source.walk.form source.walk.greatest source.walk.skip bound first (at_most bound mid))
-        → (given : List ℕ) × (option_map (at_most bound) now ≡ Some given) × IsBehind form greatest choice.skip bound first given
+        → IsGivenBehind source.walk.form source.walk.greatest source.walk.skip bound first (at_most bound mid))
+        → (given : List ℕ) × (option_map (at_most bound) now ≡ Some given) × IsGivenBehind form greatest choice.skip bound first given
     told None come f = absurd come
     told (Some mid) come f = (at_most bound mid, refl, rw (← gives.form_is, ← gives.greatest_is, ← gives.skip_is) (f mid come))
 

@@ -21,7 +21,7 @@ ahead_in Variable greatest false count = ahead.Apart
 ahead_in (Blocked most) greatest is_all count = ahead.Apart
 
 -- how much of what is left of a stream is chosen; nothing is said where records are still to be passed over
-abbrev pub ahead_of : Walk → Ahead
-ahead_of walk =
+abbrev pub chosen_ahead_of : Walk → Ahead
+chosen_ahead_of walk =
     if nat_lt walk.number walk.skip then ahead.Apart
     else ahead_in walk.form walk.greatest (walk.last == greatest_count) (walk.last - walk.number)

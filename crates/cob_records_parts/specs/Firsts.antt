@@ -67,7 +67,7 @@ first_variable greatest left [] = first (Ok None) [] left []
 first_variable greatest left (byte ∷ bytes) = leaving left (in_block greatest (4 + number_in (byte ∷ bytes)) 0 (byte ∷ bytes))
 
 -- what stands first in these bytes of a stream in this form, where the open block still holds `left` bytes
-abbrev pub first_of : Form → (greatest left : ℕ) → List ℕ → First
-first_of Fixed greatest left bytes = first_fixed greatest left bytes
-first_of Variable greatest left bytes = first_variable greatest left bytes
-first_of (Blocked most) greatest left bytes = first_blocked most greatest left bytes
+abbrev pub first_frame_in : Form → (greatest left : ℕ) → List ℕ → First
+first_frame_in Fixed greatest left bytes = first_fixed greatest left bytes
+first_frame_in Variable greatest left bytes = first_variable greatest left bytes
+first_frame_in (Blocked most) greatest left bytes = first_blocked most greatest left bytes

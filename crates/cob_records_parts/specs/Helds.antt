@@ -7,8 +7,8 @@ abbrev pub held_bytes : Held → List ℕ
 held_bytes held = drop held.at held.front ++ take (held.end - held.from) (drop held.from held.body.items)
 
 -- nothing is held: all was given
-abbrev pub IsSpent : Held → Type 0
-IsSpent held = (held.at ≡ 8) × (held.from ≡ held.end)
+abbrev pub IsGivenAway : Held → Type 0
+IsGivenAway held = (held.at ≡ 8) × (held.from ≡ held.end)
 
 -- the same as a test
 abbrev pub holds_none : Held → Bool

@@ -4,7 +4,7 @@ use Rattle.std.specs.List.{AllByRecursion}
 use Rattle.cob_records.specs.Forms.{Come}
 use Rattle.cob_records.specs.Frame.{IsRecord}
 use Rattle.cob_records.specs.declared.records.Form.{Form}
-use Rattle.cob_records_parts.specs.Aheads.{ahead_of}
+use Rattle.cob_records_parts.specs.Aheads.{chosen_ahead_of}
 use Rattle.cob_records_parts.specs.Helds.{holds_none}
 use Rattle.cob_records_parts.specs.Incomings.{GivesAllBehind}
 use Rattle.cob_records_parts.specs.Parts.{at_most}
@@ -30,7 +30,7 @@ rest_coming coming rest = option_map (at_most rest.bytes) (coming rest.inner)
 
 -- the same of a source that stopped so, or did not, and holds nothing, or a part of a record
 abbrev pub ahead_behind : Option Stopped → (is_spent : Bool) → Walk → Ahead
-ahead_behind None true walk = ahead_of walk
+ahead_behind None true walk = chosen_ahead_of walk
 ahead_behind None false walk = ahead.Apart
 ahead_behind (Some stop) is_spent walk = ahead.Apart
 
@@ -45,13 +45,13 @@ rest_by (ahead.Bytes count) source = Ok (record { inner = source.inner; bytes = 
 rest_by ahead.Apart source = Err source
 
 -- what is still given of the source inside, where that is all that is left of it, or its first bytes
-abbrev pub rest_of : {R : Type 0} → Chosen R → Result (Rest R) (Chosen R)
-rest_of source = rest_by (chosen_ahead source) source
+abbrev pub rest_inside : {R : Type 0} → Chosen R → Result (Rest R) (Chosen R)
+rest_inside source = rest_by (chosen_ahead source) source
 
 -- ---- what that is
 
 -- What is given of a stream of which so many records are passed over: of what is behind them all, or so many bytes.
-pub record IsBehind (form : Form) (greatest skip : ℕ) (bound : Option ℕ) (stream given : List ℕ) : Type 0 where
+pub record IsGivenBehind (form : Form) (greatest skip : ℕ) (bound : Option ℕ) (stream given : List ℕ) : Type 0 where
   pub passed : List (List ℕ)
   pub behind : List ℕ
   pub each : AllByRecursion (IsRecord form greatest) passed
@@ -62,10 +62,10 @@ pub record IsBehind (form : Form) (greatest skip : ℕ) (bound : Option ℕ) (st
 -- what a rest still gives is what is behind so many records of this stream
 abbrev pub RestGives : {R : Type 0} → (R → Option (List ℕ)) → Form → (greatest skip : ℕ) → (stream : List ℕ) → Rest R → Type 0
 RestGives coming form greatest skip stream rest =
-    (given : List ℕ) × (rest_coming coming rest ≡ Some given) × IsBehind form greatest skip rest.bytes stream given
+    (given : List ℕ) × (rest_coming coming rest ≡ Some given) × IsGivenBehind form greatest skip rest.bytes stream given
 
 -- Where a source gives the records of a choice of a stream, and these are all that is left of it, or its first bytes, then that is what is behind the
 -- records that are passed over.
 abbrev pub RestIsBehind : {R : Type 0} → (R → Option (List ℕ)) → Chosen R → Type 0
 RestIsBehind coming source = (form : Form) (greatest : ℕ) (choice : Choice) (stream : List ℕ)
-    → GivesAllBehind form greatest choice (Some stream) (coming source.inner) source → IfOk (rest_of source) (RestGives coming form greatest choice.skip stream)
+    → GivesAllBehind form greatest choice (Some stream) (coming source.inner) source → IfOk (rest_inside source) (RestGives coming form greatest choice.skip stream)

@@ -9,7 +9,7 @@ use Rattle.cob_records.specs.declared.records.Form.{Form}
 use Rattle.cob_records.specs.declared.records.RecordFault.{RecordFault}
 use Rattle.cob_records.specs.declared.records.RecordFault.TheVariants as fault
 use Rattle.cob_records_parts.specs.Choices.{HasCome, HasStopped}
-use Rattle.cob_records_parts.specs.Firsts.{first_of}
+use Rattle.cob_records_parts.specs.Firsts.{first_frame_in}
 use Rattle.cob_records_parts.specs.declared.choice.Stopped.{Stopped}
 use Rattle.cob_records_parts.specs.declared.walk.Walk.{Walk}
 
@@ -28,8 +28,8 @@ fault_number (fault.TookNothing taken) = 263
 fault_number (fault.Truncated seen) = 264 + seen
 
 -- What stands for a frame that can't be read: its fault. It never comes, since a read of it fails.
-abbrev pub mark_of : RecordFault → List ℕ
-mark_of fault = fault_number fault ∷ []
+abbrev pub fault_mark : RecordFault → List ℕ
+fault_mark fault = fault_number fault ∷ []
 
 -- ---- what is given
 
@@ -42,16 +42,16 @@ one_given form (suc n) body = []
 abbrev pub given_by : Result (Option ℕ) RecordFault → List ℕ → List ℕ
 given_by (Ok None) given = []
 given_by (Ok (Some count)) given = given
-given_by (Err fault) given = mark_of fault
+given_by (Err fault) given = fault_mark fault
 
 -- What is given of these bytes of a stream, of whose records so many are still passed over and so many may still come: the records behind those, each by
 -- itself, up to the last that may come or the end; and where a frame can't be read before that, its mark.
 abbrev pub given_of : Form → (greatest over most left : ℕ) → List ℕ → List ℕ
 given_of form greatest over zero left bytes = []
 given_of form greatest over (suc most) left bytes =
-    given_by (first_of form greatest left bytes).answer
-    (one_given form over (first_of form greatest left bytes).body
-    ++ given_of form greatest (over - 1) most (first_of form greatest left bytes).after (first_of form greatest left bytes).rest)
+    given_by (first_frame_in form greatest left bytes).answer
+    (one_given form over (first_frame_in form greatest left bytes).body
+    ++ given_of form greatest (over - 1) most (first_frame_in form greatest left bytes).after (first_frame_in form greatest left bytes).rest)
 
 -- what is still given of these bytes, where a stream has come so far
 abbrev pub given_behind : Walk → List ℕ → List ℕ
@@ -60,8 +60,8 @@ given_behind walk bytes = given_of walk.form walk.greatest (walk.skip - walk.num
 -- ---- by one step
 
 -- this is given of what came, and behind it what is given of what is still to come
-abbrev pub Gives : List ℕ → Walk → Walk → (coming left : Option (List ℕ)) → Type 0
-Gives part before now coming left = Told coming left (λ bytes rest. given_behind before bytes ≡ part ++ given_behind now rest)
+abbrev pub GivesPart : List ℕ → Walk → Walk → (coming left : Option (List ℕ)) → Type 0
+GivesPart part before now coming left = Told coming left (λ bytes rest. given_behind before bytes ≡ part ++ given_behind now rest)
 
 -- nothing more is given
 abbrev pub GivesNone : Walk → (coming left : Option (List ℕ)) → Type 0
@@ -69,12 +69,12 @@ GivesNone before coming left = Told coming left (λ bytes rest. given_behind bef
 
 -- where the first record that is chosen has come, what is given of one of these bytes is this record by itself
 abbrev pub GivesRecord : List ℕ → Walk → Walk → (coming left : Option (List ℕ)) → Type 0
-GivesRecord body before now coming left = before.skip ≤ before.number → Gives (framed_alone before.form body) before now coming left
+GivesRecord body before now coming left = before.skip ≤ before.number → GivesPart (framed_alone before.form body) before now coming left
 
 -- where no read failed, the mark of the fault at which it stopped is what is given
 abbrev pub GivesMark : Stopped → Walk → (coming left : Option (List ℕ)) → Type 0
 GivesMark stop before coming left =
-    is_read_failure (Err stop.fault) ≡ false → Told coming left (λ bytes rest. given_behind before bytes ≡ mark_of stop.fault)
+    is_read_failure (Err stop.fault) ≡ false → Told coming left (λ bytes rest. given_behind before bytes ≡ fault_mark stop.fault)
 
 -- ---- what that is
 
@@ -86,7 +86,7 @@ pub record GivenAreChosen : Type 0 where
       → given_of form greatest skip last 0 bytes ≡ chosen ++ given_of form greatest (skip - number) (last - number) left rest
   pub stopped : (form : Form) (greatest skip last : ℕ) (stop : Stopped) (chosen bytes rest : List ℕ) → HasBlockSize form → 0 < greatest → greatest ≤ longest_record
       → stop.number ≤ last → is_read_failure (Err stop.fault) ≡ false → HasStopped form greatest skip stop chosen bytes rest
-      → given_of form greatest skip last 0 bytes ≡ chosen ++ mark_of stop.fault
+      → given_of form greatest skip last 0 bytes ≡ chosen ++ fault_mark stop.fault
 
 -- ---- where a source that gives it stopped
 
@@ -94,7 +94,7 @@ pub record GivenAreChosen : Type 0 where
 abbrev pub left_at : Option Stopped → Option (List ℕ) → Option (List ℕ)
 left_at None told = told
 left_at (Some stop) None = None
-left_at (Some stop) (Some bytes) = if is_read_failure (Err stop.fault) then Some bytes else Some (mark_of stop.fault)
+left_at (Some stop) (Some bytes) = if is_read_failure (Err stop.fault) then Some bytes else Some (fault_mark stop.fault)
 
 -- this is what is left behind it, where it stopped so, or did not
 abbrev pub IsLeftAt : Option Stopped → Option (List ℕ) → Type 0

@@ -1,7 +1,7 @@
 //! How much of what is left of a stream is chosen.
 
 ghost use Rattle.std.specs.Prelude.{◌≡◌, ◌-◌, ◌==◌};
-ghost use Rattle.cob_records_parts.specs.Aheads.{ahead_in, ahead_of, bytes_ahead};
+ghost use Rattle.cob_records_parts.specs.Aheads.{ahead_in, chosen_ahead_of, bytes_ahead};
 
 use crate::walk::Walk;
 use cob_records::Form;
@@ -40,7 +40,7 @@ fn ahead_in(form: Form, greatest: u16, is_all: bool, count: u64) -> Ahead
 
 /// How much of what is left of a stream is chosen. Nothing is said where records are still to be passed over.
 pub(crate) fn ahead_of(walk: Walk) -> Ahead
-    ensures { result ≡ ahead_of walk }
+    ensures { result ≡ chosen_ahead_of walk }
 {
     if walk.number < walk.skip {
         return Ahead::Apart;

@@ -131,7 +131,7 @@ impl<R> Chosen<R> {
 }
 
 impl<R: Drop> Chosen<R> {
-    ghost use Rattle.cob_records_parts.specs.Rests.{rest_of};
+    ghost use Rattle.cob_records_parts.specs.Rests.{rest_inside};
 
     /// What is still given of the source inside, where that is all that is left of it, or its first bytes: nothing need be between then.
     ///
@@ -139,7 +139,7 @@ impl<R: Drop> Chosen<R> {
     ///
     /// This source, where its records are given apart.
     pub fn into_rest(self) -> Result<Rest<R>, Chosen<R>>
-        ensures { result ≡ rest_of self }
+        ensures { result ≡ rest_inside self }
     {
         match self.ahead() {
             Ahead::All => Ok(Rest {

@@ -75,7 +75,7 @@ fn give_some(bytes: &[u8], piece: &mut [u8]) -> usize
 
 impl Held {
     ghost use Rattle.cob_records.specs.Alone.{framed_alone};
-    ghost use Rattle.cob_records_parts.specs.Helds.{IsSpent, held_bytes, holds_none};
+    ghost use Rattle.cob_records_parts.specs.Helds.{IsGivenAway, held_bytes, holds_none};
 
     /// Nothing is held, and there is room for a record of so many bytes.
     ///
@@ -83,7 +83,7 @@ impl Held {
     ///
     /// Where no memory is left.
     pub(crate) fn new(alloc: Global, greatest: u16) -> Result<Held, AllocError>
-        ensures none { IfOk result IsSpent }
+        ensures none { IfOk result IsGivenAway }
         ensures room { IfOk result (λ held. length held.body.items ≡ greatest) }
     {
         Ok(Held {
@@ -98,7 +98,7 @@ impl Held {
     /// Whether nothing is held.
     pub(crate) fn is_empty(&self) -> bool
         ensures is { result ≡ holds_none self.now }
-        ensures none { IsTrue result → IsSpent self.now }
+        ensures none { IsTrue result → IsGivenAway self.now }
         ensures some { IsFalse result → 0 < length (held_bytes self.now) }
     {
         self.at == FRONT && self.from == self.end

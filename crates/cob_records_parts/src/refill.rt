@@ -5,8 +5,8 @@ ghost use Rattle.cob_records.specs.Device.{counted};
 ghost use Rattle.cob_records.specs.Frame.{is_write_fault};
 ghost use Rattle.cob_records_parts.specs.Choices.{stops_by_read};
 ghost use Rattle.cob_records_parts.specs.Numbering.{OnlyPassed};
-ghost use Rattle.cob_records_parts.specs.StillGiven.{Gives, GivesMark, GivesNone};
-ghost use Rattle.cob_records_parts.specs.Helds.{IsSpent, held_bytes};
+ghost use Rattle.cob_records_parts.specs.StillGiven.{GivesPart, GivesMark, GivesNone};
+ghost use Rattle.cob_records_parts.specs.Helds.{IsGivenAway, held_bytes};
 ghost use Rattle.cob_records_parts.specs.Walks.{EndsAt, IsSameChoice, IsThrough, PassesOver, ReachesFirst, StopsWalkAt, TakesChosen};
 
 use crate::choice::Stopped;
@@ -42,7 +42,7 @@ pub(crate) fn pass_over<R: Source>(
         (R.coming source.old) (R.coming source.new)) }
     ensures before { IfErr result (λ stop. stop.number ≤ walk.old.skip) }
     ensures gives { IfOk result (λ _.
-        Gives [] walk.old walk.new (R.coming source.old) (R.coming source.new)) }
+        GivesPart [] walk.old walk.new (R.coming source.old) (R.coming source.new)) }
     ensures none { IfOk result (λ all. IsFalse all
         → GivesNone walk.old (R.coming source.old) (R.coming source.new)) }
     ensures marks { IfErr result (λ stop. GivesMark stop walk.old
@@ -66,7 +66,7 @@ pub(crate) fn pass_over<R: Source>(
 ///
 /// A frame that can't be read.
 fn take_next<R: Source>(source: &mut R, walk: &mut Walk, held: &mut Held) -> Result<(), Stopped>
-    requires none { IsSpent held.old }
+    requires none { IsGivenAway held.old }
     requires room { length held.old.body.items ≡ walk.old.greatest }
     requires behind { walk.old.skip ≤ walk.old.number }
     ensures room { length held.new.body.items ≡ length held.old.body.items }
@@ -77,7 +77,7 @@ fn take_next<R: Source>(source: &mut R, walk: &mut Walk, held: &mut Held) -> Res
         → IsThrough walk.old walk.new (R.coming source.old) (R.coming source.new)) }
     ensures stops { IfErr result (λ stop. StopsWalkAt stop walk.old
         (R.coming source.old) (R.coming source.new)) }
-    ensures gives { OnOk result (Gives (held_bytes held.new) walk.old walk.new
+    ensures gives { OnOk result (GivesPart (held_bytes held.new) walk.old walk.new
         (R.coming source.old) (R.coming source.new)) }
     ensures last { OnOk result (length (held_bytes held.new) ≡ 0
         → GivesNone walk.old (R.coming source.old) (R.coming source.new)) }
@@ -109,7 +109,7 @@ pub(crate) fn refill<R: Source>(
     walk: &mut Walk,
     held: &mut Held,
 ) -> Result<(), Stopped>
-    requires none { IsSpent held.old }
+    requires none { IsGivenAway held.old }
     requires room { length held.old.body.items ≡ walk.old.greatest }
     ensures room { length held.new.body.items ≡ length held.old.body.items }
     ensures same { IsSameChoice walk.old walk.new }
@@ -119,7 +119,7 @@ pub(crate) fn refill<R: Source>(
         → IsThrough walk.old walk.new (R.coming source.old) (R.coming source.new)) }
     ensures stops { IfErr result (λ stop. StopsWalkAt stop walk.old
         (R.coming source.old) (R.coming source.new)) }
-    ensures gives { OnOk result (Gives (held_bytes held.new) walk.old walk.new
+    ensures gives { OnOk result (GivesPart (held_bytes held.new) walk.old walk.new
         (R.coming source.old) (R.coming source.new)) }
     ensures last { OnOk result (length (held_bytes held.new) ≡ 0
         → GivesNone walk.old (R.coming source.old) (R.coming source.new)) }

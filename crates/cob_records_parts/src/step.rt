@@ -5,7 +5,7 @@ ghost use Rattle.cob_records.specs.Device.{counted};
 ghost use Rattle.cob_records.specs.Frame.{is_write_fault};
 ghost use Rattle.cob_records_parts.specs.Choices.{stops_by_read};
 ghost use Rattle.cob_records_parts.specs.Numbering.{OnlyPassed};
-ghost use Rattle.cob_records_parts.specs.StillGiven.{Gives, GivesMark, GivesNone, GivesRecord};
+ghost use Rattle.cob_records_parts.specs.StillGiven.{GivesPart, GivesMark, GivesNone, GivesRecord};
 ghost use Rattle.cob_records_parts.specs.Walks.{EndsAt, IfFound, IsSameChoice, PassesOver, StopsWalkAt, TakesRecord};
 
 use crate::choice::Stopped;
@@ -43,13 +43,13 @@ pub(crate) fn next_body<R: Source>(
         (R.coming source.old) (R.coming source.new)) }
     // What is given of all that comes: of a record that is passed over nothing, of one that is taken this one, nothing at the end, the mark of a fault.
     ensures over { IfFound result (λ _. walk.old.number < walk.old.skip
-        → Gives [] walk.old walk.new (R.coming source.old) (R.coming source.new)) }
+        → GivesPart [] walk.old walk.new (R.coming source.old) (R.coming source.new)) }
     ensures next { IfFound result (λ count.
         GivesRecord (take count body.new) walk.old walk.new (R.coming source.old) (R.coming source.new)) }
     ensures none { IfOk result (λ found. IfNone found
         (GivesNone walk.old (R.coming source.old) (R.coming source.new))) }
     ensures still { IfOk result (λ found. IfNone found
-        (Gives [] walk.old walk.new (R.coming source.old) (R.coming source.new))) }
+        (GivesPart [] walk.old walk.new (R.coming source.old) (R.coming source.new))) }
     ensures marks { IfErr result (λ stop. GivesMark stop walk.old
         (R.coming source.old) (R.coming source.new)) }
     ensures kind { IfErr result (λ stop. is_write_fault stop.fault ≡ false) }

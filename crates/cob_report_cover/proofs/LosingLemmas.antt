@@ -16,7 +16,7 @@ use Rattle.cob_move_data.specs.declared.single.Sent.{Sent}
 use Rattle.cob_move_data.specs.declared.single.Sent.TheVariants as code
 use Rattle.cob_move_receive.specs.Table.{Entry, SenderKind}
 use Rattle.cob_back_losses.specs.declared.losses.Losses.{Losses}
-use Rattle.cob_report_cover.specs.Losing.{AreLossesFrom, AreLossesOf, AreLossesOfEach, AreLossesOfEntry, AreLossesTo, HasNoEntry, StandsAs, Tells, greatest_spots, tree_of_side}
+use Rattle.cob_report_cover.specs.Losing.{AreLossesFrom, AreLossesOf, AreLossesOfEach, AreLossesOfEntry, AreLossesTo, HasNoEntry, StandsAs, TellsLosses, greatest_spots, tree_of_side}
 
 -- ---- entries by their numbers
 
@@ -49,10 +49,10 @@ one_length tree number a b n m first second =
 
 -- what is told of an entry by its number is told of each that it is
 pub told_to : (from : SenderKind) (bytes : ℕ) (tree : Forest Resolved) (number : ℕ) (kind : Kind) (n : ℕ) (losses : Losses) → StandsAs tree number kind n
-    → Tells from bytes kind n losses → AreLossesTo from bytes tree number losses
+    → TellsLosses from bytes kind n losses → AreLossesTo from bytes tree number losses
 told_to from bytes tree number kind n losses stands told to room other =
-    subst (λ (k : Kind). Tells from bytes k room losses) (one_kind tree number kind to n room stands other)
-    (subst (λ (m : ℕ). Tells from bytes kind m losses) (one_length tree number kind to n room stands other) told)
+    subst (λ (k : Kind). TellsLosses from bytes k room losses) (one_kind tree number kind to n room stands other)
+    (subst (λ (m : ℕ). TellsLosses from bytes kind m losses) (one_length tree number kind to n room stands other) told)
 
 pub told_from : (input : Forest Resolved) (from : ℕ) (output : Forest Resolved) (to : ℕ) (kind : Kind) (n : ℕ) (losses : Losses) → StandsAs input from kind n
     → AreLossesTo (Entry kind) n output to losses → AreLossesOfEntry input from output to losses

@@ -42,7 +42,7 @@ abbrev pub HasNoEntry : Forest Resolved → ℕ → Type 0
 HasNoEntry tree number = (kind : Kind) (bytes : ℕ) → StandsAs tree number kind bytes → ⊥
 
 -- these are said of the move of a sender of so many bytes to a receiver of so many
-pub record Tells (from : SenderKind) (bytes : ℕ) (to : Kind) (room : ℕ) (losses : Losses) : Type 0 where
+pub record TellsLosses (from : SenderKind) (bytes : ℕ) (to : Kind) (room : ℕ) (losses : Losses) : Type 0 where
   pub before : Decides losses.before (LosesBefore from to)
   pub behind : Decides losses.behind (LosesBehind from to)
   pub characters : Decides losses.characters (LosesCharacters from bytes to room)
@@ -50,7 +50,7 @@ pub record Tells (from : SenderKind) (bytes : ℕ) (to : Kind) (room : ℕ) (los
 
 -- they are said of its move to the entry with this number of a record
 abbrev pub AreLossesTo : SenderKind → ℕ → Forest Resolved → ℕ → Losses → Type 0
-AreLossesTo from bytes tree number losses = (to : Kind) (room : ℕ) → StandsAs tree number to room → Tells from bytes to room losses
+AreLossesTo from bytes tree number losses = (to : Kind) (room : ℕ) → StandsAs tree number to room → TellsLosses from bytes to room losses
 
 -- they are said of the move of one record's entry to one of another record, both by their numbers
 abbrev pub AreLossesOfEntry : (input : Forest Resolved) (from : ℕ) (output : Forest Resolved) (to : ℕ) → Losses → Type 0

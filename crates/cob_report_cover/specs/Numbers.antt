@@ -5,9 +5,9 @@ use Rattle.cob_copybook_tree.specs.declared.node.Kind.{Kind}
 use Rattle.cob_copybook_tree.specs.declared.node.Kind.TheVariants.{Group, Item as ItemKind}
 
 -- an entry is an item that shows a number
-abbrev pub shows_number : Kind → Bool
-shows_number Group = false
-shows_number (ItemKind i) = category_shows i.picture.category
+abbrev pub kind_shows_number : Kind → Bool
+kind_shows_number Group = false
+kind_shows_number (ItemKind i) = category_shows i.picture.category
 
 -- an entry is an item of characters
 abbrev pub has_characters : Kind → Bool
@@ -16,4 +16,4 @@ has_characters (ItemKind i) = not (category_shows i.picture.category)
 
 -- characters are moved to a number: they may be no digits
 abbrev pub MayHaveNoNumber : Kind → Kind → Type 0
-MayHaveNoNumber from to = IsTrue (has_characters from) × IsTrue (shows_number to)
+MayHaveNoNumber from to = IsTrue (has_characters from) × IsTrue (kind_shows_number to)

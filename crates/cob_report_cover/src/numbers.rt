@@ -2,7 +2,7 @@
 
 ghost use Rattle.std.specs.Prelude.{◌≡◌};
 ghost use Rattle.std.specs.Bool.{Decides};
-ghost use Rattle.cob_report_cover.specs.Numbers.{MayHaveNoNumber, has_characters, shows_number};
+ghost use Rattle.cob_report_cover.specs.Numbers.{MayHaveNoNumber, has_characters, kind_shows_number};
 
 use crate::elements::{layout_of, write_element, write_sent};
 use cob_back_moves::Layouts;
@@ -21,7 +21,7 @@ pub(crate) struct Numberless<'a> {
 
 /// Whether an entry of this kind is an item that shows a number.
 fn shows_number(kind: &Kind) -> bool
-    ensures { result ≡ shows_number kind.now }
+    ensures { result ≡ kind_shows_number kind.now }
 {
     match kind {
         Kind::Group => false,

@@ -33,7 +33,7 @@ use Rattle.cob_move_apply.proofs.ListLemmas.{next}
 use Rattle.cob_report_explain.specs.declared.single.Asked.TheVariants as asked
 use Rattle.cob_report_explain.specs.declared.single.AskedStop.{AskedStop}
 use Rattle.cob_report_explain.specs.declared.single.MoveStop.{MoveStop}
-use Rattle.cob_report_explain.specs.Each.{AreOfMove, AreOfMoves, AreSentBy, AreSingles, EachEnding, GetsAt, IsSingleTo, LacksFor, NumberedMove, Sees, Single, all_done, append_singles, asked_stop, each_ending, numbered_of_pair, numbered_of_statement, stop_of, stopped_at}
+use Rattle.cob_report_explain.specs.Each.{AreOfMove, AreOfMoves, AreSentBy, AreSingles, EachEnding, GetsAt, IsSingleTo, LacksFor, NumberedMove, Sees, Single, all_done, append_singles, asked_stop, each_ending, numbered_of_pair, numbered_of_statement, single_stop, stopped_at}
 
 -- ---- what was seen
 
@@ -106,7 +106,7 @@ give_more t m content qs i q before now after old mid new lt is (front, grown, s
 
 -- a receiver doesn't get it
 abbrev pub WasLacking : Forest Resolved → NumberedMove → Content → ℕ → Ref → List ℕ → MoveStop → Type 0
-WasLacking t m content i q now stop = (lack : AskedStop) × LacksFor t content q now lack × (stop ≡ stop_of m i lack)
+WasLacking t m content i q now stop = (lack : AskedStop) × LacksFor t content q now lack × (stop ≡ single_stop m i lack)
 
 pub give_stops : (t : Forest Resolved) (m : NumberedMove) (content : Content) (qs : List Ref) (i : ℕ) (q : Ref) (before now after : List ℕ) (old mid new : Option (List Single)) (stop : MoveStop)
     → i < length qs → q ≡ get_or qs i q → SoFar t m content qs i before now old mid → WasLacking t m content i q now stop → after ≡ now → new ≡ mid
@@ -132,7 +132,7 @@ give_all t m content qs i before now old new past (front, grown, so) = (
 
 -- the sender's place is missing
 pub sender_lacks : (s : Sender) (r : Records) (m : NumberedMove) (input before : List ℕ) (old : Option (List Single)) (stop : Stop) (e : MoveStop) → Gives r s input before (Err stop)
-    → e ≡ stop_of m 0 (asked_stop asked.Sender stop) → Sees old old (λ ones. AreSentBy s r m input before ones (stopped_at e before))
+    → e ≡ single_stop m 0 (asked_stop asked.Sender stop) → Sees old old (λ ones. AreSentBy s r m input before ones (stopped_at e before))
 sender_lacks s r m input before old stop e gives named = ([], seen_none old, inr (stop, gives, refl, ap (λ (x : MoveStop). stopped_at x before) named))
 
 -- the sender's bytes were taken, and its receivers got them

@@ -102,8 +102,8 @@ LacksFor tree content q before lack =
     × (lack ≡ asked_stop asked.Value (stop_at content.side content.offset NoValue)))
 
 -- the stop of a single move
-abbrev pub stop_of : NumberedMove → ℕ → AskedStop → MoveStop
-stop_of m k lack = record { number = single_number m k; asked = lack.asked; stop = lack.stop }
+abbrev pub single_stop : NumberedMove → ℕ → AskedStop → MoveStop
+single_stop m k lack = record { number = single_number m k; asked = lack.asked; stop = lack.stop }
 
 -- how single moves end: with the one that stops or none, and with the storage that they leave
 pub record EachEnding : Type 0 where
@@ -122,7 +122,7 @@ stopped_at stop storage = record { stops_at = Some stop; storage = storage }
 abbrev pub AreSingles : Forest Resolved → NumberedMove → Content → ℕ → List Ref → List ℕ → List Single → EachEnding → Type 0
 AreSingles tree m content k [] before ones end = (ones ≡ []) × (end ≡ all_done before)
 AreSingles tree m content k (q ∷ qs) before [] end =
-    (lack : AskedStop) × LacksFor tree content q before lack × (end ≡ stopped_at (stop_of m k lack) before)
+    (lack : AskedStop) × LacksFor tree content q before lack × (end ≡ stopped_at (single_stop m k lack) before)
 AreSingles tree m content k (q ∷ qs) before (one ∷ ones) end =
     IsSingleTo tree m k content q before one × AreSingles tree m content (k + 1) qs one.storage ones end
 
@@ -131,7 +131,7 @@ abbrev pub AreSentBy : Sender → Records → NumberedMove → List ℕ → List
 AreSentBy s r m input before ones end =
     ((content : Content) × Gives r s input before (Ok content) × AreSingles r.output m content 0 m.receivers before ones end)
     ⊎ ((stop : Stop) × Gives r s input before (Err stop) × (ones ≡ [])
-    × (end ≡ stopped_at (stop_of m 0 (asked_stop asked.Sender stop)) before))
+    × (end ≡ stopped_at (single_stop m 0 (asked_stop asked.Sender stop)) before))
 
 -- these are the single moves of a move
 abbrev pub AreOfMove : Reading → Records → NumberedMove → List ℕ → List ℕ → List Single → EachEnding → Type 0

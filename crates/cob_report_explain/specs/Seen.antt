@@ -10,7 +10,7 @@ use Rattle.cob_move_data.specs.declared.operands.PairMoves.{PairMoves}
 use Rattle.cob_move_data.specs.declared.operands.Side.TheVariants.{In, Out}
 use Rattle.cob_move_data.specs.declared.operands.StatementMoves.{StatementMoves}
 use Rattle.cob_move_data.specs.Moves.{Entry, Move, Records, Sender, moves_by, numbered_move_by, operand_in}
-use Rattle.cob_report_explain.specs.Each.{AreOfMove, AreOfMoves, AreSentBy, AreSingles, EachEnding, IsSingleTo, LacksFor, NumberedMove, Sees, Single, append_singles, each_ending, numbered_moves, numbered_of_pair, numbered_of_pairs, numbered_of_statement, stop_of}
+use Rattle.cob_report_explain.specs.Each.{AreOfMove, AreOfMoves, AreSentBy, AreSingles, EachEnding, IsSingleTo, LacksFor, NumberedMove, Sees, Single, append_singles, each_ending, numbered_moves, numbered_of_pair, numbered_of_pairs, numbered_of_statement, single_stop}
 use Rattle.cob_report_explain.specs.declared.single.AskedStop.{AskedStop}
 use Rattle.cob_report_explain.specs.declared.single.MoveStop.{MoveStop}
 use Rattle.cob_report_explain.specs.declared.single.Given.{Given}
@@ -49,7 +49,7 @@ HandsOut tree m k given q before after old new =
 -- it doesn't get it, and the single move stops there
 abbrev pub StopsAtReceiver : Forest Resolved → MoveParts → ℕ → Given → Ref → List ℕ → MoveStop → Type 0
 StopsAtReceiver tree m k given q before stop =
-    (lack : AskedStop) × LacksFor tree (given_content given) q before lack × (stop ≡ stop_of (move_of m) k lack)
+    (lack : AskedStop) × LacksFor tree (given_content given) q before lack × (stop ≡ single_stop (move_of m) k lack)
 
 -- what was seen grew by the single moves of a move that gives this
 abbrev pub SeesSingles : Forest Resolved → MoveParts → Given → List ℕ → EachEnding → (old new : Option (List Single)) → Type 0

@@ -7,7 +7,7 @@ ghost use Rattle.cob_layout.specs.Storage.{greatest_length};
 ghost use Rattle.cob_layout.specs.Standing.{IsRoomFor};
 ghost use Rattle.cob_move_data.specs.Moves.{IsOperand, operand_in};
 ghost use Rattle.cob_move_receive.specs.Sent.{HasAllBytes, sent};
-ghost use Rattle.cob_report_explain.specs.Each.{GetsAt, LacksFor, asked_stop, each_ending, stop_of};
+ghost use Rattle.cob_report_explain.specs.Each.{GetsAt, LacksFor, asked_stop, each_ending, single_stop};
 ghost use Rattle.cob_move_apply.specs.Located.{stop_at};
 ghost use Rattle.cob_move_apply.specs.declared.stop.StopCause.TheVariants.{NoValue};
 ghost use Rattle.cob_report_explain.specs.Seen.{HandsOut, SeesSingles, StopsAtReceiver, given_content};

@@ -1,7 +1,7 @@
 //! Single moves, as they are handed out.
 
 ghost use Rattle.std.specs.Prelude.{◌≡◌};
-ghost use Rattle.cob_report_explain.specs.Each.{asked_stop, stop_of};
+ghost use Rattle.cob_report_explain.specs.Each.{asked_stop, single_stop};
 ghost use Rattle.cob_report_explain.specs.Seen.{move_of};
 ghost use Rattle.cob_report_explain.specs.declared.single.Asked.TheVariants as asked;
 
@@ -82,7 +82,7 @@ pub struct SingleMove<'a> {
 
 /// The stop of a single move, for what isn't there.
 pub(crate) fn stop_of(parts: &MoveParts<'_>, receiver: usize, lack: AskedStop) -> MoveStop
-    ensures { result ≡ stop_of (move_of parts.now) receiver lack }
+    ensures { result ≡ single_stop (move_of parts.now) receiver lack }
 {
     MoveStop {
         number: SingleNumber {
@@ -97,7 +97,7 @@ pub(crate) fn stop_of(parts: &MoveParts<'_>, receiver: usize, lack: AskedStop) -
 
 /// The stop of a move whose sender has no place.
 pub(crate) fn sender_stop(parts: &MoveParts<'_>, stop: Stop) -> MoveStop
-    ensures { result ≡ stop_of (move_of parts.now) 0 (asked_stop asked.Sender stop) }
+    ensures { result ≡ single_stop (move_of parts.now) 0 (asked_stop asked.Sender stop) }
 {
     stop_of(
         parts,

@@ -4,7 +4,7 @@ use Rattle.std.proofs.lemmas.Bool.{eqb-true, eqb-false}
 use Rattle.std.proofs.lemmas.Str.{chars_past_char, encodes-append}
 use Rattle.std.proofs.Math.Utf8.{encode}
 use Rattle.std.specs.Str.{chars, IsUtf8}
-use Rattle.cob_report_html.specs.Escapes.{Mark, Less, Greater, Ampersand, Quotation, character_of, escape_of, written, written_text, IsUnmarked, ReadsAs, Nothing, Plain, Escape}
+use Rattle.cob_report_html.specs.Escapes.{Mark, Less, Greater, Ampersand, Quotation, character_of, escape_of, escaped_character, written_text, IsUnmarked, ReadsAs, Nothing, Plain, Escape}
 
 -- a character that is none of the four is plain
 no_mark : (c : ℕ) → (c == 60) ≡ false → (c == 62) ≡ false → (c == 38) ≡ false → (c == 34) ≡ false → (mark : Mark) → c ≢ character_of mark
@@ -94,6 +94,6 @@ one_reading shown text other one two = one_of shown shown text other refl one tw
 
 -- A text whose first character is this: what is written of it is what is written of the character, before what is written of the rest.
 pub written_past : (text rest : List ℕ) (c : ℕ) → IsUtf8 text → text ≡ encode c ++ rest
-    → encode_utf8_all (written c) ++ encode_utf8_all (written_text (chars rest)) ≡ encode_utf8_all (written_text (chars text))
+    → encode_utf8_all (escaped_character c) ++ encode_utf8_all (written_text (chars rest)) ≡ encode_utf8_all (written_text (chars text))
 written_past text rest c utf8 is =
-    sym (encodes-append (written c) _) ∙ ap (λ cs. encode_utf8_all (written_text cs)) (sym (chars_past_char text rest c utf8 is))
+    sym (encodes-append (escaped_character c) _) ∙ ap (λ cs. encode_utf8_all (written_text cs)) (sym (chars_past_char text rest c utf8 is))

@@ -25,8 +25,8 @@ escape_of Ampersand = codes "&amp;"
 escape_of Quotation = codes "&quot;"
 
 -- how a character is written: a mark as its escape, and each other one as it is
-abbrev pub written : ℕ → List ℕ
-written character =
+abbrev pub escaped_character : ℕ → List ℕ
+escaped_character character =
     if character == 60 then escape_of Less else
     (if character == 62 then escape_of Greater else
     (if character == 38 then escape_of Ampersand else
@@ -34,7 +34,7 @@ written character =
 
 -- how the characters of a text are written, one behind another
 abbrev pub written_text : List ℕ → List ℕ
-written_text text = flat_map written text
+written_text text = flat_map escaped_character text
 
 -- a character that is no mark
 pub record IsUnmarked (character : ℕ) : Type 0 where

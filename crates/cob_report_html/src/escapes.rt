@@ -1,15 +1,15 @@
 //! Texts with the escapes of HTML.
 
 ghost use Rattle.std.specs.Prelude.{◌≡◌, IfNone, IfSome, encode_utf8, encode_utf8_all};
-ghost use Rattle.cob_report_html.specs.Escapes.{written};
+ghost use Rattle.cob_report_html.specs.Escapes.{escaped_character};
 
 use std::fmt;
 
 /// The escape of a character that has a meaning of its own in HTML.
 fn escape_of(character: char) -> Option<&'static str>
-    ensures escape { IfSome result (λ escape. encode_utf8_all (written character) ≡ escape.now) }
+    ensures escape { IfSome result (λ escape. encode_utf8_all (escaped_character character) ≡ escape.now) }
     ensures plain { IfNone result
-        (encode_utf8_all (written character) ≡ encode_utf8 character) }
+        (encode_utf8_all (escaped_character character) ≡ encode_utf8 character) }
 {
     match character {
         '<' => Some("&lt;"),

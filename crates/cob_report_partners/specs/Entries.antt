@@ -79,9 +79,9 @@ abbrev pub beside : Setting → Resolved → Setting
 beside w e = record { tables = w.tables; steady = w.steady; own = w.own; redefined = w.redefined; latest = latest_behind w.latest e }
 
 -- the number of the last of these entries; this one where there is none
-abbrev pub last_number : ℕ → Forest Resolved → ℕ
-last_number n NoEntries = n
-last_number n (AnEntry e children more) = last_number (last_number e.number children) more
+abbrev pub last_entry_number : ℕ → Forest Resolved → ℕ
+last_entry_number n NoEntries = n
+last_entry_number n (AnEntry e children more) = last_entry_number (last_entry_number e.number children) more
 
 -- the entry with this number is the count of one of these tables
 abbrev pub is_count : List Table → ℕ → Bool
@@ -92,7 +92,7 @@ abbrev pub entry_inside : Source → Setting → Tree Resolved → DraftEntry
 entry_inside source w t = record {
   side = source.side;
   number = t.top.number;
-  last = last_number t.top.number t.beneath;
+  last = last_entry_number t.top.number t.beneath;
   tables = (inside w t.top).tables;
   kind = t.top.kind;
   steady = (inside w t.top).steady;

@@ -76,13 +76,13 @@ abbrev pub candidates_for : BothRecords → Bearer DraftEntry → List (Bearer D
 candidates_for r to = or_others (fitting Whole r to (input_bearers r)) (fitting Shared r to (input_bearers r))
 
 -- an entry is this one
-abbrev pub is_number : ℕ → Option ℕ → Bool
-is_number number None = false
-is_number number (Some other) = other == number
+abbrev pub is_this_one : ℕ → Option ℕ → Bool
+is_this_one number None = false
+is_this_one number (Some other) = other == number
 
 -- an entry is a redefinition of the sender, or stands in one, and has the name of an item
 abbrev pub redefines_sender : DraftEntry → Bearer DraftEntry → Bearer DraftEntry → Bool
-redefines_sender sender to b = is_number sender.number b.entry.redefined && share_name to.name b.name
+redefines_sender sender to b = is_this_one sender.number b.entry.redefined && share_name to.name b.name
 
 -- The candidates for an item that stands beneath what receives the sender: those of its name in redefinitions of the sender, and where there are none those
 -- that it has else.

@@ -10,7 +10,7 @@ use Rattle.cob_back_losses.specs.Losses.{LosesBefore, LosesBehind, LosesCharacte
 use Rattle.cob_back_losses.specs.declared.losses.Losses.{Losses}
 use Rattle.cob_move_receive.specs.Refusals.{IsAllowed, is_refused}
 use Rattle.cob_move_receive.specs.Table.{Entry}
-use Rattle.cob_back_losses.specs.Keeping.{Element, KeepsDescription, Nothing, Tells}
+use Rattle.cob_back_losses.specs.Keeping.{Element, KeepsDescription, Nothing, TellsFirstUnkept}
 use Rattle.cob_report_partners.specs.declared.entries.DraftEntry.{DraftEntry}
 use Rattle.cob_report_partners.specs.declared.judge.Objection.{Objection}
 use Rattle.cob_report_partners.specs.declared.judge.Objection.TheVariants as objection
@@ -45,7 +45,7 @@ Objects from sent to room objection.Varies = (IsTrue from.steady × IsTrue to.st
 Objects from sent to room objection.Counts = IsTrue to.counts
 Objects from sent to room (objection.Refused refusal) = is_refused refusal (Entry (kind_there from)) (kind_there to) ≡ true
 Objects from sent to room (objection.Loses losses) = AreLosses (kind_there from) sent (kind_there to) room losses
-Objects from sent to room (objection.Description unkept) = Tells (Element (node from.entry.now)) (node to.entry.now) Nothing (Some unkept)
+Objects from sent to room (objection.Description unkept) = TellsFirstUnkept (Element (node from.entry.now)) (node to.entry.now) Nothing (Some unkept)
 
 -- Nothing is against it: both stand in as many tables, none of which varies, the receiver is the count of none, there is such a move, it loses nothing, and
 -- where it copies bytes each byte of the receiver is described as what it gets.

@@ -8,7 +8,7 @@ ghost use Rattle.cob_layout.specs.Sound.{AreNested, own_dimension};
 ghost use Rattle.cob_layout_places.specs.Places.{is_table};
 ghost use Rattle.cob_limits.specs.Limits.{most_dimensions};
 ghost use Rattle.cob_move_names.specs.Candidates.{with_table};
-ghost use Rattle.cob_report_partners.specs.Entries.{ListsBehind, ListsTree, draft_entry, entry_inside, inside, is_count, last_number, latest_behind, node_bearer, outside, record_entries, redefined_at, seen_setting, seen_source};
+ghost use Rattle.cob_report_partners.specs.Entries.{ListsBehind, ListsTree, draft_entry, entry_inside, inside, is_count, last_entry_number, latest_behind, node_bearer, outside, record_entries, redefined_at, seen_setting, seen_source};
 
 use arrayvec::ArrayVec;
 use cob_copybook_names::{Bearer, name_of, names_beneath};
@@ -135,7 +135,7 @@ fn is_count(varying: &[Table], number: usize) -> bool
 
 /// The number of the last entry beneath an entry, or its own where there is none.
 fn last_number(entry: &Node) -> usize
-    ensures { result ≡ last_number (node entry.now).top.number (node entry.now).beneath }
+    ensures { result ≡ last_entry_number (node entry.now).top.number (node entry.now).beneath }
 {
     let mut last = entry.number;
     for child in entry.children.iter() {

@@ -5,7 +5,7 @@ ghost use Rattle.cob_copybook_names.specs.Listed.{texts};
 ghost use Rattle.cob_move_names.specs.Pairs.{same_names};
 ghost use Rattle.cob_report_partners.specs.Entries.{draft_entry, listed_bearer};
 ghost use Rattle.cob_report_partners.specs.Groups.{below_record};
-ghost use Rattle.cob_report_partners.specs.Partners.{IsOnly, Shared, TellsSought, are_alike, candidates_for, candidates_within, fitting, input_bearers, is_beneath, is_input, is_item_beneath, is_namesake, is_number, items_beneath, those_sought};
+ghost use Rattle.cob_report_partners.specs.Partners.{IsOnly, Shared, TellsSought, are_alike, candidates_for, candidates_within, fitting, input_bearers, is_beneath, is_input, is_item_beneath, is_namesake, is_this_one, items_beneath, those_sought};
 
 use crate::entries::{DraftBearer, DraftEntry};
 use crate::groups::{is_below, names_there};
@@ -58,7 +58,7 @@ fn is_namesake(to: &DraftBearer<'_>, from: &DraftBearer<'_>) -> bool
 
 /// Whether an entry stands in a redefinition of another one.
 fn is_within(sender: &DraftEntry<'_>, entry: &DraftEntry<'_>) -> bool
-    ensures { result ≡ is_number (draft_entry sender.now).number entry.now.redefined }
+    ensures { result ≡ is_this_one (draft_entry sender.now).number entry.now.redefined }
 {
     match entry.redefined {
         Some(number) => number == sender.entry.number,

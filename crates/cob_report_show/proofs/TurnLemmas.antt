@@ -8,7 +8,7 @@ use Rattle.cob_layout.specs.Ways.{spot_at}
 use Rattle.cob_records.specs.declared.records.RecordFault.{RecordFault}
 use Rattle.cob_records.specs.Device.{Took}
 use Rattle.cob_report_show.specs.declared.named.Named.{Named}
-use Rattle.cob_report_show.specs.Elements.{NamedItem, Printed, StandsAt, named_item, table_times}
+use Rattle.cob_report_show.specs.Elements.{NamedItem, Printed, ElementStandsAt, named_item, table_times}
 use Rattle.cob_report_show.specs.Lines.{AreBegunInTurn, AreElementLines, AreInTurn, AreItemLines, BeginElementLines, BeginItemLines, IsElementLine, IsLineWith, front_text}
 use Rattle.cob_report_show.specs.Sent.{CountsSent, BeginsOne, Sends}
 use Rattle.cob_report_show.specs.Values.{IsValueShown}
@@ -17,13 +17,13 @@ use Rattle.cob_report_show.proofs.PieceLemmas.{sends_as, begins_as}
 
 -- ---- one element
 
-element_line : (r : Printed) (x : NamedItem) (subscripts : List ℕ) (place : Place) (front : List ℕ) → StandsAt r x subscripts place → front ≡ front_text x.name subscripts place.offset
+element_line : (r : Printed) (x : NamedItem) (subscripts : List ℕ) (place : Place) (front : List ℕ) → ElementStandsAt r x subscripts place → front ≡ front_text x.name subscripts place.offset
     → (line : List ℕ) → IsLineWith front (IsValueShown x.item (field_of place r.bytes)) line → IsElementLine r x subscripts line
 element_line r x subscripts place front at is line one =
     (place, at, subst (λ (f : List ℕ). IsLineWith f (IsValueShown x.item (field_of place r.bytes)) line) is one)
 
 pub element_sends : (r : Printed) (x : NamedItem) (subscripts : List ℕ) (place : Place) (front bytes : List ℕ) (before after : ℕ) (answer : Result (Unit {0}) RecordFault) (w0 w1 : Option (List ℕ))
-    → StandsAt r x subscripts place → front ≡ front_text x.name subscripts place.offset → bytes ≡ field_of place r.bytes
+    → ElementStandsAt r x subscripts place → front ≡ front_text x.name subscripts place.offset → bytes ≡ field_of place r.bytes
     → Took w0 w1 (Sends (IsLineWith front (IsValueShown x.item bytes)) (BeginsOne (IsLineWith front (IsValueShown x.item bytes))) before after answer)
     → Took w0 w1 (Sends (IsElementLine r x subscripts) (BeginsOne (IsElementLine r x subscripts)) before after answer)
 element_sends r x subscripts place front bytes before after answer w0 w1 at is field took =

@@ -68,7 +68,7 @@ AreSubscriptsUpTo (n ∷ ns) [] = ⊥
 AreSubscriptsUpTo (n ∷ ns) (s ∷ subscripts) = (0 < s) × (s ≤ n) × AreSubscriptsUpTo ns subscripts
 
 -- the element of an item with these subscripts stands there, as long as the item is
-pub record StandsAt (r : Printed) (x : NamedItem) (subscripts : List ℕ) (place : Place) : Type 0 where
+pub record ElementStandsAt (r : Printed) (x : NamedItem) (subscripts : List ℕ) (place : Place) : Type 0 where
   pub found : option_map placed (place_of (times r.places.counts) x.number r.tree 0 0 subscripts) ≡ Some (Ok place)
   pub sized : place.length ≡ item_size x.item
 
@@ -76,7 +76,7 @@ pub record StandsAt (r : Printed) (x : NamedItem) (subscripts : List ℕ) (place
 pub record StandsWithin (r : Printed) (x : NamedItem) (subscripts : List ℕ) : Type 0 where
   pub refers : Refers x.number subscripts r.tree
   pub place : Place
-  pub at : StandsAt r x subscripts place
+  pub at : ElementStandsAt r x subscripts place
   pub within : place.offset + place.length ≤ length r.bytes
 
 -- so it is of each element of the item under these subscripts and further ones, one for each of the tables that are left

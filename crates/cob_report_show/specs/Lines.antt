@@ -6,7 +6,7 @@ use Rattle.cob_layout_places.specs.declared.reference.Ref.{Ref}
 use Rattle.cob_records.specs.declared.records.RecordFault.{RecordFault}
 use Rattle.cob_report_show.specs.declared.elements.Contents.{Contents}
 use Rattle.cob_report_show.specs.declared.named.Named.{Named}
-use Rattle.cob_report_show.specs.Elements.{NamedItem, Printed, StandsAt, named_in, named_item, printed_record, table_times}
+use Rattle.cob_report_show.specs.Elements.{NamedItem, Printed, ElementStandsAt, named_in, named_item, printed_record, table_times}
 use Rattle.cob_report_show.specs.Sent.{BeginsOne, IsBeginning, Sends, SendsOne}
 use Rattle.cob_report_show.specs.Values.{IsValueShown}
 
@@ -31,7 +31,7 @@ IsLineWith front is line = (value : List ℕ) × is value × (line ≡ front ++ 
 -- the line of an element of an item: its name with its subscripts, its offset, and its value
 abbrev pub IsElementLine : Printed → NamedItem → List ℕ → List ℕ → Type 0
 IsElementLine r x subscripts line =
-    (place : Place) × StandsAt r x subscripts place
+    (place : Place) × ElementStandsAt r x subscripts place
     × IsLineWith (front_text x.name subscripts place.offset) (IsValueShown x.item (field_of place r.bytes)) line
 
 -- so many texts one behind another, each so by its number from 1 on

@@ -6,7 +6,7 @@ ghost use Rattle.cob_records.specs.Device.{counted, Took};
 ghost use Rattle.cob_records.specs.Frame.{is_write_error, is_write_fault};
 ghost use Rattle.cob_copybook_tree.specs.Lengths.{item_size};
 ghost use Rattle.cob_layout.specs.Ways.{spot_at};
-ghost use Rattle.cob_report_show.specs.Elements.{AllStand, IsLaidOut, ItemsStand, StandsAt, StandsWithin, named_item, printed_record};
+ghost use Rattle.cob_report_show.specs.Elements.{AllStand, IsLaidOut, ItemsStand, ElementStandsAt, StandsWithin, named_item, printed_record};
 ghost use Rattle.cob_report_show.specs.Lines.{SendsElement, SendsElements, SendsItems, front_text, further_text, subscripts_text};
 
 use crate::named::Named;
@@ -75,7 +75,7 @@ fn place_of(contents: Contents, item: &Named, reference: &Ref) -> Place
     requires node { reference.now.node ≡ item.now.number }
     requires stands { StandsWithin (printed_record contents) (named_item item.now)
         reference.now.subscripts.items }
-    ensures at { StandsAt (printed_record contents.entry) (named_item item.now)
+    ensures at { ElementStandsAt (printed_record contents.entry) (named_item item.now)
         reference.now.subscripts.items result }
     ensures within { result.offset + result.length ≤ length contents.entry.bytes.now }
     ensures sized { result.length ≡ item_size item.now.item }

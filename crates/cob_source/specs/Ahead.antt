@@ -12,8 +12,8 @@ use Rattle.cob_source.specs.Reading.{HasRead}
 use Rattle.cob_source.specs.Words.{IsSourceRefusal, AreParagraphWordsOf}
 
 -- the lines that are ahead are so few that there is a number for each
-abbrev pub AreNumbered : WordsAhead → Type 0
-AreNumbered ahead = ahead.number + length ahead.rest.now ≤ 1000001
+abbrev pub HaveLineNumbers : WordsAhead → Type 0
+HaveLineNumbers ahead = ahead.number + length ahead.rest.now ≤ 1000001
 
 -- the literal that is open at the end of the last joined line is noted
 abbrev pub IsNoted : WordsAhead → Type 0

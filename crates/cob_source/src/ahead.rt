@@ -2,7 +2,7 @@
 
 ghost use Rattle.std.specs.Prelude.{ℕ, ◌<◌, ◌≤◌, List, [], ◌++◌, length, IfOk, IfErr, IfSome, IfNone, OnOk, IsTrue};
 ghost use Rattle.cob_limits.specs.Limits.{longest_text};
-ghost use Rattle.cob_source.specs.Ahead.{AreNumbered, AreReadOf, IsNoted, IsReadTo, ReadsOn, RefusesTextOf};
+ghost use Rattle.cob_source.specs.Ahead.{HaveLineNumbers, AreReadOf, IsNoted, IsReadTo, ReadsOn, RefusesTextOf};
 ghost use Rattle.cob_source.specs.Tokens.{Lexeme, lexemes};
 
 use crate::fault::SourceFault;
@@ -31,7 +31,7 @@ impl<'a> WordsAhead<'a> {
     /// All words of a paragraph; None where its text is too long.
     pub fn new(alloc: Global, text: &'a [u8]) -> Option<WordsAhead<'a>>
         ensures begins { IfSome result (IsReadTo text.now []) }
-        ensures numbered { IfSome result AreNumbered }
+        ensures numbered { IfSome result HaveLineNumbers }
         ensures noted { IfSome result IsNoted }
         // None is the answer only to a text that is too long.
         ensures none { IfNone result (longest_text < length text.now) }
@@ -59,11 +59,11 @@ impl<'a> WordsAhead<'a> {
     /// The rule that the text breaks, on the line that breaks it. T9, with line 0, only where memory is refused.
     fn read_line(&mut self, alloc: Global, out: &mut Vec<Token>) -> Result<bool, SourceFault>
         requires some { 0 < length self.old.rest.now }
-        requires numbered { AreNumbered self.old }
+        requires numbered { HaveLineNumbers self.old }
         requires noted { IsNoted self.old }
         ensures read { OnOk result (ReadsOn out.old.items out.new.items self.old self.new) }
         ensures shorter { OnOk result (length self.new.rest.now < length self.old.rest.now) }
-        ensures numbered { OnOk result (AreNumbered self.new) }
+        ensures numbered { OnOk result (HaveLineNumbers self.new) }
         ensures noted { OnOk result (IsNoted self.new) }
         ensures refused { IfErr result (λ f. RefusesTextOf out.old.items self.old f.rule f.line) }
         ensures enough { IfOk result (λ b. IsTrue b → 1000 ≤ length out.new.items) }
@@ -83,12 +83,12 @@ impl<'a> WordsAhead<'a> {
     ///
     /// The rule that the text breaks, on the line that breaks it. T9, with line 0, only where memory is refused.
     pub fn read(&mut self, alloc: Global, out: &mut Vec<Token>) -> Result<bool, SourceFault>
-        requires numbered { AreNumbered self.old }
+        requires numbered { HaveLineNumbers self.old }
         requires noted { IsNoted self.old }
         ensures read { IfOk result (λ more. (text : List ℕ) (front : List Lexeme)
             → IsReadTo text (front ++ lexemes out.old.items) self.old
             → AreReadOf text (front ++ lexemes out.new.items) self.new more) }
-        ensures numbered { OnOk result (AreNumbered self.new) }
+        ensures numbered { OnOk result (HaveLineNumbers self.new) }
         ensures noted { OnOk result (IsNoted self.new) }
         // Where more are left, a thousand words stand there, and lines were read.
         ensures enough { IfOk result (λ more. IsTrue more → 1000 ≤ length out.new.items) }

@@ -2,7 +2,7 @@ use Rattle.std.proofs.Common.{◌++◌, ◌+◌, ◌∙◌, List, ap, arith, map
 use Rattle.std.proofs.lemmas.List.{length-map}
 use Rattle.cob_copybook_tree.specs.Nodes.{forest, node}
 use Rattle.cob_layout_places.proofs.ForestLemmas.{left}
-use Rattle.cob_back_losses.specs.Bytes.{ItemByte, bytes_in, element_bytes, item_byte}
+use Rattle.cob_back_losses.specs.Bytes.{ItemByte, bytes_beneath, element_bytes, item_byte}
 use Rattle.cob_back_losses.proofs.ByteLemmas.{begin_child, done_full, group_bytes, left_none, next_element, no_child, no_element, skip_child, within}
 use Rattle.cob_back_losses.proofs.bytes.+push_element.Goals as goal
 use Rattle.cob_back_losses.proofs.bytes.+push_element.Goals.{then-is_none+else-loop-test, else-is_none}
@@ -43,7 +43,7 @@ loop-child-preserved t c =
     elim c.if-is_none.branch [
       | then-is_none+else-loop-test w ↦
           record {
-            left = rw w.bytes-is (no_element c.args.limit w.most-end.result w.loop.counter (map item_byte w.loop.bytes.items) (element_bytes (node n)) (bytes_in (left ns (i + 1))) _ (omega (arith, w.loop-test.false)) w.loop.invariant.left);
+            left = rw w.bytes-is (no_element c.args.limit w.most-end.result w.loop.counter (map item_byte w.loop.bytes.items) (element_bytes (node n)) (bytes_beneath (left ns (i + 1))) _ (omega (arith, w.loop-test.false)) w.loop.invariant.left);
             short = rw w.bytes-is w.loop.invariant.short;
           }
       | else-is_none w ↦
@@ -57,7 +57,7 @@ pub returns-after-loop-child : goal.returns-after-loop-child
 returns-after-loop-child t c =
     let ns = c.deref-child-items.result.now in
     let now = map item_byte c.loop-child.bytes.items in
-    let all = take c.args.limit (map item_byte c.args.bytes.now.items ++ bytes_in (forest ns)) in
+    let all = take c.args.limit (map item_byte c.args.bytes.now.items ++ bytes_beneath (forest ns)) in
     let none = no_child ns c.loop-child.child-index c.loop-child-test.false in
     left_none c.args.limit now all (omega (arith, length-map c.loop-child.bytes.items item_byte, c.loop-child.invariant.short)) (ap (λ (xs : List ItemByte). take c.args.limit (now ++ xs)) (sym none) ∙ c.loop-child.invariant.left)
     ∙ ap (λ (xs : List ItemByte). take c.args.limit (map item_byte c.args.bytes.now.items ++ xs)) (group_bytes c.args.entry.now ns c.in-Group.is c.deref-child-items.ensures.value)

@@ -9,7 +9,7 @@ use Rattle.cob_layout_places.specs.Lengths.{times}
 use Rattle.cob_layout_places.specs.Needs.{is_read, number_behind}
 use Rattle.cob_layout_places.specs.Spots.{spots_of}
 use Rattle.cob_layout.specs.Counting.{greatest_counts}
-use Rattle.cob_layout.specs.Kept.{TakenAnew, kept_read, numbers_of}
+use Rattle.cob_layout.specs.Kept.{TakenAnew, kept_read, kept_numbers}
 use Rattle.cob_layout.specs.Shifts.{all_shifted}
 use Rattle.cob_layout.specs.Sound.{IsSound}
 use Rattle.cob_layout.proofs.FindLemmas.{Comes, comes}
@@ -78,7 +78,7 @@ returns-clause-came c =
     let spots : List Spot = all_shifted c.own_sums.result.now e 0 c.deref-2.result.now c.deref-3.result.now in
     let stands : spots ≡ spots_of (times e) u 0 0 = all_stand u c.deref-3.result.now c.deref-2.result.now c.self.inside.growths.items c.own_sums.result.now e here (c.own_sums.ensures ∙ c.put_sums.ensures) in
     let agree : (k : ℕ) → k < number_behind true r u → slice_index e k ≡ slice_index d k = λ k lt. refl in
-    let anew : TakenAnew u c.args.bytes.now (is_read u r c.args.receiving) (tables_of u) (numbers_of ks) (greatest_counts u) (Ok d) h.0 =
+    let anew : TakenAnew u c.args.bytes.now (is_read u r c.args.receiving) (tables_of u) (kept_numbers ks) (greatest_counts u) (Ok d) h.0 =
     anew_is u u c.args.bytes.now r c.args.receiving c.args.needed.behind c.args.needed.last c.args.needed.number (tables_of u) ks ks (greatest_counts u)
     (Ok d) h.0 refl refl c.requires.behind c.requires.last c.requires.number refl refl h.1 in
     let is : now ≡ kept_read (is_read u r c.args.receiving) e spots (tables_of u) ks = c.keep_by.ensures
@@ -103,7 +103,7 @@ returns-clause-keeps c =
     let spots : List Spot = all_shifted c.own_sums.result.now e 0 c.deref-2.result.now c.deref-3.result.now in
     let stands : spots ≡ spots_of (times e) u 0 0 = all_stand u c.deref-3.result.now c.deref-2.result.now c.self.inside.growths.items c.own_sums.result.now e here (c.own_sums.ensures ∙ c.put_sums.ensures) in
     let agree : (k : ℕ) → k < number_behind true r u → slice_index e k ≡ slice_index d k = λ k lt. refl in
-    let anew : TakenAnew u c.args.bytes.now (is_read u r c.args.receiving) (tables_of u) (numbers_of ks) (greatest_counts u) (Ok d) h.0 =
+    let anew : TakenAnew u c.args.bytes.now (is_read u r c.args.receiving) (tables_of u) (kept_numbers ks) (greatest_counts u) (Ok d) h.0 =
     anew_is u u c.args.bytes.now r c.args.receiving c.args.needed.behind c.args.needed.last c.args.needed.number (tables_of u) ks ks (greatest_counts u)
     (Ok d) h.0 refl refl c.requires.behind c.requires.last c.requires.number refl refl h.1 in
     let is : now ≡ kept_read (is_read u r c.args.receiving) e spots (tables_of u) ks = c.keep_by.ensures

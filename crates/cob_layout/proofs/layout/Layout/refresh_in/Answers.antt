@@ -8,7 +8,7 @@ use Rattle.cob_layout_places.specs.Needs.{is_read}
 use Rattle.cob_layout_places.specs.Spots.{spots_of}
 use Rattle.cob_layout.specs.declared.counts.StoredCount.{StoredCount}
 use Rattle.cob_layout.specs.Counting.{greatest_counts}
-use Rattle.cob_layout.specs.Kept.{AreKeptOf, TakenAnew, numbers_of}
+use Rattle.cob_layout.specs.Kept.{AreKeptOf, TakenAnew, kept_numbers}
 use Rattle.cob_layout.specs.Sound.{IsSound}
 use Rattle.cob_layout.proofs.GreatestLemmas.{greatest_length}
 use Rattle.cob_layout.proofs.ReferenceLemmas.{refers_has}
@@ -53,7 +53,7 @@ returns-clause-reads c =
     let r = c.args.reference.now.node in
     let ks = c.args.kept.now in
     let h = c.in_ok-take_anew.ensures.taken in
-    let anew = subst (λ (d : List ℕ). TakenAnew u c.args.bytes.now (is_read u r c.args.receiving) (tables_of u) (numbers_of ks) (greatest_counts u) (Ok d) h.0) (sym c.stand_under.ensures.counts)
+    let anew = subst (λ (d : List ℕ). TakenAnew u c.args.bytes.now (is_read u r c.args.receiving) (tables_of u) (kept_numbers ks) (greatest_counts u) (Ok d) h.0) (sym c.stand_under.ensures.counts)
     (anew_is u u c.args.bytes.now r c.args.receiving c.needed_by-needed.result.behind c.needed_by-needed.result.last c.needed_by-needed.result.number (tables_of u) ks ks (greatest_counts u)
     (Ok c.take_anew.new.counts) h.0 refl refl c.needed_by-needed.ensures.behind c.needed_by-needed.ensures.last c.needed_by-needed.ensures.number refl refl h.1) in
     (h.0, anew, h.2)
@@ -64,7 +64,7 @@ returns-clause-ok c =
     let r = c.args.reference.now.node in
     let ks = c.args.kept.now in
     let h = c.in_ok-take_anew.ensures.taken in
-    let anew = subst (λ (d : List ℕ). TakenAnew u c.args.bytes.now (is_read u r c.args.receiving) (tables_of u) (numbers_of ks) (greatest_counts u) (Ok d) h.0) (sym c.stand_under.ensures.counts)
+    let anew = subst (λ (d : List ℕ). TakenAnew u c.args.bytes.now (is_read u r c.args.receiving) (tables_of u) (kept_numbers ks) (greatest_counts u) (Ok d) h.0) (sym c.stand_under.ensures.counts)
     (anew_is u u c.args.bytes.now r c.args.receiving c.needed_by-needed.result.behind c.needed_by-needed.result.last c.needed_by-needed.result.number (tables_of u) ks ks (greatest_counts u)
     (Ok c.take_anew.new.counts) h.0 refl refl c.needed_by-needed.ensures.behind c.needed_by-needed.ensures.last c.needed_by-needed.ensures.number refl refl h.1) in
     needed_anew c.needs_are_read.ensures c.one_place.ensures u c.args.bytes.now r c.args.receiving c.args.reference.now.subscripts.items ks (Ok c.stand_under.new.taken) h.0
@@ -84,7 +84,7 @@ returns-clause-keeps c =
     let r = c.args.reference.now.node in
     let ks = c.args.kept.now in
     let h = c.in_ok-take_anew.ensures.taken in
-    let anew = subst (λ (d : List ℕ). TakenAnew u c.args.bytes.now (is_read u r c.args.receiving) (tables_of u) (numbers_of ks) (greatest_counts u) (Ok d) h.0) (sym c.stand_under.ensures.counts)
+    let anew = subst (λ (d : List ℕ). TakenAnew u c.args.bytes.now (is_read u r c.args.receiving) (tables_of u) (kept_numbers ks) (greatest_counts u) (Ok d) h.0) (sym c.stand_under.ensures.counts)
     (anew_is u u c.args.bytes.now r c.args.receiving c.needed_by-needed.result.behind c.needed_by-needed.result.last c.needed_by-needed.result.number (tables_of u) ks ks (greatest_counts u)
     (Ok c.take_anew.new.counts) h.0 refl refl c.needed_by-needed.ensures.behind c.needed_by-needed.ensures.last c.needed_by-needed.ensures.number refl refl h.1) in
     let kept = c.keep_read.ensures

@@ -4,7 +4,7 @@ use Rattle.cob_copybook_tree.specs.Lengths.{item_size}
 use Rattle.cob_codec_lanes.specs.Windows.{last_bytes}
 use Rattle.cob_move_steps.specs.Deedits.{IsReceiverWriterFor}
 use Rattle.cob_move_steps.specs.Edits.{IsTextWriterFor}
-use Rattle.cob_move_steps.specs.Ends.{Gives, IsNumberWriterFor}
+use Rattle.cob_move_steps.specs.Ends.{GivesSigned, IsNumberWriterFor}
 use Rattle.cob_move_steps.proofs.AnyNumberLemmas.{moved_number}
 use Rattle.cob_move_steps.proofs.TextStepLemmas.{no_text_moved}
 use Rattle.cob_move_steps.proofs.EditLemmas.{edited_as, led_by}
@@ -29,5 +29,5 @@ returns-in-Text-clause-gets c = λ s r is within size reading.
     let bytes = c.args.from.now in
     let read = c.read-read.ensures s r reading is.reader within in
     let w : IsTextWriterFor r c.in-Text.writer = subst (λ w. IsReceiverWriterFor r w) c.in-Text.is is.writer in
-    let led = led_by (Gives reading s (last_bytes (item_size s) bytes)) (digits r.picture.positions) (scale r.picture.positions -ℤ scale s.picture.positions) told.is_number told.minus told.digits c.if-not-read.false read in
+    let led = led_by (GivesSigned reading s (last_bytes (item_size s) bytes)) (digits r.picture.positions) (scale r.picture.positions -ℤ scale s.picture.positions) told.is_number told.minus told.digits c.if-not-read.false read in
     edited_as s r reading bytes told.is_number told.minus told.digits c.write.new.to (length c.args.to.now) w.receives w.few c.if-not-read.false read (c.write.ensures r w size led)
