@@ -8,11 +8,11 @@ use Rattle.cob_move_data.proofs.SingleLemmas.{of_placed}
 use Rattle.cob_move_data.specs.Singles.{Entry, Literal, PlainSent, PlainSingle, all_singles, sender_between, single_between, singles_of}
 use Rattle.cob_back_losses.specs.Keeping.{SentElement}
 use Rattle.cob_back_losses.specs.Moved.{Moved, moved_single, sent_of}
-use Rattle.cob_back_losses.specs.Seen.{moved_by, sent_by}
+use Rattle.cob_back_losses.specs.Seen.{moved_by, sent_element_by}
 
 -- ---- of statements
 
-of_sent : (reading : Reading) (records : Records) (s : PlainSent) → sent_of records (sender_between reading records s) ≡ sent_by records s
+of_sent : (reading : Reading) (records : Records) (s : PlainSent) → sent_of records (sender_between reading records s) ≡ sent_element_by records s
 of_sent reading records (Entry side x) = refl
 of_sent reading records (Literal c) = refl
 

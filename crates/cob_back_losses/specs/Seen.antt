@@ -17,13 +17,13 @@ abbrev pub seen_single : Single → Moved
 seen_single s = record { sent = option_map sent_element s.sent; receiver = occurrence s.receiver s.subscripts.now }
 
 -- what is sent, if its record has such an entry
-abbrev pub sent_by : Records → PlainSent → Option SentElement
-sent_by records (given.Entry side x) = option_map Element (entry_in x.number (record_of records side))
-sent_by records (given.Literal c) = Some (Constant c)
+abbrev pub sent_element_by : Records → PlainSent → Option SentElement
+sent_element_by records (given.Entry side x) = option_map Element (entry_in x.number (record_of records side))
+sent_element_by records (given.Literal c) = Some (Constant c)
 
 -- a single move of statements, by what it sends
 abbrev pub moved_by : Records → PlainSingle → Moved
-moved_by records s = record { sent = sent_by records s.sent; receiver = s.receiver }
+moved_by records s = record { sent = sent_element_by records s.sent; receiver = s.receiver }
 
 -- the marks say of each byte of the record whether one of these covers it
 pub record MarkCoveredBytes (tree : Forest Resolved) (ms : List Moved) (marks : List Bool) : Type 0 where

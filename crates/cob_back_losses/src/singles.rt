@@ -6,7 +6,7 @@ ghost use Rattle.cob_move_data.specs.Singles.{plain_sent, plain_single, singles_
 ghost use Rattle.cob_back_moves.specs.Brought.{singles_in};
 ghost use Rattle.cob_back_moves.specs.Tested.{layout_records};
 ghost use Rattle.cob_back_losses.specs.Moved.{entry_in, moved_single};
-ghost use Rattle.cob_back_losses.specs.Seen.{moved_by, seen_single, sent_by};
+ghost use Rattle.cob_back_losses.specs.Seen.{moved_by, seen_single, sent_element_by};
 ghost use Rattle.cob_back_losses.specs.Keeping.{Element, sent_element};
 
 use crate::entries::entry_in;
@@ -49,7 +49,7 @@ fn sent_entry<'a>(layouts: &Layouts<'a>, side: Side, number: usize) -> Option<Se
 /// What a single move sends.
 fn sent_by<'a>(layouts: &Layouts<'a>, given: Given<'a>) -> Option<Sent<'a>>
     ensures { option_map sent_element result
-        ≡ sent_by (layout_records layouts.now) (plain_sent given.entry) }
+        ≡ sent_element_by (layout_records layouts.now) (plain_sent given.entry) }
 {
     match given {
         Given::Entry { side, entry } => sent_entry(layouts, side, entry.number),

@@ -32,8 +32,8 @@ pub record AreSound (l : Layouts) : Type 0 where
   pub output : IsSound l.output.now
 
 -- what a move of the code sends between the records of the layouts
-abbrev pub sender_between : Layouts → code_move.Move → Sender
-sender_between l m = sender_by l.reading (layout_records l) m.sender
+abbrev pub sender_by_reading : Layouts → code_move.Move → Sender
+sender_by_reading l m = sender_by l.reading (layout_records l) m.sender
 
 -- the move of the code between them
 abbrev pub move_between : Layouts → code_move.Move → Move
@@ -57,7 +57,7 @@ operands_between l receivers = map (operand_in l.output.now) receivers
 
 -- the single moves of a move's sender to these receivers
 abbrev pub singles_between : Layouts → code_move.Move → List Ref → List SingleMove
-singles_between l m receivers = singles_from (sender_between l m) (operands_between l receivers)
+singles_between l m receivers = singles_from (sender_by_reading l m) (operands_between l receivers)
 
 -- the reference to an occurrence
 abbrev pub ref_of : Element → Ref

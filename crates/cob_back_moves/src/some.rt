@@ -7,7 +7,7 @@ ghost use Rattle.cob_move_data.specs.Moves.{IsOperand, IsSender};
 ghost use Rattle.cob_move_data.specs.Singles.{SingleMove, all_singles};
 ghost use Rattle.cob_back_moves.specs.Brought.{AreLegal, moves_between, singles_in};
 ghost use Rattle.cob_move_apply.specs.Some.{SomeOf};
-ghost use Rattle.cob_back_moves.specs.Tested.{AreMovesBetween, AreSound, IsSingle, layout_records, operands_between, moves_of_pairs, sender_between, single_of, singles_between, moves_of_statement};
+ghost use Rattle.cob_back_moves.specs.Tested.{AreMovesBetween, AreSound, IsSingle, layout_records, operands_between, moves_of_pairs, sender_by_reading, single_of, singles_between, moves_of_statement};
 
 use crate::each::{move_single, pair_single};
 use crate::single::{Layouts, Single};
@@ -46,7 +46,7 @@ fn some_receiver_meets<C: Condition>(
 ) -> bool
     requires ready { C.ready condition.now }
     requires sound { AreSound layouts.now }
-    requires sender { IsSender (layout_records layouts.now) (sender_between layouts.now one.now) }
+    requires sender { IsSender (layout_records layouts.now) (sender_by_reading layouts.now one.now) }
     requires receivers { AllByRecursion (IsOperand layouts.now.output.now)
         (operands_between layouts.now receivers.now) }
     ensures { Decides result (SomeOf (C.met condition.now)

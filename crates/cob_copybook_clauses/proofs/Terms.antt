@@ -6,7 +6,7 @@ use Rattle.std.proofs.lemmas.Slice.Eq.{bytes_eq-Decides}
 use Rattle.cob_copybook_clauses.specs.declared.term.WordClass.{WordClass}
 use Rattle.cob_copybook_entry.specs.Kinds.{usage_word}
 use Rattle.cob_copybook_clauses.specs.declared.term.TheConstants.{KEYWORDS}
-use Rattle.cob_copybook_clauses.specs.Terms.{Keyword, meaning, reserved_words, term_by, term_of_usage, term_of_word, words_of_length}
+use Rattle.cob_copybook_clauses.specs.Terms.{Keyword, meaning, reserved_words, term_by, term_of_usage, term_of_word, reserved_of_length}
 
 -- a text is one of the words of its length, or none
 by_step : (b c : Bool) (k : Keyword) (ks fs : List Keyword) (text : List ℕ) (other : WordClass) → bytes_eq k.text text ≡ b → (length k.text == length text) ≡ c
@@ -22,7 +22,7 @@ by_length [] text other = refl
 by_length (k ∷ ks) text other =
     by_step (bytes_eq k.text text) (length k.text == length text) k ks (filter (λ k. length k.text == length text) ks) text other refl refl (by_length ks text other)
 
-pub word_by_length : (text : List ℕ) → term_by (words_of_length (length text)) text (term_of_usage (usage_word text)) ≡ term_of_word text
+pub word_by_length : (text : List ℕ) → term_by (reserved_of_length (length text)) text (term_of_usage (usage_word text)) ≡ term_of_word text
 unfolding term_of_word
 word_by_length text = by_length reserved_words text (term_of_usage (usage_word text))
 
@@ -33,20 +33,20 @@ kept_words = map (λ t. map (λ k. meaning k.0.now k.1) t.now) KEYWORDS
 -- the tables from this length on have the words of each length
 abbrev AreByLength : ℕ → List (List Keyword) → Type 0
 AreByLength n [] = Unit {0}
-AreByLength n (t ∷ ts) = (t ≡ words_of_length n) × AreByLength (n + 1) ts
+AreByLength n (t ∷ ts) = (t ≡ reserved_of_length n) × AreByLength (n + 1) ts
 
 kept_are : AreByLength 0 kept_words
 kept_are = (refl, (refl, (refl, (refl, (refl, (refl, (refl, (refl, (refl, (refl, (refl, (refl, (refl, (refl, tt))))))))))))))
 
-same_words : (a b : ℕ) → a ≡ b → words_of_length a ≡ words_of_length b
-same_words a b e = ap words_of_length e
+same_words : (a b : ℕ) → a ≡ b → reserved_of_length a ≡ reserved_of_length b
+same_words a b e = ap reserved_of_length e
 
-at_length : (ts : List (List Keyword)) (n i : ℕ) (d : List Keyword) → AreByLength n ts → i < length ts → slice_index_or ts i d ≡ words_of_length (n + i)
+at_length : (ts : List (List Keyword)) (n i : ℕ) (d : List Keyword) → AreByLength n ts → i < length ts → slice_index_or ts i d ≡ reserved_of_length (n + i)
 at_length [] n i d are lt = absurd (omega arith)
 at_length (t ∷ ts) n zero d are lt = are.0 ∙ same_words n (n + 0) (omega arith)
 at_length (t ∷ ts) n (suc i) d are lt = at_length ts (n + 1) i d are.1 (omega arith) ∙ same_words (n + 1 + i) (n + suc i) (omega arith)
 
-pub kept_at : (i : ℕ) (d : List Keyword) → i < length kept_words → slice_index_or kept_words i d ≡ words_of_length i
+pub kept_at : (i : ℕ) (d : List Keyword) → i < length kept_words → slice_index_or kept_words i d ≡ reserved_of_length i
 kept_at i d lt = at_length kept_words 0 i d kept_are lt ∙ same_words (0 + i) i (omega arith)
 
 -- no reserved word is longer than these
@@ -63,7 +63,7 @@ are_short [] e = tt
 are_short (k ∷ ks) e = (search rules, are_short ks (search rules))
 
 -- the table of a length has the words of that length
-by_cases : (b : Bool) (i : ℕ) → nat_lt i 14 ≡ b → slice_index_or kept_words i [] ≡ words_of_length i
+by_cases : (b : Bool) (i : ℕ) → nat_lt i 14 ≡ b → slice_index_or kept_words i [] ≡ reserved_of_length i
 by_cases true i e = kept_at i [] (search rules)
 by_cases false i e = get_or_past kept_words i [] (search rules) ∙ sym (none_longer reserved_words i (are_short reserved_words refl) (search rules))
 

@@ -76,8 +76,8 @@ abbrev pub reserved_words : List Keyword
 reserved_words = clause_words ++ (figurative_words ++ (left_out_words ++ statement_words))
 
 -- those of this length
-abbrev pub words_of_length : ℕ → List Keyword
-words_of_length n = filter (λ k. length k.text == n) reserved_words
+abbrev pub reserved_of_length : ℕ → List Keyword
+reserved_of_length n = filter (λ k. length k.text == n) reserved_words
 
 -- what a word of the USAGE clause is by what it means there; one that names no usage is free
 abbrev pub term_of_usage : Option UsageWord → WordClass

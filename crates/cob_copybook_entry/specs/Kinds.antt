@@ -24,31 +24,31 @@ pub record KeptWord : Type 0 where
   pub meaning : UsageWord
 
 -- a text with what it means
-abbrev pub word : List ℕ → UsageWord → KeptWord
-word text meaning = record { text = text; meaning = meaning }
+abbrev pub kept_word : List ℕ → UsageWord → KeptWord
+kept_word text meaning = record { text = text; meaning = meaning }
 
 -- the words that name a usage, and those that name one that is left out
 abbrev pub usage_words : List KeptWord
 usage_words =
-    word (codes "DISPLAY") (Names Display)
-    ∷ word (codes "COMP") (Names Binary) ∷ word (codes "COMPUTATIONAL") (Names Binary)
-    ∷ word (codes "COMP-4") (Names Binary) ∷ word (codes "COMPUTATIONAL-4") (Names Binary) ∷ word (codes "BINARY") (Names Binary)
-    ∷ word (codes "COMP-3") (Names Packed) ∷ word (codes "COMPUTATIONAL-3") (Names Packed)
-    ∷ word (codes "PACKED-DECIMAL") (Names Packed)
-    ∷ word (codes "COMP-1") LeftOut ∷ word (codes "COMP-2") LeftOut ∷ word (codes "COMP-5") LeftOut
-    ∷ word (codes "COMPUTATIONAL-1") LeftOut ∷ word (codes "COMPUTATIONAL-2") LeftOut ∷ word (codes "COMPUTATIONAL-5") LeftOut
-    ∷ word (codes "INDEX") LeftOut ∷ word (codes "POINTER") LeftOut
-    ∷ word (codes "PROCEDURE-POINTER") LeftOut ∷ word (codes "FUNCTION-POINTER") LeftOut
-    ∷ word (codes "NATIONAL") LeftOut ∷ word (codes "DISPLAY-1") LeftOut
+    kept_word (codes "DISPLAY") (Names Display)
+    ∷ kept_word (codes "COMP") (Names Binary) ∷ kept_word (codes "COMPUTATIONAL") (Names Binary)
+    ∷ kept_word (codes "COMP-4") (Names Binary) ∷ kept_word (codes "COMPUTATIONAL-4") (Names Binary) ∷ kept_word (codes "BINARY") (Names Binary)
+    ∷ kept_word (codes "COMP-3") (Names Packed) ∷ kept_word (codes "COMPUTATIONAL-3") (Names Packed)
+    ∷ kept_word (codes "PACKED-DECIMAL") (Names Packed)
+    ∷ kept_word (codes "COMP-1") LeftOut ∷ kept_word (codes "COMP-2") LeftOut ∷ kept_word (codes "COMP-5") LeftOut
+    ∷ kept_word (codes "COMPUTATIONAL-1") LeftOut ∷ kept_word (codes "COMPUTATIONAL-2") LeftOut ∷ kept_word (codes "COMPUTATIONAL-5") LeftOut
+    ∷ kept_word (codes "INDEX") LeftOut ∷ kept_word (codes "POINTER") LeftOut
+    ∷ kept_word (codes "PROCEDURE-POINTER") LeftOut ∷ kept_word (codes "FUNCTION-POINTER") LeftOut
+    ∷ kept_word (codes "NATIONAL") LeftOut ∷ kept_word (codes "DISPLAY-1") LeftOut
     ∷ []
 
 -- a table of texts and what they mean, without where the texts lie in memory
 abbrev pub kept_words : List (Bor (List ℕ) × UsageWord) → List KeptWord
-kept_words table = map (λ k. word k.0.now k.1) table
+kept_words table = map (λ k. kept_word k.0.now k.1) table
 
 -- the words of this length
-abbrev pub words_of_length : ℕ → List KeptWord
-words_of_length n = filter (λ k. length k.text == n) usage_words
+abbrev pub usage_words_of_length : ℕ → List KeptWord
+usage_words_of_length n = filter (λ k. length k.text == n) usage_words
 
 -- what a text means by a table of words, if it is in it
 abbrev pub meaning_by : List KeptWord → List ℕ → Option UsageWord

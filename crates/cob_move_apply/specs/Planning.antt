@@ -11,7 +11,7 @@ use Rattle.cob_move_steps.specs.declared.pictured.PicturedSteps.{PicturedSteps}
 use Rattle.cob_move_steps.specs.declared.pool.MoveSteps.{MoveSteps}
 use Rattle.cob_move_apply.specs.Joined.{plain_copy, steps_in}
 use Rattle.cob_move_apply.specs.Planned.{AlwaysLocated, AlwaysLocatedConstant, AreMore, IsStatementAt, counted_steps, records_between}
-use Rattle.cob_move_apply.specs.Steps.{AreSteps, Gains, GainsCut, IsStep, StandFor, Support, singles_of, support_of}
+use Rattle.cob_move_apply.specs.Steps.{AreSteps, Gains, GainsCut, IsStep, StandFor, Support, one_by_one, support_of}
 use Rattle.cob_move_apply.specs.Written.{AreCopied}
 use Rattle.cob_move_apply.specs.declared.planning.Between.{Between}
 use Rattle.cob_move_apply.specs.declared.ready.ReadyLocatedConstant.{ReadyLocatedConstant}
@@ -42,7 +42,7 @@ move_alone b m reading = move_by reading (records_between b) m ∷ []
 
 -- the single moves of a move, by themselves
 abbrev pub singles_alone : Between → code_move.Move → Reading → List Move
-singles_alone b m reading = singles_of (move_by reading (records_between b) m)
+singles_alone b m reading = one_by_one (move_by reading (records_between b) m)
 
 -- the moves of a statement, by themselves
 abbrev pub moves_alone : Between → StatementMoves → Reading → List Move

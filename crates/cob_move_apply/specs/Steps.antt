@@ -218,8 +218,8 @@ abbrev pub singles : Sender → List Operand → List Move
 singles s os = map (alone s) os
 
 -- the single moves of a move
-abbrev pub singles_of : Move → List Move
-singles_of m = singles m.sender m.receivers
+abbrev pub one_by_one : Move → List Move
+one_by_one m = singles m.sender m.receivers
 
 -- what is sent is the same before and behind a receiver: an entry of the input record, or a constant
 abbrev pub SendsTheSame : Sender → Type 0

@@ -4,7 +4,7 @@ use Rattle.std.proofs.lemmas.Result.{on_ok_weaker}
 use Rattle.cob_layout_places.specs.declared.reference.Ref.{Ref}
 use Rattle.cob_move_data.specs.Moves.{Records, move_by, operand_in}
 use Rattle.cob_move_apply.specs.Planned.{records_between}
-use Rattle.cob_move_apply.specs.Steps.{Gains, singles_of}
+use Rattle.cob_move_apply.specs.Steps.{Gains, one_by_one}
 use Rattle.cob_move_apply.proofs.CutLemmas.{cut_selves, cut_singles}
 use Rattle.cob_move_apply.proofs.InLemmas.{in_whole, move_with, none_left, some_left}
 use Rattle.cob_move_apply.proofs.JoinLemmas.{more_empty, more_unsteady, more_whole}
@@ -16,7 +16,7 @@ returns-then-not-is_empty-clause-gains c =
     let r : Records = records_between c.args.both.now in
     on_ok_weaker c.push_singles.result
     (λ so x. (
-      singles_of (move_by x r c.args.one.now),
+      one_by_one (move_by x r c.args.one.now),
       cut_singles (move_by x r c.args.one.now) (c.is_steady.ensures.yes x r c.if-is_steady.true)
           (some_left (operand_in c.args.both.now.output.now) c.args.one.now.receivers.items _ (sym c.is_empty.ensures ∙ c.if-not-is_empty.true) (omega (arith, c.args.one.now.receivers.ok.0))),
       so x,
