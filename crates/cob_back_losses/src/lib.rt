@@ -57,6 +57,13 @@
 //!
 //! The single moves are gone through from the last to the first, with a mark for each byte of the output record that is covered so far. The bytes of a move
 //! whose receiver is covered wholly are not looked at; so each byte of the record is compared once at most.
+//!
+//! # Where it is proved
+//!
+//! Of `losses_of`: exactly whether a move may lose a digit before the point, one behind it, a character, a sign (`LosesBefore`, `LosesBehind`,
+//! `LosesCharacters`, `LosesSign`); of `description_lost`: the first byte of a receiver that is not described as what it gets, or that each is, both ways
+//! (`TellsFirstUnkept`); the law `keeps_numbers`, that a move of bytes that keeps its description keeps the numbers of its receiver (`KeepsNumbers`); of
+//! `descriptions_lost`: the same of each single move of a paragraph, in their order, of the bytes that no later one covers (`TellsEach`).
 #![tactic(auto)]
 
 mod bytes;

@@ -38,6 +38,11 @@
 //!
 //! What these words mean stands in cob_back_moves (specs/Apart.antt, Singles.antt, Returns.antt, Lossless.antt) and in cob_copybook_same; the
 //! points of the list stand in specs/Losses.antt.
+//!
+//! # Where it is proved
+//!
+//! The laws `items_return`, `occurrences_apart`, `items_fill`, `items_are_sound`, `returns_keep`; the clauses of `is_lossless`, `first_loss` and
+//! `returns`; of `stands_one_way`, `are_elementary`, `are_read_pictured`, `receive_once`, `are_named`, `is_same_book`, `is_same_layout`.
 #![tactic(auto)]
 
 mod books;

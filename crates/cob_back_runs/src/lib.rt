@@ -15,6 +15,10 @@
 //!
 //! What holds of every conversion is a premise of the laws (`IsPrepared`): its records are record descriptions, its output has a storage before the first
 //! move, and its moves are moves between its records.
+//!
+//! # Where it is proved
+//!
+//! The clauses `exactly`, `keeps` of `lossless`, those of `first_loss`; the laws `lossless_keep`, `lossless_runs`.
 #![tactic(auto)]
 
 mod converters;

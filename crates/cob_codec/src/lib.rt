@@ -21,6 +21,13 @@
 //!
 //! The crate stands on cob_cp037 for the characters of digits and signs, on cob_decimal for numbers and on byteorder for binary items.
 //! Nothing here takes memory.
+//!
+//! # Where it is proved
+//!
+//! The clauses of `length`, `read`, `store` and `laws` of the trait `Storage`, for the kinds `Zoned`, `Separate`, `Packed`, `Binary`;
+//! `Binary::read_whole`; `Zoned::natural`, `Binary::natural`; `Shape::of`; of `zoned_flaw`, `packed_flaw` and `separate_flaw`: the first part of bytes
+//! that is not as its place asks (`IsFirstFlaw`), none exactly where the bytes represent a number; the laws `bytes_represent_one_number`,
+//! `stored_numbers_read_back`, `whole_reading_agrees`.
 #![tactic(auto)]
 
 mod binary;

@@ -22,6 +22,15 @@
 //! is just this one.
 //!
 //! It knows no record and no move, and nothing here takes memory.
+//!
+//! # Where it is proved
+//!
+//! The clauses of `LaneReader::read` and `LaneWriter::write`, and those that say of which items the readers and writers of `zoned`, `separate` and
+//! `packed` are (`IsReaderOf` of specs/Readers.antt, `IsWriterOf` of specs/Writers.antt): a reader answers a number exactly where the bytes represent
+//! one, with its sign and the digits that are wanted; a writer leaves exactly the stored form. `WideWriter::write` and what it writes of numbers in two
+//! vectors (`IsWideWriterOf`). The same of `BinaryReader` and `BinaryWriter` (`IsWordRead`, `IsWordWritten` of specs/Words.antt). That a reader of
+//! `numerals` reads characters, each a digit, as a whole number (`AreNumeralsOf`); `LaneText::write`, `WideText::write` and `WideText::is`,
+//! `DigitPlaces::digits`, `KeptDigits::keep` (specs/Texts.antt) and `zeros_before`.
 #![tactic(auto)]
 
 mod binary;

@@ -44,6 +44,12 @@
 //! - So it is in forms f and v of any number of pieces, each but the last converted to its end (`AreConverted`).
 //!
 //! It holds of bytes with fewer records than a run converts at most.
+//!
+//! # Where it is proved
+//!
+//! The clauses of `Converter::run`, `Converter::run_aside`, `Converter::prepare` and `Converter::prepare_with`; the laws `conversion_is_one`,
+//! `aside_is_one`, `aside_is_run`, `rejected_again`; the law `conversions_join`; the clauses of `Status::code`, `Status::of_stop` and
+//! `Status::of_prepare_fault`.
 #![tactic(auto)]
 
 mod aside;

@@ -21,6 +21,11 @@
 //! - What becomes of a record is determined ([`conversions_are_decided`]): a record is one of its layout or a misfit, for one reason; and it has
 //!   one output or one stop, and never both.
 //! - They ask for no memory, which tests show: all that they need is a [`Room`], made once, which each call leaves as large as it was (`room`).
+//!
+//! # Where it is proved
+//!
+//! The clauses of `image_of`, `Conversion::new`, `next_input`, `next_whole`, `judge`, `convert`, `convert_whole` and `moves`; the law
+//! `conversions_are_decided`.
 #![tactic(auto)]
 
 mod conversion;

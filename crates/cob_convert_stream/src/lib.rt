@@ -28,6 +28,11 @@
 //!   is one of its layout holds a record of it ([`sized_are_storages`]).
 //!
 //! No call asks for memory, which tests show.
+//!
+//! # Where it is proved
+//!
+//! The clauses of `measure`, `measure_by`, `read_record`, `next_whole`, `judge`, `written_length`, `length_in_form` and `write_record`; the laws
+//! `records_are_judged_once`, `sized_are_storages`.
 #![tactic(auto)]
 
 mod fault;

@@ -14,6 +14,10 @@
 //! The crate puts the stages of reading in order, and speaks of no word and no length itself: it stands on `cob_source` for the words of
 //! a text, on `cob_copybook_entries` for its entries and on `cob_copybook_entry` for what they are, on `cob_copybook_tree` for the tree, and on
 //! `cob_copybook_rules`, `cob_copybook_names` and `cob_copybook_rules` for the rules, by their public contracts and laws.
+//!
+//! # Where it is proved
+//!
+//! The clauses `found`, `only`, `fault` of `Book::read`, those of `root` and `greatest`; the law `records_take_bytes`.
 #![tactic(auto)]
 
 mod book;

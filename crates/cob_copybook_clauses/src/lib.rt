@@ -15,6 +15,11 @@
 //! The definitions stand in `specs/`: `Terms` has the tables of reserved words, `Names` what a name is, `Written` an entry without where its texts lie in
 //! memory, `Clauses` the words of each clause, `Entries` those of an entry, of level 88 and of what is left out, and the sentences of a text. `Reading` holds
 //! what the readers of words, of statements too, say of the words that they leave.
+//!
+//! # Where it is proved
+//!
+//! The clauses `found`, `only` of `read_entry` and `read_condition_name`, `found`, `none` of `sentence_at` and `left_out`, that of `is_name`; its laws.
+//! What its readers answer and leave is said in the words of specs/Reading.antt (`StandInFront`, `EachCut`, `Answers`).
 #![tactic(auto)]
 
 mod clause;

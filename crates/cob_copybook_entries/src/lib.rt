@@ -16,6 +16,10 @@
 //! The definitions stand in `specs/`: `Meaning` says what an entry's texts mean, `Parts` what a numeric literal of any length is, and `Books` which entries
 //! words are and which rules they break. `Breaks` says which rule a part of an entry breaks, a constant's among them; `Adds`, `Short` and `Signs` name the
 //! steps on the way; no public clause names them. `Laws` has the laws.
+//!
+//! # Where it is proved
+//!
+//! The clauses `found`, `only`, `fault` of `entries`.
 #![tactic(auto)]
 
 mod laws;

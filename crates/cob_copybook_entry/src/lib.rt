@@ -11,6 +11,10 @@
 //!
 //! The definitions stand in `specs/`: `Kinds` has the usages and their words, `Described` is what contracts see of an entry, and `Faults` what
 //! the fault of a text becomes.
+//!
+//! # Where it is proved
+//!
+//! The clauses of `clone`, `as_bytes`, `usage_word`, `Usage::name` and `BookRule::on`.
 #![tactic(auto)]
 
 mod entry;

@@ -18,6 +18,10 @@
 //!
 //! A name is found by a table of names and a chain from one bearer of a name to the one before it (`specs/Links.antt`), so that the time is
 //! that of the entries that bear the name, and not of all entries.
+//!
+//! # Where it is proved
+//!
+//! The clauses of `Directory::only_named` and `counts`; the laws `qualifying_is_one`, `one_list_of_counts`.
 #![tactic(auto)]
 
 mod bearer;

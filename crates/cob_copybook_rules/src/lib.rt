@@ -38,6 +38,10 @@
 //! `possible`): what reads entries, and the rules that clauses keep among themselves, see to that.
 //!
 //! It takes no memory.
+//!
+//! # Where it is proved
+//!
+//! The clauses `fine`, `broken` of `judge_clauses` and of `judge_lengths`; the laws `breaks_no_rule` and `breaks_no_length_rule`.
 #![tactic(auto)]
 
 mod areas;

@@ -34,6 +34,12 @@
 //!   hold what it describes.
 //! - The laws: bytes represent at most one number ([`one_number`], [`one_sent_number`]), what was stored reads back ([`stored_numbers_read_back`]), and what
 //!   bytes represent is a number of the picture's digits and sign ([`items_hold_numbers`]).
+//!
+//! # Where it is proved
+//!
+//! The clauses of `build_tree`, `resolve`, `Item::size`, `element_length`, `whole_length`, `read_number`, `read_sent`, `store_number`, and of the methods
+//! of `StorageKind` and `Item` on kinds of storage; the laws `one_tree`, `as_many_entries`, `one_number`, `one_sent_number`, `stored_numbers_read_back`,
+//! `items_hold_numbers`.
 #![tactic(auto)]
 
 mod branch;

@@ -8,6 +8,10 @@
 //! The bytes that the rules of COBOL name, as a space, the digit 0 and the signs, are constants; `constants_are_the_bytes`
 //! says that each is the named byte of specs/Named.antt, and that this is its character's byte in the table.
 //! The crate stands on std alone.
+//!
+//! # Where it is proved
+//!
+//! The clauses of `encode_char`, `decode_byte`, `encode_into`; the laws `table_is_one_to_one`, `constants_are_the_bytes`.
 #![tactic(auto)]
 
 mod named;

@@ -17,6 +17,10 @@
 //! - The laws of digits that other crates build on are contracts of their own, in [`laws`].
 //!
 //! It stands on `cob_limits`, for how many digits there are at most, and on `arrayvec`, for lists of bounded length.
+//!
+//! # Where it is proved
+//!
+//! The clauses of `Number::new`, `align`, `of_text`, `write_text`.
 #![tactic(auto)]
 
 mod digits;

@@ -16,6 +16,11 @@
 //!
 //! The crate stands on cob_picture for the positions of a picture, on cob_decimal for numbers and their alignment, and on cob_cp037
 //! for the code page. Nothing here takes memory, and the work grows with the size of the picture.
+//!
+//! # Where it is proved
+//!
+//! The clauses of `edit`, `deedit`, `edit_text`; those of `row_of`: a row has the text of each number with so many zeros in front (`IsRowOf` of
+//! specs/Rows.antt); the laws of `cob_edit`.
 #![tactic(auto)]
 
 mod cell;

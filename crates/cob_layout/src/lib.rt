@@ -62,6 +62,11 @@
 //! holds of every record description is the law [`records_are_sound`] (specs/Sound.antt). The bytes of a [`Place`] are read through [`field`] and
 //! written through [`field_mut`], which changes these bytes and no other (specs/Fields.antt). Only [`Layout::of`] and [`Layout::new_counts`] take
 //! memory.
+//!
+//! # Where it is proved
+//!
+//! The clauses of `Layout`'s calls (`covered` of `length`; `keeps`, `kept` and `reads` of `refresh`, `drops` and `keeps` of `wrote`), of `Counts`,
+//! `field` and `field_mut`; its laws.
 #![tactic(auto)]
 
 mod by_sums;

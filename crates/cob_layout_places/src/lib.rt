@@ -25,6 +25,10 @@
 //! stand side by side.
 //!
 //! Only [`tables`] takes memory.
+//!
+//! # Where it is proved
+//!
+//! The clauses of `element_of`, `seek`, `count_of`, `count_there`, `take_needed`, `tables`; its laws.
 #![tactic(auto)]
 
 mod counts;

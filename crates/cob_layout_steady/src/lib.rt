@@ -8,6 +8,10 @@
 //! subscripts are those of a legal reference.
 //!
 //! It takes no memory.
+//!
+//! # Where it is proved
+//!
+//! Exactly where an element begins at the same byte of each record, whatever the counts of its tables (`IsSteady`).
 #![tactic(auto)]
 
 mod steady;

@@ -2,6 +2,10 @@
 //!
 //! Each limit stands once as a number of specs/Limits.antt, which the definitions of the other crates cite, and once as a constant,
 //! which their code takes. `constants_are_the_limits` says that the two are the same. The crate stands on nothing.
+//!
+//! # Where it is proved
+//!
+//! The clauses of `constants_are_the_limits`.
 #![tactic(auto)]
 
 ghost use Rattle.std.specs.Prelude.{◌≡◌};

@@ -37,6 +37,10 @@
 //! It puts the reading of a paragraph together: it stands on `cob_source` for words, on `cob_move_statements` for statements, on
 //! `cob_move_names`, `cob_move_names` and, through `cob_move_initial`, `cob_move_receive` for the moves that they mean, and on
 //! `cob_move_apply` for what these do.
+//!
+//! # Where it is proved
+//!
+//! The clauses `found`, `only`, `fault` of `all_meant` and of `Paragraph::read`, those of `Paragraph::with_reading`; its laws.
 #![tactic(auto)]
 
 mod corresponding;

@@ -31,6 +31,13 @@
 //! the moves out by them, and [`Scratch::output_length`] tells the output's length by what the moves kept of it; so each count is read once.
 //!
 //! [`Moves::apply`] takes no memory: its room is a [`Scratch`].
+//!
+//! # Where it is proved
+//!
+//! The clauses `applied` and `reads` of `Moves::apply` (the latter bounds how many counts of the output record are read, by `HaveMet`), those of
+//! `Moves::with_reading`, `Moves::statements` and `Moves::reading`; the clauses of `Moves::apply_kept`, `Scratch::input_length`, `Scratch::output_length`
+//! and `Scratch::forget_input`: the same by counts that are kept from the length of the input on to that of the output (`keeps`, by `AreKeptOf`); which
+//! stop the fault of a place is (`stop_of`); the law `one_ending`.
 #![tactic(auto)]
 
 mod application;

@@ -14,6 +14,11 @@
 //! - [`Senders`] gives what the moves send, each move once (`senders_of`). The law [`senders_of_moves`] says so.
 //!
 //! It takes no memory.
+//!
+//! # Where it is proved
+//!
+//! Which moves its data means (`moves_by`); what the iterators `Singles` and `Senders` give, and the clause of `single_at`; the laws `singles_of_moves`,
+//! `senders_of_moves`.
 #![tactic(auto)]
 
 mod laws;

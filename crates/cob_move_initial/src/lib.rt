@@ -17,6 +17,10 @@
 //! - [`one_initial`] is the law that a record has one such storage.
 //!
 //! [`initial`] takes no memory, and writes each byte of a record as often as tables hold it, at most: an element is written once and then copied.
+//!
+//! # Where it is proved
+//!
+//! The clauses of `write_item`, `write_group`, `initial`; the laws `one_item`, `one_group`, `one_initial`.
 #![tactic(auto)]
 
 mod items;

@@ -43,6 +43,11 @@
 //!
 //! [`entries_below`] is what stands below an entry of a record, and [`subordinates_are_operands`] is the law that what may be in a pair
 //! below a group is an operand of the record, with the group's subscripts, since no table stands between.
+//!
+//! # Where it is proved
+//!
+//! The clauses of `Names::find` and `find_receiver`; the laws `named_are_operands`, `one_named`, `named_break_no_rule`; the clauses `found`, `fault` of
+//! `pairs`; the clauses of `Correspondences::find` and `between`.
 #![tactic(auto)]
 
 mod between;

@@ -14,6 +14,10 @@
 //! than a number has digits (M10).
 //!
 //! Nothing here takes memory, and the work grows with the bytes that are sent and received.
+//!
+//! # Where it is proved
+//!
+//! The clauses `gets`, `same` of `receive`, `allowed` of `may_move`, `broken`, `fine` of `refusal_of`; the law `one_received`.
 #![tactic(auto)]
 
 mod characters;

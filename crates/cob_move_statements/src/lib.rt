@@ -12,6 +12,10 @@
 //!
 //! [`MoveRule`] names every rule that a paragraph may break, for all crates that read one, and prints as `M1` to `M10` and `M19`, or as the rule of
 //! the text; [`MoveFault`] adds the line.
+//!
+//! # Where it is proved
+//!
+//! The clauses `found`, `only`, `fault`, `line` of `statements`; the law `one_list_of_statements`.
 #![tactic(auto)]
 
 mod actions;

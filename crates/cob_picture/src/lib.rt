@@ -14,6 +14,10 @@
 //! and stands before the point (`first_leads`).
 //!
 //! It takes no memory. It stands on `arrayvec` for the runs that a picture keeps, and on `thiserror` for the printed codes.
+//!
+//! # Where it is proved
+//!
+//! The clauses `found`, `only`, `fault` of `Picture::read` and those of its readers; the laws of `cob_picture`.
 #![tactic(auto)]
 
 pub mod category;

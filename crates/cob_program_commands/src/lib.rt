@@ -10,6 +10,10 @@
 //! that, others as malformed (`IsEndOfRefusal`); and where the last line could not be printed, as where a device failed. With which status a job
 //! ends is promised by `cob_program_job`. What is printed is shown by the stored command
 //! lines of `cob_test_jobs`.
+//!
+//! # Where it is proved
+//!
+//! The clauses of `answer`, `perform` and `refuse`: with which number the program ends, by what its words are.
 #![tactic(auto)]
 
 mod commands;

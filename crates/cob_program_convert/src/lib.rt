@@ -19,6 +19,11 @@
 //! - what is told of what the run came to, whose promises are those of `cob_program_run` (`told_run`, `told_counted_from` of specs/Told.antt).
 //!
 //! What files hold and what is printed is shown by the stored command lines of `cob_test_jobs`.
+//!
+//! # Where it is proved
+//!
+//! The clauses of `convert`, `do_convert`, `convert_aside` and `do_convert_aside`: which faults they can have, and with which status the command ends
+//! (`EndsAmong`, `EndsAside`).
 #![tactic(auto)]
 
 mod converting;

@@ -30,6 +30,14 @@
 //! - which faults the ends can have (`LacksEnds` of specs/Ends.antt, `LacksAsideEnds` of specs/Aside.antt);
 //! - which of the files that are read an output would lose (`lost_by`, specs/Inputs.antt);
 //! - from which number the records of a fault are counted (`counted_from` of specs/Counted.antt).
+//!
+//! # Where it is proved
+//!
+//! The clauses of `open_records`: which faults it has (`LacksRecords`), which records it gives (`GivesWanted`), and that those before them are jumped
+//! over or passed over, none where all are given (`SkipsWanted`). Inside the crate: what is told of a record that is passed over and can't be read
+//! (`unchosen`), what is told where the first read fails (`unread`), and what a seek passes over (`JumpsIn`); which bytes of a file come behind it, no
+//! contract can say. Of `with_cause`: why a run over chosen records stopped. The clauses of `open_ends` and `open_aside_ends` (which faults they can
+//! have), of `lost_by` (which of the files that are read an output would lose) and of `counted_from`.
 #![tactic(auto)]
 
 mod aside;

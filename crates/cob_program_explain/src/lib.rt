@@ -10,6 +10,11 @@
 //!
 //! What is promised: which faults the command can have (`StopsAtRecord` of `cob_program_faults`), and that it ends with the status of what it came to
 //! (`EndsTold` of specs/Ends.antt), or as where a device failed if something was not printed (`EndsAtRecord` of `cob_program_faults`).
+//!
+//! # Where it is proved
+//!
+//! Which faults `explain` can have (`StopsAtRecord`), and with which status it ends (`EndsTold`, `EndsAtRecord`); inside, that it ends as where a device
+//! failed where its moves were not printed (`tell_converts`, `tell_stops`).
 #![tactic(auto)]
 
 mod command;

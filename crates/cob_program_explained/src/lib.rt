@@ -10,6 +10,10 @@
 //! What is promised: that conversions end as those without the flag do, with the status of what they came to (`EndsAmong` and `EndsAside` of `cob_program_faults`, with
 //! the faults `MayEndConvert` and `MayEndAside`), or as where a device failed if the last line was not printed. Which words are printed is shown by the
 //! stored command lines of `cob_test_jobs`, and that no pipe is waited for by `tools/try_files`.
+//!
+//! # Where it is proved
+//!
+//! Which faults `convert --explain` can have, with `--rejects` and without, and with which status it ends: those of the same command without the flag.
 #![tactic(auto)]
 
 mod conversions;

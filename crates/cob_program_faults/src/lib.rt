@@ -33,6 +33,14 @@
 //! - [`telling`] says how a run tells how far it is, and [`asks_a_person`] whether a person may be waiting at standard input.
 //!
 //! Which words tell a fault, and what a terminal is, is shown by `cob_test_jobs` and `tools/try_files`.
+//!
+//! # Where it is proved
+//!
+//! The clauses `bytes`, `whole`, `kind`, `cause` of `read_whole`, those of `loses`, `lead_to_one_file`, `is_same_file`, `part_name` and `folder_of`; the
+//! clauses of `CommandFault::status` and `CommandDone::status`, what each fault of a lower crate becomes, and how a command ends whose last line was
+//! printed or not (`printed`, `tell_fault`); which faults the reading of texts can have, and those of a command that shows a record of a conversion, with
+//! how it ends (`StopsAtRecord`, `EndsAtRecord`); that records are refused exactly where they do not fit the record length that is said, and what is told
+//! then (`judge_lrecl`, `fitting`, `Texts::prepared`; `FitsLrecl`, `IsOtherLength`).
 #![tactic(auto)]
 
 mod done;

@@ -22,6 +22,12 @@
 //!
 //! What is promised: a job ends with the number of a status (`IsEndOfJob`), that with which [`job`] ends it, or that of a device that failed where
 //! what it prints was not handed over (`code`, `EndsUntold` of specs/CommandEnds.antt). What is printed is shown by the stored jobs of `cob_test_jobs`.
+//!
+//! # Where it is proved
+//!
+//! The clauses of `job_into` and `job`; below them `found`, `only`, `number`, `refused` of `JobText::read`, `decode`, and those of the sink of digits.
+//! The clause of `do_job`: a job ends with the number of a status. Inside: what the sink still holds behind `job_to_end`, and how a job ends whose output
+//! was handed over or not.
 #![tactic(auto)]
 
 mod command;

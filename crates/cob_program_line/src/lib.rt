@@ -30,6 +30,12 @@
 //! `fault_of` where it fails), for the commands and options of `cob_program_options`; that those definitions come to the words as options is proved in
 //! `cob_program_options` for options and here for commands (`found_in` of proofs/Spelled.antt). Help, the version and the texts of refusals are `clap`'s, which
 //! the stored command lines of `cob_test_jobs` show.
+//!
+//! # Where it is proved
+//!
+//! The clauses `options`, `lacks`, `fault` and `blocks` of `convert_line`, `show_line` and the functions beside them: the line of each command is what
+//! its options name, and a refusal tells the first that names nothing (`IsFaultIn`); the clauses `options`, `refused` and `fault` of `line_of`: also that
+//! faults are explained exactly where the flag is given (`SaysCommand`).
 #![tactic(auto)]
 
 mod commands;

@@ -9,6 +9,12 @@
 //! otherwise than by a device that fails, nothing of what it prints is still held (`list_to_end`, `show_to_end`). What the lists hold is promised by
 //! `cob_report_show`, and where pieces begin by `cob_records_parts`. The copybook of `show` and `pieces` is refused where its records do not fit the record
 //! length that their file is said to have (`read_record_book`).
+//!
+//! # Where it is proved
+//!
+//! The clauses of `list_entries`, `list_records`, `list_pieces`, `do_layout`, `do_show` and `do_pieces`: which faults they can have, and with which
+//! status the command ends; inside `listed`, `shown`, what the sink still holds behind `show_to_end` and `list_to_end`, and that the copybook of `show`
+//! and `pieces` fits the record length that is said (`read_record_book`).
 #![tactic(auto)]
 
 mod copybook;

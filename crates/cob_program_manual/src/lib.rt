@@ -6,6 +6,10 @@
 //!
 //! [`do_completion`] and [`do_manual`] print them. What is promised is which faults they can have (`MayEndPrinting` of specs/Ends.antt), and that they end
 //! with the status of what they came to (`EndsAmong` of `cob_program_faults`). What they print is shown by the stored command lines of `cob_test_jobs`.
+//!
+//! # Where it is proved
+//!
+//! Which faults `completion` and `manual` can have, and with which status they end.
 #![tactic(auto)]
 
 mod command;

@@ -33,6 +33,17 @@
 //!   the fault says which, where and why (`FindsRecord`, `HasFewer`; `FindsShown`, `IsNotShown`);
 //! - its places, and those of what it becomes, are those under its own counts where these are valid, and else those under the greatest counts
 //!   (`ArePlacesShown`).
+//!
+//! # Where it is proved
+//!
+//! The clauses of `converted_record` and `shown_record`: the record that is shown is one of the layout, and what stands beside it is what it becomes
+//! (`ShowsRecord`, `IsShown`); where the source tells its bytes, it is the one with its number, or there are only so many, or one up to it stops a run,
+//! and the fault says which, where and why (`FindsRecord`, `HasFewer`; `FindsShown`, `IsNotShown`); the places of both are those under their own counts
+//! where these are valid, and else those under the greatest counts (`ArePlacesShown`); that the bytes that are marked as covered are those that receivers
+//! cover (`MarkCoveredBytes`, `IsByteCovered` of `cob_report_cover`), that what is said that a single move may lose is what it may lose (`AreAllLosses`
+//! of `cob_report_cover`), and that a move of bytes is said to lose their description exactly where it may lose it, by the first byte (`AreAllTold`, by
+//! `KeepsIts` and `LosesFirst` of `cob_back_losses`); which faults `map` can have (`MayNotMap`, by `StopsAtRecord` of `cob_program_faults`), and with
+//! which status it ends (`EndsAtRecord`, as `explain` does).
 #![tactic(auto)]
 
 mod command;

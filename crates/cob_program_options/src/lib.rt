@@ -19,6 +19,13 @@
 //! [`program`] makes the definition that parses words: it is that of the table `commands` of specs/Commands.antt (`program_app` of specs/Program.antt).
 //! The tables of src/options.rt and src/commands.rt define them, with the texts of their help, and loops add what they define (specs/Definitions.antt).
 //! The texts of help are no part of any promise; the stored command lines of `cob_test_jobs` show them.
+//!
+//! # Where it is proved
+//!
+//! Options of each kind as `clap` takes them, and what it finds of one; that it passes words exactly where they are options of a table, and finds of each
+//! what the words give it (lemmas below proofs/). The clause of `program`: it is the definition of the table `commands`. Inside the crate: that of the
+//! functions that add an option, a group, a command (`with_option`, `with_groups`, `with_commands`): what a table of definitions says (`option_of`,
+//! `command_of`, specs/Definitions.antt) is added, in its order.
 #![tactic(auto)]
 
 mod adding;

@@ -19,6 +19,14 @@
 //!   `finished_aside` and `placed_run` of specs/Finished.antt), and that it is a stop of the run, or an output that is not in its place (`StopsRun`,
 //!   `LacksOutput`, `StopsRunAside`, `LacksOutputs` of specs/Ends.antt): of the output the last record that was converted, of the other the last one that was
 //!   rejected, as [`Marks`] keep them (`HasMarks` and `IsLastPut` of specs/Marks.antt). A run that stops is told of as one that set none aside (`as_aside`).
+//!
+//! # Where it is proved
+//!
+//! The clauses of `finished`, `placed` and `placed_run`: what is told of a run whose outputs were not handed over or put in their places; of `run_to_end`
+//! and `run_aside_to_end`: what the run came to over what came (`ran`), and what the sinks still hold behind it; of `Marks`: which record is the last
+//! that was converted, which the last that was rejected; of `Rejections`: from which number its fault lines are counted, and that one which was not
+//! printed is never forgotten (`printed`). Inside the crate: what any run was made over (`run_over_source`, `run_over_chosen`, `run_over_apart`,
+//! `run_over_incoming`).
 #![tactic(auto)]
 
 mod incoming;

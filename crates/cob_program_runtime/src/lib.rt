@@ -52,6 +52,16 @@
 //! early; where it stands behind the end, the signal may come.
 //!
 //! Calls that a runtime may leave out, as those on links, are left out.
+//!
+//! # Where it is proved
+//!
+//! The clause of `noted`: a call answers what the call inside answers. Which error is kept, and its words, are shown by rows. Those of `take_closed`:
+//! what is kept has the number of a standard stream (`KeepsStandard`). That the system gives the lowest free number, and that a folder can be neither
+//! read nor written, is shown by `tools/try_files`. The clauses of `size_limit`: it is the soft limit that the text of `/proc/self/limits` tells, both
+//! ways (`TellsLimit`); of the writes of a `LimitedFile`: what it takes ends at the limit, the place of the next byte is counted behind it, and a write
+//! that would begin at the limit is refused with the system's error (`front_within`, `extent_after`, `IsAtItsLimit`, `IsTooLarge`); its bytes are those
+//! of the file inside. Inside the crate: which files that are opened have a limit (`extent_of`), and that a value which is printed under one fits
+//! (`FitsExtent`). Which calls of the system fail or send a signal is shown by `tools/try_files`.
 #![tactic(auto)]
 
 mod extent;

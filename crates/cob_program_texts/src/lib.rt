@@ -38,6 +38,11 @@
 //!   device failed if its last line was not printed (`EndsAmong` of `cob_program_faults`).
 //!
 //! Why the answer is no is told in words that the stored command lines of `cob_test_jobs` show.
+//!
+//! # Where it is proved
+//!
+//! Which faults `check`, `cover`, `draft` and `lossless` can have, and with which status `do_check`, `do_cover`, `do_draft` and `do_lossless` end; a
+//! strict check ends as a run that a record stopped exactly where something is open (`status_of_covered`); inside, what four texts come to (`answer_of`).
 #![tactic(auto)]
 
 mod answer;

@@ -43,6 +43,19 @@
 //! [`find_record`] reads the record with a number, behind as many as stand before it, which are passed over by their frames alone. What is promised
 //! (`FindsNumbered` of specs/Numbering.antt): it is the one behind so many that came whole, and just up to its end was read; or only fewer come; or a frame up
 //! to its own can't be read, and the number of its record is told. A read failed exactly where that is why.
+//!
+//! # Where it is proved
+//!
+//! The clauses `cut`, `uncut`, `few`, `cause` of `pieces_in`, and `cut`, `few` of `pieces_of_size`; of `open_part`: how many bytes its end reads (`all`,
+//! `part`), that nothing is in its buffer (`empty`), over what it is (`which`, `whole`). Inside the crate: a seek that fails opens nothing (`moved_to`),
+//! said of files that tell where they are. That the pieces are of nearly equal size, only rows show. Of `Chosen`, a source that gives the chosen records
+//! of another: the clauses of `new`, of its `read` and of `stopped`; of `choose`, of `Part::jumped` and of `Chosen::into_rest`; those of `Rest`, a source
+//! that gives what is left of another, or its first bytes, and tells them; the laws `rest_is_behind` and `given_are_chosen`. Of `find_record`: the record
+//! with a number comes, or there are fewer, or a frame up to its own can't be read (`FindsNumbered`, specs/Numbering.antt). The words: what a `Chosen`
+//! tells to come (`chosen_coming`, specs/Comings.antt; `given_of`, specs/StillGiven.antt; `first_frame_in`, specs/Firsts.antt), which records have come
+//! and which of them are chosen (`HasCome`, `HasStopped`, specs/Choices.antt), what was given, a read, its end and its stop (`HasGiven`, `GivesBehind`,
+//! `IsDrained`, `StopsGiving`, specs/Gives.antt), a part behind whole records of one length (`IsBehindWhole`, specs/Parts.antt), chosen records that are
+//! all that is left or its first bytes (`rest_inside`, `IsGivenBehind`, specs/Rests.antt).
 #![tactic(auto)]
 
 mod ahead;

@@ -24,6 +24,10 @@
 //! that varies is told to be shifted (`is_steady` of `cob_layout_steady`).
 //!
 //! Only [`draw`] takes memory.
+//!
+//! # Where it is proved
+//!
+//! That it is safe and ends; its words are shown by rows.
 #![tactic(auto)]
 
 mod boxes;

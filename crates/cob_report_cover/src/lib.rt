@@ -35,6 +35,12 @@
 //!
 //! Its time grows with the moves, the bytes of the records and the lines that it writes, each of which looks for the names in the record once; but for the
 //! moves of bytes, each of which looks at the bytes of its receiver.
+//!
+//! # Where it is proved
+//!
+//! Of `bytes_covered` and `bytes_taken`: of each byte of the output record whether some receiver has it, of each of the input record whether some sender
+//! has it; that a move is said to have no number exactly where characters are moved to a number (`MayHaveNoNumber`). The lists are shown by rows. The
+//! clause of `losses_in`: of each single move of a paragraph, in their order, what it may lose (`AreAllLosses`, by `losses_of`).
 #![tactic(auto)]
 
 mod descriptions;

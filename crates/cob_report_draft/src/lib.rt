@@ -9,6 +9,10 @@
 //! [`draft_of`] writes the paragraph. Which entry is the partner of one, what is against a move and with how many qualifiers an entry is named is
 //! promised by `cob_report_partners`, and by `cob_layout_steady` which items begin at the same byte of each record; here, that no line reaches behind
 //! column 72 (`line_end`). How a draft reads is shown by `cob_test_jobs`, which also reads drafts back.
+//!
+//! # Where it is proved
+//!
+//! That no line of a draft reaches behind column 72 (`line_end`). The text is shown by rows, which read it back and ask what its moves may lose.
 #![tactic(auto)]
 
 mod drafting;

@@ -14,6 +14,10 @@
 //!
 //! What is promised is what is decided: of the bytes of a number which part of them is to blame, and that they represent none ([`number_flaw`]).
 //! [`FlawText`] tells that part, as `the last half byte is 0, no sign`. Which words tell it is shown by `cob_test_jobs`.
+//!
+//! # Where it is proved
+//!
+//! Of `number_flaw`: which part of the bytes of a sender is to blame, none exactly where they represent a number. The words are shown by rows.
 #![tactic(auto)]
 
 mod advice;

@@ -9,6 +9,10 @@
 //!
 //! No clause says what is printed: rows show it. What is proved is safety, that each call ends, and that a line that is written is taken whole. Buffers are
 //! made before the first record, and grow to the longest line; then no record asks for memory.
+//!
+//! # Where it is proved
+//!
+//! That it is safe and ends, and inside that a line that is written is taken whole by the sink (`put_text`); what it prints is shown by rows.
 #![tactic(auto)]
 
 mod contents;

@@ -26,6 +26,14 @@
 //!   (`AreCountsAtFirsts` of specs/Ends.antt).
 //!
 //! No sum wraps: a top past the greatest number of 32 bits is that number.
+//!
+//! # Where it is proved
+//!
+//! What a text, a line and a rectangle print, to the byte (`output`); that what is written of a text is read as the text (`escapes_read_back`), and in
+//! one way (`reading_is_one`): so it holds none of `<`, `>`, `"`, and `&` only at the front of an escape (`ReadsAs`); where boxes begin that lie one
+//! below another, so that none that has room on a sheet of paper stands on two (`AreTops`); the part of a run of bytes in its row of a ruler
+//! (`IsRowPart`), and how many rows it meets (`AreRows`); how long a run of bytes is that are not covered (`prefix_len`); of each single move how many
+//! join the same two, where it is the first of them (`AreCountsAtFirsts`).
 #![tactic(auto)]
 
 mod ends;

@@ -11,6 +11,10 @@
 //! What is promised: of two items, what the second one lacks ([`lack_of`]; `Lacks` of specs/Lacks.antt), nothing exactly where it loses nothing of the
 //! first (`LosesNothing` of `cob_back_moves`); and the lines of a paragraph's statements ([`lines_of`]; `AreLinesOf` of specs/Lines.antt). Which words tell
 //! a loss is shown by `cob_test_jobs`.
+//!
+//! # Where it is proved
+//!
+//! The clauses `none`, `lost`, `lacks` of `lack_of`, and that of `lines_of`; which words tell a loss is shown by rows.
 #![tactic(auto)]
 
 mod items;

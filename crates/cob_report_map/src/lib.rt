@@ -22,6 +22,10 @@
 //! receiver covers. Each marks by [`Lost`] what the moves may lose. Which words are printed is shown by `cob_test_jobs`.
 //!
 //! It takes no memory.
+//!
+//! # Where it is proved
+//!
+//! What each single move of a paragraph joins, in order (`ends_in`), and of each how many join the same. The words of the page are shown by rows.
 #![tactic(auto)]
 
 mod joined;

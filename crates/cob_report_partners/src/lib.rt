@@ -18,6 +18,10 @@
 //!   specs/Naming.antt).
 //!
 //! The names that the groups of two records share are found once, by a table of names, and the qualifiers of a name by one pass over the entries.
+//!
+//! # Where it is proved
+//!
+//! The clauses of `entries_of`, `partner_of`, `partner_within`, `only_item_beneath`, `objection_to` and `qualifiers_needed`.
 #![tactic(auto)]
 
 mod entries;

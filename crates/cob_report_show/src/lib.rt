@@ -34,6 +34,10 @@
 //!   `zoned`, `separate`, `packed` or `binary`; of another item its category, which BLANK WHEN ZERO makes `numeric-edited`
 //!   (`kind_word`);
 //! - a fault is one of writing (`kind`), exactly where a call of the sink failed (`cause`, `errors`).
+//!
+//! # Where it is proved
+//!
+//! The clause `shows` of `show`, with `fault`, `memory`, `reads`, `writes`, `errors`; the clause `lists` of `layout_text`, with those on its end.
 #![tactic(auto)]
 
 mod elements;

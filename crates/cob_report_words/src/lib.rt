@@ -10,6 +10,10 @@
 //! [`tables_over`], [`first_subscripts`] and [`advance`] go over the occurrences of an entry, the last subscript first.
 //!
 //! What is promised is that each ends and is safe; the texts are shown by the rows of `cob_test_jobs`.
+//!
+//! # Where it is proved
+//!
+//! That it is safe and ends; what it prints is shown by rows.
 #![tactic(auto)]
 
 mod constants;

@@ -20,6 +20,10 @@
 //! text breaks and which words it has, and `Tokens` is what a reader of tokens sees of them. `Reading` holds what the
 //! reader keeps from line to line; no public clause names it but through `Ahead`, how far a paragraph is read. The crate stands on `cob_limits` for the length of a text, and on `thiserror` for the
 //! fault's message.
+//!
+//! # Where it is proved
+//!
+//! The clauses `words`, `reads`, `refused` of `tokens` and `paragraph_tokens`, and those of `WordsAhead::new` and `read`; the laws of `cob_source`.
 #![tactic(auto)]
 
 mod ahead;
