@@ -9,8 +9,8 @@ use Rattle.cob_copybook_tree.specs.Nodes.{Resolved, node}
 use Rattle.cob_back_losses.specs.declared.keeping.Gets.{Gets}
 use Rattle.cob_back_losses.specs.declared.keeping.Gets.TheVariants as gets
 use Rattle.cob_back_losses.specs.declared.keeping.Unkept.{Unkept}
-use Rattle.cob_back_losses.specs.declared.keeping.Sent as code
-use Rattle.cob_back_losses.specs.declared.keeping.Sent.TheVariants as code_sent
+use Rattle.cob_back_losses.specs.declared.keeping.JudgedSent as code
+use Rattle.cob_back_losses.specs.declared.keeping.JudgedSent.TheVariants as code_sent
 use Rattle.cob_back_losses.specs.declared.bytes.ItemByte as code_bytes
 use Rattle.cob_back_losses.specs.Bytes.{ItemByte, element_bytes, item_byte}
 use Rattle.cob_back_losses.specs.Senses.{Sense, Text, Digit, Part, Fill, KeepsSense, constant_sense, item_sense}
@@ -21,7 +21,7 @@ pub data SentElement : Type 0 where
   Constant : PlainValue → SentElement
 
 -- what the code's value stands for
-abbrev pub sent_element : code.Sent → SentElement
+abbrev pub sent_element : code.JudgedSent → SentElement
 sent_element (code_sent.Entry entry) = Element (node entry.now)
 sent_element (code_sent.Constant value) = Constant (plain_value value.now)
 

@@ -12,7 +12,7 @@ ghost use Rattle.cob_back_losses.specs.Losses.{character_places, item_room, kind
 
 use cob_copybook_tree::{Item, Kind, Value, is_number};
 use cob_move_receive::SenderKind;
-use cob_picture::{Category, Picture, Position, Role};
+use cob_picture::{Category, Picture, Position, PositionRole};
 
 /// How many zeros stand between the last digit and the point.
 fn zeros_of(scale: i8) -> u32
@@ -91,10 +91,10 @@ pub(crate) fn characters_of(from: &SenderKind<'_>, bytes: u32, to: &Kind) -> u32
 }
 
 /// Whether a position holds a character.
-fn is_character(role: Role) -> bool
+fn is_character(role: PositionRole) -> bool
     ensures { result ≡ is_character role }
 {
-    matches!(role, Role::Character)
+    matches!(role, PositionRole::Character)
 }
 
 /// How many of these positions hold a character.

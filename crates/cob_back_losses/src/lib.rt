@@ -81,7 +81,7 @@ mod senses;
 mod singles;
 mod words;
 
-pub use keeping::{Gets, Sent, Unkept};
+pub use keeping::{Gets, JudgedSent, Unkept};
 pub use laws::keeps_numbers;
 pub use losses::{Losses, losses_of};
 pub use lost::{description_lost, description_lost_among};

@@ -19,7 +19,7 @@ use cob_move_data::{Sender, Side};
 
 /// The layouts of the two records that moves go between, and how their binary items are read that are sent.
 #[derive(Clone, Copy)]
-pub struct Layouts<'a> {
+pub struct BothLayouts<'a> {
     pub input: &'a Layout,
     pub output: &'a Layout,
     pub reading: Reading,
@@ -71,7 +71,7 @@ pub(crate) fn element_of(entry: &Ref) -> Element<'_>
 
 /// What a sender sends.
 pub(crate) fn sent_of(sender: &Sender) -> Sent<'_>
-    ensures { (l : Layouts) → sender_of l result ≡ sender_by l.reading (layout_records l)
+    ensures { (l : BothLayouts) → sender_of l result ≡ sender_by l.reading (layout_records l)
         sender.now }
 {
     match sender {
@@ -93,7 +93,7 @@ pub(crate) fn kind_of<'a>(layout: &'a Layout, entry: &Element<'_>) -> &'a Kind
 }
 
 /// Whether what is sent is an item of the input record.
-fn is_input_item(layouts: &Layouts<'_>, sent: &Sent<'_>) -> bool
+fn is_input_item(layouts: &BothLayouts<'_>, sent: &Sent<'_>) -> bool
     requires sound { AreSound layouts.now }
     requires sender { IsSender (layout_records layouts.now) (sender_of layouts.now sent.now) }
     ensures { Decides result (IsInputItem (sender_of layouts.now sent.now)) }
@@ -108,7 +108,7 @@ fn is_input_item(layouts: &Layouts<'_>, sent: &Sent<'_>) -> bool
 }
 
 /// Whether what is sent is read as its picture says.
-fn is_sent_pictured(layouts: &Layouts<'_>, sent: &Sent<'_>) -> bool
+fn is_sent_pictured(layouts: &BothLayouts<'_>, sent: &Sent<'_>) -> bool
     requires sound { AreSound layouts.now }
     requires sender { IsSender (layout_records layouts.now) (sender_of layouts.now sent.now) }
     ensures { Decides result (IsSenderReadPictured (sender_of layouts.now sent.now)) }
@@ -123,7 +123,7 @@ fn is_sent_pictured(layouts: &Layouts<'_>, sent: &Sent<'_>) -> bool
 }
 
 /// Whether a single move is elementary.
-fn is_elementary(layouts: &Layouts<'_>, single: &Single<'_>) -> bool
+fn is_elementary(layouts: &BothLayouts<'_>, single: &Single<'_>) -> bool
     requires sound { AreSound layouts.now }
     requires single { IsSingle layouts.now single.now }
     ensures { Decides result (IsElementary (single_of layouts.now single.now)) }
@@ -132,7 +132,7 @@ fn is_elementary(layouts: &Layouts<'_>, single: &Single<'_>) -> bool
 }
 
 /// Whether a single move is as is asked.
-pub(crate) fn passes(test: &Test<'_>, layouts: &Layouts<'_>, single: &Single<'_>) -> bool
+pub(crate) fn passes(test: &Test<'_>, layouts: &BothLayouts<'_>, single: &Single<'_>) -> bool
     requires sound { AreSound layouts.now }
     requires single { IsSingle layouts.now single.now }
     ensures { Decides result (PassesTest test.now (single_of layouts.now single.now)) }

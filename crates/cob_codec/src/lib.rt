@@ -47,7 +47,7 @@ mod zoned;
 mod zoned_flaws;
 
 pub use crate::binary::Binary;
-pub use crate::flaw::{Flaw, NumberFlaw, Wanted};
+pub use crate::flaw::{ExpectedPart, Flaw, NumberFlaw};
 pub use crate::laws::{bytes_represent_one_number, stored_numbers_read_back, whole_reading_agrees};
 pub use crate::packed::Packed;
 pub use crate::packed_flaws::packed_flaw;

@@ -55,7 +55,7 @@ impl fmt::Display for AsideFault {
 
 /// Why a run that sets rejected records aside is over.
 #[derive(Clone, Copy)]
-pub(crate) enum Ending {
+pub(crate) enum AsideOutcome {
     /// The input is at its end.
     Done,
     /// The next record stops it, or as many as a run takes came.
@@ -156,7 +156,7 @@ fn close_aside<W: Sink>(
     done: u64,
     first: u64,
     written: u64,
-    why: Ending,
+    why: AsideOutcome,
 ) -> Result<Tally, AsideFault>
     requires done { done ≤ LIMIT }
     requires why { is_sink_ending why ≡ false }
@@ -172,9 +172,13 @@ fn close_aside<W: Sink>(
         return Err(AsideFault::Stopped(fault));
     }
     match why {
-        Ending::Done => Ok(tally),
-        Ending::Stopped(reason) => Err(AsideFault::Stopped(fault_of(done + 1, reason, written))),
-        Ending::NotSetAside(cause) => Err(AsideFault::NotSetAside {
+        AsideOutcome::Done => Ok(tally),
+        AsideOutcome::Stopped(reason) => Err(AsideFault::Stopped(fault_of(
+            done + 1,
+            reason,
+            written,
+        ))),
+        AsideOutcome::NotSetAside(cause) => Err(AsideFault::NotSetAside {
             number: done + 1,
             cause,
             written,
@@ -197,7 +201,7 @@ fn close_at_limit<W: Sink>(
     ensures errors { W.errors sink.new ≡ counted (is_sink_error result) (W.errors sink.old) }
     ensures emptied { outlet.new ≡ emptied outlet.old }
 {
-    let why = Ending::Stopped(Reason {
+    let why = AsideOutcome::Stopped(Reason {
         side: Side::In,
         offset: 0,
         cause: Cause::Limit,
@@ -252,9 +256,17 @@ pub fn run_over_aside<R: Source, W: Sink, A: Sink, N: Notes>(
         let tally = tally_behind(done, rejected);
         let count = match conversion.next_whole(source, input, &mut left) {
             Ok(Some(count)) => count,
-            Ok(None) => return close_aside(outlet, sink, tally, done, first, written, Ending::Done),
+            Ok(None) => return close_aside(
+                outlet,
+                sink,
+                tally,
+                done,
+                first,
+                written,
+                AsideOutcome::Done,
+            ),
             Err(why) => {
-                let why = Ending::Stopped(why);
+                let why = AsideOutcome::Stopped(why);
                 return close_aside(outlet, sink, tally, done, first, written, why);
             }
         };
@@ -262,12 +274,12 @@ pub fn run_over_aside<R: Source, W: Sink, A: Sink, N: Notes>(
             Ok(made) => made,
             Err(why) => {
                 if rejected == most {
-                    let why = Ending::Stopped(why);
+                    let why = AsideOutcome::Stopped(why);
                     return close_aside(outlet, sink, tally, done, first, written, why);
                 }
                 let fault = fault_of(done + 1, why, written);
                 if let Err(cause) = set_aside(aside, notes, form, &input[..count], fault) {
-                    let why = Ending::NotSetAside(cause);
+                    let why = AsideOutcome::NotSetAside(cause);
                     return close_aside(outlet, sink, tally, done, first, written, why);
                 }
                 rejected += 1;

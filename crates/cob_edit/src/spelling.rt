@@ -8,13 +8,13 @@ ghost use Rattle.cob_edit.specs.Characters.{is_character, characters_from, HasCh
 
 use crate::positions::insertion_byte;
 use cob_cp037::SPACE;
-use cob_picture::{Picture, Position, Role};
+use cob_picture::{Picture, Position, PositionRole};
 
 /// Whether the place holds any character.
-fn is_character(role: Role) -> bool
+fn is_character(role: PositionRole) -> bool
     ensures { result ≡ is_character role }
 {
-    matches!(role, Role::Character)
+    matches!(role, PositionRole::Character)
 }
 
 /// The byte of this number, and a space past the last.

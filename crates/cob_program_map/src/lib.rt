@@ -55,5 +55,5 @@ mod shown;
 
 pub use command::{do_map, print_map};
 pub use ends::Unmapped;
-pub use record::{Found, Lengths, converted_record};
+pub use record::{FoundRecord, Lengths, converted_record};
 pub use shown::{NotShown, Shown, shown_record};

@@ -69,7 +69,7 @@ fn unread(stop: Stopped) -> RunFault
 
 /// What is found where a record with a number is looked for.
 #[derive(Clone, Copy, PartialEq, Eq)]
-pub enum Found {
+pub enum FoundRecord {
     /// The record, at the front of its buffer, and what it becomes, at the front of the other one.
     Record(Lengths),
     /// The input has only so many records.
@@ -120,7 +120,7 @@ pub fn converted_record<S: Source>(
     output: &mut [u8],
     room: &mut Room,
     source: &mut S,
-) -> Result<Found, RunFault>
+) -> Result<FoundRecord, RunFault>
     requires number { 0 < number }
     requires input { length input.old ≡ in_length conversion.now }
     requires output { length output.old ≡ out_length conversion.now }
@@ -136,11 +136,11 @@ pub fn converted_record<S: Source>(
     let (form, greatest) = (conversion.in_form(), conversion.in_length());
     let count = match find_record(source, form, greatest, number, input) {
         Ok(Numbered::Record(count)) => count,
-        Ok(Numbered::Fewer(there)) => return Ok(Found::Fewer(there)),
+        Ok(Numbered::Fewer(there)) => return Ok(FoundRecord::Fewer(there)),
         Err(stop) => return Err(unread(stop)),
     };
     match convert_found(conversion, number, &input[..count], output, room) {
-        Ok(made) => Ok(Found::Record(Lengths {
+        Ok(made) => Ok(FoundRecord::Record(Lengths {
             input: count,
             output: made,
         })),

@@ -7,7 +7,7 @@ ghost use Rattle.cob_convert_record.specs.Rooms.{capacity_for};
 ghost use Rattle.cob_records.specs.Device.{Told};
 ghost use Rattle.cob_program_map.specs.Showing.{ArePlacesShown, FindsShown, FindsToShow, IsNotShown, IsShown};
 
-use crate::record::{Found, converted_record};
+use crate::record::{FoundRecord, converted_record};
 use cob_convert_record::{Conversion, Room};
 use cob_convert_stream::RunFault;
 use cob_layout::{Counts, Layout};
@@ -109,12 +109,12 @@ fn read_into<S: Source>(
         (FindsToShow conversion.now number input.new.items result) }
 {
     match converted_record(conversion, number, input, output, room, source) {
-        Ok(Found::Record(lengths)) => {
+        Ok(FoundRecord::Record(lengths)) => {
             input.truncate(lengths.input);
             output.truncate(lengths.output);
             Ok(())
         }
-        Ok(Found::Fewer(there)) => Err(NotShown::Fewer(there)),
+        Ok(FoundRecord::Fewer(there)) => Err(NotShown::Fewer(there)),
         Err(fault) => Err(NotShown::Stops(fault)),
     }
 }

@@ -1,14 +1,14 @@
 //! What single moves send and receive, in words.
 
-use cob_back_moves::Layouts;
+use cob_back_moves::BothLayouts;
 use cob_copybook_tree::Value;
 use cob_layout::Layout;
 use cob_move_data::{Element, Sent, Side};
-use cob_report_words::{ConstantText, DescribedText, Named, PictureText};
+use cob_report_words::{ConstantText, DescribedText, NamedOccurrence, PictureText};
 use std::fmt;
 
 /// The layout of a side's record.
-pub(crate) fn layout_of<'a>(layouts: &Layouts<'a>, side: Side) -> &'a Layout {
+pub(crate) fn layout_of<'a>(layouts: &BothLayouts<'a>, side: Side) -> &'a Layout {
     match side {
         Side::In => layouts.input,
         Side::Out => layouts.output,
@@ -16,8 +16,8 @@ pub(crate) fn layout_of<'a>(layouts: &Layouts<'a>, side: Side) -> &'a Layout {
 }
 
 /// An occurrence by its name.
-fn named_in<'a>(layout: &'a Layout, element: Element<'_>) -> Named<'a> {
-    Named::new(layout.root(), element.number, element.subscripts)
+fn named_in<'a>(layout: &'a Layout, element: Element<'_>) -> NamedOccurrence<'a> {
+    NamedOccurrence::new(layout.root(), element.number, element.subscripts)
 }
 
 /// Writes an occurrence with its picture, where it has one, and what stands behind that.
@@ -61,7 +61,7 @@ fn write_constant<W: fmt::Write>(f: &mut fmt::Formatter<W>, value: &Value) -> fm
 /// Writes what is sent with what it is, and a comma behind it where that has one.
 pub(crate) fn write_sent<W: fmt::Write>(
     f: &mut fmt::Formatter<W>,
-    layouts: &Layouts<'_>,
+    layouts: &BothLayouts<'_>,
     sent: Sent<'_>,
 ) -> fmt::Result {
     match sent {

@@ -6,7 +6,7 @@ ghost use Rattle.cob_move_receive.specs.Table.{sender_kind};
 ghost use Rattle.cob_report_cover.specs.Losing.{AreAllLosses, AreLossesOf, AreLossesOfEntry, AreLossesTo, HasNoEntry, StandsAs, tree_of_side};
 
 use cob_back_losses::{Losses, losses_of};
-use cob_back_moves::{Layouts, MovesBetween};
+use cob_back_moves::{BothLayouts, MovesBetween};
 use cob_copybook_tree::Kind;
 use cob_layout::Layout;
 use cob_move_data::{Sent, Side, SingleMove, Singles};
@@ -35,7 +35,7 @@ fn entry_at(layout: &Layout, number: usize) -> Option<Measured<'_>>
 }
 
 /// The layout of a side's record.
-fn layout_of<'a>(layouts: &Layouts<'a>, side: Side) -> &'a Layout
+fn layout_of<'a>(layouts: &BothLayouts<'a>, side: Side) -> &'a Layout
     ensures { result.now ≡ tree_of_side layouts.now side }
 {
     match side {
@@ -65,7 +65,7 @@ fn losses_to(from: &SenderKind<'_>, bytes: u32, output: &Layout, number: usize) 
 }
 
 /// What the move of an entry of this side may lose to one of the output record, both by their numbers; nothing where there is no such entry.
-fn entry_losses(layouts: &Layouts<'_>, side: Side, from: usize, to: usize) -> Losses
+fn entry_losses(layouts: &BothLayouts<'_>, side: Side, from: usize, to: usize) -> Losses
     ensures { AreLossesOfEntry (tree_of_side layouts.now side) from
         layouts.now.output.now to result }
 {
@@ -81,7 +81,7 @@ fn entry_losses(layouts: &Layouts<'_>, side: Side, from: usize, to: usize) -> Lo
 }
 
 /// What a single move may lose.
-fn single_losses(layouts: &Layouts<'_>, single: &SingleMove<'_>) -> Losses
+fn single_losses(layouts: &BothLayouts<'_>, single: &SingleMove<'_>) -> Losses
     ensures { AreLossesOf layouts.now (plain_single single.now) result }
 {
     let to = single.receiver.number;

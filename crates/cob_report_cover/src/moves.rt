@@ -2,7 +2,7 @@
 
 use crate::elements::{layout_of, write_pictured};
 use cob_back_losses::Losses;
-use cob_back_moves::Layouts;
+use cob_back_moves::BothLayouts;
 use cob_move_data::Sent;
 use cob_report_lossless::LinedSingle;
 use std::fmt;
@@ -10,7 +10,7 @@ use std::fmt;
 /// A single move that may lose something.
 #[derive(Clone, Copy)]
 pub(crate) struct Losing<'a> {
-    pub(crate) layouts: Layouts<'a>,
+    pub(crate) layouts: BothLayouts<'a>,
     pub(crate) single: LinedSingle<'a>,
     pub(crate) losses: Losses,
 }

@@ -5,7 +5,7 @@ ghost use Rattle.std.specs.Bool.{Decides};
 ghost use Rattle.cob_report_cover.specs.Numbers.{MayHaveNoNumber, has_characters, kind_shows_number};
 
 use crate::elements::{layout_of, write_element, write_sent};
-use cob_back_moves::Layouts;
+use cob_back_moves::BothLayouts;
 use cob_copybook_tree::Kind;
 use cob_move_data::Sent;
 use cob_report_lossless::LinedSingle;
@@ -15,7 +15,7 @@ use std::fmt;
 /// A single move of characters to a number.
 #[derive(Clone, Copy)]
 pub(crate) struct Numberless<'a> {
-    layouts: Layouts<'a>,
+    layouts: BothLayouts<'a>,
     single: LinedSingle<'a>,
 }
 
@@ -48,7 +48,7 @@ fn may_have_no_number(from: &Kind, to: &Kind) -> bool
 
 /// What is told of a single move that may have no number.
 pub(crate) fn told_numberless<'a>(
-    layouts: &Layouts<'a>,
+    layouts: &BothLayouts<'a>,
     single: &LinedSingle<'a>,
 ) -> Option<Numberless<'a>> {
     let Sent::Entry { side, entry } = single.sent else {

@@ -27,7 +27,7 @@ use std::alloc::{AllocError, Global};
 
 /// What is told of a record that stops a run: its fault, and what is wrong in words, where there are some.
 #[derive(Drop)]
-pub struct Stopped {
+pub struct StoppedRecord {
     pub fault: RunFault,
     pub words: String,
 }
@@ -40,9 +40,9 @@ pub enum Explanation {
     /// It converts: all of its single moves were told.
     Converts,
     /// Its single moves were told up to the one where it stops, or all where a count stops it behind them.
-    Stops(Stopped),
+    Stops(StoppedRecord),
     /// It is none of the layout, or a frame up to its own can't be read: no single move was told.
-    Refused(Stopped),
+    Refused(StoppedRecord),
 }
 
 /// The texts of a conversion that are read again: the copybook of the output record, and the paragraph.
@@ -140,12 +140,12 @@ fn stopped_at(
     scene: &Scene<'_>,
     number: u64,
     stop: RecordStop,
-) -> Result<Stopped, AllocError>
+) -> Result<StoppedRecord, AllocError>
     ensures { IfOk result (λ stopped. is_write_cause stopped.fault.cause ≡ false) }
 {
     let words = stop_words(alloc, scene, &stop)?;
     let fault = fault_of(number, stop.plain());
-    Ok(Stopped { fault, words })
+    Ok(StoppedRecord { fault, words })
 }
 
 /// Explains a record of the layout. The output holds the storage before the first move.
@@ -215,7 +215,7 @@ fn refused_at(
     ensures { IfOk result IsExplanation }
 {
     let words = refusal_words(alloc, conversion, refused, bytes)?;
-    Ok(Explanation::Refused(Stopped {
+    Ok(Explanation::Refused(StoppedRecord {
         fault: RunFault {
             number: refused.number,
             side: refused.why.side,

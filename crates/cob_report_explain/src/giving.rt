@@ -14,9 +14,9 @@ ghost use Rattle.cob_report_explain.specs.Seen.{HandsOut, SeesSingles, StopsAtRe
 ghost use Rattle.cob_report_explain.specs.declared.single.Asked.TheVariants as asked;
 ghost use Rattle.cob_report_explain.specs.declared.single.AskedStop.{AskedStop as Lack};
 
-use crate::places::{Stored, entry_kind, locate};
+use crate::places::{SideStorage, entry_kind, locate};
 use crate::single::{
-    Asked, AskedStop, Given, MoveParts, MoveStop, SingleMove, SingleNumber, stop_of,
+    Asked, AskedStop, CarriedMove, GivenContent, MoveParts, MoveStop, SingleNumber, stop_of,
 };
 use crate::watcher::Watcher;
 use cob_layout::{Counts, Layout, Place, Ref};
@@ -25,7 +25,7 @@ use cob_move_data::Side;
 use cob_move_receive::receive;
 
 /// What is told of a sender that has no value that a receiver asks for.
-fn value_lack(given: &Given<'_>) -> AskedStop
+fn value_lack(given: &GivenContent<'_>) -> AskedStop
     ensures { result ≡ asked_stop asked.Value (stop_at given.now.side given.now.offset NoValue) }
 {
     AskedStop {
@@ -45,7 +45,7 @@ fn value_lack(given: &Given<'_>) -> AskedStop
 /// The first thing missing: a count of the receiver, its element, a value of the sender. The storage is as it was then.
 fn receive_one(
     layout: &Layout,
-    given: &Given<'_>,
+    given: &GivenContent<'_>,
     entry: &Ref,
     output: &mut [u8],
     counts: &mut Counts,
@@ -62,7 +62,7 @@ fn receive_one(
     ensures same { OnErr result (output.new ≡ output.old) }
     ensures room { IsRoomFor layout.now counts.new }
 {
-    let stored = Stored {
+    let stored = SideStorage {
         side: Side::Out,
         layout,
         bytes: &*output,
@@ -97,7 +97,7 @@ fn receive_one(
 fn give_one<W: Watcher>(
     layout: &Layout,
     parts: &MoveParts<'_>,
-    given: &Given<'_>,
+    given: &GivenContent<'_>,
     index: usize,
     entry: &Ref,
     output: &mut [u8],
@@ -118,7 +118,7 @@ fn give_one<W: Watcher>(
 {
     match receive_one(layout, given, entry, output, counts) {
         Ok(place) => {
-            watcher.see(&SingleMove {
+            watcher.see(&CarriedMove {
                 number: SingleNumber {
                     statement: parts.statement,
                     pair: parts.pair,
@@ -144,7 +144,7 @@ fn give_one<W: Watcher>(
 pub(crate) fn give_all<W: Watcher>(
     layout: &Layout,
     parts: &MoveParts<'_>,
-    given: &Given<'_>,
+    given: &GivenContent<'_>,
     output: &mut [u8],
     counts: &mut Counts,
     watcher: &mut W,

@@ -14,7 +14,7 @@ use cob_move_data::Side;
 
 /// The storage of the record of one side.
 #[derive(Clone, Copy)]
-pub(crate) struct Stored<'a> {
+pub(crate) struct SideStorage<'a> {
     pub(crate) side: Side,
     pub(crate) layout: &'a Layout,
     pub(crate) bytes: &'a [u8],
@@ -35,7 +35,7 @@ pub(crate) fn entry_kind<'a>(layout: &'a Layout, entry: &Ref) -> &'a Kind
 ///
 /// The first count that it needs and that isn't valid; a subscript past its table's count.
 pub(crate) fn locate(
-    stored: &Stored<'_>,
+    stored: &SideStorage<'_>,
     entry: &Ref,
     receiving: bool,
     counts: &mut Counts,

@@ -11,9 +11,9 @@ ghost use Rattle.cob_report_explain.specs.Room.{HasEachRoom};
 ghost use Rattle.cob_report_explain.specs.Seen.{SeesFromInput, SeesMove, SeesWithinOutput, move_of, records_of_layouts};
 
 use crate::giving::give_all;
-use crate::places::{Stored, entry_kind, locate};
+use crate::places::{SideStorage, entry_kind, locate};
 use crate::room::{EachRoom, RecordLayouts};
-use crate::single::{Given, MoveParts, MoveStop, sender_stop};
+use crate::single::{GivenContent, MoveParts, MoveStop, sender_stop};
 use crate::watcher::Watcher;
 use cob_layout::{Ref, field, places_lie_in_storage};
 use cob_move_data::{Sender, Side};
@@ -56,7 +56,7 @@ fn walk_from_input<W: Watcher>(
 {
     let _ = layouts.input.greatest();
     places_lie_in_storage();
-    let stored = Stored {
+    let stored = SideStorage {
         side: Side::In,
         layout: layouts.input,
         bytes: input,
@@ -65,7 +65,7 @@ fn walk_from_input<W: Watcher>(
         Ok(place) => place,
         Err(stop) => return Err(sender_stop(parts, stop)),
     };
-    let given = Given {
+    let given = GivenContent {
         sent: Sent::Entry {
             kind: entry_kind(layouts.input, entry),
             bytes: field(input, place),
@@ -103,7 +103,7 @@ fn walk_within_output<W: Watcher>(
         (each_ending result output.new) (W.seen watcher.old) (W.seen watcher.new) }
     ensures room { HasEachRoom (records_of_layouts layouts.now) room.new }
 {
-    let stored = Stored {
+    let stored = SideStorage {
         side: Side::Out,
         layout: layouts.output,
         bytes: &*output,
@@ -115,7 +115,7 @@ fn walk_within_output<W: Watcher>(
     let sent = field(output, place);
     let count = sent.len();
     keep_bytes(sent, room.content.as_mut_slice());
-    let given = Given {
+    let given = GivenContent {
         sent: Sent::Entry {
             kind: entry_kind(layouts.output, entry),
             bytes: &room.content.as_slice()[..count],
@@ -164,7 +164,7 @@ pub(crate) fn walk_move<W: Watcher>(
             entry,
         } => walk_within_output(layouts, parts, entry, input, output, room, watcher),
         Sender::Constant(value) => {
-            let given = Given {
+            let given = GivenContent {
                 sent: Sent::Constant(value),
                 side: Side::Out,
                 offset: 0,

@@ -49,7 +49,7 @@ pub struct MoveStop {
 
 /// What a sender gives to each of its receivers, and where it lies. A constant lies nowhere: its offset is 0.
 #[derive(Clone, Copy)]
-pub struct Given<'a> {
+pub struct GivenContent<'a> {
     pub sent: Sent<'a>,
     pub side: Side,
     pub offset: u32,
@@ -68,11 +68,11 @@ pub(crate) struct MoveParts<'a> {
 
 /// A single move that was carried out.
 #[derive(Clone, Copy)]
-pub struct SingleMove<'a> {
+pub struct CarriedMove<'a> {
     pub number: SingleNumber,
     pub sender: &'a Sender,
     /// What the sender gave.
-    pub given: Given<'a>,
+    pub given: GivenContent<'a>,
     pub receiver: &'a Ref,
     /// Where the receiver stands.
     pub place: Place,

@@ -3,7 +3,7 @@
 use cob_copybook_tree::{Item, Kind, Name, Node, Value};
 use cob_layout_places::Ref;
 use cob_move_data::{Sender, Side};
-use cob_report_words::{ConstantText, Named, entry_of, write_subscripts};
+use cob_report_words::{ConstantText, NamedOccurrence, entry_of, write_subscripts};
 use std::fmt;
 
 /// The records of a paragraph, in which names are looked for.
@@ -83,8 +83,8 @@ impl<'a> Occurrence<'a> {
     }
 
     /// The same with the names of all groups that hold it.
-    pub fn qualified(&self) -> Named<'a> {
-        Named::new(self.records.record(self.side), self.number, self.subscripts)
+    pub fn qualified(&self) -> NamedOccurrence<'a> {
+        NamedOccurrence::new(self.records.record(self.side), self.number, self.subscripts)
     }
 }
 

@@ -4,7 +4,7 @@ use cob_layout::Spot;
 
 /// A record that came: where its entries stand, by their numbers, and its bytes.
 #[derive(Clone, Copy)]
-pub(crate) struct Contents<'a> {
+pub(crate) struct ReceivedRecord<'a> {
     pub(crate) spots: &'a [Spot],
     pub(crate) bytes: &'a [u8],
 }
@@ -26,7 +26,7 @@ pub(crate) fn times_at(spots: &[Spot], table: usize) -> u32 {
     spot_of(spots, table).times
 }
 
-impl<'a> Contents<'a> {
+impl<'a> ReceivedRecord<'a> {
     /// How many bytes an element stands behind the first, in a table that has so many before it and stands so many bytes behind its own first.
     pub(crate) fn behind(&self, behind: usize, table: usize, earlier: u32) -> usize {
         let length = spot_of(self.spots, table).length as usize;

@@ -6,7 +6,7 @@ use cob_layout::{Kind, Node};
 use cob_report_boxes::{Drawn, spot_of, told_length};
 use cob_report_html::bare_length;
 use cob_report_lossless::LinedSingle;
-use cob_report_words::Named;
+use cob_report_words::NamedOccurrence;
 use std::fmt;
 
 /// Writes the row of single moves that join the same, of which this is the first.
@@ -62,7 +62,7 @@ fn write_run<W: fmt::Write>(
 ) -> fmt::Result {
     write!(f, "<tr><td>{offset}</td><td>{length}</td><td>")?;
     if let Some(entry) = item_at(drawn, drawn.layout.root(), offset) {
-        let named = Named::new(drawn.layout.root(), entry.number, &[]);
+        let named = NamedOccurrence::new(drawn.layout.root(), entry.number, &[]);
         write!(f, "{named}")?;
     }
     writeln!(f, "</td></tr>")

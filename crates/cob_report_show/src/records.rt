@@ -19,8 +19,8 @@ ghost use Rattle.cob_move_data.specs.declared.operands.Side.TheVariants.{In};
 ghost use Rattle.cob_convert_stream.specs.declared.fault.Cause.TheVariants.{Limit};
 
 use crate::elements::{Contents, put_items};
-use crate::named::{Named, named_items};
-use crate::text::{Line, push_text, put};
+use crate::named::{ListedItem, named_items};
+use crate::text::{ListingLine, push_text, put};
 use cob_convert_stream::{Cause, Reason, RunFault, Side, is_fitting};
 use cob_layout::{Book, CountFault, Counts, Layout, places_end_in_length, records_are_sound};
 use cob_records::{Form, RecordFault, Sink, Source, next_in_form};
@@ -49,10 +49,10 @@ pub const LIMIT: u64 = u64::MAX - 1;
 
 /// What the records are that are shown.
 #[derive(Clone, Copy)]
-struct Shown<'a> {
+struct ShownAs<'a> {
     layout: &'a Layout,
     /// Their named elementary items.
-    items: &'a [Named],
+    items: &'a [ListedItem],
     /// How they stand in their stream.
     form: Form,
 }
@@ -148,7 +148,7 @@ fn put_record_number<W: Sink>(sink: &mut W, sent: &mut u64, number: u64) -> Resu
     ensures errors { W.errors sink.new ≡ counted (is_write_error result) (W.errors sink.old) }
 {
     let mut buffer = Buffer::new();
-    let mut line = Line::new();
+    let mut line = ListingLine::new();
     push_text(&mut line, b"record ");
     push_text(&mut line, buffer.format(number).as_bytes());
     line.push(b'\n');
@@ -161,7 +161,7 @@ fn put_lines<W: Sink>(
     sent: &mut u64,
     number: u64,
     contents: Contents,
-    items: &[Named],
+    items: &[ListedItem],
 ) -> Result<(), RecordFault>
     requires items { map named_item items.now ≡ named_in [] contents.layout.now }
     requires record { HoldsRecord contents.layout.now contents.places.now
@@ -211,7 +211,7 @@ pub fn stop_at(number: u64, reason: Reason, written: u64) -> ShowFault
 
 /// Shows the records of a source, one after another, up to its end or the first stop.
 fn show_records<R: Source, W: Sink>(
-    shown: Shown,
+    shown: ShownAs,
     bytes: &mut [u8],
     places: &mut Counts,
     source: &mut R,
@@ -257,7 +257,7 @@ fn show_records<R: Source, W: Sink>(
 /// # Errors
 ///
 /// Where no memory is left.
-pub fn items_of(alloc: Global, book: &Book) -> Result<Vec<Named>, AllocError>
+pub fn items_of(alloc: Global, book: &Book) -> Result<Vec<ListedItem>, AllocError>
     ensures { IfOk result (λ items. map named_item items.items ≡ named_in [] book.now) }
 {
     records_are_sound();
@@ -304,7 +304,7 @@ pub fn show<R: Source, W: Sink>(
     let mut bytes = vec![in alloc; 0u8; usize::from(layout.greatest())]?;
     let mut places = layout.new_counts(alloc)?;
     let items = items_of(alloc, book)?;
-    let shown = Shown {
+    let shown = ShownAs {
         layout,
         items: &items,
         form,

@@ -8,7 +8,7 @@ use Rattle.cob_convert_stream.specs.declared.fault.Reason.{Reason}
 use Rattle.cob_convert_stream.specs.declared.fault.RunFault.{RunFault}
 use Rattle.cob_convert_stream.specs.Reasons.{is_read_cause}
 use Rattle.cob_convert.specs.declared.aside.AsideFault.TheVariants as fault
-use Rattle.cob_convert.specs.declared.aside.Ending.TheVariants as ending
+use Rattle.cob_convert.specs.declared.aside.AsideOutcome.TheVariants as ending
 use Rattle.cob_convert.specs.Aside.{is_aside_ending, is_aside_error, is_aside_error_ending, is_aside_fault, is_read_ending, is_read_fault}
 use Rattle.cob_convert.specs.Outcomes.{append_notes, fault_at}
 use Rattle.cob_convert.proofs.Sifted.{aside_error_over, aside_exit, aside_over, clean_exit, counts_closed, emptied_again, fits_in, input_exit, limit_exit, read_over, record_size, reject_exit, start, step_converted, step_rejected, write_exit}

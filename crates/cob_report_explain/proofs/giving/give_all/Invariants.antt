@@ -2,7 +2,7 @@ use Rattle.std.proofs.Common.{◌≡◌, length}
 use Rattle.cob_layout.specs.Standing.{IsRoomFor}
 use Rattle.cob_report_explain.specs.Seen.{given_content, move_of}
 use Rattle.cob_report_explain.proofs.EachLemmas.{SoFar}
-use Rattle.cob_report_explain.proofs.giving.give_all.Given as goal
+use Rattle.cob_report_explain.proofs.giving.give_all.GivenContent as goal
 
 abbrev pub invariant-loop-index : goal.invariant-loop-index
 invariant-loop-index g l = record {

@@ -1,13 +1,13 @@
 use Rattle.std.proofs.Common.{ℕ, ◌+◌, ◌-◌, Option, ap}
 use Rattle.cob_records_parts.proofs.Behind.{behind_whole}
-use Rattle.cob_records_parts.proofs.part.Part.jumped.Goals as goal
-use Rattle.cob_records_parts.specs.declared.part.Part.{Part}
+use Rattle.cob_records_parts.proofs.part.StreamPart.jumped.Goals as goal
+use Rattle.cob_records_parts.specs.declared.part.StreamPart.{StreamPart}
 
 pub returns : goal.returns
 returns c = λ file long.
     let whole = c.whole_records-whole in
     let piece = c.size_in.ensures.size file long in
-    let part : Option ℕ → Part = λ bytes. record {
+    let part : Option ℕ → StreamPart = λ bytes. record {
       from = c.args.self.from + whole.result.bytes;
       bytes = bytes;
       skip = c.args.self.skip - whole.result.records;
