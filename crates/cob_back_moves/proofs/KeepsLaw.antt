@@ -27,7 +27,7 @@ use Rattle.cob_move_receive.specs.Sent.{Entry as SentEntry}
 use Rattle.cob_move_receive.specs.Received.{OneReceived, Received}
 use Rattle.cob_move_apply.specs.Applied.{Applied, done}
 use Rattle.cob_codec.specs.declared.reading.Reading.{Reading}
-use Rattle.cob_copybook_same.specs.Same.{IsSameRecord, told_name, unnamed}
+use Rattle.cob_back_moves.specs.Same.{IsSameRecord, told_name, unnamed}
 use Rattle.cob_back_moves.specs.Apart.{OccurrencesApart, StandsOneWay}
 use Rattle.cob_back_moves.specs.Laws.{IsSoundItem, ItemsAreSound, ItemsFill, ItemsReturn, ReturnsKeep}
 use Rattle.cob_back_moves.specs.Wider.{IsReadPictured, IsSameIn, LosesNothing}

@@ -6,7 +6,7 @@ use Rattle.cob_copybook_tree.specs.declared.node.Kind.TheVariants.{Item as ItemK
 use Rattle.cob_copybook_tree.specs.Forests.{Forest, NoEntries, AnEntry}
 use Rattle.cob_copybook_tree.specs.Nodes.{Resolved}
 use Rattle.cob_copybook_tree.specs.Lengths.{greatest_number}
-use Rattle.cob_copybook_same.specs.Same.{IsSameRecord}
+use Rattle.cob_back_moves.specs.Same.{IsSameRecord}
 use Rattle.cob_layout_places.specs.Counts.{bytes_at, kind_in}
 use Rattle.cob_layout_places.specs.Cover.{Occurrence}
 use Rattle.cob_layout_places.specs.declared.places.Found.{Found}
