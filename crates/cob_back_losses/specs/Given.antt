@@ -11,9 +11,9 @@ use Rattle.cob_copybook_tree.specs.declared.node.Kind.{Kind}
 use Rattle.cob_copybook_tree.specs.declared.node.Kind.TheVariants.{Group, Item as ItemKind}
 use Rattle.cob_copybook_tree.specs.declared.node.Item.{Item}
 use Rattle.cob_copybook_tree.specs.Lengths.{item_size}
+use Rattle.cob_copybook_tree.specs.Nodes.{kind_shows_number}
 use Rattle.cob_copybook_tree.specs.Resolving.{is_number}
 use Rattle.cob_move_receive.specs.Numbers.{ConstantGives}
-use Rattle.cob_move_receive.specs.Refusals.{receives_number}
 use Rattle.cob_move_receive.specs.Sent.{Amount}
 use Rattle.cob_move_receive.specs.Table.{SenderKind, Entry, Literal}
 use Rattle.cob_back_losses.specs.declared.numbers.NumberExtent.{NumberExtent}
@@ -90,7 +90,7 @@ constant_characters (Repeated text) = 0
 
 -- how many characters a constant gives to a receiver
 abbrev pub constant_characters_to : PlainValue → Kind → ℕ
-constant_characters_to c to = if receives_number to then 0 else constant_characters c
+constant_characters_to c to = if kind_shows_number to then 0 else constant_characters c
 
 -- How many characters a sender of so many bytes gives to a receiver. A group gives all its bytes to each.
 abbrev pub characters_of : SenderKind → ℕ → Kind → ℕ

@@ -3,27 +3,20 @@
 ghost use Rattle.std.specs.Prelude.{◌≡◌, ◌<◌, ℕ, IfOk, IsTrue, length};
 ghost use Rattle.cob_copybook_tree.specs.Nodes.{node};
 ghost use Rattle.cob_back_losses.specs.Bytes.{element_bytes};
-ghost use Rattle.cob_back_losses.specs.Keeping.{HoldsSent, IsMarked, Nothing, TellsFirstUnkept, is_group_kind, moves_bytes, sent_element};
+ghost use Rattle.cob_back_losses.specs.Keeping.{HoldsSent, IsMarked, Nothing, TellsFirstUnkept, moves_bytes, sent_element};
 
 use crate::bytes::{ItemByte, bytes_of};
 use crate::keeping::{JudgedSent, Unkept, first_unkept, is_marked};
-use cob_copybook_tree::{Kind, MANY, Node, element_length};
+use cob_copybook_tree::{MANY, Node, element_length};
 use std::alloc::{AllocError, Global};
-
-/// Whether an entry is a group.
-fn is_group(kind: &Kind) -> bool
-    ensures { result ≡ is_group_kind kind.now }
-{
-    matches!(kind, Kind::Group)
-}
 
 /// Whether a move copies bytes, whatever they are: a group is on either side.
 fn moves_bytes(from: &JudgedSent<'_>, to: &Node) -> bool
     ensures { result ≡ moves_bytes (sent_element from.now) (node to.now) }
 {
     match from {
-        JudgedSent::Entry(entry) => is_group(&entry.kind) || is_group(&to.kind),
-        JudgedSent::Constant(_) => is_group(&to.kind),
+        JudgedSent::Entry(entry) => entry.kind.is_group() || to.kind.is_group(),
+        JudgedSent::Constant(_) => to.kind.is_group(),
     }
 }
 
@@ -108,7 +101,8 @@ pub fn description_lost(
     from: &JudgedSent<'_>,
     to: &Node,
 ) -> Result<Option<Unkept>, AllocError>
-    ensures { IfOk result (λ lost. TellsFirstUnkept (sent_element from.now) (node to.now) Nothing lost) }
+    ensures { IfOk result
+        (λ lost. TellsFirstUnkept (sent_element from.now) (node to.now) Nothing lost) }
 {
     description_lost_among(alloc, from, to, &[])
 }

@@ -43,9 +43,11 @@ fn lost_before(
     covered: &mut [bool],
 ) -> Result<Option<Unkept>, AllocError>
     requires all { length covered.old ≡ sum_of greatest_number output.now }
-    ensures told { IfOk result (λ lost. (later : List Moved) → MarkCoveredBytes output.now later covered.old
+    ensures told { IfOk result (λ lost. (later : List Moved)
+        → MarkCoveredBytes output.now later covered.old
         → TellsOf output.now (seen_single single.now) later lost) }
-    ensures marks { OnOk result ((later : List Moved) → MarkCoveredBytes output.now later covered.old
+    ensures marks { OnOk result ((later : List Moved)
+        → MarkCoveredBytes output.now later covered.old
         → MarkCoveredBytes output.now (seen_single single.now ∷ later) covered.new) }
     ensures room { length covered.new ≡ length covered.old }
 {
@@ -64,7 +66,8 @@ fn lost_from_end(
     output: &Layout,
     singles: &[JudgedSingle<'_>],
 ) -> Result<Vec<Option<Unkept>>, AllocError>
-    ensures { IfOk result (λ all. TellsEach output.now (map seen_single singles.now) (reverse all.items)) }
+    ensures { IfOk result
+        (λ all. TellsEach output.now (map seen_single singles.now) (reverse all.items)) }
 {
     let mut covered = uncovered(alloc, output)?;
     let mut all = Vec::new(alloc);

@@ -12,7 +12,6 @@ ghost use Rattle.cob_back_losses.specs.Keeping.{Element, sent_element};
 use crate::entries::entry_in;
 use crate::keeping::JudgedSent;
 use cob_back_moves::{BothLayouts, MovesBetween};
-use cob_layout::Layout;
 use cob_move_data::{Sent as Given, Side, SingleMove, Singles, StatementMoves};
 use std::alloc::{AllocError, Global};
 
@@ -25,22 +24,12 @@ pub(crate) struct JudgedSingle<'a> {
     pub(crate) subscripts: &'a [u32],
 }
 
-/// The layout of a side's record.
-fn layout_of<'a>(layouts: &BothLayouts<'a>, side: Side) -> &'a Layout
-    ensures { result.now ≡ record_of (layout_records layouts.now) side }
-{
-    match side {
-        Side::In => layouts.input,
-        Side::Out => layouts.output,
-    }
-}
-
 /// An element of the entry with this number of a side's record.
 fn sent_entry<'a>(layouts: &BothLayouts<'a>, side: Side, number: usize) -> Option<JudgedSent<'a>>
     ensures { option_map sent_element result
         ≡ option_map Element (entry_in number (record_of (layout_records layouts.now) side)) }
 {
-    match entry_in(layout_of(layouts, side).root(), number) {
+    match entry_in(layouts.of(side).root(), number) {
         Some(entry) => Some(JudgedSent::Entry(entry)),
         None => None,
     }
@@ -59,7 +48,8 @@ fn sent_by<'a>(layouts: &BothLayouts<'a>, given: Given<'a>) -> Option<JudgedSent
 
 /// A single move, by what it sends.
 fn single_by<'a>(layouts: &BothLayouts<'a>, single: SingleMove<'a>) -> JudgedSingle<'a>
-    ensures { seen_single result ≡ moved_by (layout_records layouts.now) (plain_single single.entry) }
+    ensures { seen_single result
+        ≡ moved_by (layout_records layouts.now) (plain_single single.entry) }
 {
     JudgedSingle {
         sent: sent_by(layouts, single.sent),

@@ -189,6 +189,7 @@ fn return_all(there: &MovesBetween<'_>, back: &MovesBetween<'_>, starts: &Starts
 
 /// Whether moves back bring back all that moves there take, and the records stand in one way: all that is asked of moves that lose nothing, but that
 /// their records agree crosswise. It takes no memory.
+/// It is there for callers of this library: nothing in this repository but its tests calls it.
 pub fn returns(there: &MovesBetween<'_>, back: &MovesBetween<'_>) -> bool
     requires there { AreLegal there.now }
     requires back { AreLegal back.now }

@@ -3,7 +3,7 @@
 ghost use Rattle.std.specs.Prelude.{◌≡◌};
 ghost use Rattle.std.specs.Bool.{Decides};
 ghost use Rattle.cob_layout.specs.Sound.{IsSound};
-ghost use Rattle.cob_move_data.specs.Moves.{IsOperand, IsSender, operand_in, sender_by};
+ghost use Rattle.cob_move_data.specs.Moves.{IsOperand, IsSender, operand_in, record_of, sender_by};
 ghost use Rattle.cob_back_moves.specs.Singles.{IsElementary, IsInputItem, IsItemKind, IsSenderReadPictured, SendsPictured};
 ghost use Rattle.cob_back_moves.specs.Tested.{AreSound, IsSingle, PassesTest, layout_records, ref_of, sender_of, single_of};
 
@@ -23,6 +23,18 @@ pub struct BothLayouts<'a> {
     pub input: &'a Layout,
     pub output: &'a Layout,
     pub reading: Reading,
+}
+
+impl<'a> BothLayouts<'a> {
+    /// The layout of a side's record.
+    pub fn of(&self, side: Side) -> &'a Layout
+        ensures { result.now ≡ record_of (layout_records self.now) side }
+    {
+        match side {
+            Side::In => self.input,
+            Side::Out => self.output,
+        }
+    }
 }
 
 /// An occurrence of an entry of a record: the number of the entry, and its subscripts.

@@ -46,7 +46,8 @@ fn some_receiver_meets<C: Condition>(
 ) -> bool
     requires ready { C.ready condition.now }
     requires sound { AreSound layouts.now }
-    requires sender { IsSender (layout_records layouts.now) (sender_by_reading layouts.now one.now) }
+    requires sender { IsSender (layout_records layouts.now)
+        (sender_by_reading layouts.now one.now) }
     requires receivers { AllByRecursion (IsOperand layouts.now.output.now)
         (operands_between layouts.now receivers.now) }
     ensures { Decides result (SomeOf (C.met condition.now)

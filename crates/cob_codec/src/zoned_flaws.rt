@@ -8,7 +8,7 @@ use crate::flaw::{ExpectedPart, Flaw, suits};
 use crate::halves::half_at;
 use crate::shape::Shape;
 use crate::storage::Storage;
-use crate::zoned::{Zoned, sign_at};
+use crate::zoned::{Zoned, sign_place};
 
 /// What a half byte of a zoned item has to be, whose sign stands in this byte.
 fn zoned_wanted(place: usize, at: usize) -> ExpectedPart
@@ -33,7 +33,7 @@ fn first_in_zoned(shape: &Shape, bytes: &[u8]) -> Option<Flaw>
         (zoned_wanted_in shape.now (length bytes.now))
         (halves bytes.now)) }
 {
-    let place = sign_at(shape.signed, shape.leading, bytes.len());
+    let place = sign_place(shape.signed, shape.leading, bytes.len());
     for at in 0..2 * bytes.len() {
         let found = half_at(bytes, at);
         let wanted = zoned_wanted(place, at);

@@ -9,9 +9,9 @@ ghost use Rattle.cob_edit.specs.Editing.{IsText, FitsPlaces, shown_digit, extrac
 use crate::MAX_PLACES;
 use crate::place::EditedPlace;
 use crate::region::shows_sign;
-use crate::text::{are_zero, write_text};
+use crate::text::write_text;
 use cob_cp037::{NINE, ZERO};
-use cob_decimal::Digits;
+use cob_decimal::{Digits, are_zeros};
 use cob_limits::MAX_DIGITS;
 
 /// The digit that a byte shows, and 0 for a byte that shows none.
@@ -71,7 +71,7 @@ fn is_negative_text(places: &[EditedPlace], blank: bool, digits: &[u8], bytes: &
         (FitsPlaces places.now true digits.now
         × IsText places.now blank true digits.now bytes.now) }
 {
-    shows_sign(places) && !are_zero(digits) && is_text(places, blank, true, digits, bytes)
+    shows_sign(places) && !are_zeros(digits) && is_text(places, blank, true, digits, bytes)
 }
 
 /// The sign and the digits whose text the bytes are, if they are one.

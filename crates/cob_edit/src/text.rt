@@ -5,11 +5,12 @@ ghost use Rattle.std.specs.List.{list_all, list_any, flat_map};
 ghost use Rattle.std.specs.Option.{option_to_list};
 ghost use Rattle.cob_decimal.specs.Decimal.{IsDigits};
 ghost use Rattle.cob_edit.specs.Places.{is_digit, has_byte, is_nine, is_star, bytes_of};
-ghost use Rattle.cob_edit.specs.Editing.{region_start, region_end, place_at, hidden, shown, cell, printed, empty_cell, has_stars, are_zero, shows_nothing, IsText};
+ghost use Rattle.cob_edit.specs.Editing.{region_start, region_end, place_at, hidden, shown, cell, printed, empty_cell, has_stars, shows_nothing, IsText};
 
 use crate::place::EditedPlace;
 use crate::region::{Region, cut_of, region_of};
 use cob_cp037::{ASTERISK, POINT, SPACE, ZERO};
+use cob_decimal::are_zeros;
 
 /// What a place of the region holds before the cut.
 pub(crate) fn hidden(first: &EditedPlace, negative: bool, at_cut: bool) -> u8
@@ -102,13 +103,6 @@ fn print(
     }
 }
 
-/// Whether the digits are all 0.
-pub fn are_zero(digits: &[u8]) -> bool
-    ensures { result ≡ are_zero digits.now }
-{
-    digits.iter().all(|digit| *digit == 0)
-}
-
 /// Whether no digit always shows.
 pub(crate) fn has_no_nine(places: &[EditedPlace]) -> bool
     ensures { result ≡ list_all (λ p. not (is_nine p)) places.now }
@@ -127,7 +121,7 @@ pub(crate) fn has_star(places: &[EditedPlace]) -> bool
 fn shows_nothing(places: &[EditedPlace], blank: bool, digits: &[u8]) -> bool
     ensures { result ≡ shows_nothing places.now blank digits.now }
 {
-    are_zero(digits) && (blank || has_no_nine(places))
+    are_zeros(digits) && (blank || has_no_nine(places))
 }
 
 /// The byte of a place of a value that shows nothing, if the place holds one.

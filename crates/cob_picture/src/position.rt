@@ -1,7 +1,7 @@
 ghost use Rattle.std.specs.Prelude.{◌≡◌, ℕ, ◌+◌, ◌≤◌, ◌++◌, length, replicate};
 ghost use Rattle.cob_picture.specs.Positions.{position_at, positions_from, positions, written_out};
 ghost use Rattle.cob_picture.specs.Runs.{ArePositive};
-ghost use Rattle.cob_picture.specs.Counts.{is_digit_place};
+ghost use Rattle.cob_picture.specs.Counts.{is_character, is_digit_place};
 
 use crate::category::Category;
 use crate::counts::{floating_of, is_seen_by, is_that, settled_role};
@@ -42,6 +42,13 @@ impl PositionRole {
             self,
             PositionRole::Digit | PositionRole::Suppressed | PositionRole::Floating
         )
+    }
+
+    /// Whether the place holds any character.
+    pub fn is_character(self) -> bool
+        ensures { result ≡ is_character self }
+    {
+        matches!(self, PositionRole::Character)
     }
 }
 

@@ -48,7 +48,8 @@ fn marks_of(
     lines: Vec<u32>,
     shown: Option<Shown>,
 ) -> Result<PageMarks, AllocError>
-    ensures covered { IfOk result (λ marks. AreMarks (IsByteCovered moves.now) marks.covered.items) }
+    ensures covered { IfOk result
+        (λ marks. AreMarks (IsByteCovered moves.now) marks.covered.items) }
     ensures losses { IfOk result (λ marks.
         AreAllLosses moves.now.layouts moves.now.statements.now marks.losses.items) }
     ensures descriptions { IfOk result (λ marks.

@@ -103,7 +103,8 @@ fn read_into<S: Source>(
     requires input { length input.old.items ≡ in_length conversion.now }
     requires output { length output.old.items ≡ out_length conversion.now }
     requires room { room.old ≡ capacity_for conversion.now.records }
-    ensures converts { OnOk result (IsConverted conversion.now (input.new.items, output.new.items)) }
+    ensures converts { OnOk result
+        (IsConverted conversion.now (input.new.items, output.new.items)) }
     ensures why { IfErr result (IsNotShown number) }
     ensures finds { Told (S.coming source.old) (S.coming source.new)
         (FindsToShow conversion.now number input.new.items result) }

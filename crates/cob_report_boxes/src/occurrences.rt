@@ -8,23 +8,11 @@ use std::fmt;
 /// The numbers of the tables that hold an item or that it is, the outermost first.
 pub type EntryTables = ArrayVec<usize, MAX_SUBSCRIPTS>;
 
-/// Where the first element of an entry stands, and how often it occurs.
-pub fn spot_of(spots: &[Spot], number: usize) -> Spot {
-    match spots.get(number) {
-        Some(spot) => *spot,
-        None => Spot {
-            offset: 0,
-            length: 0,
-            times: 0,
-        },
-    }
-}
-
 /// How many occurrences there are in these tables.
 pub fn occurrences_in(spots: &[Spot], tables: &[usize]) -> u32 {
     let mut count: u32 = 1;
     for table in tables {
-        count = count.saturating_mul(spot_of(spots, *table).times);
+        count = count.saturating_mul(Spot::of(spots, *table).times);
     }
     count
 }
@@ -44,7 +32,7 @@ pub fn occurrence_at(spots: &[Spot], tables: &[usize], earlier: u32) -> ItemOccu
     };
     let mut left = earlier;
     for table in tables.iter().rev() {
-        let table = spot_of(spots, *table);
+        let table = Spot::of(spots, *table);
         let times = table.times.max(1);
         let within = left % times;
         left /= times;

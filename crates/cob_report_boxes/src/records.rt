@@ -1,6 +1,6 @@
 //! The records of a mapping, and where their boxes stand.
 
-use crate::occurrences::{EntryTables, occurrences_in, spot_of};
+use crate::occurrences::{EntryTables, occurrences_in};
 use crate::values::value_lines;
 use cob_layout::{Kind, Layout, Node, Spot, is_table};
 use cob_report_html::{rows_of, tops_of};
@@ -62,7 +62,7 @@ fn values_height(contents: Option<GivenRecord<'_>>, entry: &Node, tables: &[usiz
         return 0;
     };
     let occurrences = occurrences_in(contents.spots, tables);
-    let spot = spot_of(contents.spots, entry.number);
+    let spot = Spot::of(contents.spots, entry.number);
     let shown = occurrences
         .min(MOST_SHOWN)
         .saturating_mul(value_lines(item, spot.length));
@@ -90,7 +90,7 @@ fn push_heights(
     heights: &mut Vec<u32>,
 ) -> Result<(), AllocError> {
     let tables = tables_with(over, entry);
-    let spot = spot_of(layout.greatest_spots(), entry.number);
+    let spot = Spot::of(layout.greatest_spots(), entry.number);
     let values = values_height(contents, entry, tables.as_slice());
     heights.push(height_of(entry, spot, values))?;
     for child in entry.children.iter() {

@@ -1,6 +1,6 @@
 //! The values of items, in their boxes.
 
-use crate::occurrences::{ItemOccurrence, occurrence_at, occurrences_in, spot_of};
+use crate::occurrences::{ItemOccurrence, occurrence_at, occurrences_in};
 use crate::records::{GivenRecord, MOST_SHOWN};
 use crate::texts::{Characters, HexDigits, ShownBytes};
 use arrayvec::ArrayVec;
@@ -87,7 +87,7 @@ pub fn write_values<W: fmt::Write>(
     tables: &[usize],
 ) -> fmt::Result {
     let count = occurrences_in(contents.spots, tables);
-    let spot = spot_of(contents.spots, number);
+    let spot = Spot::of(contents.spots, number);
     for earlier in 0..count.min(MOST_SHOWN) {
         let occurrence = occurrence_at(contents.spots, tables, earlier);
         let bytes = bytes_at(contents, spot, occurrence.behind);

@@ -8,15 +8,17 @@ use Rattle.cob_layout.specs.Counting.{greatest_counts}
 use Rattle.cob_layout_places.proofs.SpotLemmas.{length_spots}
 use Rattle.cob_layout_places.specs.Lengths.{times}
 use Rattle.cob_layout_places.specs.declared.spots.Spot.{Spot}
+use Rattle.cob_back_moves.specs.Tested.{layout_records}
 use Rattle.cob_back_moves.specs.declared.single.BothLayouts.{BothLayouts}
 use Rattle.cob_move_data.specs.declared.operands.Side.{Side}
+use Rattle.cob_move_data.specs.Moves.{record_of}
 use Rattle.cob_move_data.specs.Singles.{PlainSingle, plain_sent}
 use Rattle.cob_move_data.specs.declared.single.Element.{Element}
 use Rattle.cob_move_data.specs.declared.single.Sent.{Sent}
 use Rattle.cob_move_data.specs.declared.single.Sent.TheVariants as code
 use Rattle.cob_move_receive.specs.Table.{Entry, SenderKind}
 use Rattle.cob_back_losses.specs.declared.losses.Losses.{Losses}
-use Rattle.cob_report_cover.specs.Losing.{AreLossesFrom, AreLossesOf, AreLossesOfEach, AreLossesOfEntry, AreLossesTo, HasNoEntry, StandsAs, TellsLosses, greatest_spots, tree_of_side}
+use Rattle.cob_report_cover.specs.Losing.{AreLossesFrom, AreLossesOf, AreLossesOfEach, AreLossesOfEntry, AreLossesTo, HasNoEntry, StandsAs, TellsLosses, greatest_spots}
 
 -- ---- entries by their numbers
 
@@ -62,7 +64,7 @@ told_from input from output to kind n losses stands told other bytes others =
 
 -- what is told of what is sent, which is an entry
 pub of_entry : (layouts : BothLayouts) (from : Sent) (side : Side) (x : Element) (to : ℕ) (losses : Losses) → from ≡ code.Entry side x
-    → AreLossesOfEntry (tree_of_side layouts side) x.number layouts.output.now to losses → AreLossesFrom layouts (plain_sent from) to losses
+    → AreLossesOfEntry (record_of (layout_records layouts) side) x.number layouts.output.now to losses → AreLossesFrom layouts (plain_sent from) to losses
 of_entry layouts from side x to losses is told = subst (λ (s : Sent). AreLossesFrom layouts (plain_sent s) to losses) (sym is) told
 
 -- ---- all of them

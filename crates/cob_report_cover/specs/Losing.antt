@@ -8,23 +8,18 @@ use Rattle.cob_layout.specs.Counting.{greatest_counts}
 use Rattle.cob_layout_places.specs.Counts.{kind_in}
 use Rattle.cob_layout_places.specs.Lengths.{times}
 use Rattle.cob_layout_places.specs.Spots.{spots_of}
-use Rattle.cob_move_data.specs.declared.operands.Side.{Side}
-use Rattle.cob_move_data.specs.declared.operands.Side.TheVariants.{In, Out}
 use Rattle.cob_move_data.specs.declared.operands.StatementMoves.{StatementMoves}
 use Rattle.cob_layout_places.specs.declared.spots.Spot.{Spot}
+use Rattle.cob_move_data.specs.Moves.{record_of}
 use Rattle.cob_move_data.specs.Singles.{PlainSent, PlainSingle, singles_of}
 use Rattle.cob_move_data.specs.Singles as sent
+use Rattle.cob_back_moves.specs.Tested.{layout_records}
 use Rattle.cob_back_moves.specs.declared.single.BothLayouts.{BothLayouts}
 use Rattle.cob_move_receive.specs.Table.{Entry, Literal, SenderKind}
 use Rattle.cob_back_losses.specs.Losses.{LosesBefore, LosesBehind, LosesCharacters, LosesSign}
 use Rattle.cob_back_losses.specs.declared.losses.Losses.{Losses}
 
 -- ---- one single move
-
--- the record of a side
-abbrev pub tree_of_side : BothLayouts → Side → Forest Resolved
-tree_of_side layouts In = layouts.input.now
-tree_of_side layouts Out = layouts.output.now
 
 -- where the first elements of a record's entries stand where each table has its greatest number of elements
 abbrev pub greatest_spots : Forest Resolved → List Spot
@@ -59,7 +54,7 @@ AreLossesOfEntry input from output to losses =
 
 -- They are said of the move of what is sent to the entry with this number of the output record. How many characters a constant has stands in its text.
 abbrev pub AreLossesFrom : BothLayouts → PlainSent → ℕ → Losses → Type 0
-AreLossesFrom layouts (sent.Entry side x) to losses = AreLossesOfEntry (tree_of_side layouts side) x.number layouts.output.now to losses
+AreLossesFrom layouts (sent.Entry side x) to losses = AreLossesOfEntry (record_of (layout_records layouts) side) x.number layouts.output.now to losses
 AreLossesFrom layouts (sent.Literal c) to losses = AreLossesTo (Literal c) 0 layouts.output.now to losses
 
 -- they are said of a single move

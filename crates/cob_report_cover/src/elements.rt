@@ -3,22 +3,10 @@
 use cob_back_moves::BothLayouts;
 use cob_copybook_tree::Value;
 use cob_layout::Layout;
-use cob_move_data::{Element, Sent, Side};
-use cob_report_words::{ConstantText, DescribedText, NamedOccurrence, PictureText};
+use cob_move_data::{Element, Sent};
+use cob_report_lossless::named_in;
+use cob_report_words::{ConstantText, DescribedText, PictureText};
 use std::fmt;
-
-/// The layout of a side's record.
-pub(crate) fn layout_of<'a>(layouts: &BothLayouts<'a>, side: Side) -> &'a Layout {
-    match side {
-        Side::In => layouts.input,
-        Side::Out => layouts.output,
-    }
-}
-
-/// An occurrence by its name.
-fn named_in<'a>(layout: &'a Layout, element: Element<'_>) -> NamedOccurrence<'a> {
-    NamedOccurrence::new(layout.root(), element.number, element.subscripts)
-}
 
 /// Writes an occurrence with its picture, where it has one, and what stands behind that.
 pub(crate) fn write_pictured<W: fmt::Write>(
@@ -67,7 +55,7 @@ pub(crate) fn write_sent<W: fmt::Write>(
     match sent {
         Sent::Constant(value) => write_constant(f, value),
         Sent::Entry { side, entry } => {
-            write_element(f, layout_of(layouts, side), entry)?;
+            write_element(f, layouts.of(side), entry)?;
             write!(f, ",")
         }
     }

@@ -1,7 +1,7 @@
 //! The occurrences of items.
 
-use crate::gathered::place_of;
 use arrayvec::ArrayVec;
+use cob_back_losses::place_of;
 use cob_copybook_tree::Node;
 use cob_layout::{Layout, Place, is_table};
 use cob_layout_steady::is_steady;

@@ -14,13 +14,13 @@ ghost use Rattle.cob_report_explain.specs.Seen.{HandsOut, SeesSingles, StopsAtRe
 ghost use Rattle.cob_report_explain.specs.declared.single.Asked.TheVariants as asked;
 ghost use Rattle.cob_report_explain.specs.declared.single.AskedStop.{AskedStop as Lack};
 
-use crate::places::{SideStorage, entry_kind, locate};
+use crate::places::{SideStorage, locate};
 use crate::single::{
     Asked, AskedStop, CarriedMove, GivenContent, MoveParts, MoveStop, SingleNumber, stop_of,
 };
 use crate::watcher::Watcher;
 use cob_layout::{Counts, Layout, Place, Ref};
-use cob_move_apply::{Stop, StopCause};
+use cob_move_apply::{Stop, StopCause, entry_kind};
 use cob_move_data::Side;
 use cob_move_receive::receive;
 
@@ -109,9 +109,10 @@ fn give_one<W: Watcher>(
     requires operand { IsOperand layout.now (operand_in layout.now entry.now) }
     requires output { length output.old ≡ greatest_length layout.now }
     requires room { IsRoomFor layout.now counts.old }
-    ensures gives { OnOk result (HandsOut layout.now parts.now index given.now entry.now output.old output.new
-        (W.seen watcher.old) (W.seen watcher.new)) }
-    ensures stops { IfErr result (StopsAtReceiver layout.now parts.now index given.now entry.now output.old) }
+    ensures gives { OnOk result (HandsOut layout.now parts.now index given.now entry.now
+        output.old output.new (W.seen watcher.old) (W.seen watcher.new)) }
+    ensures stops { IfErr result
+        (StopsAtReceiver layout.now parts.now index given.now entry.now output.old) }
     ensures same { OnErr result (output.new ≡ output.old) }
     ensures unseen { OnErr result (W.seen watcher.new ≡ W.seen watcher.old) }
     ensures room { IsRoomFor layout.now counts.new }
@@ -155,8 +156,8 @@ pub(crate) fn give_all<W: Watcher>(
         (map (operand_in layout.now) parts.now.receivers.now) }
     requires output { length output.old ≡ greatest_length layout.now }
     requires room { IsRoomFor layout.now counts.old }
-    ensures seen { SeesSingles layout.now parts.now given.now output.old (each_ending result output.new)
-        (W.seen watcher.old) (W.seen watcher.new) }
+    ensures seen { SeesSingles layout.now parts.now given.now output.old
+        (each_ending result output.new) (W.seen watcher.old) (W.seen watcher.new) }
     ensures room { IsRoomFor layout.now counts.new }
 {
     for (index, entry) in parts.receivers.iter().enumerate() {

@@ -1,6 +1,6 @@
 //! Where operands stand.
 
-ghost use Rattle.std.specs.Prelude.{◌≡◌, ◌+◌, ◌≤◌, length, IfOk};
+ghost use Rattle.std.specs.Prelude.{◌+◌, ◌≤◌, length, IfOk};
 ghost use Rattle.cob_layout.specs.Sound.{IsSound};
 ghost use Rattle.cob_layout.specs.Storage.{greatest_length};
 ghost use Rattle.cob_layout.specs.Standing.{IsRoomFor};
@@ -8,7 +8,7 @@ ghost use Rattle.cob_move_data.specs.Moves.{IsOperand, operand_in};
 ghost use Rattle.cob_move_receive.specs.Sent.{Occupies};
 ghost use Rattle.cob_move_apply.specs.Located.{Located};
 
-use cob_layout::{Counts, Kind, Layout, Place, Ref};
+use cob_layout::{Counts, Layout, Place, Ref};
 use cob_move_apply::{Stop, stop_of};
 use cob_move_data::Side;
 
@@ -18,15 +18,6 @@ pub(crate) struct SideStorage<'a> {
     pub(crate) side: Side,
     pub(crate) layout: &'a Layout,
     pub(crate) bytes: &'a [u8],
-}
-
-/// What an entry of the record of a layout describes.
-pub(crate) fn entry_kind<'a>(layout: &'a Layout, entry: &Ref) -> &'a Kind
-    requires sound { IsSound layout.now }
-    requires operand { IsOperand layout.now (operand_in layout.now entry.now) }
-    ensures { result.now ≡ (operand_in layout.now entry.now).kind }
-{
-    layout.kind(entry.node)
 }
 
 /// Where an entry stands in a storage, sending or receiving, by the counts there that it needs.

@@ -11,11 +11,12 @@ ghost use Rattle.cob_report_explain.specs.Room.{HasEachRoom};
 ghost use Rattle.cob_report_explain.specs.Seen.{SeesFromInput, SeesMove, SeesWithinOutput, move_of, records_of_layouts};
 
 use crate::giving::give_all;
-use crate::places::{SideStorage, entry_kind, locate};
+use crate::places::{SideStorage, locate};
 use crate::room::{EachRoom, RecordLayouts};
 use crate::single::{GivenContent, MoveParts, MoveStop, sender_stop};
 use crate::watcher::Watcher;
 use cob_layout::{Ref, field, places_lie_in_storage};
+use cob_move_apply::entry_kind;
 use cob_move_data::{Sender, Side};
 use cob_move_receive::Sent;
 
@@ -150,8 +151,8 @@ pub(crate) fn walk_move<W: Watcher>(
     requires input { IsStorage layouts.now.input.now input.now }
     requires output { length output.old ≡ greatest_length layouts.now.output.now }
     requires room { HasEachRoom (records_of_layouts layouts.now) room.old }
-    ensures seen { SeesMove layouts.now (move_of parts.now) input.now output.old (each_ending result output.new)
-        (W.seen watcher.old) (W.seen watcher.new) }
+    ensures seen { SeesMove layouts.now (move_of parts.now) input.now output.old
+        (each_ending result output.new) (W.seen watcher.old) (W.seen watcher.new) }
     ensures room { HasEachRoom (records_of_layouts layouts.now) room.new }
 {
     match parts.sender {

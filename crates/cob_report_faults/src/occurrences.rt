@@ -23,17 +23,9 @@ pub struct Occurrence<'a> {
     pub subscripts: &'a [u32],
 }
 
-/// Whether an entry has this name.
-fn has_name(entry: &Node, name: &Name) -> bool {
-    match &entry.name {
-        Some(own) => own.as_bytes() == name.as_bytes(),
-        None => false,
-    }
-}
-
 /// How many entries, of this one and those beneath it, have this name.
 fn count_named(entry: &Node, name: &Name) -> usize {
-    let mut count: usize = if has_name(entry, name) { 1 } else { 0 };
+    let mut count: usize = if entry.is_called(name) { 1 } else { 0 };
     for child in entry.children.iter() {
         count = count.saturating_add(count_named(child, name));
     }

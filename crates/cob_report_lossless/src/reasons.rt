@@ -86,8 +86,8 @@ pub struct ToldLoss<'a> {
     pub position: LossPosition,
 }
 
-/// An occurrence of an entry of the record of a layout.
-fn named_in<'a>(layout: &'a Layout, element: Element<'_>) -> NamedOccurrence<'a> {
+/// An occurrence of an entry of the record of a layout, by its name.
+pub fn named_in<'a>(layout: &'a Layout, element: Element<'_>) -> NamedOccurrence<'a> {
     NamedOccurrence::new(layout.root(), element.number, element.subscripts)
 }
 

@@ -1,6 +1,6 @@
 //! The words that tell a loss.
 
-use crate::lacks::{Lack, digits_before};
+use crate::lacks::Lack;
 use crate::reasons::{LossPosition, LossReason, ToldLoss};
 use cob_back_moves::Direction;
 use cob_copybook_tree::Item;
@@ -117,7 +117,7 @@ fn write_more_digits<W: fmt::Write>(
 /// How many digits an item's number has on a side of the point; below 0, so many places beyond it.
 fn digits_on(part: PointSide, item: &Item) -> i16 {
     match part {
-        PointSide::Before => digits_before(&item.picture),
+        PointSide::Before => item.picture.digits_before(),
         PointSide::Behind => i16::from(item.picture.scale()),
     }
 }
