@@ -15,7 +15,8 @@ use Rattle.cob_convert.specs.declared.aside.AsideFault.{AsideFault}
 use Rattle.cob_convert.specs.declared.aside.AsideOutcome.{AsideOutcome}
 use Rattle.cob_convert.specs.declared.aside.AsideOutcome.TheVariants as ending
 use Rattle.cob_convert.specs.declared.aside.Tally.{Tally}
-use Rattle.cob_convert.specs.Run.{IsConverted, most_records, stop_reason}
+use Rattle.cob_convert_record.specs.Reasons.{stop_reason}
+use Rattle.cob_convert.specs.Run.{IsConverted, most_records}
 use Rattle.cob_convert.specs.Outcomes.{Became, ByConversion, ByLayout, HasItsOutcome, HasOutcome, IsRejected, Outcome, WasRejected, append_notes, converted_of, inputs_of, notes_of, rejected_of, rejected_part, set_aside_of}
 use Rattle.cob_convert.specs.Aside.{EndsUnwritten, EndsWritten, IsOverAside, Outputs, RanAside, answer_over, count_of, is_aside_fault, is_read_fault, is_sink_fault, tally_of}
 use Rattle.cob_convert.specs.AsideLaws.{AsideIsOne, is_device_fault}

@@ -15,7 +15,8 @@ use Rattle.cob_convert.specs.declared.aside.AsideOutcome.{AsideOutcome}
 use Rattle.cob_convert.specs.declared.aside.AsideOutcome.TheVariants as ending
 use Rattle.cob_convert.specs.declared.aside.Tally.{Tally}
 use Rattle.cob_convert.specs.Run.{InRead, IsConverted, StopsFor, records_out}
-use Rattle.cob_convert.specs.Outcomes.{Became, HasItsOutcome, Outcome, WasRejected, append_notes, converted_of, fault_at, inputs_of, notes_behind, notes_of, rejected_of}
+use Rattle.cob_convert_stream.specs.Reasons.{fault_at}
+use Rattle.cob_convert.specs.Outcomes.{Became, HasItsOutcome, Outcome, WasRejected, append_notes, converted_of, inputs_of, notes_behind, notes_of, rejected_of}
 use Rattle.cob_convert.specs.Aside.{IsOverAside, Outputs, RanAside, StopsAside, answer_over, count_of, tally_of}
 use Rattle.cob_convert.specs.AsideLaws.{AsideIsRun, IsConversion, RejectedAgain, RejectsNone, is_device_fault, IsPlainAnswer}
 use Rattle.cob_convert.proofs.AsideOne.{IsWorking, not_unwritten, working}

@@ -19,7 +19,7 @@ use Rattle.cob_convert_record.specs.Conversion.{Conversion, in_length, out_lengt
 use Rattle.cob_convert_stream.specs.declared.fault.Reason.{Reason}
 use Rattle.cob_convert_stream.specs.declared.fault.RunFault.{RunFault}
 use Rattle.cob_convert_stream.specs.Output.{PutsCounted}
-use Rattle.cob_convert_stream.specs.Reasons.{write_reason}
+use Rattle.cob_convert_stream.specs.Reasons.{fault_at, write_reason}
 use Rattle.cob_convert_stream.specs.Whole.{IsWholeRecord, ReadsWhole}
 use Rattle.cob_convert.specs.declared.aside.AsideFault.{AsideFault}
 use Rattle.cob_convert.specs.declared.aside.AsideFault.TheVariants as fault
@@ -27,7 +27,7 @@ use Rattle.cob_convert.specs.declared.aside.AsideOutcome.{AsideOutcome}
 use Rattle.cob_convert.specs.declared.aside.AsideOutcome.TheVariants as ending
 use Rattle.cob_convert.specs.declared.aside.Tally.{Tally}
 use Rattle.cob_convert.specs.Run.{IsConverted, limit_reason, most_records}
-use Rattle.cob_convert.specs.Outcomes.{Became, IsRejected, HasItsOutcome, Outcome, WasRejected, append_notes, converted_of, fault_at, inputs_of, note_of, notes_behind, notes_of, outlet_for, output_of, rejected_of, rejected_part, set_aside_of, written_behind}
+use Rattle.cob_convert.specs.Outcomes.{Became, IsRejected, HasItsOutcome, Outcome, WasRejected, append_notes, converted_of, inputs_of, note_of, notes_behind, notes_of, outlet_for, output_of, rejected_of, rejected_part, set_aside_of, written_behind}
 use Rattle.cob_convert.specs.Aside.{AllOut, BeginsConverted, ByEnd, ByRecord, ClosesAside, CountsUnlessSink, IsFirstUnwritten, IsOverAside, Outputs, PartOut, RanAside, answer_over, count_of, is_aside_ending, is_aside_error, is_aside_error_ending, is_aside_fault, is_read_ending, is_read_fault, is_sink_fault, tally_for, tally_of}
 use Rattle.cob_convert.proofs.Carried.{append_none, append_twice, put_kind, remains, told_both, told_here, told_same}
 use Rattle.cob_convert.proofs.Outlets.{at_end, come_one, comes_of, emptied_behind, fits_behind, holds_none, none_pending, with_one_more, written_more}

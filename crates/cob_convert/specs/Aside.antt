@@ -13,14 +13,14 @@ use Rattle.cob_convert_record.specs.Conversion.{Conversion}
 use Rattle.cob_convert_stream.specs.declared.fault.Reason.{Reason}
 use Rattle.cob_convert_stream.specs.declared.fault.RunFault.{RunFault}
 use Rattle.cob_convert_stream.specs.Input.{Remains}
-use Rattle.cob_convert_stream.specs.Reasons.{is_error_cause, is_read_cause, is_write_cause, write_reason}
+use Rattle.cob_convert_stream.specs.Reasons.{fault_at, is_error_cause, is_read_cause, is_write_cause, write_reason}
 use Rattle.cob_convert.specs.declared.aside.AsideFault.{AsideFault}
 use Rattle.cob_convert.specs.declared.aside.AsideFault.TheVariants as fault
 use Rattle.cob_convert.specs.declared.aside.AsideOutcome.{AsideOutcome}
 use Rattle.cob_convert.specs.declared.aside.AsideOutcome.TheVariants as ending
 use Rattle.cob_convert.specs.declared.aside.Tally.{Tally}
 use Rattle.cob_convert.specs.Run.{Came, InputEnds, IsConverted, LimitStops, ReadStops, limit_reason, most_records}
-use Rattle.cob_convert.specs.Outcomes.{Became, IsRejected, HasItsOutcome, Outcome, append_notes, converted_of, fault_at, inputs_of, notes_of, outlet_for, rejected_of, set_aside_of, written_behind}
+use Rattle.cob_convert.specs.Outcomes.{Became, IsRejected, HasItsOutcome, Outcome, append_notes, converted_of, inputs_of, notes_of, outlet_for, rejected_of, set_aside_of, written_behind}
 
 -- how many of these records were converted, and how many rejected
 abbrev pub tally_of : List (List ℕ × Outcome) → Tally

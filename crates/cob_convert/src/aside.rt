@@ -9,7 +9,7 @@ ghost use Rattle.cob_records.specs.Frame.{Puts, is_write_error};
 ghost use Rattle.cob_convert_record.specs.Rooms.{capacity_for};
 ghost use Rattle.cob_convert_record.specs.Conversion.{in_length, out_length};
 ghost use Rattle.cob_convert_stream.specs.Reasons.{is_read_cause, is_write_cause};
-ghost use Rattle.cob_convert.specs.Outcomes.{append_notes, fault_at};
+ghost use Rattle.cob_convert.specs.Outcomes.{append_notes};
 ghost use Rattle.cob_convert.specs.Aside.{ClosesAside, ClosesAtLimit, CountsUnlessSink, RanAside, is_aside_error, is_aside_fault, is_read_fault, is_sink_ending, is_sink_error, is_sink_fault, tally_for};
 ghost use Rattle.cob_convert.specs.declared.run.TheConstants.{LIMIT};
 
@@ -62,24 +62,6 @@ pub(crate) enum AsideOutcome {
     Stopped(Reason),
     /// The next record is rejected, and it could not be set aside.
     NotSetAside(RecordFault),
-}
-
-/// The fault of the record of this number for this reason.
-fn fault_of(number: u64, why: Reason, written: u64) -> RunFault
-    ensures { result ≡ fault_at number why written }
-{
-    let Reason {
-        side,
-        offset,
-        cause,
-    } = why;
-    RunFault {
-        number,
-        side,
-        offset,
-        cause,
-        written,
-    }
 }
 
 /// Sets a rejected record aside, as it came, and notes why.
@@ -168,16 +150,12 @@ fn close_aside<W: Sink>(
 {
     let mut written = written;
     if let Err(fault) = write_pending(sink, outlet, &mut written) {
-        let fault = fault_of(first, Reason::of_write(fault), written);
+        let fault = Reason::of_write(fault).at(first, written);
         return Err(AsideFault::Stopped(fault));
     }
     match why {
         AsideOutcome::Done => Ok(tally),
-        AsideOutcome::Stopped(reason) => Err(AsideFault::Stopped(fault_of(
-            done + 1,
-            reason,
-            written,
-        ))),
+        AsideOutcome::Stopped(reason) => Err(AsideFault::Stopped(reason.at(done + 1, written))),
         AsideOutcome::NotSetAside(cause) => Err(AsideFault::NotSetAside {
             number: done + 1,
             cause,
@@ -277,7 +255,7 @@ pub fn run_over_aside<R: Source, W: Sink, A: Sink, N: Notes>(
                     let why = AsideOutcome::Stopped(why);
                     return close_aside(outlet, sink, tally, done, first, written, why);
                 }
-                let fault = fault_of(done + 1, why, written);
+                let fault = why.at(done + 1, written);
                 if let Err(cause) = set_aside(aside, notes, form, &input[..count], fault) {
                     let why = AsideOutcome::NotSetAside(cause);
                     return close_aside(outlet, sink, tally, done, first, written, why);
@@ -288,7 +266,7 @@ pub fn run_over_aside<R: Source, W: Sink, A: Sink, N: Notes>(
             }
         };
         if let Err(fault) = write_record(sink, outlet, &output[..made], &mut written) {
-            let fault = fault_of(first, Reason::of_write(fault), written);
+            let fault = Reason::of_write(fault).at(first, written);
             return Err(AsideFault::Stopped(fault));
         }
         first = first_behind_converted(outlet.held(), done + 1, first);

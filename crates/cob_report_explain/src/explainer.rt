@@ -14,7 +14,7 @@ use crate::moves::{Teller, Watching};
 use crate::reading::{Refused, input_record};
 use crate::stops::{Scene, count_words, move_words};
 use crate::walk::{RecordStop, WalkRoom, walk_record};
-use cob_convert_record::{Cause, Conversion, Room, Side, Stop, StopCause};
+use cob_convert_record::{Cause, Conversion, Room, Side, stop_reason};
 use cob_convert_stream::RunFault;
 use cob_copybook::{Book, Role};
 use cob_layout::Layout;
@@ -50,24 +50,6 @@ pub enum Explanation {
 pub struct ReadAgain<'a> {
     pub out_book: &'a [u8],
     pub moves: &'a [u8],
-}
-
-/// The fault of the record with this number, which stops so, as a run tells it.
-fn fault_of(number: u64, stop: Stop) -> RunFault
-    ensures { is_write_cause result.cause ≡ false }
-{
-    let cause = match stop.cause {
-        StopCause::NoValue => Cause::NoValue,
-        StopCause::Count => Cause::Count,
-        StopCause::Subscript => Cause::Subscript,
-    };
-    RunFault {
-        number,
-        side: stop.side,
-        offset: stop.offset,
-        cause,
-        written: 0,
-    }
 }
 
 /// Begins an output record of a conversion, whose copybook this text is: its storage holds its initial values.
@@ -144,7 +126,7 @@ fn stopped_at(
     ensures { IfOk result (λ stopped. is_write_cause stopped.fault.cause ≡ false) }
 {
     let words = stop_words(alloc, scene, &stop)?;
-    let fault = fault_of(number, stop.plain());
+    let fault = stop_reason(stop.plain()).at(number, 0);
     Ok(StoppedRecord { fault, words })
 }
 
@@ -216,13 +198,7 @@ fn refused_at(
 {
     let words = refusal_words(alloc, conversion, refused, bytes)?;
     Ok(Explanation::Refused(StoppedRecord {
-        fault: RunFault {
-            number: refused.number,
-            side: refused.why.side,
-            offset: refused.why.offset,
-            cause: refused.why.cause,
-            written: 0,
-        },
+        fault: refused.why.at(refused.number, 0),
         words,
     }))
 }

@@ -2,7 +2,7 @@
 
 ghost use Rattle.std.specs.Prelude.{◌≡◌, ◌≤◌, [], length, map, take, IfErr, IfOk, IfSome, IsFalse, IsTrue, Err, is_err, true, false};
 ghost use Rattle.cob_convert_stream.specs.Sizes.{IsFitting};
-ghost use Rattle.cob_convert_stream.specs.Reasons.{frame_reason, is_error_cause, is_read_cause, is_refused_for, is_write_cause};
+ghost use Rattle.cob_convert_stream.specs.Reasons.{is_error_cause, is_read_cause, is_refused_for, is_write_cause};
 ghost use Rattle.cob_copybook_tree.specs.Lengths.{greatest_number, sum_of};
 ghost use Rattle.cob_layout.specs.Standing.{AreSomePlaces, IsRoomFor};
 ghost use Rattle.cob_layout.specs.Storage.{current_length, greatest_length};
@@ -57,18 +57,6 @@ struct ShownAs<'a> {
     form: Form,
 }
 
-/// The reason of a frame that cannot be read, or that is not one of the layout.
-fn frame_reason(fault: RecordFault) -> Reason
-    ensures value { result ≡ frame_reason fault }
-    ensures stop { IsStop result.offset result.cause }
-{
-    Reason {
-        side: Side::In,
-        offset: 0,
-        cause: Cause::Record(fault),
-    }
-}
-
 /// The reason of a count that isn't valid, or whose item ends past the record.
 fn count_reason(fault: CountFault) -> Reason
     ensures value { result ≡ count_reason fault }
@@ -78,7 +66,7 @@ fn count_reason(fault: CountFault) -> Reason
     ensures errors { is_error_cause result.cause ≡ false }
 {
     if fault.short {
-        return frame_reason(RecordFault::Length);
+        return Reason::of_frame(RecordFault::Length);
     }
     Reason {
         side: Side::In,
@@ -128,13 +116,13 @@ pub fn read_record<R: Source>(
     let count = match next_in_form(source, form, layout.greatest(), bytes, left) {
         Ok(None) => return Ok(None),
         Ok(Some(count)) => count,
-        Err(fault) => return Err(frame_reason(fault)),
+        Err(fault) => return Err(Reason::of_frame(fault)),
     };
     if let Err(fault) = layout.counts_of(&bytes[..count], places) {
         return Err(count_reason(fault));
     }
     if !fits_counts(layout, form, places, count) {
-        return Err(frame_reason(RecordFault::Length));
+        return Err(Reason::of_frame(RecordFault::Length));
     }
     Ok(Some(count))
 }
@@ -200,13 +188,7 @@ pub fn stop_at(number: u64, reason: Reason, written: u64) -> ShowFault
       written = written;
     } }
 {
-    ShowFault::Run(RunFault {
-        number,
-        side: reason.side,
-        offset: reason.offset,
-        cause: reason.cause,
-        written,
-    })
+    ShowFault::Run(reason.at(number, written))
 }
 
 /// Shows the records of a source, one after another, up to its end or the first stop.
