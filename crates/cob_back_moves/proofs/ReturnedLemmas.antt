@@ -7,12 +7,13 @@ use Rattle.cob_copybook_tree.specs.declared.node.Item.{Item}
 use Rattle.cob_copybook_tree.specs.declared.node.Kind.{Kind}
 use Rattle.cob_copybook_tree.specs.declared.node.Kind.TheVariants.{Group, Item as ItemKind}
 use Rattle.cob_layout_places.specs.Cover.{Occurrence}
+use Rattle.cob_layout.specs.Kept.{IsIn}
 use Rattle.cob_move_data.specs.declared.operands.Operand.{Operand}
 use Rattle.cob_move_data.specs.declared.operands.Side.TheVariants.{In, Out}
 use Rattle.cob_move_data.specs.Moves.{Entry, Literal, operand_in}
 use Rattle.cob_back_moves.specs.Returns.{BringsHome, IsReturned}
 use Rattle.cob_move_data.specs.Singles.{SingleMove, occurrence_of}
-use Rattle.cob_back_moves.specs.Singles.{Goes, IsOneOf}
+use Rattle.cob_back_moves.specs.Singles.{Goes}
 use Rattle.cob_back_moves.specs.Wider.{LosesNothing}
 use Rattle.cob_back_moves.specs.Brought.{IsCarried, LosesNothingAs, occurrence_at}
 use Rattle.cob_move_apply.specs.Some.{SomeOf}
@@ -25,12 +26,12 @@ use Rattle.cob_back_moves.specs.declared.single.Single.{Single}
 
 -- ---- one of some
 
-some_one : (P : SingleMove → Type 0) (ss : List SingleMove) → SomeOf P ss → (s : SingleMove) × IsOneOf s ss × P s
+some_one : (P : SingleMove → Type 0) (ss : List SingleMove) → SomeOf P ss → (s : SingleMove) × IsIn s ss × P s
 some_one P [] h = absurd h
 some_one P (s ∷ ss) (inl h) = (s, inl refl, h)
 some_one P (s ∷ ss) (inr h) = let (t, one, is) = some_one P ss h in (t, inr one, is)
 
-one_some : (P : SingleMove → Type 0) (s : SingleMove) (ss : List SingleMove) → IsOneOf s ss → P s → SomeOf P ss
+one_some : (P : SingleMove → Type 0) (s : SingleMove) (ss : List SingleMove) → IsIn s ss → P s → SomeOf P ss
 one_some P s [] one is = one
 one_some P s (t ∷ ts) (inl e) is = inl (subst P e is)
 one_some P s (t ∷ ts) (inr one) is = inr (one_some P s ts one is)

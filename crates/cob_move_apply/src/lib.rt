@@ -31,7 +31,7 @@
 //! the moves out by them, and [`Scratch::output_length`] tells the output's length by what the moves kept of it; so each count is read once.
 //!
 //! [`Moves::apply`] takes no memory: its room is a [`Scratch`]. [`entry_kind`] is what an entry of a record describes, and [`entry_below`] the entry of a
-//! pair of two groups, for whoever goes through the moves by themselves.
+//! pair of two groups, for whoever goes through the moves by themselves; [`Given`] is what a sender gives.
 //!
 //! # Where it is proved
 //!
@@ -77,5 +77,6 @@ pub use laws::one_ending;
 pub use moves::Moves;
 pub use pairs::entry_below;
 pub use places::stop_of;
+pub use receivers::Given;
 pub use scratch::Scratch;
 pub use stop::{Stop, StopCause};

@@ -6,6 +6,8 @@ use Rattle.cob_convert_record.specs.Conversion.{Conversion, in_length}
 use Rattle.cob_convert_stream.specs.Reasons.{reason_of}
 use Rattle.cob_convert_stream.specs.declared.fault.RunFault.{RunFault}
 use Rattle.cob_records_parts.specs.Numbering.{AreOnly, HasNumber, HavePassed}
+use Rattle.cob_records_parts.specs.declared.numbered.Numbered.{Numbered}
+use Rattle.cob_records_parts.specs.declared.numbered.Numbered.TheVariants as numbered
 use Rattle.cob_program_map.specs.declared.record.FoundRecord.{FoundRecord}
 use Rattle.cob_program_map.specs.declared.record.FoundRecord.TheVariants.{Fewer, Record}
 use Rattle.cob_program_map.specs.declared.record.Lengths.{Lengths}
@@ -23,10 +25,10 @@ abbrev pub ShowsRecord : Conversion → List ℕ → List ℕ → FoundRecord �
 ShowsRecord conversion input output (Record lengths) = StandConverted conversion input output lengths
 ShowsRecord conversion input output (Fewer there) = ⊤
 
--- where there is none with this number, there are fewer
-abbrev pub HasFewer : ℕ → FoundRecord → Type 0
-HasFewer number (Record lengths) = ⊤
-HasFewer number (Fewer there) = there < number
+-- what is found, without what the record becomes
+abbrev pub numbered_of : FoundRecord → Numbered
+numbered_of (Record lengths) = numbered.Record lengths.input
+numbered_of (Fewer there) = numbered.Fewer there
 
 -- ---- which of the records that come it is
 

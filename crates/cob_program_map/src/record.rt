@@ -7,7 +7,8 @@ ghost use Rattle.cob_convert_record.specs.Rooms.{capacity_for};
 ghost use Rattle.cob_records.specs.Device.{Told};
 ghost use Rattle.cob_records.specs.Frame.{IsRecord, is_write_fault};
 ghost use Rattle.cob_convert_stream.specs.Reasons.{frame_reason, is_write_cause, reason_of};
-ghost use Rattle.cob_program_map.specs.Numbered.{FindsRecord, HasFewer, ShowsRecord, StopsWhole};
+ghost use Rattle.cob_records_parts.specs.Numbering.{AreFewer};
+ghost use Rattle.cob_program_map.specs.Numbered.{FindsRecord, ShowsRecord, StopsWhole, numbered_of};
 
 use cob_convert_record::{Conversion, Room, stop_reason};
 use cob_convert_stream::{Reason, RunFault, sized_are_storages};
@@ -91,7 +92,7 @@ pub fn converted_record<S: Source>(
     requires room { room.old ≡ capacity_for conversion.now.records }
     // The record stands in the one buffer, and what it becomes in the other.
     ensures shows { IfOk result (ShowsRecord conversion.now input.new output.new) }
-    ensures fewer { IfOk result (HasFewer number) }
+    ensures fewer { IfOk result (λ found. AreFewer number (numbered_of found)) }
     // Where the source tells its bytes: it is the one with this number, or there are only so many, or one up to it stops.
     ensures finds { Told (S.coming source.old) (S.coming source.new)
         (FindsRecord conversion.now number input.new result) }

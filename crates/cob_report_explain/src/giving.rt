@@ -7,25 +7,24 @@ ghost use Rattle.cob_layout.specs.Storage.{greatest_length};
 ghost use Rattle.cob_layout.specs.Standing.{IsRoomFor};
 ghost use Rattle.cob_move_data.specs.Moves.{IsOperand, operand_in};
 ghost use Rattle.cob_move_receive.specs.Sent.{HasAllBytes, sent};
+ghost use Rattle.cob_move_apply.specs.Placed.{content_of};
 ghost use Rattle.cob_report_explain.specs.Each.{GetsAt, LacksFor, asked_stop, each_ending, single_stop};
 ghost use Rattle.cob_move_apply.specs.Located.{stop_at};
 ghost use Rattle.cob_move_apply.specs.declared.stop.StopCause.TheVariants.{NoValue};
-ghost use Rattle.cob_report_explain.specs.Seen.{HandsOut, SeesSingles, StopsAtReceiver, given_content};
+ghost use Rattle.cob_report_explain.specs.Seen.{HandsOut, SeesSingles, StopsAtReceiver};
 ghost use Rattle.cob_report_explain.specs.declared.single.Asked.TheVariants as asked;
 ghost use Rattle.cob_report_explain.specs.declared.single.AskedStop.{AskedStop as Lack};
 
 use crate::places::{SideStorage, locate};
-use crate::single::{
-    Asked, AskedStop, CarriedMove, GivenContent, MoveParts, MoveStop, SingleNumber, stop_of,
-};
+use crate::single::{Asked, AskedStop, CarriedMove, MoveParts, MoveStop, SingleNumber, stop_of};
 use crate::watcher::Watcher;
 use cob_layout::{Counts, Layout, Place, Ref};
-use cob_move_apply::{Stop, StopCause, entry_kind};
+use cob_move_apply::{Given, Stop, StopCause, entry_kind};
 use cob_move_data::Side;
 use cob_move_receive::receive;
 
 /// What is told of a sender that has no value that a receiver asks for.
-fn value_lack(given: &GivenContent<'_>) -> AskedStop
+fn value_lack(given: &Given<'_>) -> AskedStop
     ensures { result ≡ asked_stop asked.Value (stop_at given.now.side given.now.offset NoValue) }
 {
     AskedStop {
@@ -45,7 +44,7 @@ fn value_lack(given: &GivenContent<'_>) -> AskedStop
 /// The first thing missing: a count of the receiver, its element, a value of the sender. The storage is as it was then.
 fn receive_one(
     layout: &Layout,
-    given: &GivenContent<'_>,
+    given: &Given<'_>,
     entry: &Ref,
     output: &mut [u8],
     counts: &mut Counts,
@@ -56,9 +55,9 @@ fn receive_one(
     requires output { length output.old ≡ greatest_length layout.now }
     requires room { IsRoomFor layout.now counts.old }
     ensures gets { IfOk result
-        (λ p. GetsAt layout.now (given_content given.now) entry.now output.old p output.new) }
+        (λ p. GetsAt layout.now (content_of given.now) entry.now output.old p output.new) }
     ensures lacks { IfErr result
-        (LacksFor layout.now (given_content given.now) entry.now output.old) }
+        (LacksFor layout.now (content_of given.now) entry.now output.old) }
     ensures same { OnErr result (output.new ≡ output.old) }
     ensures room { IsRoomFor layout.now counts.new }
 {
@@ -97,7 +96,7 @@ fn receive_one(
 fn give_one<W: Watcher>(
     layout: &Layout,
     parts: &MoveParts<'_>,
-    given: &GivenContent<'_>,
+    given: &Given<'_>,
     index: usize,
     entry: &Ref,
     output: &mut [u8],
@@ -145,7 +144,7 @@ fn give_one<W: Watcher>(
 pub(crate) fn give_all<W: Watcher>(
     layout: &Layout,
     parts: &MoveParts<'_>,
-    given: &GivenContent<'_>,
+    given: &Given<'_>,
     output: &mut [u8],
     counts: &mut Counts,
     watcher: &mut W,

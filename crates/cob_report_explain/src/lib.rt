@@ -71,11 +71,12 @@ mod walk;
 mod walking;
 mod watcher;
 
+pub use cob_move_apply::Given;
 pub use cob_report_faults::Qualifying;
 pub use explainer::{Explanation, ReadAgain, StoppedRecord, explain};
 pub use moves::{Silent, SingleText, Teller, Watching};
 pub use room::{EachRoom, RecordLayouts};
-pub use single::{Asked, CarriedMove, GivenContent, MoveStop, SingleNumber};
+pub use single::{Asked, CarriedMove, MoveStop, SingleNumber};
 pub use stops::{Scene, count_words, move_words};
 pub use walk::{RecordStop, WalkRoom, walk_record};
 pub use walking::each;

@@ -13,10 +13,10 @@ ghost use Rattle.cob_report_explain.specs.Seen.{SeesFromInput, SeesMove, SeesWit
 use crate::giving::give_all;
 use crate::places::{SideStorage, locate};
 use crate::room::{EachRoom, RecordLayouts};
-use crate::single::{GivenContent, MoveParts, MoveStop, sender_stop};
+use crate::single::{MoveParts, MoveStop, sender_stop};
 use crate::watcher::Watcher;
 use cob_layout::{Ref, field, places_lie_in_storage};
-use cob_move_apply::entry_kind;
+use cob_move_apply::{Given, entry_kind};
 use cob_move_data::{Sender, Side};
 use cob_move_receive::Sent;
 
@@ -66,7 +66,7 @@ fn walk_from_input<W: Watcher>(
         Ok(place) => place,
         Err(stop) => return Err(sender_stop(parts, stop)),
     };
-    let given = GivenContent {
+    let given = Given {
         sent: Sent::Entry {
             kind: entry_kind(layouts.input, entry),
             bytes: field(input, place),
@@ -116,7 +116,7 @@ fn walk_within_output<W: Watcher>(
     let sent = field(output, place);
     let count = sent.len();
     keep_bytes(sent, room.content.as_mut_slice());
-    let given = GivenContent {
+    let given = Given {
         sent: Sent::Entry {
             kind: entry_kind(layouts.output, entry),
             bytes: &room.content.as_slice()[..count],
@@ -165,7 +165,7 @@ pub(crate) fn walk_move<W: Watcher>(
             entry,
         } => walk_within_output(layouts, parts, entry, input, output, room, watcher),
         Sender::Constant(value) => {
-            let given = GivenContent {
+            let given = Given {
                 sent: Sent::Constant(value),
                 side: Side::Out,
                 offset: 0,

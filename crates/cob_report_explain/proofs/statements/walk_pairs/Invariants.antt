@@ -3,7 +3,7 @@ use Rattle.cob_report_explain.specs.Each.{numbered_of_pairs}
 use Rattle.cob_report_explain.specs.Room.{HasEachRoom}
 use Rattle.cob_report_explain.specs.Seen.{records_of_layouts}
 use Rattle.cob_report_explain.proofs.EachLemmas.{MovesSoFar}
-use Rattle.cob_report_explain.proofs.statements.walk_pairs.GivenContent as goal
+use Rattle.cob_report_explain.proofs.statements.walk_pairs.Given as goal
 
 abbrev pub invariant-loop-index : goal.invariant-loop-index
 invariant-loop-index g l = record {

@@ -3,7 +3,7 @@ use Rattle.cob_report_explain.specs.Each.{numbered_moves}
 use Rattle.cob_report_explain.specs.Room.{HasEachRoom}
 use Rattle.cob_report_explain.specs.Seen.{records_of_layouts}
 use Rattle.cob_report_explain.proofs.EachLemmas.{MovesSoFar}
-use Rattle.cob_report_explain.proofs.walking.walk_all.GivenContent as goal
+use Rattle.cob_report_explain.proofs.walking.walk_all.Given as goal
 
 abbrev pub invariant-loop-number : goal.invariant-loop-number
 invariant-loop-number g l = record {
