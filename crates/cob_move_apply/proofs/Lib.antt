@@ -8,6 +8,7 @@ pub mod SeenLemmas
 pub mod CountLemmas
 pub mod ReadingLemmas
 pub mod CutLemmas
+pub mod InPlaceLemmas
 pub mod CopyLemmas
 pub mod PlainLemmas
 pub mod JoinLemmas
@@ -18,6 +19,7 @@ pub mod PreparedLemmas
 pub mod PicturedLemmas
 pub mod ConstantLemmas
 pub mod StepLemmas
+pub mod WithinLemmas
 pub mod LocatedLemmas
 pub mod MetLemmas
 pub mod SpentLemmas

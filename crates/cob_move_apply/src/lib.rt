@@ -43,9 +43,11 @@
 mod application;
 mod basis;
 mod constant;
+mod cutting;
 mod laws;
 mod layouts;
 mod located;
+mod located_within;
 mod moves;
 mod pairs;
 mod pictured;
@@ -61,6 +63,7 @@ mod senders;
 mod step;
 mod stop;
 mod survey;
+mod within;
 mod workspace;
 
 pub use cob_codec::Reading;

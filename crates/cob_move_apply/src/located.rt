@@ -3,7 +3,8 @@
 ghost use Rattle.std.specs.Prelude.{◌≡◌, false, length, true, IfSome, IsTrue, List};
 ghost use Rattle.cob_layout.specs.Sound.{IsSound};
 ghost use Rattle.cob_layout.specs.Storage.{greatest_length, IsStorage};
-ghost use Rattle.cob_move_data.specs.Moves.{Move as Meant, operand_in};
+ghost use Rattle.cob_move_data.specs.declared.operands.Side.TheVariants.{In};
+ghost use Rattle.cob_move_data.specs.Moves.{Move as Meant, operand_in, record_of};
 ghost use Rattle.cob_move_apply.specs.Applied.{IsMoved, done, ending};
 ghost use Rattle.cob_move_apply.specs.Made.{StandAt};
 ghost use Rattle.cob_move_apply.specs.Placed.{IsPlaced};
@@ -29,7 +30,7 @@ use std::slice;
 
 /// Whether a step carries its moves out where senders are read so.
 #[inline(always)]
-fn serves(step: LocatedStep, reading: Reading) -> bool
+pub(crate) fn serves(step: LocatedStep, reading: Reading) -> bool
     ensures { result ≡ serves step reading }
 {
     match step {
@@ -59,7 +60,8 @@ fn both_places(
         (operand_in layouts.now.output.now one.now.receiver) one.now.to }
     requires input { IsStorage layouts.now.input.now input.now }
     requires space { IsWorkspace (records layouts.now) input.now output.now space.old }
-    ensures stand { IfSome result (StandAt (records layouts.now) one.now input.now output.now) }
+    ensures stand { IfSome result (StandAt In (records layouts.now) one.now input.now
+        output.now) }
     ensures space { IsWorkspace (records layouts.now) input.now output.now space.new }
     ensures spends { IsSpent layouts.now.output.now 0 space.old.output space.new.output }
 {
@@ -97,16 +99,17 @@ fn run_between(
     output: &mut [u8],
     space: &mut Workspace,
 ) -> bool
-    requires carries { CarriesBetween plan.now one.now layouts.now }
+    requires carries { CarriesBetween In plan.now one.now layouts.now }
     requires serves { serves one.now.step layouts.now.reading ≡ true }
-    requires stand { StandAt (records layouts.now) one.now input.now output.old places.now }
+    requires stand { StandAt In (records layouts.now) one.now input.now output.old places.now }
     requires output { length output.old ≡ greatest_length layouts.now.output.now }
     requires space { IsWorkspace (records layouts.now) input.now output.old space.old }
-    ensures moved { IsTrue result → IsMoved (records layouts.now) (located_move layouts.now one.now)
-        input.now output.old (done output.new) }
+    ensures moved { IsTrue result → IsMoved (records layouts.now)
+        (located_move In layouts.now one.now) input.now output.old (done output.new) }
     ensures space { IsWorkspace (records layouts.now) input.now output.new space.new }
-    ensures spends { IsTrue result → MoveHasSpent layouts.now (located_move layouts.now one.now)
-        input.now output.old output.new space.old space.new }
+    ensures spends { IsTrue result → MoveHasSpent layouts.now
+        (located_move In layouts.now one.now) input.now output.old output.new space.old
+        space.new }
     ensures same { result ≡ false → (output.new ≡ output.old) × (space.new ≡ space.old) }
 {
     let prepared = &plan.prepared;
@@ -176,7 +179,8 @@ pub(crate) fn run_located(
 /// # Errors
 ///
 /// The first thing missing: a place of the sender, one of the receiver, a value of the sender. The storage is as it was then.
-fn move_unready(
+pub(crate) fn move_unready(
+    side: Side,
     one: &LocatedMove,
     layouts: &Layouts<'_>,
     input: &[u8],
@@ -185,21 +189,21 @@ fn move_unready(
 ) -> Result<(), Stop>
     requires in_sound { IsSound layouts.now.input.now }
     requires out_sound { IsSound layouts.now.output.now }
-    requires sends { IsPlaced layouts.now.input.now false
-        (operand_in layouts.now.input.now one.now.sent) one.now.from }
+    requires sends { IsPlaced (record_of (records layouts.now) side) false
+        (operand_in (record_of (records layouts.now) side) one.now.sent) one.now.from }
     requires receives { IsPlaced layouts.now.output.now true
         (operand_in layouts.now.output.now one.now.receiver) one.now.to }
     requires input { IsStorage layouts.now.input.now input.now }
     requires output { length output.old ≡ greatest_length layouts.now.output.now }
     requires space { IsWorkspace (records layouts.now) input.now output.old space.old }
-    ensures moved { IsMoved (records layouts.now) (located_move layouts.now one.now) input.now
+    ensures moved { IsMoved (records layouts.now) (located_move side layouts.now one.now) input.now
         output.old (ending result output.new) }
     ensures space { IsWorkspace (records layouts.now) input.now output.new space.new }
-    ensures spends { MoveSpends layouts.now (located_move layouts.now one.now) input.now output.old
-        result output.new space.old space.new }
+    ensures spends { MoveSpends layouts.now (located_move side layouts.now one.now) input.now
+        output.old result output.new space.old space.new }
 {
     let sent = SentEntry {
-        side: Side::In,
+        side,
         entry: &one.sent,
         basis: one.from,
     };
@@ -238,5 +242,5 @@ pub(crate) fn make_located(
         output.new space.old space.new }
 {
     let one = &plan.located[number];
-    move_unready(one, layouts, input, output, space)
+    move_unready(Side::In, one, layouts, input, output, space)
 }

@@ -1,5 +1,6 @@
 use Rattle.std.proofs.Common.{ℕ, Ok, refl}
 use Rattle.cob_move_data.specs.Moves.{operand_in}
+use Rattle.cob_move_data.specs.declared.operands.Side.TheVariants.{In}
 use Rattle.cob_move_apply.specs.Applied.{done}
 use Rattle.cob_move_apply.specs.Surveyed.{records}
 use Rattle.cob_move_apply.specs.declared.step.LocatedStep.TheVariants.{Always, Characters, Pictured}
@@ -16,7 +17,7 @@ make_characters-requires-clause-step c =
     let from = (operand_in r.input one.sent).kind in
     let to = (operand_in r.output one.receiver).kind in
     let carries = carries_as c.args.plan.now.prepared c.args.plan.now.pictured from to one.step (Characters c.in-Characters.right) c.in-Characters.is c.requires.carries in
-    (kinds_of from to p.from p.to, characters_there r c.args.plan.now.prepared one c.in-Characters.right p c.args.input.now c.args.output.now c.requires.stand carries, record { sent = refl; received = refl })
+    (kinds_of from to p.from p.to, characters_there In r c.args.plan.now.prepared one c.in-Characters.right p c.args.input.now c.args.output.now c.requires.stand carries, record { sent = refl; received = refl })
 
 pub returns-in-Characters-clause-moved : goal.returns-in-Characters-clause-moved
 returns-in-Characters-clause-moved c = λ yes.
@@ -25,7 +26,7 @@ returns-in-Characters-clause-moved c = λ yes.
     let from = (operand_in r.input one.sent).kind in
     let to = (operand_in r.output one.receiver).kind in
     let carries = carries_as c.args.plan.now.prepared c.args.plan.now.pictured from to one.step (Characters c.in-Characters.right) c.in-Characters.is c.requires.carries in
-    made_characters r c.args.layouts.now.reading c.args.plan.now.prepared one c.in-Characters.right c.args.places.now c.args.input.now c.args.output.now
+    made_characters In r c.args.layouts.now.reading c.args.plan.now.prepared one c.in-Characters.right c.args.places.now c.args.input.now c.args.output.now
     (done c.make_characters.new.output) c.requires.stand carries c.make_characters.ensures.made
 
 pub returns-in-Characters-clause-spends : goal.returns-in-Characters-clause-spends
@@ -35,7 +36,7 @@ returns-in-Characters-clause-spends c = λ yes before spent.
     let from = (operand_in r.input one.sent).kind in
     let to = (operand_in r.output one.receiver).kind in
     let carries = carries_as c.args.plan.now.prepared c.args.plan.now.pictured from to one.step (Characters c.in-Characters.right) c.in-Characters.is c.requires.carries in
-    characters_spend {A = ℕ} r c.args.layouts.now.reading c.args.plan.now.prepared one c.in-Characters.right c.args.places.now c.args.input.now c.args.output.now
+    characters_spend {A = ℕ} In r c.args.layouts.now.reading c.args.plan.now.prepared one c.in-Characters.right c.args.places.now c.args.input.now c.args.output.now
     (Ok 0) c.make_characters.new.output before _ _ c.requires.stand carries c.make_characters.ensures.made spent c.make_characters.ensures.spends
 
 pub returns-in-Ok-clause-moved : goal.returns-in-Ok-clause-moved
@@ -45,7 +46,7 @@ returns-in-Ok-clause-moved c = λ yes.
     let from = (operand_in r.input one.sent).kind in
     let to = (operand_in r.output one.receiver).kind in
     let carries = carries_as c.args.plan.now.prepared c.args.plan.now.pictured from to one.step (Always c.in-Always.step) c.in-Always.is c.requires.carries in
-    made_always r c.args.layouts.now.reading c.args.plan.now.prepared one c.in-Always.step c.args.places.now c.args.input.now c.args.output.now
+    made_always In r c.args.layouts.now.reading c.args.plan.now.prepared one c.in-Always.step c.args.places.now c.args.input.now c.args.output.now
     (done c.make_prepared.new.output) c.requires.stand carries c.in-Ok.ensures.made
 
 pub returns-in-Ok-clause-spends : goal.returns-in-Ok-clause-spends
@@ -55,7 +56,7 @@ returns-in-Ok-clause-spends c = λ yes before spent.
     let from = (operand_in r.input one.sent).kind in
     let to = (operand_in r.output one.receiver).kind in
     let carries = carries_as c.args.plan.now.prepared c.args.plan.now.pictured from to one.step (Always c.in-Always.step) c.in-Always.is c.requires.carries in
-    always_spends {A = ℕ} r c.args.layouts.now.reading c.args.plan.now.prepared one c.in-Always.step c.args.places.now c.args.input.now c.args.output.now
+    always_spends {A = ℕ} In r c.args.layouts.now.reading c.args.plan.now.prepared one c.in-Always.step c.args.places.now c.args.input.now c.args.output.now
     (Ok 0) c.make_prepared.new.output before _ _ c.requires.stand carries c.in-Ok.ensures.made spent c.in-Ok.ensures.spends
 
 pub returns-in-Ok-run_pictured-clause-moved : goal.returns-in-Ok-run_pictured-clause-moved
