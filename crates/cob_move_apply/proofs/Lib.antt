@@ -19,11 +19,11 @@ pub mod PreparedLemmas
 pub mod PicturedLemmas
 pub mod ConstantLemmas
 pub mod StepLemmas
-pub mod WithinLemmas
 pub mod LocatedLemmas
 pub mod MetLemmas
 pub mod SpentLemmas
 pub mod FindLemmas
 pub mod SpendingLemmas
+pub mod WithinLemmas
 pub use Rattle.cob_layout.proofs.EntryNoRule
 pub use Rattle.cob_layout.proofs.EntryOneList

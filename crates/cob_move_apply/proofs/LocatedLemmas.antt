@@ -33,7 +33,7 @@ use Rattle.cob_move_apply.proofs.StepLemmas.{made_one}
 -- ---- what was carried out
 
 -- a move whose sender and receiver stand there ends with what the receiver gets, or at the sender
-located_ends : (side : Side) (r : Records) (x : Reading) (one : LocatedMove) (p : MovePlaces) (input before : List ℕ) (outcome : Option (List ℕ)) → StandAt side r one input before p
+pub located_ends : (side : Side) (r : Records) (x : Reading) (one : LocatedMove) (p : MovePlaces) (input before : List ℕ) (outcome : Option (List ℕ)) → StandAt side r one input before p
     → Received (sent.Entry (operand_in (record_of r side) one.sent).kind (field_of p.from (storage_of side input before)) x) (operand_in r.output one.receiver).kind p.to.length outcome
     → IsMoved r (copied_move side x r one.sent one.receiver) input before (received_at side p before outcome)
 located_ends side r x one p input before (Some bytes) stand received =

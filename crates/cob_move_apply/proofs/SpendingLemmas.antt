@@ -131,7 +131,7 @@ made_bytes side p before after (Some bytes) same = (bytes, refl, sym (ap (λ (e 
 made_bytes side p before after None same = absurd (stop_of after before _ same)
 
 -- between places where both items stand
-located_met : (side : Side) (r : Records) (x : Reading) (one : LocatedMove) (p : MovePlaces) (input before after : List ℕ) (outcome : Option (List ℕ)) (met : ℕ) → StandAt side r one input before p
+pub located_met : (side : Side) (r : Records) (x : Reading) (one : LocatedMove) (p : MovePlaces) (input before after : List ℕ) (outcome : Option (List ℕ)) (met : ℕ) → StandAt side r one input before p
     → Received (sent.Entry (operand_in (record_of r side) one.sent).kind (field_of p.from (storage_of side input before)) x) (operand_in r.output one.receiver).kind p.to.length outcome → done after ≡ received_at side p before outcome
     → PlaceMet r.output before p.to met → (ms : List Move) (rest : ℕ) → HaveMet r ms input after rest → HaveMet r (copied_move side x r one.sent one.receiver ∷ ms) input before (met + rest)
 located_met side r x one p input before after (Some bytes) met stand received same meets ms rest h =
