@@ -83,6 +83,7 @@ carries_still before now old new s t (located_step.Always step) kept pictured ca
     kept (record { sender = s; sent = sent; receiver = t; received = received }) step (carries sent received has gets)
 carries_still before now old new s t (located_step.Pictured step) kept pictured carries = λ sent received has gets.
     pictured (record { sender = s; sent = sent; receiver = t; received = received }) step (carries sent received has gets)
+carries_still before now old new s t located_step.Rule kept pictured carries = tt
 
 -- a move that was made ready wherever its items stand, where the steps became more
 ready_still : (side : Side) (r : Records) (a b : Support) (p : LocatedMove) → Grows a b → IsReadyAnywhere side r a.prepared a.pictured p → IsReadyAnywhere side r b.prepared b.pictured p

@@ -1,11 +1,14 @@
 -- Single moves from one place of the output record to another that are made ready.
-use Rattle.std.proofs.Common.{◌≡◌, ℕ, ◌+◌, ◌-◌, ◌≤◌, Bool, true, false, List, [], ◌∷◌, length, drop, refl, sym, ap, subst, ◌∙◌, arith, Option, Some, None}
+use Rattle.std.proofs.Common.{◌≡◌, ℕ, ◌+◌, ◌-◌, ◌≤◌, Bool, true, false, List, [], ◌∷◌, ◌++◌, length, take, drop, refl, sym, ap, subst, ◌∙◌, arith, append_assoc, append-nil, drop-drop, length-take-le, length-drop, Option, Some, None}
+use Rattle.std.proofs.lemmas.List.{drop-take, drop_all, take-append-drop, take-append-le}
 use Rattle.cob_codec.specs.declared.reading.Reading.{Reading}
 use Rattle.cob_codec.specs.declared.reading.Reading.TheVariants.{Pictured}
 use Rattle.cob_copybook_tree.specs.declared.node.Kind.{Kind}
+use Rattle.cob_layout.specs.declared.fields.Place.{Place}
 use Rattle.cob_layout.specs.Fields.{field_of, with_field}
+use Rattle.cob_move_data.specs.declared.operands.Side.{Side}
 use Rattle.cob_move_data.specs.declared.operands.Side.TheVariants.{Out}
-use Rattle.cob_move_data.specs.Moves.{Records, operand_in}
+use Rattle.cob_move_data.specs.Moves.{Records, operand_in, record_of}
 use Rattle.cob_move_steps.specs.Pictured.{IsPicturedStep, IsReceivedPictured}
 use Rattle.cob_move_steps.specs.Pool.{IsMoveStep, IsReceived, MoveKinds}
 use Rattle.cob_move_steps.specs.declared.pictured.PicturedStep.{PicturedStep}
@@ -16,7 +19,7 @@ use Rattle.cob_move_steps.specs.declared.pool.MoveSteps.{MoveSteps}
 use Rattle.cob_move_receive.specs.Received.{Received, outcome}
 use Rattle.cob_move_receive.specs.Sent as sent
 use Rattle.cob_move_receive.specs.Sent.{Occupies}
-use Rattle.cob_move_apply.specs.Applied.{IsMoved, done, stopped}
+use Rattle.cob_move_apply.specs.Applied.{IsMoved, done, stopped, storage_of}
 use Rattle.cob_move_apply.specs.Located.{stop_at}
 use Rattle.cob_move_apply.specs.Made.{IsMadeReady, StandAt}
 use Rattle.cob_move_apply.specs.Spent.{HaveSpent, IsSpent, PlaceSpends}
@@ -27,8 +30,9 @@ use Rattle.cob_move_apply.specs.declared.step.MovePlaces.{MovePlaces}
 use Rattle.cob_move_apply.specs.declared.step.PreparedMove.{PreparedMove}
 use Rattle.cob_move_apply.specs.declared.stop.StopCause.TheVariants.{NoValue}
 use Rattle.cob_move_apply.specs.declared.survey.Survey.{Survey}
+use Rattle.cob_move_apply.proofs.CopyLemmas.{as_long}
 use Rattle.cob_move_apply.proofs.LocatedLemmas.{located_ends}
-use Rattle.cob_move_apply.proofs.PreparedLemmas.{IsAnswered, last_bytes}
+use Rattle.cob_move_apply.proofs.PreparedLemmas.{IsAnswered, ends_there, last_bytes}
 use Rattle.cob_move_apply.proofs.SpendingLemmas.{located_met}
 use Rattle.cob_move_apply.proofs.SpentLemmas.{spent_behind}
 
@@ -48,7 +52,7 @@ made_within p steps bytes before new after n true reach ends size written same g
 made_within p steps bytes before new after n false reach ends size written same gets k is has =
     (None, from_bytes p steps bytes before n None k reach ends size gets is has, ap (stopped (stop_at Out p.places.from.offset NoValue)) (same refl))
 
--- ---- wherever both stand
+-- ---- the bytes of a storage in two parts
 
 -- all bytes end themselves
 all_bytes : (bytes : List ℕ) → last_bytes (length bytes) bytes ≡ bytes
@@ -56,6 +60,49 @@ all_bytes bytes = ap (λ n. drop n bytes) (none (length bytes))
   where
     none : (n : ℕ) → n - n ≡ 0
     none n = omega arith
+
+-- the front of a front
+front_of : (n m : ℕ) (xs : List ℕ) → n ≤ m → m ≤ length xs → take n (take m xs) ≡ take n xs
+front_of n m xs le fits = sym (take-append-le n (take m xs) (drop m xs) (omega (arith, le, length-take-le m xs fits))) ∙ ap (take n) (take-append-drop m xs)
+
+-- the sender's bytes end those before it in a front of the storage
+pub onwards_ends : (p : Place) (start : ℕ) (storage : List ℕ) → p.offset + p.length ≤ start → start ≤ length storage → last_bytes p.length (take (p.offset + p.length) (take start storage)) ≡ field_of p storage
+onwards_ends p start storage before fits =
+    ap (last_bytes p.length) (front_of (p.offset + p.length) start storage before fits) ∙ ends_there p storage (omega (arith, before, fits))
+
+-- and those behind such a front
+pub backwards_ends : (p : Place) (end : ℕ) (storage : List ℕ) → end ≤ p.offset → p.offset + p.length ≤ length storage → last_bytes p.length (take (p.offset + p.length - end) (drop end storage)) ≡ field_of p storage
+backwards_ends p end storage behind fits =
+    let q : Place = record { offset = p.offset - end; length = p.length } in
+    ap (λ n. last_bytes p.length (take n (drop end storage))) (shorter p.offset p.length end behind)
+    ∙ ends_there q (drop end storage) (omega (arith, behind, fits, length-drop end storage))
+    ∙ ap (take p.length) (drop-drop (p.offset - end) end storage ∙ ap (λ n. drop n storage) (back p.offset end behind))
+  where
+    shorter : (o l e : ℕ) → e ≤ o → o + l - e ≡ o - e + l
+    shorter o l e le = omega (arith, le)
+
+    back : (o e : ℕ) → e ≤ o → e + (o - e) ≡ o
+    back o e le = omega (arith, le)
+
+-- what was written at the end of a front of the storage was written to its place
+pub backwards_is : (p : Place) (storage new : List ℕ) → p.offset + p.length ≤ length storage
+    → (take p.offset (take (p.offset + p.length) storage) ++ (new ++ drop p.length (drop p.offset (take (p.offset + p.length) storage)))) ++ drop (p.offset + p.length) storage ≡ with_field storage p new
+backwards_is p storage new fits =
+    let end : ℕ = p.offset + p.length in
+    let front : take p.offset (take end storage) ≡ take p.offset storage = front_of p.offset end storage (omega arith) fits in
+    let none : drop p.length (drop p.offset (take end storage)) ≡ [] =
+    ap (drop p.length) (drop-take p.offset p.length storage) ∙ drop_all p.length (take p.length (drop p.offset storage)) (omega (arith, fits, length-take-le p.length (drop p.offset storage) (omega (arith, fits, length-drop p.offset storage)))) in
+    ap (λ t. (t ++ (new ++ drop p.length (drop p.offset (take end storage)))) ++ drop end storage) front
+    ∙ ap (λ t. (take p.offset storage ++ (new ++ t)) ++ drop end storage) none
+    ∙ append_assoc (take p.offset storage) (new ++ []) (drop end storage)
+    ∙ ap (λ t. take p.offset storage ++ (t ++ drop end storage)) (append-nil new)
+    ∙ ap (λ t. take p.offset storage ++ (new ++ t)) (sym (drop-drop p.length p.offset storage))
+
+-- bytes that were taken are all that there are
+pub taken_ends : (p : Place) (bytes storage : List ℕ) → p.offset + p.length ≤ length storage → bytes ≡ field_of p storage → last_bytes p.length bytes ≡ field_of p storage
+taken_ends p bytes storage fits same = ap (λ n. last_bytes n bytes) (sym (as_long p storage fits) ∙ sym (ap length same)) ∙ (all_bytes bytes ∙ same)
+
+-- ---- wherever both stand
 
 -- between these kinds, of so many bytes
 abbrev pub between : Kind → Kind → ℕ → ℕ → MoveKinds
@@ -95,14 +142,23 @@ got_characters steps from to right bytes n o reading gives has gets h =
     got_all steps from to (Characters (record { sent = length bytes; right = right })) bytes n o reading (characters_of steps from to right (length bytes) n gives has gets) h
 
 -- the receiver got what the sender had where both stand
-pub there_moved : (r : Records) (x : Reading) (one : LocatedMove) (p : MovePlaces) (input before new after : List ℕ) → StandAt Out r one input before p
-    → Received (sent.Entry (operand_in r.output one.sent).kind (field_of p.from before) x) (operand_in r.output one.receiver).kind p.to.length (Some new) → after ≡ with_field before p.to new
-    → IsMoved r (copied_move Out x r one.sent one.receiver) input before (done after)
-there_moved r x one p input before new after stand received written =
-    subst (λ (b : List ℕ). IsMoved r (copied_move Out x r one.sent one.receiver) input before (done b)) (sym written) (located_ends Out r x one p input before (Some new) stand received)
+pub there_moved : (side : Side) (r : Records) (x : Reading) (one : LocatedMove) (p : MovePlaces) (input before bytes after : List ℕ) → StandAt side r one input before p
+    → Received (sent.Entry (operand_in (record_of r side) one.sent).kind (field_of p.from (storage_of side input before)) x) (operand_in r.output one.receiver).kind p.to.length (Some bytes)
+    → after ≡ with_field before p.to bytes → IsMoved r (copied_move side x r one.sent one.receiver) input before (done after)
+there_moved side r x one p input before bytes after stand received written =
+    subst (λ (b : List ℕ). IsMoved r (copied_move side x r one.sent one.receiver) input before (done b)) (sym written) (located_ends side r x one p input before (Some bytes) stand received)
 
-pub there_has_spent : (r : Records) (x : Reading) (one : LocatedMove) (p : MovePlaces) (input before bytes after : List ℕ) (old mid new : Survey) → StandAt Out r one input before p
-    → Received (sent.Entry (operand_in r.output one.sent).kind (field_of p.from before) x) (operand_in r.output one.receiver).kind p.to.length (Some bytes) → after ≡ with_field before p.to bytes
-    → IsSpent r.output 0 old mid → PlaceSpends r.output before p.to mid new → HaveSpent r (copied_move Out x r one.sent one.receiver ∷ []) input before after old new
-there_has_spent r x one p input before bytes after old mid new stand received written first (met, meets, then) =
-    (met, located_met Out r x one p input before after (Some bytes) met stand received (ap done written) meets, spent_behind r.output met old mid new first then)
+pub there_has_spent : (side : Side) (r : Records) (x : Reading) (one : LocatedMove) (p : MovePlaces) (input before bytes after : List ℕ) (old mid new : Survey) → StandAt side r one input before p
+    → Received (sent.Entry (operand_in (record_of r side) one.sent).kind (field_of p.from (storage_of side input before)) x) (operand_in r.output one.receiver).kind p.to.length (Some bytes)
+    → after ≡ with_field before p.to bytes → IsSpent r.output 0 old mid → PlaceSpends r.output before p.to mid new → HaveSpent r (copied_move side x r one.sent one.receiver ∷ []) input before after old new
+there_has_spent side r x one p input before bytes after old mid new stand received written first (met, meets, then) =
+    (met, located_met side r x one p input before after (Some bytes) met stand received (ap done written) meets, spent_behind r.output met old mid new first then)
+
+-- what was received of such kinds
+pub received_as : (s t k l : Kind) (x : Reading) (sent_bytes field : List ℕ) (n m : ℕ) (b : Bool) (new : List ℕ) → s ≡ k → t ≡ l → sent_bytes ≡ field → n ≡ m → b ≡ true
+    → Received (sent.Entry s sent_bytes x) t n (outcome b new) → Received (sent.Entry k field x) l m (Some new)
+received_as s t k l x sent_bytes field n m b new from to same size yes h =
+    subst (λ (y : Kind). Received (sent.Entry y field x) l m (Some new)) from
+    (subst (λ (y : Kind). Received (sent.Entry s field x) y m (Some new)) to
+    (subst (λ (ys : List ℕ). Received (sent.Entry s ys x) t m (Some new)) same
+    (subst (λ (i : ℕ). Received (sent.Entry s sent_bytes x) t i (Some new)) size (subst (λ (c : Bool). Received (sent.Entry s sent_bytes x) t n (outcome c new)) yes h))))

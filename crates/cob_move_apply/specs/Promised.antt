@@ -13,7 +13,7 @@ use Rattle.cob_move_apply.specs.Applied.{Applied, Ending, IsMoved}
 use Rattle.cob_move_apply.specs.Going.{IsBounded, Left, SpentSteps}
 use Rattle.cob_move_apply.specs.Seen.{entry_sent, operand_of, receivers_in}
 use Rattle.cob_move_apply.specs.Spent.{HaveSpent, IsSpent, MovesSpend}
-use Rattle.cob_move_apply.specs.Steps.{CarriesLocated, IsLocatedConstant, IsLocatedMove, IsMoveOfPart, IsPicturedPart, IsPreparedMove, IsStep, StandFor, WritesAnywhere, constant_move, copied_move, support_of}
+use Rattle.cob_move_apply.specs.Steps.{IsLocatedConstant, IsLocatedMove, IsMoveOfPart, IsPicturedPart, IsPreparedMove, IsStep, StandFor, WritesAnywhere, constant_move, copied_move, support_of}
 use Rattle.cob_move_apply.specs.Surveyed.{records}
 use Rattle.cob_move_apply.specs.declared.basis.Basis.{Basis}
 use Rattle.cob_move_apply.specs.declared.basis.PlacedOperand.{PlacedOperand}
@@ -90,11 +90,6 @@ LocatedConstantMeans plan number l own = IsLocatedConstant (records l) plan.cons
 -- a step of a plan means these
 abbrev pub StepMeans : List StatementMoves → Plan → Step → Layouts → List Move → Type 0
 StepMeans given plan step l own = IsStep l.reading (records l) given (support_of plan) step own
-
--- what carries out a single move of an entry of the record of a side that was made ready wherever its items stand does so between what these describe
-abbrev pub CarriesBetween : Side → Plan → LocatedMove → Layouts → Type 0
-CarriesBetween side plan one l =
-    CarriesLocated plan.prepared plan.pictured (operand_in (record_of (records l) side) one.sent).kind (operand_in l.output.now one.receiver).kind one.step
 
 -- a plan writes the constant wherever its receiver stands
 abbrev pub WritesConstant : Plan → LocatedConstant → Layouts → PlainValue → Type 0

@@ -136,11 +136,12 @@ CarriesPictured steps sender receiver s = (sent received : ℕ) → Occupies sen
 abbrev pub GivesText : (sender receiver : Kind) → Bool → Type 0
 GivesText sender receiver right = (gives_bytes sender receiver ≡ true) × (right ≡ stands_right sender receiver)
 
--- so does this one, as characters, or whatever the reading or as pictures say
+-- so does this one, as characters, or whatever the reading or as pictures say; the rule of MOVE itself carries out the moves between any
 abbrev pub CarriesLocated : MoveSteps → PicturedSteps → (sender receiver : Kind) → LocatedStep → Type 0
 CarriesLocated steps pictured sender receiver (located_step.Characters right) = GivesText sender receiver right
 CarriesLocated steps pictured sender receiver (located_step.Always s) = CarriesAnywhere steps sender receiver s
 CarriesLocated steps pictured sender receiver (located_step.Pictured s) = CarriesPictured pictured sender receiver s
+CarriesLocated steps pictured sender receiver located_step.Rule = Unit {0}
 
 -- the step carries its moves out where senders are read so
 abbrev pub serves : LocatedStep → Reading → Bool
@@ -148,6 +149,7 @@ serves (located_step.Characters right) reading = true
 serves (located_step.Always s) reading = true
 serves (located_step.Pictured s) Pictured = true
 serves (located_step.Pictured s) Whole = false
+serves located_step.Rule reading = true
 
 -- a move of an entry of the record of a side was made ready so: what is noted of either place is what this may rest on, and the step, one of these, carries the
 -- move out wherever they stand

@@ -60,6 +60,7 @@ mod preparation;
 mod prepared;
 mod ready;
 mod receivers;
+mod rule;
 mod running;
 mod scratch;
 mod senders;

@@ -4,26 +4,27 @@ ghost use Rattle.std.specs.Prelude.{◌≡◌, false, length, true, IfSome, IsTr
 ghost use Rattle.cob_layout.specs.Sound.{IsSound};
 ghost use Rattle.cob_layout.specs.Storage.{greatest_length, IsStorage};
 ghost use Rattle.cob_move_data.specs.declared.operands.Side.TheVariants.{In};
-ghost use Rattle.cob_move_data.specs.Moves.{Move as Meant, operand_in, record_of};
+ghost use Rattle.cob_move_data.specs.Moves.{IsOperand, Move as Meant, operand_in, record_of};
 ghost use Rattle.cob_move_apply.specs.Applied.{IsMoved, done, ending};
 ghost use Rattle.cob_move_apply.specs.Made.{StandAt};
 ghost use Rattle.cob_move_apply.specs.Placed.{IsPlaced};
-ghost use Rattle.cob_move_apply.specs.Promised.{AnyEnd, AnyHaveSpent, AnySpend, CarriesBetween, LocatedMeans, MoveHasSpent, MoveSpends, located_move};
+ghost use Rattle.cob_move_apply.specs.Promised.{AnyEnd, AnyHaveSpent, AnySpend, LocatedMeans, MoveHasSpent, MoveSpends, located_move};
 ghost use Rattle.cob_move_apply.specs.Spent.{IsSpent};
-ghost use Rattle.cob_move_apply.specs.Steps.{serves};
+ghost use Rattle.cob_move_apply.specs.Steps.{IsReadyAnywhere, serves};
 ghost use Rattle.cob_move_apply.specs.Surveyed.{IsWorkspace, records};
 
-use crate::basis::{PlacedReceivers, SentEntry, placed_operand};
+use crate::basis::{PlacedReceivers, SentEntry, entry_kind, placed_operand};
 use crate::layouts::Layouts;
 use crate::pictured::run_pictured;
 use crate::places::{Stored, locate_if_there};
 use crate::prepared::{make_characters, make_prepared};
+use crate::rule::{Kinds, receive_by_rule};
 use crate::senders::move_entry;
 use crate::step::{LocatedMove, LocatedStep, MovePlaces, PicturedMove, Plan};
 use crate::stop::Stop;
 use crate::workspace::Workspace;
 use cob_codec::Reading;
-use cob_layout::places_lie_in_storage;
+use cob_layout::{field, places_lie_in_storage};
 use cob_move_data::Side;
 use cob_move_steps::CharactersStep;
 use std::slice;
@@ -40,6 +41,7 @@ pub(crate) fn serves(step: LocatedStep, reading: Reading) -> bool
             Reading::Pictured => true,
             Reading::Whole => false,
         },
+        LocatedStep::Rule => true,
     }
 }
 
@@ -88,6 +90,48 @@ fn both_places(
     Some(MovePlaces { from, to })
 }
 
+/// Carries out a move between the places where its sender and its receiver stand by the rule of MOVE. False where a value of the sender is missing: all is as it was
+/// then.
+#[inline(always)]
+fn run_by_rule(
+    one: &LocatedMove,
+    places: &MovePlaces,
+    layouts: &Layouts<'_>,
+    input: &[u8],
+    output: &mut [u8],
+    space: &mut Workspace,
+) -> bool
+    requires in_sound { IsSound layouts.now.input.now }
+    requires out_sound { IsSound layouts.now.output.now }
+    requires sends { IsOperand layouts.now.input.now
+        (operand_in layouts.now.input.now one.now.sent) }
+    requires receives { IsOperand layouts.now.output.now
+        (operand_in layouts.now.output.now one.now.receiver) }
+    requires stand { StandAt In (records layouts.now) one.now input.now output.old places.now }
+    requires output { length output.old ≡ greatest_length layouts.now.output.now }
+    requires space { IsWorkspace (records layouts.now) input.now output.old space.old }
+    ensures moved { IsTrue result → IsMoved (records layouts.now)
+        (located_move In layouts.now one.now) input.now output.old (done output.new) }
+    ensures space { IsWorkspace (records layouts.now) input.now output.new space.new }
+    ensures spends { IsTrue result → MoveHasSpent layouts.now
+        (located_move In layouts.now one.now) input.now output.old output.new space.old
+        space.new }
+    ensures same { result ≡ false → (output.new ≡ output.old) × (space.new ≡ space.old) }
+{
+    let sender = entry_kind(layouts.input, &one.sent);
+    let receiver = entry_kind(layouts.output, &one.receiver);
+    let kinds = Kinds { sender, receiver };
+    let start = places.to.offset as usize;
+    let end = start + places.to.length as usize;
+    let sent = field(input, places.from);
+    if receive_by_rule(kinds, layouts.reading, sent, &mut output[start..end]) {
+        space.output.change_output(layouts, places.to);
+        true
+    } else {
+        false
+    }
+}
+
 /// Carries out a move between the places where its sender and its receiver stand. False where a value of the sender is missing: all is as it was then.
 #[inline(always)]
 fn run_between(
@@ -99,7 +143,10 @@ fn run_between(
     output: &mut [u8],
     space: &mut Workspace,
 ) -> bool
-    requires carries { CarriesBetween In plan.now one.now layouts.now }
+    requires in_sound { IsSound layouts.now.input.now }
+    requires out_sound { IsSound layouts.now.output.now }
+    requires ready { IsReadyAnywhere In (records layouts.now) plan.now.prepared plan.now.pictured
+        one.now }
     requires serves { serves one.now.step layouts.now.reading ≡ true }
     requires stand { StandAt In (records layouts.now) one.now input.now output.old places.now }
     requires output { length output.old ≡ greatest_length layouts.now.output.now }
@@ -136,6 +183,7 @@ fn run_between(
                 Err(_) => false,
             }
         }
+        LocatedStep::Rule => run_by_rule(one, places, layouts, input, output, space),
     }
 }
 

@@ -11,16 +11,16 @@ ghost use Rattle.cob_move_receive.specs.Sent.{Entry, Occupies};
 ghost use Rattle.cob_move_apply.specs.Applied.{IsMoved, done, ending};
 ghost use Rattle.cob_move_apply.specs.Made.{StandAt};
 ghost use Rattle.cob_move_apply.specs.Placed.{IsPlaced};
-ghost use Rattle.cob_move_apply.specs.Promised.{AnyEnd, AnyHaveSpent, AnySpend, CarriesBetween, LocatedWithinMeans, MoveHasSpent, located_move};
+ghost use Rattle.cob_move_apply.specs.Promised.{AnyEnd, AnyHaveSpent, AnySpend, LocatedWithinMeans, MoveHasSpent, located_move};
 ghost use Rattle.cob_move_apply.specs.Spent.{IsSpent};
-ghost use Rattle.cob_move_apply.specs.Steps.{CarriesLocated, serves};
+ghost use Rattle.cob_move_apply.specs.Steps.{CarriesLocated, IsReadyAnywhere, serves};
 ghost use Rattle.cob_move_apply.specs.Surveyed.{IsWorkspace, records};
-ghost use Rattle.cob_copybook_tree.specs.declared.node.Kind.{Kind};
 
-use crate::basis::placed_operand;
+use crate::basis::{entry_kind, placed_operand};
 use crate::layouts::Layouts;
 use crate::located::{move_unready, serves};
 use crate::places::{Stored, locate_if_there};
+use crate::rule::{Kinds, receive_by_rule};
 use crate::senders::copy_field;
 use crate::step::{LocatedMove, LocatedStep, MovePlaces, Plan};
 use crate::stop::Stop;
@@ -72,19 +72,18 @@ fn both_within(
 fn run_between_bytes(
     plan: &Plan,
     step: LocatedStep,
+    kinds: Kinds<'_>,
     reading: Reading,
     from: &[u8],
     to: &mut [u8],
 ) -> bool
-    requires sent { (sender receiver : Kind) × CarriesLocated plan.now.prepared plan.now.pictured
-        sender receiver step × Occupies sender (length from.now)
-        × Occupies receiver (length to.old) }
+    requires carries { CarriesLocated plan.now.prepared plan.now.pictured kinds.sender.now
+        kinds.receiver.now step }
     requires serves { serves step reading ≡ true }
-    ensures gets { (sender receiver : Kind) → CarriesLocated plan.now.prepared plan.now.pictured
-        sender receiver step → Occupies sender (length from.now)
-        → Occupies receiver (length to.old)
-        → Received (Entry sender from.now reading) receiver (length to.old)
-        (outcome result to.new) }
+    requires sent { Occupies kinds.sender.now (length from.now) }
+    requires received { Occupies kinds.receiver.now (length to.old) }
+    ensures gets { Received (Entry kinds.sender.now from.now reading) kinds.receiver.now
+        (length to.old) (outcome result to.new) }
     ensures same { result ≡ false → to.new ≡ to.old }
 {
     match step {
@@ -96,6 +95,7 @@ fn run_between_bytes(
         }
         LocatedStep::Always(step) => plan.prepared.run(step, from, to),
         LocatedStep::Pictured(step) => plan.pictured.run(step, from, to),
+        LocatedStep::Rule => receive_by_rule(kinds, reading, from, to),
     }
 }
 
@@ -111,7 +111,9 @@ fn run_there(
     output: &mut [u8],
     space: &mut Workspace,
 ) -> bool
-    requires carries { CarriesBetween Out plan.now one.now layouts.now }
+    requires sound { IsSound layouts.now.output.now }
+    requires ready { IsReadyAnywhere Out (records layouts.now) plan.now.prepared plan.now.pictured
+        one.now }
     requires serves { serves one.now.step layouts.now.reading ≡ true }
     requires stand { StandAt Out (records layouts.now) one.now input.now output.old places.now }
     requires output { length output.old ≡ greatest_length layouts.now.output.now }
@@ -125,13 +127,16 @@ fn run_there(
     ensures same { result ≡ false → (output.new ≡ output.old)
         × IsSpent layouts.now.output.now 0 space.old.output space.new.output }
 {
+    let sender = entry_kind(layouts.output, &one.sent);
+    let receiver = entry_kind(layouts.output, &one.receiver);
+    let kinds = Kinds { sender, receiver };
     copy_field(places.from, output, space.content.as_mut_slice());
     let sent = places.from.length as usize;
     let start = places.to.offset as usize;
     let end = start + places.to.length as usize;
     let taken = &space.content.as_slice()[..sent];
-    let receiver = &mut output[start..end];
-    if run_between_bytes(plan, one.step, layouts.reading, taken, receiver) {
+    let to = &mut output[start..end];
+    if run_between_bytes(plan, one.step, kinds, layouts.reading, taken, to) {
         space.output.change_output(layouts, places.to);
         true
     } else {

@@ -220,7 +220,7 @@ pub(crate) fn prepared_of(
 }
 
 /// The step that carries out the moves of an entry to another wherever they stand, as characters, whatever the reading or where senders are read as their
-/// pictures say; None where nothing carries such moves out.
+/// pictures say; where no step was made for such moves, the rule of MOVE itself does.
 ///
 /// # Errors
 ///
@@ -230,36 +230,35 @@ fn located_step(
     receives: &Kind,
     prepared: &mut MoveSteps,
     pictured: &mut PicturedSteps,
-) -> Result<Option<LocatedStep>, AllocError>
+) -> Result<LocatedStep, AllocError>
     requires sends { IsStorableKind sends.now }
     requires receives { IsStorableKind receives.now }
-    ensures step { IfOk result (λ found. IfSome found
-        (CarriesLocated prepared.new pictured.new sends.now receives.now)) }
+    ensures step { IfOk result
+        (CarriesLocated prepared.new pictured.new sends.now receives.now) }
     ensures prepared { KeepsSteps prepared.old prepared.new }
     ensures pictured { KeepsPictured pictured.old pictured.new }
 {
     if let Some(step) = CharactersStep::prepare(sends, 0, receives) {
-        return Ok(Some(LocatedStep::Characters(step.right)));
+        return Ok(LocatedStep::Characters(step.right));
     }
     let Kind::Item(from) = sends else {
-        return Ok(None);
+        return Ok(LocatedStep::Rule);
     };
     let Kind::Item(to) = receives else {
-        return Ok(None);
+        return Ok(LocatedStep::Rule);
     };
     let sent = u32::from(from.size());
     let received = u32::from(to.size());
     if let Some(step) = prepared.prepare(sends, sent, receives, received)? {
-        return Ok(Some(LocatedStep::Always(step)));
+        return Ok(LocatedStep::Always(step));
     }
     match pictured.prepare(sends, sent, receives, received)? {
-        Some(step) => Ok(Some(LocatedStep::Pictured(step))),
-        None => Ok(None),
+        Some(step) => Ok(LocatedStep::Pictured(step)),
+        None => Ok(LocatedStep::Rule),
     }
 }
 
-/// The single move of an entry of the record of a side to one of the output record, made ready wherever they stand; None where nothing carries such moves
-/// out.
+/// The single move of an entry of the record of a side to one of the output record, made ready wherever they stand.
 ///
 /// # Errors
 ///
@@ -271,14 +270,13 @@ fn located_entry(
     both: &Between<'_>,
     prepared: &mut MoveSteps,
     pictured: &mut PicturedSteps,
-) -> Result<Option<LocatedMove>, AllocError>
+) -> Result<LocatedMove, AllocError>
     requires sent { IsOperand (record_of (records_between both.now) side)
         (operand_in (record_of (records_between both.now) side) sent.now) }
     requires receiver { IsOperand both.now.output.now
         (operand_in both.now.output.now receiver.now) }
-    ensures step { IfOk result (λ found. IfSome found
-        (IsLocatedBetween side both.now prepared.new pictured.new
-        (entry_alone side both.now sent.now receiver.now))) }
+    ensures step { IfOk result (IsLocatedBetween side both.now prepared.new pictured.new
+        (entry_alone side both.now sent.now receiver.now)) }
     ensures prepared { KeepsSteps prepared.old prepared.new }
     ensures pictured { KeepsPictured pictured.old pictured.new }
 {
@@ -288,19 +286,17 @@ fn located_entry(
     let _ = both.output.greatest();
     let sends = entry_kind(sending, sent);
     let receives = entry_kind(both.output, receiver);
-    match located_step(sends, receives, prepared, pictured)? {
-        Some(step) => Ok(Some(LocatedMove {
-            sent: same_entry(sent),
-            from: basis_of(sending, sent, false),
-            receiver: same_entry(receiver),
-            to: basis_of(both.output, receiver, true),
-            step,
-        })),
-        None => Ok(None),
-    }
+    let step = located_step(sends, receives, prepared, pictured)?;
+    Ok(LocatedMove {
+        sent: same_entry(sent),
+        from: basis_of(sending, sent, false),
+        receiver: same_entry(receiver),
+        to: basis_of(both.output, receiver, true),
+        step,
+    })
 }
 
-/// A single move, made ready wherever its operands stand; None where nothing carries it out.
+/// A single move of an entry of the input record, made ready wherever its operands stand; None where it is no such move.
 ///
 /// # Errors
 ///
@@ -323,7 +319,10 @@ pub(crate) fn located_of(
 {
     match given {
         Sender::Entry { side, entry } => match *side {
-            Side::In => located_entry(Side::In, entry, receiver, both, prepared, pictured),
+            Side::In => {
+                let one = located_entry(Side::In, entry, receiver, both, prepared, pictured)?;
+                Ok(Some(one))
+            }
             Side::Out => Ok(None),
         },
         Sender::Constant(_) => Ok(None),
@@ -461,8 +460,7 @@ pub(crate) fn located_constant_of(
     }
 }
 
-/// The single move of an entry of the output record to another, made ready: at their fixed places, or wherever they stand; nothing where nothing carries such
-/// moves out.
+/// The single move of an entry of the output record to another, made ready: at their fixed places, or wherever they stand.
 ///
 /// # Errors
 ///
@@ -486,13 +484,11 @@ fn within_entry(
     if let Some(one) = prepared_entry(Side::Out, sent, receiver, both, prepared)? {
         return Ok(Ready::Within(one));
     }
-    match located_entry(Side::Out, sent, receiver, both, prepared, pictured)? {
-        Some(one) => Ok(Ready::LocatedWithin(one)),
-        None => Ok(Ready::Nothing),
-    }
+    let one = located_entry(Side::Out, sent, receiver, both, prepared, pictured)?;
+    Ok(Ready::LocatedWithin(one))
 }
 
-/// A single move within the output record, made ready; nothing where it is no such move, or nothing carries it out.
+/// A single move within the output record, made ready; nothing where it is no such move.
 ///
 /// # Errors
 ///

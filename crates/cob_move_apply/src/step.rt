@@ -90,6 +90,8 @@ pub(crate) enum LocatedStep {
     Always(MoveStep),
     /// Where senders are read as their pictures say.
     Pictured(PicturedStep),
+    /// The rule of MOVE itself: what sender and receiver describe is looked at as the move is carried out.
+    Rule,
 }
 
 /// A single move of an entry of one of the records to one of the output record, made ready wherever these stand. An item has as many bytes everywhere; a

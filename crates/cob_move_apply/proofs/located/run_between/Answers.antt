@@ -16,7 +16,7 @@ make_characters-requires-clause-step c =
     let p = c.args.places.now in
     let from = (operand_in r.input one.sent).kind in
     let to = (operand_in r.output one.receiver).kind in
-    let carries = carries_as c.args.plan.now.prepared c.args.plan.now.pictured from to one.step (Characters c.in-Characters.right) c.in-Characters.is c.requires.carries in
+    let carries = carries_as c.args.plan.now.prepared c.args.plan.now.pictured from to one.step (Characters c.in-Characters.right) c.in-Characters.is c.requires.ready.carries in
     (kinds_of from to p.from p.to, characters_there In r c.args.plan.now.prepared one c.in-Characters.right p c.args.input.now c.args.output.now c.requires.stand carries, record { sent = refl; received = refl })
 
 pub returns-in-Characters-clause-moved : goal.returns-in-Characters-clause-moved
@@ -25,7 +25,7 @@ returns-in-Characters-clause-moved c = λ yes.
     let one = c.args.one.now in
     let from = (operand_in r.input one.sent).kind in
     let to = (operand_in r.output one.receiver).kind in
-    let carries = carries_as c.args.plan.now.prepared c.args.plan.now.pictured from to one.step (Characters c.in-Characters.right) c.in-Characters.is c.requires.carries in
+    let carries = carries_as c.args.plan.now.prepared c.args.plan.now.pictured from to one.step (Characters c.in-Characters.right) c.in-Characters.is c.requires.ready.carries in
     made_characters In r c.args.layouts.now.reading c.args.plan.now.prepared one c.in-Characters.right c.args.places.now c.args.input.now c.args.output.now
     (done c.make_characters.new.output) c.requires.stand carries c.make_characters.ensures.made
 
@@ -35,7 +35,7 @@ returns-in-Characters-clause-spends c = λ yes before spent.
     let one = c.args.one.now in
     let from = (operand_in r.input one.sent).kind in
     let to = (operand_in r.output one.receiver).kind in
-    let carries = carries_as c.args.plan.now.prepared c.args.plan.now.pictured from to one.step (Characters c.in-Characters.right) c.in-Characters.is c.requires.carries in
+    let carries = carries_as c.args.plan.now.prepared c.args.plan.now.pictured from to one.step (Characters c.in-Characters.right) c.in-Characters.is c.requires.ready.carries in
     characters_spend {A = ℕ} In r c.args.layouts.now.reading c.args.plan.now.prepared one c.in-Characters.right c.args.places.now c.args.input.now c.args.output.now
     (Ok 0) c.make_characters.new.output before _ _ c.requires.stand carries c.make_characters.ensures.made spent c.make_characters.ensures.spends
 
@@ -45,7 +45,7 @@ returns-in-Ok-clause-moved c = λ yes.
     let one = c.args.one.now in
     let from = (operand_in r.input one.sent).kind in
     let to = (operand_in r.output one.receiver).kind in
-    let carries = carries_as c.args.plan.now.prepared c.args.plan.now.pictured from to one.step (Always c.in-Always.step) c.in-Always.is c.requires.carries in
+    let carries = carries_as c.args.plan.now.prepared c.args.plan.now.pictured from to one.step (Always c.in-Always.step) c.in-Always.is c.requires.ready.carries in
     made_always In r c.args.layouts.now.reading c.args.plan.now.prepared one c.in-Always.step c.args.places.now c.args.input.now c.args.output.now
     (done c.make_prepared.new.output) c.requires.stand carries c.in-Ok.ensures.made
 
@@ -55,7 +55,7 @@ returns-in-Ok-clause-spends c = λ yes before spent.
     let one = c.args.one.now in
     let from = (operand_in r.input one.sent).kind in
     let to = (operand_in r.output one.receiver).kind in
-    let carries = carries_as c.args.plan.now.prepared c.args.plan.now.pictured from to one.step (Always c.in-Always.step) c.in-Always.is c.requires.carries in
+    let carries = carries_as c.args.plan.now.prepared c.args.plan.now.pictured from to one.step (Always c.in-Always.step) c.in-Always.is c.requires.ready.carries in
     always_spends {A = ℕ} In r c.args.layouts.now.reading c.args.plan.now.prepared one c.in-Always.step c.args.places.now c.args.input.now c.args.output.now
     (Ok 0) c.make_prepared.new.output before _ _ c.requires.stand carries c.in-Ok.ensures.made spent c.in-Ok.ensures.spends
 
@@ -65,7 +65,7 @@ returns-in-Ok-run_pictured-clause-moved c = λ yes.
     let one = c.args.one.now in
     let from = (operand_in r.input one.sent).kind in
     let to = (operand_in r.output one.receiver).kind in
-    let carries = carries_as c.args.plan.now.prepared c.args.plan.now.pictured from to one.step (Pictured c.in-Pictured.step) c.in-Pictured.is c.requires.carries in
+    let carries = carries_as c.args.plan.now.prepared c.args.plan.now.pictured from to one.step (Pictured c.in-Pictured.step) c.in-Pictured.is c.requires.ready.carries in
     let read = read_by_picture one.step c.in-Pictured.step c.args.layouts.now.reading c.in-Pictured.is c.requires.serves in
     made_by_picture r c.args.layouts.now.reading c.args.plan.now.pictured one c.in-Pictured.step c.args.places.now c.args.input.now c.args.output.now
     (done c.run_pictured.new.output) read c.requires.stand carries c.in-Ok-run_pictured.ensures.made
@@ -76,7 +76,7 @@ returns-in-Ok-run_pictured-clause-spends c = λ yes before spent.
     let one = c.args.one.now in
     let from = (operand_in r.input one.sent).kind in
     let to = (operand_in r.output one.receiver).kind in
-    let carries = carries_as c.args.plan.now.prepared c.args.plan.now.pictured from to one.step (Pictured c.in-Pictured.step) c.in-Pictured.is c.requires.carries in
+    let carries = carries_as c.args.plan.now.prepared c.args.plan.now.pictured from to one.step (Pictured c.in-Pictured.step) c.in-Pictured.is c.requires.ready.carries in
     let read = read_by_picture one.step c.in-Pictured.step c.args.layouts.now.reading c.in-Pictured.is c.requires.serves in
     pictured_spends {A = ℕ} r c.args.layouts.now.reading c.args.plan.now.pictured one c.in-Pictured.step c.args.places.now c.args.input.now c.args.output.now
     (Ok 0) c.run_pictured.new.output before _ _ read c.requires.stand carries c.in-Ok-run_pictured.ensures.made spent c.in-Ok-run_pictured.ensures.spends
