@@ -5,10 +5,9 @@ use Rattle.cob_source.specs.declared.token.Token.{Token}
 use Rattle.cob_source.specs.Tokens.{Lexeme, lexeme, lexemes}
 use Rattle.cob_copybook_clauses.specs.declared.term.WordClass.{WordClass}
 use Rattle.cob_copybook_clauses.specs.declared.term.WordClass.TheVariants as term
-use Rattle.cob_copybook_entry.specs.declared.kinds.Usage.{Usage}
 use Rattle.cob_copybook_clauses.specs.Terms.{word_class}
 use Rattle.cob_copybook_clauses.specs.Written.{WrittenClauses, WrittenEntry}
-use Rattle.cob_copybook_clauses.specs.Clauses.{usage_of, leading_of, Clause, Redefines, Picture, Stored, Signed, Occurs, Value, Justified, Blank, SaysClause}
+use Rattle.cob_copybook_clauses.specs.Clauses.{leading_of, Clause, Redefines, Picture, Stored, Signed, Occurs, Value, Justified, Blank, SaysClause}
 use Rattle.cob_copybook_clauses.specs.Entries.{IsAbsent, put, SaysClauses, End, Then, starts_clause}
 use Rattle.cob_copybook_clauses.specs.Reading.{ClauseFirst, Stands}
 
@@ -24,10 +23,6 @@ begins words f = record { found = λ g s. s; only = λ g s. s }
 abbrev pub Only : List Lexeme → Clause → List Lexeme → Type 0
 Only rest c more = (d : Clause) (ws after : List Lexeme) → SaysClause d ws → ClauseFirst after → rest ≡ ws ++ after → (c ≡ d) × (more ≡ after)
 
-usage_starts : (t : WordClass) (u : Usage) → usage_of t ≡ Some u → starts_clause t ≡ true
-usage_starts (term.UsageName v) u e = refl
-usage_starts _ u e = absurd cc
-
 leading_starts : (t : WordClass) (b : Bool) → leading_of t ≡ Some b → starts_clause t ≡ true
 leading_starts term.Leading b e = refl
 leading_starts term.Trailing b e = refl
@@ -39,7 +34,7 @@ begun k w t e is st = ap (λ (x : Lexeme). starts_clause (word_class x)) (sym e)
 pub clause_starts : (c : Clause) (ws more rest : List Lexeme) (w : Lexeme) → SaysClause c ws → ws ++ more ≡ w ∷ rest → starts_clause (word_class w) ≡ true
 clause_starts (Redefines n) ws more rest w (k, x, ik, n1, s) e = let same : k ≡ w = cc in begun k w _ same ik refl
 clause_starts (Picture p) ws more rest w (k, is, x, ik, n1, n2, n3, s) e = let same : k ≡ w = cc in begun k w _ same ik refl
-clause_starts (Stored v) ws more rest w ([], x, p, ix, s) e = let same : x ≡ w = cc in begun x w _ same refl (usage_starts (word_class x) v ix)
+clause_starts (Stored v) ws more rest w ([], x, p, ix, s) e = let same : x ≡ w = cc in begun x w _ same ix.is refl
 clause_starts (Stored v) ws more rest w (k ∷ is, x, p, ix, s) e = let same : k ≡ w = cc in begun k w _ same p.0 refl
 clause_starts (Signed v) ws more rest w ([], x, sep, p, ix, n1, s) e = let same : x ≡ w = cc in begun x w _ same refl (leading_starts (word_class x) v.leading ix)
 clause_starts (Signed v) ws more rest w (k ∷ is, x, sep, p, ix, n1, s) e = let same : k ≡ w = cc in begun k w _ same p.0 refl

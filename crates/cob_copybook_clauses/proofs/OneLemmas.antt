@@ -8,11 +8,13 @@ use Rattle.cob_copybook_clauses.specs.declared.term.WordClass.{WordClass}
 use Rattle.cob_copybook_clauses.specs.declared.term.WordClass.TheVariants as term
 use Rattle.cob_copybook_clauses.specs.declared.clause.ClauseKind.TheVariants as clause_kind
 use Rattle.cob_copybook_entry.specs.declared.kinds.Usage.{Usage}
+use Rattle.cob_copybook_entry.specs.declared.kinds.UsageWord.TheVariants.{Names}
+use Rattle.cob_copybook_entry.specs.Kinds.{usage_word}
 use Rattle.cob_copybook_entry.specs.declared.kinds.Sign.{Sign}
 use Rattle.cob_copybook_entry.specs.declared.kinds.Figurative.{Figurative}
 use Rattle.cob_copybook_clauses.specs.Terms.{word_class, term_of_kind}
 use Rattle.cob_copybook_clauses.specs.Written.{WrittenValue, Word, Quoted, Figure, Repeated, WrittenName, WrittenOccurs, WrittenClauses, names_behind}
-use Rattle.cob_copybook_clauses.specs.Clauses.{IsOptionalWord, IsOrAre, IsWord, IsFree, IsNameWord, AreNames, AreQualifiers, IsPrefix, IsSeparatePhrase, AreKeys, Indexes, Keyed, IsLeast, IsDependingOn, IsVaried, IsTable, IsConstant, usage_of, leading_of, figurative_of, Clause, Redefines, Picture, Stored, Signed, Occurs, Value, Justified, Blank, SaysClause}
+use Rattle.cob_copybook_clauses.specs.Clauses.{IsOptionalWord, IsOrAre, IsWord, IsFree, IsNameWord, AreNames, AreQualifiers, IsPrefix, IsSeparatePhrase, AreKeys, Indexes, Keyed, IsLeast, IsDependingOn, IsVaried, IsTable, IsConstant, IsUsageWord, leading_of, figurative_of, Clause, Redefines, Picture, Stored, Signed, Occurs, Value, Justified, Blank, SaysClause}
 use Rattle.cob_copybook_clauses.specs.Entries.{starts_clause, NamesEntry, SaysClauses, End, Then, bare, put}
 use Rattle.cob_copybook_clauses.specs.Laws.{OneEntry}
 use Rattle.cob_copybook_clauses.specs.Reading.{NotFirstWord, ClauseFirst, kind_at, clause_kind_of}
@@ -237,10 +239,6 @@ constant_cut c d n m a b p q e =
     (ap (λ (r : WrittenValue × List Lexeme). r.0) pair, ap (λ (r : WrittenValue × List Lexeme). r.1) pair)
 
 -- the first word of a clause says of which kind it is
-usage_kind : (t : WordClass) (u : Usage) → usage_of t ≡ Some u → kind_at t ≡ Some clause_kind.Usage
-usage_kind (term.UsageName v) u e = refl
-usage_kind _ u e = absurd cc
-
 leading_kind : (t : WordClass) (b : Bool) → leading_of t ≡ Some b → kind_at t ≡ Some clause_kind.Sign
 leading_kind term.Leading b e = refl
 leading_kind term.Trailing b e = refl
@@ -252,7 +250,7 @@ HasHead c n = (w : Lexeme) × (tail : List Lexeme) × (n ≡ w ∷ tail) × (kin
 head_kind : (c : Clause) (n : List Lexeme) → SaysClause c n → HasHead c n
 head_kind (Redefines x) n (k, w, ik, i, s) = (k, w ∷ [], s, ap kind_at ik)
 head_kind (Picture x) n (k, is, w, ik, i, j, l, s) = (k, is ++ w ∷ [], s, ap kind_at ik)
-head_kind (Stored u) n ([], w, p, iu, s) = (w, [], s, usage_kind (word_class w) u iu)
+head_kind (Stored u) n ([], w, p, iu, s) = (w, [], s, ap kind_at iu.is)
 head_kind (Stored u) n (k ∷ is, w, p, iu, s) = (k, is ++ w ∷ [], s, ap kind_at p.0)
 head_kind (Signed x) n ([], w, sep, p, il, i, s) = (w, sep, s, leading_kind (word_class w) x.leading il)
 head_kind (Signed x) n (k ∷ is, w, sep, p, il, i, s) = (k, is ++ w ∷ sep, s, ap kind_at p.0)
@@ -299,8 +297,8 @@ some_one x y e = ap (λ o. unwrap_or o x) e
 no_prefix : (t s : WordClass) (w : Lexeme) → word_class w ≡ s → (s ≡ t → ⊥) → word_class w ≢ t
 no_prefix t s w p not h = not (sym p ∙ h)
 
-usage_not : (t : WordClass) (w : Lexeme) (u : Usage) → usage_of (word_class w) ≡ Some u → usage_of t ≡ None → word_class w ≢ t
-usage_not t w u p none h = let both : Some u ≡ None = sym p ∙ ap usage_of h ∙ none in cc
+same_usage : (x y : Usage) (w v : Lexeme) → IsUsageWord x w → IsUsageWord y v → w ≡ v → x ≡ y
+same_usage x y w v p q e = let both : Some (Names x) ≡ Some (Names y) = sym p.named ∙ ap (λ (z : Lexeme). usage_word z.text) e ∙ q.named in cc
 
 leading_not : (t : WordClass) (w : Lexeme) (x : Bool) → leading_of (word_class w) ≡ Some x → leading_of t ≡ None → word_class w ≢ t
 leading_not t w x p none h = let both : Some x ≡ None = sym p ∙ ap leading_of h ∙ none in cc
@@ -308,10 +306,10 @@ leading_not t w x p none h = let both : Some x ≡ None = sym p ∙ ap leading_o
 usage_cut : (x y : Usage) (n m a b : List Lexeme) → SaysClause (Stored x) n → SaysClause (Stored y) m → n ++ a ≡ m ++ b → Cut (Stored x) (Stored y) a b
 usage_cut x y n m a b (f, w, i, p, s) (g, v, l, q, t) e =
     let it : f ++ w ∷ a ≡ g ++ v ∷ b = sym (append_assoc f (w ∷ []) a) ∙ sym (ap (λ t. t ++ a) s) ∙ e ∙ ap (λ s. s ++ b) t ∙ append_assoc g (v ∷ []) b in
-    let other = prefix_cut term.Usage f g (w ∷ a) (v ∷ b) i l (usage_not term.Usage w x p refl) (usage_not term.Is w x p refl) (usage_not term.Usage v y q refl) (usage_not term.Is v y q refl) it in
+    let other = prefix_cut term.Usage f g (w ∷ a) (v ∷ b) i l (no_prefix term.Usage term.UsageName w p.is (λ h. cc)) (no_prefix term.Is term.UsageName w p.is (λ h. cc)) (no_prefix term.Usage term.UsageName v q.is (λ h. cc)) (no_prefix term.Is term.UsageName v q.is (λ h. cc)) it in
     let same : w ≡ v = cc in
     let tail : a ≡ b = cc in
-    (ap Stored (some_one x y (sym p ∙ ap (λ (z : Lexeme). usage_of (word_class z)) same ∙ q)), tail)
+    (ap Stored (same_usage x y w v p q same), tail)
 
 sign_cut : (x y : Sign) (n m a b : List Lexeme) → SaysClause (Signed x) n → SaysClause (Signed y) m → ClauseFirst a → ClauseFirst b → n ++ a ≡ m ++ b → Cut (Signed x) (Signed y) a b
 sign_cut x y n m a b (f, w, sep, i, p, c, s) (g, v, pes, l, q, d, t) first tsrif e =

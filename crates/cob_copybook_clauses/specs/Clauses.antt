@@ -6,7 +6,8 @@ use Rattle.cob_source.specs.declared.token.Kind.TheVariants as kind
 use Rattle.cob_copybook_clauses.specs.declared.term.WordClass.{WordClass}
 use Rattle.cob_copybook_clauses.specs.declared.term.WordClass.TheVariants as term
 use Rattle.cob_copybook_entry.specs.declared.kinds.Usage.{Usage}
-use Rattle.cob_copybook_entry.specs.declared.kinds.Usage.TheVariants as usage
+use Rattle.cob_copybook_entry.specs.declared.kinds.UsageWord.TheVariants.{Names}
+use Rattle.cob_copybook_entry.specs.Kinds.{usage_word}
 use Rattle.cob_copybook_entry.specs.declared.kinds.Sign.{Sign}
 use Rattle.cob_copybook_entry.specs.declared.kinds.Figurative.{Figurative}
 use Rattle.cob_copybook_entry.specs.declared.kinds.Figurative.TheVariants as figurative
@@ -61,10 +62,10 @@ AreQualifiers [] = Unit {0}
 AreQualifiers (w ∷ []) = ⊥
 AreQualifiers (w ∷ n ∷ ws) = (word_class w ≡ term.Of) × IsNameWord n × AreQualifiers ws
 
--- the usage that a word names
-abbrev pub usage_of : WordClass → Option Usage
-usage_of (term.UsageName u) = Some u
-usage_of _ = None
+-- a word that names this usage
+pub record IsUsageWord (u : Usage) (w : Lexeme) : Type 0 where
+  pub is : word_class w ≡ term.UsageName
+  pub named : usage_word w.text ≡ Some (Names u)
 
 -- where the sign stands, by LEADING or TRAILING
 abbrev pub leading_of : WordClass → Option Bool
@@ -158,7 +159,7 @@ IsConstant (Repeated text) ws = (all w : Lexeme) × (word_class all ≡ term.All
 abbrev pub SaysClause : Clause → List Lexeme → Type 0
 SaysClause (Redefines n) ws = (k w : Lexeme) × (word_class k ≡ term.Redefines) × IsWord n w × (ws ≡ k ∷ (w ∷ []))
 SaysClause (Picture p) ws = (k : Lexeme) × (is : List Lexeme) × (w : Lexeme) × (word_class k ≡ term.Picture) × IsOptionalWord term.Is is × IsWord p w × (word_class w ≢ term.Is) × (ws ≡ k ∷ (is ++ w ∷ []))
-SaysClause (Stored u) ws = (before : List Lexeme) × (w : Lexeme) × IsPrefix term.Usage before × (usage_of (word_class w) ≡ Some u) × (ws ≡ before ++ w ∷ [])
+SaysClause (Stored u) ws = (before : List Lexeme) × (w : Lexeme) × IsPrefix term.Usage before × IsUsageWord u w × (ws ≡ before ++ w ∷ [])
 SaysClause (Signed s) ws = (before : List Lexeme) × (w : Lexeme) × (separate : List Lexeme) × IsPrefix term.Sign before × (leading_of (word_class w) ≡ Some s.leading) × IsSeparatePhrase s.separate separate × (ws ≡ before ++ w ∷ separate)
 SaysClause (Occurs t) ws = (k : Lexeme) × (more : List Lexeme) × (word_class k ≡ term.Occurs) × IsTable t more × (ws ≡ k ∷ more)
 SaysClause (Value c) ws = (k : Lexeme) × (is more : List Lexeme) × (word_class k ≡ term.Value) × IsOrAre is × IsConstant c more × (ws ≡ k ∷ (is ++ more))

@@ -46,7 +46,7 @@ abbrev pub starts_clause : WordClass → Bool
 starts_clause term.Redefines = true
 starts_clause term.Picture = true
 starts_clause term.Usage = true
-starts_clause (term.UsageName u) = true
+starts_clause term.UsageName = true
 starts_clause term.Sign = true
 starts_clause term.Leading = true
 starts_clause term.Trailing = true

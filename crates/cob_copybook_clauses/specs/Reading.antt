@@ -44,7 +44,7 @@ abbrev pub kind_at : WordClass → Option ClauseKind
 kind_at term.Redefines = Some clause_kind.Redefines
 kind_at term.Picture = Some clause_kind.Picture
 kind_at term.Usage = Some clause_kind.Usage
-kind_at (term.UsageName u) = Some clause_kind.Usage
+kind_at term.UsageName = Some clause_kind.Usage
 kind_at term.Sign = Some clause_kind.Sign
 kind_at term.Leading = Some clause_kind.Sign
 kind_at term.Trailing = Some clause_kind.Sign

@@ -82,7 +82,7 @@ reserved_of_length n = filter (λ k. length k.text == n) reserved_words
 -- what a word of the USAGE clause is by what it means there; one that names no usage is free
 abbrev pub term_of_usage : Option UsageWord → WordClass
 term_of_usage None = term.Plain
-term_of_usage (Some (usage.Names u)) = term.UsageName u
+term_of_usage (Some (usage.Names u)) = term.UsageName
 term_of_usage (Some usage.LeftOut) = term.LeftOut
 
 -- what a word is

@@ -2,6 +2,7 @@ ghost use Rattle.cob_copybook_clauses.specs.Clauses.{
   Blank,
   Clause,
   IsSeparatePhrase,
+  IsUsageWord,
   Justified,
   Occurs,
   Picture,
@@ -11,11 +12,10 @@ ghost use Rattle.cob_copybook_clauses.specs.Clauses.{
   Stored,
   Value,
   leading_of,
-  usage_of,
 };
 ghost use Rattle.cob_copybook_clauses.specs.Reading.{ClauseFirst, EachCut, ReadsClause, Stands, StandInFront, clause_of, kind_at, clause_kind_of};
 ghost use Rattle.cob_copybook_clauses.specs.Written.{WrittenValue, WrittenOccurs};
-ghost use Rattle.cob_source.specs.Tokens.{Lexeme, lexemes};
+ghost use Rattle.cob_source.specs.Tokens.{Lexeme, lexeme, lexemes};
 ghost use Rattle.std.specs.Prelude.{
   ◌++◌,
   ◌∷◌,
@@ -32,8 +32,8 @@ use crate::constant::constant_at;
 use crate::parts::{OccursClause, ValueClause};
 use crate::table::table_at;
 use crate::term::{WordClass, word_class};
-use crate::words::{behind, other_word_at, skip, skip_is_or_are, skip_prefix, word_at};
-use cob_copybook_entry::{Sign, Usage};
+use crate::words::{behind, is_term, other_word_at, skip, skip_is_or_are, skip_prefix, word_at};
+use cob_copybook_entry::{Sign, Usage, UsageWord, usage_word};
 use cob_source::Token;
 
 /// The kind of a clause.
@@ -69,7 +69,7 @@ pub fn kind_at(term: WordClass) -> Option<ClauseKind>
     match term {
         WordClass::Redefines => Some(ClauseKind::Redefines),
         WordClass::Picture => Some(ClauseKind::Picture),
-        WordClass::Usage | WordClass::UsageName(_) => Some(ClauseKind::Usage),
+        WordClass::Usage | WordClass::UsageName => Some(ClauseKind::Usage),
         WordClass::Sign | WordClass::Leading | WordClass::Trailing => Some(ClauseKind::Sign),
         WordClass::Occurs => Some(ClauseKind::Occurs),
         WordClass::Value => Some(ClauseKind::Value),
@@ -80,11 +80,15 @@ pub fn kind_at(term: WordClass) -> Option<ClauseKind>
 }
 
 /// The usage that a word names.
-fn usage_of(term: WordClass) -> Option<Usage>
-    ensures { result ≡ usage_of term }
+fn usage_of(token: &Token) -> Option<Usage>
+    ensures found { IfSome result (λ u. IsUsageWord u (lexeme token.now)) }
+    ensures only { (u : Usage) → IsUsageWord u (lexeme token.now) → result ≡ Some u }
 {
-    match term {
-        WordClass::UsageName(usage) => Some(usage),
+    if !is_term(token, WordClass::UsageName) {
+        return None;
+    }
+    match usage_word(token.text.as_slice()) {
+        Some(UsageWord::Names(usage)) => Some(usage),
         _ => None,
     }
 }
@@ -129,7 +133,7 @@ fn usage_at(words: &[Token]) -> Option<(WrittenClause<'_>, &[Token])>
     ensures only { (u : Usage) → ReadsClause (Stored u) (lexemes words.now) result }
 {
     let (first, rest) = skip_prefix(words, WordClass::Usage).split_first()?;
-    let usage = usage_of(word_class(first))?;
+    let usage = usage_of(first)?;
     Some((WrittenClause::Usage(usage), rest))
 }
 

@@ -3,7 +3,7 @@ ghost use Rattle.cob_copybook_entry.specs.Kinds.{usage_word};
 ghost use Rattle.cob_copybook_clauses.specs.Terms.{term_by, term_of_usage, term_of_word, word_class, keywords};
 ghost use Rattle.cob_source.specs.Tokens.{lexeme};
 
-use cob_copybook_entry::{Usage, UsageWord, usage_word};
+use cob_copybook_entry::{UsageWord, usage_word};
 use cob_source::{Kind, Token};
 
 /// What a word, a literal or a Stop is to the grammar of entries.
@@ -17,8 +17,8 @@ pub enum WordClass {
     Is,
     /// USAGE.
     Usage,
-    /// A word that names this usage.
-    UsageName(Usage),
+    /// A word that names a usage.
+    UsageName,
     /// SIGN.
     Sign,
     /// LEADING.
@@ -207,7 +207,7 @@ fn term_of_usage(text: &[u8]) -> WordClass
     ensures { result ≡ term_of_usage (usage_word text.now) }
 {
     match usage_word(text) {
-        Some(UsageWord::Names(usage)) => WordClass::UsageName(usage),
+        Some(UsageWord::Names(_)) => WordClass::UsageName,
         Some(UsageWord::LeftOut) => WordClass::LeftOut,
         None => WordClass::Plain,
     }

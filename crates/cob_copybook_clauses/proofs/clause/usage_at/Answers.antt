@@ -1,6 +1,5 @@
 use Rattle.std.proofs.Common.{◌∙◌, ap, refl, sym, [], ◌∷◌, ◌++◌}
 use Rattle.cob_source.specs.Tokens.{lexeme, lexemes}
-use Rattle.cob_copybook_clauses.specs.Clauses.{usage_of}
 use Rattle.cob_copybook_clauses.proofs.ClauseLemmas.{prefix_words}
 use Rattle.cob_copybook_clauses.proofs.clause.usage_at.Goals as goal
 
@@ -9,6 +8,6 @@ returns-clause-found c =
     let (before, pre, e) = c.skip_prefix.ensures.found in
     let w = lexeme c.in_ok-first.first.now in (
       before ++ w ∷ [],
-      (before, w, pre, ap usage_of (sym c.word_class.ensures) ∙ sym c.usage_of.ensures ∙ c.in_ok-usage.was, refl),
+      (before, w, pre, c.in_ok-usage.ensures.found, refl),
       prefix_words w _ before _ _ [] _ e (ap lexemes c.in_ok-first.ensures.cases.0) refl,
     )
