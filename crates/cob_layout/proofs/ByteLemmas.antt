@@ -10,9 +10,9 @@ use Rattle.cob_copybook_tree.specs.declared.node.Kind.TheVariants.{Group, Item a
 use Rattle.cob_copybook_tree.specs.declared.node.ResolvedOccurs.{ResolvedOccurs}
 use Rattle.cob_copybook_tree.specs.declared.node.ResolvedOccurs.TheVariants.{Once, Fixed, Varying}
 use Rattle.cob_copybook_tree.specs.Forests.{Forest, NoEntries, AnEntry, Tree}
-use Rattle.cob_copybook_tree.specs.Nodes.{Resolved, resolved_entry, node, forest, tree_of}
+use Rattle.cob_copybook_tree.specs.Nodes.{Resolved, forest, is_varying, node, resolved_entry, tree_of}
 use Rattle.cob_copybook_tree.specs.Lengths.{greatest_number, length_by_kind, own_length, sum_of, whole_length}
-use Rattle.cob_copybook_rules.specs.Areas.{AreAreas, MayFollow, is_varying}
+use Rattle.cob_copybook_rules.specs.Areas.{AreAreas, MayFollow}
 use Rattle.cob_layout_places.specs.declared.varying.Table.{Table}
 use Rattle.cob_layout_places.specs.Lengths.{times, MayOccur}
 use Rattle.cob_layout_places.specs.Places.{choose, or_else}

@@ -3,9 +3,9 @@ use Rattle.std.proofs.Common.{◌≡◌, ℕ, ◌+◌, ◌*◌, ◌≤◌, Bool,
 use Rattle.cob_copybook_tree.specs.declared.node.ResolvedOccurs.{ResolvedOccurs}
 use Rattle.cob_copybook_tree.specs.declared.node.ResolvedOccurs.TheVariants.{Once, Fixed, Varying}
 use Rattle.cob_copybook_tree.specs.Forests.{Forest, NoEntries, AnEntry, Tree}
-use Rattle.cob_copybook_tree.specs.Nodes.{Resolved}
+use Rattle.cob_copybook_tree.specs.Nodes.{Resolved, is_varying}
 use Rattle.cob_copybook_tree.specs.Lengths.{greatest_number, greatest_number_by, length_by_kind, own_length, whole_length, sum_of}
-use Rattle.cob_copybook_rules.specs.Areas.{is_varying, hold_varying, HasFixedLength, MayFollow, AreAreas, area_with}
+use Rattle.cob_copybook_rules.specs.Areas.{hold_varying, HasFixedLength, MayFollow, AreAreas, area_with}
 use Rattle.cob_layout_places.specs.Lengths.{area_by, times, times_by}
 
 -- under these counts no redefinition is longer than its area, where the area before these entries has this length
