@@ -8,7 +8,7 @@ use Rattle.cob_picture.specs.Counts.{digits, scale}
 use Rattle.cob_picture.specs.Positions.{PlainPicture}
 use Rattle.cob_back_losses.specs.Given.{GivesDigit, GivesMinus, HasDigitAt, IsOfExtent, SomeDigit}
 use Rattle.cob_back_losses.specs.Losses.{IsBelowLast, IsBeyondFirst, last_power}
-use Rattle.cob_back_losses.specs.declared.numbers.Extent.{Extent}
+use Rattle.cob_back_losses.specs.declared.numbers.NumberExtent.{NumberExtent}
 
 -- so many nines
 abbrev nines : ℕ → List ℕ
@@ -50,7 +50,7 @@ digit_above (d ∷ ds) s z (inl (some, is)) = omega (arith, ints)
 digit_above (d ∷ ds) s z (inr h) = digit_above ds s z h
 
 -- nines are among the numbers of so many digits
-nines_of_extent : (e : Extent) (negative : Bool) → (IsTrue negative → IsTrue e.signed) → IsOfExtent e (record { negative = negative; digits = nines e.digits; scale = e.scale })
+nines_of_extent : (e : NumberExtent) (negative : Bool) → (IsTrue negative → IsTrue e.signed) → IsOfExtent e (record { negative = negative; digits = nines e.digits; scale = e.scale })
 nines_of_extent e negative minus = record { valid = nines_digits e.digits; count = nines_count e.digits; point = refl; minus = minus }
 
 -- ---- what a test answers
@@ -64,7 +64,7 @@ not_so P b is h = (λ e. absurd (cc), λ p. absurd (h p))
 -- ---- the numbers of an item
 
 -- some number of these has a digit before those of a picture
-pub longer_before : (e : Extent) (p : PlainPicture) → 0 < e.digits → (pos (digits p.positions) -ℤ scale p.positions) <ℤ (pos e.digits -ℤ e.scale) → GivesDigit (IsOfExtent e) (IsBeyondFirst p)
+pub longer_before : (e : NumberExtent) (p : PlainPicture) → 0 < e.digits → (pos (digits p.positions) -ℤ scale p.positions) <ℤ (pos e.digits -ℤ e.scale) → GivesDigit (IsOfExtent e) (IsBeyondFirst p)
 longer_before e p some longer = record {
   value = record { negative = false; digits = nines e.digits; scale = e.scale };
   given = nines_of_extent e false (λ h. absurd (search rules));
@@ -76,7 +76,7 @@ longer_before e p some longer = record {
 }
 
 -- none has
-pub none_before : (e : Extent) (p : PlainPicture) → (0 < e.digits → (pos e.digits -ℤ e.scale) ≤ℤ (pos (digits p.positions) -ℤ scale p.positions)) → GivesDigit (IsOfExtent e) (IsBeyondFirst p) → ⊥
+pub none_before : (e : NumberExtent) (p : PlainPicture) → (0 < e.digits → (pos e.digits -ℤ e.scale) ≤ℤ (pos (digits p.positions) -ℤ scale p.positions)) → GivesDigit (IsOfExtent e) (IsBeyondFirst p) → ⊥
 none_before e p short g =
     let below = digit_below g.value.digits g.value.scale g.stands.power g.stands.digit in
     let above = digit_above g.value.digits g.value.scale g.stands.power g.stands.digit in
@@ -88,7 +88,7 @@ none_before e p short g =
     omega (arith, ints)
 
 -- some number of these has a digit behind those of a picture
-pub longer_behind : (e : Extent) (p : PlainPicture) → 0 < e.digits → (pos 0 -ℤ e.scale) <ℤ last_power p → GivesDigit (IsOfExtent e) (IsBelowLast p)
+pub longer_behind : (e : NumberExtent) (p : PlainPicture) → 0 < e.digits → (pos 0 -ℤ e.scale) <ℤ last_power p → GivesDigit (IsOfExtent e) (IsBelowLast p)
 longer_behind e p some longer = record {
   value = record { negative = false; digits = nines e.digits; scale = e.scale };
   given = nines_of_extent e false (λ h. absurd (search rules));
@@ -100,7 +100,7 @@ longer_behind e p some longer = record {
 }
 
 -- none has
-pub none_behind : (e : Extent) (p : PlainPicture) → (0 < e.digits → last_power p ≤ℤ (pos 0 -ℤ e.scale)) → GivesDigit (IsOfExtent e) (IsBelowLast p) → ⊥
+pub none_behind : (e : NumberExtent) (p : PlainPicture) → (0 < e.digits → last_power p ≤ℤ (pos 0 -ℤ e.scale)) → GivesDigit (IsOfExtent e) (IsBelowLast p) → ⊥
 none_behind e p short g =
     let below = digit_below g.value.digits g.value.scale g.stands.power g.stands.digit in
     let above = digit_above g.value.digits g.value.scale g.stands.power g.stands.digit in
@@ -112,7 +112,7 @@ none_behind e p short g =
     omega (arith, ints)
 
 -- some number of these is below zero exactly where there may be a minus
-pub below_zero : (e : Extent) → Decides e.signed (GivesMinus (IsOfExtent e))
+pub below_zero : (e : NumberExtent) → Decides e.signed (GivesMinus (IsOfExtent e))
 below_zero e = (
   λ is. record { value = record { negative = true; digits = nines e.digits; scale = e.scale }; given = nines_of_extent e true (λ h. search rules); minus = search rules },
   λ g. let h : IsTrue e.signed = g.given.minus g.minus in search rules,

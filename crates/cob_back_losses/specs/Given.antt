@@ -11,27 +11,27 @@ use Rattle.cob_copybook_tree.specs.declared.node.Kind.{Kind}
 use Rattle.cob_copybook_tree.specs.declared.node.Kind.TheVariants.{Group, Item as ItemKind}
 use Rattle.cob_copybook_tree.specs.declared.node.Item.{Item}
 use Rattle.cob_copybook_tree.specs.Lengths.{item_size}
+use Rattle.cob_copybook_tree.specs.Nodes.{kind_shows_number}
 use Rattle.cob_copybook_tree.specs.Resolving.{is_number}
 use Rattle.cob_move_receive.specs.Numbers.{ConstantGives}
-use Rattle.cob_move_receive.specs.Refusals.{receives_number}
 use Rattle.cob_move_receive.specs.Sent.{Amount}
 use Rattle.cob_move_receive.specs.Table.{SenderKind, Entry, Literal}
-use Rattle.cob_back_losses.specs.declared.numbers.Extent.{Extent}
+use Rattle.cob_back_losses.specs.declared.numbers.NumberExtent.{NumberExtent}
 
 -- the numbers of so many digits, with the point so, and with a minus only where there may be one
-pub record IsOfExtent (e : Extent) (v : Amount) : Type 0 where
+pub record IsOfExtent (e : NumberExtent) (v : Amount) : Type 0 where
   pub valid : IsDigits v.digits
   pub count : length v.digits ≡ e.digits
   pub point : v.scale ≡ e.scale
   pub minus : IsTrue v.negative → IsTrue e.signed
 
 -- the numbers of a picture that shows one
-abbrev pub picture_extent : PlainPicture → Extent
+abbrev pub picture_extent : PlainPicture → NumberExtent
 picture_extent p = record { digits = digits p.positions; scale = scale p.positions; signed = signed p.positions }
 
 -- The numbers that an item of this category may give: those of its picture; of an alphanumeric one whole numbers of as many digits as it has
 -- characters; of others none.
-abbrev pub extent_under : Category → Item → Option Extent
+abbrev pub extent_under : Category → Item → Option NumberExtent
 extent_under Numeric i = Some (picture_extent i.picture)
 extent_under NumericEdited i = Some (picture_extent i.picture)
 extent_under Alphanumeric i = Some (record { digits = item_size i; scale = pos 0; signed = false })
@@ -39,7 +39,7 @@ extent_under Alphabetic i = None
 extent_under AlphanumericEdited i = None
 
 -- the same of an item
-abbrev pub extent_of : Item → Option Extent
+abbrev pub extent_of : Item → Option NumberExtent
 extent_of i = extent_under i.picture.category i
 
 -- the number is one that the sender may give to a numeric or numeric edited item: that of a constant, or one that an item has digits for
@@ -90,7 +90,7 @@ constant_characters (Repeated text) = 0
 
 -- how many characters a constant gives to a receiver
 abbrev pub constant_characters_to : PlainValue → Kind → ℕ
-constant_characters_to c to = if receives_number to then 0 else constant_characters c
+constant_characters_to c to = if kind_shows_number to then 0 else constant_characters c
 
 -- How many characters a sender of so many bytes gives to a receiver. A group gives all its bytes to each.
 abbrev pub characters_of : SenderKind → ℕ → Kind → ℕ

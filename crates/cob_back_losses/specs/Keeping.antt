@@ -1,16 +1,14 @@
 -- Moves of bytes, and the bytes that don't keep their description.
-use Rattle.std.specs.Prelude.{◌≡◌, ◌<◌, ℕ, Bool, true, false, ◌||◌, List, Option, Some, None, IsTrue, IsSomeAnd, get_or, map, take}
+use Rattle.std.specs.Prelude.{◌≡◌, ◌<◌, ℕ, Bool, false, ◌||◌, List, Option, Some, None, IsTrue, IsSomeAnd, get_or, map, take}
 use Rattle.std.specs.List.{slice_get}
 use Rattle.cob_copybook_entry.specs.Described.{PlainValue, plain_value}
-use Rattle.cob_copybook_tree.specs.declared.node.Kind.{Kind}
-use Rattle.cob_copybook_tree.specs.declared.node.Kind.TheVariants.{Group, Item as ItemKind}
 use Rattle.cob_copybook_tree.specs.Forests.{Tree}
-use Rattle.cob_copybook_tree.specs.Nodes.{Resolved, node}
+use Rattle.cob_copybook_tree.specs.Nodes.{Resolved, is_group_kind, node}
 use Rattle.cob_back_losses.specs.declared.keeping.Gets.{Gets}
 use Rattle.cob_back_losses.specs.declared.keeping.Gets.TheVariants as gets
 use Rattle.cob_back_losses.specs.declared.keeping.Unkept.{Unkept}
-use Rattle.cob_back_losses.specs.declared.keeping.Sent as code
-use Rattle.cob_back_losses.specs.declared.keeping.Sent.TheVariants as code_sent
+use Rattle.cob_back_losses.specs.declared.keeping.JudgedSent as code
+use Rattle.cob_back_losses.specs.declared.keeping.JudgedSent.TheVariants as code_sent
 use Rattle.cob_back_losses.specs.declared.bytes.ItemByte as code_bytes
 use Rattle.cob_back_losses.specs.Bytes.{ItemByte, element_bytes, item_byte}
 use Rattle.cob_back_losses.specs.Senses.{Sense, Text, Digit, Part, Fill, KeepsSense, constant_sense, item_sense}
@@ -21,14 +19,9 @@ pub data SentElement : Type 0 where
   Constant : PlainValue → SentElement
 
 -- what the code's value stands for
-abbrev pub sent_element : code.Sent → SentElement
+abbrev pub sent_element : code.JudgedSent → SentElement
 sent_element (code_sent.Entry entry) = Element (node entry.now)
 sent_element (code_sent.Constant value) = Constant (plain_value value.now)
-
--- an entry of this kind is a group
-abbrev pub is_group_kind : Kind → Bool
-is_group_kind Group = true
-is_group_kind (ItemKind i) = false
 
 -- The move copies bytes, whatever they are: a group is on either side.
 abbrev pub moves_bytes : SentElement → Tree Resolved → Bool

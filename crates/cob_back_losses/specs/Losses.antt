@@ -3,7 +3,7 @@ use Rattle.std.specs.Prelude.{◌<◌, ◌≤ℤ◌, ◌<ℤ◌, ◌-ℤ◌, ℕ
 use Rattle.cob_picture.specs.Counts.{digits, scale, signed}
 use Rattle.cob_picture.specs.Positions.{PlainPicture, shows_number}
 use Rattle.cob_picture.specs.declared.position.Position.{Position}
-use Rattle.cob_edit.specs.Characters.{is_character}
+use Rattle.cob_picture.specs.Counts.{is_character}
 use Rattle.cob_copybook_entry.specs.Described.{PlainValue, Numeric as NumericLiteral, Quoted, Figure, Repeated}
 use Rattle.cob_copybook_tree.specs.declared.node.Kind.{Kind}
 use Rattle.cob_copybook_tree.specs.declared.node.Kind.TheVariants.{Group, Item as ItemKind}

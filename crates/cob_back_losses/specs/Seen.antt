@@ -9,11 +9,11 @@ use Rattle.cob_move_data.specs.Singles.{PlainSent, PlainSingle, occurrence}
 use Rattle.cob_move_data.specs.Singles as given
 use Rattle.cob_back_losses.specs.Keeping.{Constant, Element, IsMarked, KeepsDescription, SentElement, TellsFirstUnkept, sent_element}
 use Rattle.cob_back_losses.specs.declared.keeping.Unkept.{Unkept}
-use Rattle.cob_back_losses.specs.declared.singles.Single.{Single}
+use Rattle.cob_back_losses.specs.declared.singles.JudgedSingle.{JudgedSingle}
 use Rattle.cob_back_losses.specs.Moved.{IsCoveredBy, Moved, entry_in}
 
 -- what the code's value stands for
-abbrev pub seen_single : Single → Moved
+abbrev pub seen_single : JudgedSingle → Moved
 seen_single s = record { sent = option_map sent_element s.sent; receiver = occurrence s.receiver s.subscripts.now }
 
 -- what is sent, if its record has such an entry

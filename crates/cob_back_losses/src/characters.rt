@@ -1,8 +1,6 @@
 //! How many characters senders give, and for how many receivers have room.
 
 ghost use Rattle.std.specs.Prelude.{◌≡◌, ◌≤◌, length, IsTrue};
-ghost use Rattle.cob_decimal.specs.Parts.{zeros_of};
-ghost use Rattle.cob_edit.specs.Characters.{is_character};
 ghost use Rattle.cob_picture.specs.Positions.{is_edited};
 ghost use Rattle.cob_copybook_entry.specs.Described.{plain_value};
 ghost use Rattle.cob_move_receive.specs.Characters.{has_insertions};
@@ -11,26 +9,16 @@ ghost use Rattle.cob_back_losses.specs.Given.{characters_of, characters_to, cons
 ghost use Rattle.cob_back_losses.specs.Losses.{character_places, item_room, kind_room, room_to_receive};
 
 use cob_copybook_tree::{Item, Kind, Value, is_number};
+use cob_decimal::zeros_of;
 use cob_move_receive::SenderKind;
-use cob_picture::{Category, Picture, Position, Role};
-
-/// How many zeros stand between the last digit and the point.
-fn zeros_of(scale: i8) -> u32
-    ensures { result ≡ zeros_of scale }
-{
-    if scale < 0 {
-        u32::from(scale.unsigned_abs())
-    } else {
-        0
-    }
-}
+use cob_picture::{Category, Picture, Position};
 
 /// How many characters an item of so many bytes gives to a receiver that is no number.
 fn item_characters(item: &Item, bytes: u32) -> u32
     ensures { result ≡ item_characters item.now bytes }
 {
     if is_number(item) {
-        u32::from(item.picture.digits()) + zeros_of(item.picture.scale())
+        u32::from(item.picture.digits()) + u32::from(zeros_of(item.picture.scale()))
     } else {
         bytes
     }
@@ -90,13 +78,6 @@ pub(crate) fn characters_of(from: &SenderKind<'_>, bytes: u32, to: &Kind) -> u32
     }
 }
 
-/// Whether a position holds a character.
-fn is_character(role: Role) -> bool
-    ensures { result ≡ is_character role }
-{
-    matches!(role, Role::Character)
-}
-
 /// How many of these positions hold a character.
 fn count_characters(positions: &[Position]) -> u32
     requires { length positions.now ≤ 250 }
@@ -104,7 +85,7 @@ fn count_characters(positions: &[Position]) -> u32
 {
     let mut count = 0;
     for position in positions {
-        if is_character(position.role) {
+        if position.role.is_character() {
             count += 1;
         }
     }

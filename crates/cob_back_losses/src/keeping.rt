@@ -34,7 +34,7 @@ pub struct Unkept {
 
 /// What is sent.
 #[derive(Clone, Copy)]
-pub enum Sent<'a> {
+pub enum JudgedSent<'a> {
     /// An element of an entry of a record, with those beneath it.
     Entry(&'a Node),
     /// A literal, or a figurative constant.
@@ -52,13 +52,13 @@ fn sense_at<'a>(bytes: &[ItemByte<'a>], at: usize) -> Sense<'a>
 }
 
 /// What the byte at this place that is sent is described as. These are the bytes of an entry that is sent.
-fn sent_sense<'a>(from: &Sent<'a>, bytes: &[ItemByte<'a>], at: usize) -> Sense<'a>
+fn sent_sense<'a>(from: &JudgedSent<'a>, bytes: &[ItemByte<'a>], at: usize) -> Sense<'a>
     ensures { (limit : ℕ) → HoldsSent (sent_element from.now) bytes.now limit → at < limit
         → sense result ≡ sent_sense (sent_element from.now) at }
 {
     match from {
-        Sent::Constant(value) => constant_sense(value, at),
-        Sent::Entry(_) => sense_at(bytes, at),
+        JudgedSent::Constant(value) => constant_sense(value, at),
+        JudgedSent::Entry(_) => sense_at(bytes, at),
     }
 }
 
@@ -85,13 +85,13 @@ fn gets_character(character: Sense<'_>) -> Gets
 }
 
 /// What the byte at this place gets. These are the bytes of an entry that is sent.
-fn gets_of(from: &Sent<'_>, bytes: &[ItemByte<'_>], at: usize) -> Gets
+fn gets_of(from: &JudgedSent<'_>, bytes: &[ItemByte<'_>], at: usize) -> Gets
     ensures { (limit : ℕ) → HoldsSent (sent_element from.now) bytes.now limit → at < limit
         → result ≡ gets_of (sent_element from.now) at }
 {
     match from {
-        Sent::Constant(value) => gets_character(constant_sense(value, at)),
-        Sent::Entry(_) => gets_byte(bytes, at),
+        JudgedSent::Constant(value) => gets_character(constant_sense(value, at)),
+        JudgedSent::Entry(_) => gets_byte(bytes, at),
     }
 }
 
@@ -107,7 +107,7 @@ pub(crate) fn is_marked(marks: &[bool], at: usize) -> bool
 
 /// Whether the byte at this place of those that receive is not covered, and not described as what it gets.
 fn is_unkept(
-    from: &Sent<'_>,
+    from: &JudgedSent<'_>,
     bytes: &[ItemByte<'_>],
     received: &[ItemByte<'_>],
     covered: &[bool],
@@ -126,7 +126,7 @@ fn is_unkept(
 
 /// The first byte of those that receive that is not covered, and not described as what it gets.
 pub(crate) fn first_unkept(
-    from: &Sent<'_>,
+    from: &JudgedSent<'_>,
     bytes: &[ItemByte<'_>],
     received: &[ItemByte<'_>],
     covered: &[bool],

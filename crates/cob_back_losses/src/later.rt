@@ -27,7 +27,7 @@ fn greatest_place(layout: &Layout, reference: &Ref) -> Option<Place>
 }
 
 /// Where an occurrence stands in a record in which each table has its greatest number of elements.
-pub(crate) fn place_of(layout: &Layout, number: usize, subscripts: &[u32]) -> Option<Place>
+pub fn place_of(layout: &Layout, number: usize, subscripts: &[u32]) -> Option<Place>
     ensures some { IfSome result (λ p. StandsAt layout.now (occurrence number subscripts.now) p) }
     ensures none { IfNone result ((p : SeenPlace)
         → StandsAt layout.now (occurrence number subscripts.now) p → ⊥) }

@@ -53,7 +53,7 @@
 //! What is promised of [`descriptions_lost`]: of each single move, in their order, it answers the first byte of its receiver that does not keep its
 //! description and that no later single move covers, with the item that has it and what it gets; or None, and then each byte that no later one covers keeps
 //! it, or the move copies no bytes (`AreTold` of specs/Moved.antt). All of it is said of records in which each table has its greatest number of elements.
-//! Of a move from or to an entry that its record doesn't have, nothing is told.
+//! Of a move from or to an entry that its record doesn't have, nothing is told. [`place_of`] is where an occurrence stands in such a record (`StandsAt`).
 //!
 //! The single moves are gone through from the last to the first, with a mark for each byte of the output record that is covered so far. The bytes of a move
 //! whose receiver is covered wholly are not looked at; so each byte of the record is compared once at most.
@@ -81,7 +81,8 @@ mod senses;
 mod singles;
 mod words;
 
-pub use keeping::{Gets, Sent, Unkept};
+pub use keeping::{Gets, JudgedSent, Unkept};
+pub use later::place_of;
 pub use laws::keeps_numbers;
 pub use losses::{Losses, losses_of};
 pub use lost::{description_lost, description_lost_among};

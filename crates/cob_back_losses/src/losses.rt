@@ -30,7 +30,8 @@ pub struct Losses {
 impl Losses {
     /// Whether nothing may be lost.
     pub fn are_none(&self) -> bool
-        ensures { result ≡ not (self.now.before || (self.now.behind || (self.now.characters || self.now.sign))) }
+        ensures { result ≡ not (self.now.before
+            || (self.now.behind || (self.now.characters || self.now.sign))) }
     {
         !(self.before || self.behind || self.characters || self.sign)
     }
@@ -60,7 +61,8 @@ fn item_gives_behind(item: &Item, picture: &Picture) -> bool
 
 /// Whether an item may give a number below zero.
 fn item_gives_minus(item: &Item) -> bool
-    ensures { Decides result (GivesMinus (λ v. IsSomeAnd (extent_of item.now) (λ e. IsOfExtent e v))) }
+    ensures { Decides result
+        (GivesMinus (λ v. IsSomeAnd (extent_of item.now) (λ e. IsOfExtent e v))) }
 {
     match extent_of(item) {
         Some(extent) => extends_below_zero(extent),

@@ -3,41 +3,34 @@
 ghost use Rattle.std.specs.Prelude.{◌≡◌, ◌<◌, ℕ, IfOk, IsTrue, length};
 ghost use Rattle.cob_copybook_tree.specs.Nodes.{node};
 ghost use Rattle.cob_back_losses.specs.Bytes.{element_bytes};
-ghost use Rattle.cob_back_losses.specs.Keeping.{HoldsSent, IsMarked, Nothing, TellsFirstUnkept, is_group_kind, moves_bytes, sent_element};
+ghost use Rattle.cob_back_losses.specs.Keeping.{HoldsSent, IsMarked, Nothing, TellsFirstUnkept, moves_bytes, sent_element};
 
 use crate::bytes::{ItemByte, bytes_of};
-use crate::keeping::{Sent, Unkept, first_unkept, is_marked};
-use cob_copybook_tree::{Kind, MANY, Node, element_length};
+use crate::keeping::{JudgedSent, Unkept, first_unkept, is_marked};
+use cob_copybook_tree::{MANY, Node, element_length};
 use std::alloc::{AllocError, Global};
 
-/// Whether an entry is a group.
-fn is_group(kind: &Kind) -> bool
-    ensures { result ≡ is_group_kind kind.now }
-{
-    matches!(kind, Kind::Group)
-}
-
 /// Whether a move copies bytes, whatever they are: a group is on either side.
-fn moves_bytes(from: &Sent<'_>, to: &Node) -> bool
+fn moves_bytes(from: &JudgedSent<'_>, to: &Node) -> bool
     ensures { result ≡ moves_bytes (sent_element from.now) (node to.now) }
 {
     match from {
-        Sent::Entry(entry) => is_group(&entry.kind) || is_group(&to.kind),
-        Sent::Constant(_) => is_group(&to.kind),
+        JudgedSent::Entry(entry) => entry.kind.is_group() || to.kind.is_group(),
+        JudgedSent::Constant(_) => to.kind.is_group(),
     }
 }
 
 /// The bytes of an entry that is sent, up to a limit; none of a constant.
 fn sent_bytes<'a>(
     alloc: Global,
-    from: &Sent<'a>,
+    from: &JudgedSent<'a>,
     limit: usize,
 ) -> Result<Vec<ItemByte<'a>>, AllocError>
     ensures { IfOk result (λ bytes. HoldsSent (sent_element from.now) bytes.items limit) }
 {
     match from {
-        Sent::Entry(entry) => bytes_of(alloc, entry, limit),
-        Sent::Constant(_) => Ok(Vec::new(alloc)),
+        JudgedSent::Entry(entry) => bytes_of(alloc, entry, limit),
+        JudgedSent::Constant(_) => Ok(Vec::new(alloc)),
     }
 }
 
@@ -61,7 +54,7 @@ fn are_marked(marks: &[bool], entry: &Node) -> bool
 /// The first byte of an entry's element that a move of bytes doesn't keep, where these of its bytes are covered.
 fn unkept_byte(
     alloc: Global,
-    from: &Sent<'_>,
+    from: &JudgedSent<'_>,
     to: &Node,
     covered: &[bool],
 ) -> Result<Option<Unkept>, AllocError>
@@ -85,7 +78,7 @@ fn unkept_byte(
 /// Where no memory is left.
 pub fn description_lost_among(
     alloc: Global,
-    from: &Sent<'_>,
+    from: &JudgedSent<'_>,
     to: &Node,
     covered: &[bool],
 ) -> Result<Option<Unkept>, AllocError>
@@ -105,10 +98,11 @@ pub fn description_lost_among(
 /// Where no memory is left.
 pub fn description_lost(
     alloc: Global,
-    from: &Sent<'_>,
+    from: &JudgedSent<'_>,
     to: &Node,
 ) -> Result<Option<Unkept>, AllocError>
-    ensures { IfOk result (λ lost. TellsFirstUnkept (sent_element from.now) (node to.now) Nothing lost) }
+    ensures { IfOk result
+        (λ lost. TellsFirstUnkept (sent_element from.now) (node to.now) Nothing lost) }
 {
     description_lost_among(alloc, from, to, &[])
 }

@@ -11,17 +11,17 @@ use cob_picture::{Category, Picture};
 
 /// The numbers that an item may give: of so many digits, so many of them behind the point, and with a minus or without.
 #[derive(Clone, Copy, PartialEq, Eq)]
-pub struct Extent {
+pub struct NumberExtent {
     pub digits: u16,
     pub scale: i8,
     pub signed: bool,
 }
 
 /// The numbers of a picture that shows one.
-fn extent_of_picture(picture: &Picture) -> Extent
+fn extent_of_picture(picture: &Picture) -> NumberExtent
     ensures { result ≡ picture_extent picture.now }
 {
-    Extent {
+    NumberExtent {
         digits: u16::from(picture.digits()),
         scale: picture.scale(),
         signed: picture.signed(),
@@ -29,12 +29,12 @@ fn extent_of_picture(picture: &Picture) -> Extent
 }
 
 /// The numbers that an item may give.
-pub(crate) fn extent_of(item: &Item) -> Option<Extent>
+pub(crate) fn extent_of(item: &Item) -> Option<NumberExtent>
     ensures { result ≡ extent_of item.now }
 {
     match item.picture.category() {
         Category::Numeric | Category::NumericEdited => Some(extent_of_picture(&item.picture)),
-        Category::Alphanumeric => Some(Extent {
+        Category::Alphanumeric => Some(NumberExtent {
             digits: item.size(),
             scale: 0,
             signed: false,
@@ -62,7 +62,7 @@ pub(crate) fn last_power(picture: &Picture) -> i32
 }
 
 /// Whether some number that an item may give has a digit other than 0 before those of a picture.
-pub(crate) fn extends_before(extent: Extent, picture: &Picture) -> bool
+pub(crate) fn extends_before(extent: NumberExtent, picture: &Picture) -> bool
     ensures { Decides result (GivesDigit (IsOfExtent extent) (IsBeyondFirst picture.now)) }
 {
     let beyond = power_beyond(picture);
@@ -76,7 +76,7 @@ pub(crate) fn extends_before(extent: Extent, picture: &Picture) -> bool
 }
 
 /// Whether some number that an item may give has a digit other than 0 behind those of a picture.
-pub(crate) fn extends_behind(extent: Extent, picture: &Picture) -> bool
+pub(crate) fn extends_behind(extent: NumberExtent, picture: &Picture) -> bool
     ensures { Decides result (GivesDigit (IsOfExtent extent) (IsBelowLast picture.now)) }
 {
     let last = last_power(picture);
@@ -91,7 +91,7 @@ pub(crate) fn extends_behind(extent: Extent, picture: &Picture) -> bool
 
 /// Whether some number that an item may give is below zero.
 #[tactic(auto, using(crate::proofs::DigitLemmas::below_zero))]
-pub(crate) fn extends_below_zero(extent: Extent) -> bool
+pub(crate) fn extends_below_zero(extent: NumberExtent) -> bool
     ensures { Decides result (GivesMinus (IsOfExtent extent)) }
 {
     extent.signed

@@ -11,7 +11,7 @@ use crate::entries::entry_in;
 use crate::keeping::Unkept;
 use crate::later::{cover, place_of, uncovered};
 use crate::lost::description_lost_among;
-use crate::singles::{Single, singles_of};
+use crate::singles::{JudgedSingle, singles_of};
 use cob_back_moves::MovesBetween;
 use cob_layout::Layout;
 use std::alloc::{AllocError, Global};
@@ -20,7 +20,7 @@ use std::alloc::{AllocError, Global};
 fn lost_among(
     alloc: Global,
     output: &Layout,
-    single: &Single<'_>,
+    single: &JudgedSingle<'_>,
     covered: &[bool],
 ) -> Result<Option<Unkept>, AllocError>
     ensures { IfOk result (λ lost. TellsIn output.now (seen_single single.now) covered.now lost) }
@@ -39,13 +39,15 @@ fn lost_among(
 fn lost_before(
     alloc: Global,
     output: &Layout,
-    single: &Single<'_>,
+    single: &JudgedSingle<'_>,
     covered: &mut [bool],
 ) -> Result<Option<Unkept>, AllocError>
     requires all { length covered.old ≡ sum_of greatest_number output.now }
-    ensures told { IfOk result (λ lost. (later : List Moved) → MarkCoveredBytes output.now later covered.old
+    ensures told { IfOk result (λ lost. (later : List Moved)
+        → MarkCoveredBytes output.now later covered.old
         → TellsOf output.now (seen_single single.now) later lost) }
-    ensures marks { OnOk result ((later : List Moved) → MarkCoveredBytes output.now later covered.old
+    ensures marks { OnOk result ((later : List Moved)
+        → MarkCoveredBytes output.now later covered.old
         → MarkCoveredBytes output.now (seen_single single.now ∷ later) covered.new) }
     ensures room { length covered.new ≡ length covered.old }
 {
@@ -62,9 +64,10 @@ fn lost_before(
 fn lost_from_end(
     alloc: Global,
     output: &Layout,
-    singles: &[Single<'_>],
+    singles: &[JudgedSingle<'_>],
 ) -> Result<Vec<Option<Unkept>>, AllocError>
-    ensures { IfOk result (λ all. TellsEach output.now (map seen_single singles.now) (reverse all.items)) }
+    ensures { IfOk result
+        (λ all. TellsEach output.now (map seen_single singles.now) (reverse all.items)) }
 {
     let mut covered = uncovered(alloc, output)?;
     let mut all = Vec::new(alloc);

@@ -6,7 +6,7 @@ ghost use Rattle.std.specs.List.{slice_get};
 ghost use Rattle.cob_copybook_entry.specs.Described.{plain_value};
 ghost use Rattle.cob_back_losses.specs.Senses.{KeepsSense, Part, character_sense, constant_sense, figurative_sense, is_digit_sense, is_plain_digits, is_shown, is_whole, item_sense, repeated_sense, sense, sense_if};
 
-use cob_copybook_same::is_same_item;
+use cob_back_moves::is_same_item;
 use cob_copybook_tree::{Figurative, Item, Value, is_number};
 
 /// What a byte is described as.

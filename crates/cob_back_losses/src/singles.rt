@@ -10,58 +10,48 @@ ghost use Rattle.cob_back_losses.specs.Seen.{moved_by, seen_single, sent_element
 ghost use Rattle.cob_back_losses.specs.Keeping.{Element, sent_element};
 
 use crate::entries::entry_in;
-use crate::keeping::Sent;
-use cob_back_moves::{Layouts, MovesBetween};
-use cob_layout::Layout;
+use crate::keeping::JudgedSent;
+use cob_back_moves::{BothLayouts, MovesBetween};
 use cob_move_data::{Sent as Given, Side, SingleMove, Singles, StatementMoves};
 use std::alloc::{AllocError, Global};
 
 /// What is sent, where its record has such an entry, and an occurrence of an entry of the output record that receives it.
 #[derive(Clone, Copy)]
-pub(crate) struct Single<'a> {
-    pub(crate) sent: Option<Sent<'a>>,
+pub(crate) struct JudgedSingle<'a> {
+    pub(crate) sent: Option<JudgedSent<'a>>,
     /// The number of the receiver's entry.
     pub(crate) receiver: usize,
     pub(crate) subscripts: &'a [u32],
 }
 
-/// The layout of a side's record.
-fn layout_of<'a>(layouts: &Layouts<'a>, side: Side) -> &'a Layout
-    ensures { result.now ≡ record_of (layout_records layouts.now) side }
-{
-    match side {
-        Side::In => layouts.input,
-        Side::Out => layouts.output,
-    }
-}
-
 /// An element of the entry with this number of a side's record.
-fn sent_entry<'a>(layouts: &Layouts<'a>, side: Side, number: usize) -> Option<Sent<'a>>
+fn sent_entry<'a>(layouts: &BothLayouts<'a>, side: Side, number: usize) -> Option<JudgedSent<'a>>
     ensures { option_map sent_element result
         ≡ option_map Element (entry_in number (record_of (layout_records layouts.now) side)) }
 {
-    match entry_in(layout_of(layouts, side).root(), number) {
-        Some(entry) => Some(Sent::Entry(entry)),
+    match entry_in(layouts.of(side).root(), number) {
+        Some(entry) => Some(JudgedSent::Entry(entry)),
         None => None,
     }
 }
 
 /// What a single move sends.
-fn sent_by<'a>(layouts: &Layouts<'a>, given: Given<'a>) -> Option<Sent<'a>>
+fn sent_by<'a>(layouts: &BothLayouts<'a>, given: Given<'a>) -> Option<JudgedSent<'a>>
     ensures { option_map sent_element result
         ≡ sent_element_by (layout_records layouts.now) (plain_sent given.entry) }
 {
     match given {
         Given::Entry { side, entry } => sent_entry(layouts, side, entry.number),
-        Given::Constant(value) => Some(Sent::Constant(value)),
+        Given::Constant(value) => Some(JudgedSent::Constant(value)),
     }
 }
 
 /// A single move, by what it sends.
-fn single_by<'a>(layouts: &Layouts<'a>, single: SingleMove<'a>) -> Single<'a>
-    ensures { seen_single result ≡ moved_by (layout_records layouts.now) (plain_single single.entry) }
+fn single_by<'a>(layouts: &BothLayouts<'a>, single: SingleMove<'a>) -> JudgedSingle<'a>
+    ensures { seen_single result
+        ≡ moved_by (layout_records layouts.now) (plain_single single.entry) }
 {
-    Single {
+    JudgedSingle {
         sent: sent_by(layouts, single.sent),
         receiver: single.receiver.number,
         subscripts: single.receiver.subscripts,
@@ -71,9 +61,9 @@ fn single_by<'a>(layouts: &Layouts<'a>, single: SingleMove<'a>) -> Single<'a>
 /// The single moves of statements, one statement's behind another's.
 fn singles_by<'a>(
     alloc: Global,
-    layouts: &Layouts<'a>,
+    layouts: &BothLayouts<'a>,
     statements: &'a [StatementMoves],
-) -> Result<Vec<Single<'a>>, AllocError>
+) -> Result<Vec<JudgedSingle<'a>>, AllocError>
     ensures { IfOk result (λ singles. map seen_single singles.items
         ≡ map (moved_by (layout_records layouts.now)) (singles_of statements.now)) }
 {
@@ -88,7 +78,7 @@ fn singles_by<'a>(
 pub(crate) fn singles_of<'a>(
     alloc: Global,
     moves: &MovesBetween<'a>,
-) -> Result<Vec<Single<'a>>, AllocError>
+) -> Result<Vec<JudgedSingle<'a>>, AllocError>
     ensures { IfOk result (λ singles. map seen_single singles.items
         ≡ map (moved_single (layout_records moves.now.layouts)) (singles_in moves.now)) }
 {

@@ -10,7 +10,7 @@ use Rattle.cob_move_data.specs.declared.operands.PairMoves.{PairMoves}
 use Rattle.cob_move_data.specs.declared.operands.StatementMoves.{StatementMoves}
 use Rattle.cob_move_data.specs.Moves.{AreMoves, Entry, IsMove, IsOperand, IsSender, Move, Records, Sender, entry_below, moves_by, numbered_move_by, operand_in, record_of, statement_moves_by}
 use Rattle.cob_move_data.specs.Singles.{SingleMove, all_singles, singles_from}
-use Rattle.cob_back_moves.specs.declared.single.Layouts.{Layouts}
+use Rattle.cob_back_moves.specs.declared.single.BothLayouts.{BothLayouts}
 use Rattle.cob_back_moves.specs.declared.single.Single.{Single}
 use Rattle.cob_back_moves.specs.Tested.{IsSingle, layout_records, single_of}
 use Rattle.cob_back_moves.proofs.LeftLemmas.{Both, each_at}
@@ -32,7 +32,7 @@ pub one_move : (m : Move) → all_singles (m ∷ []) ≡ singles_from m.sender m
 one_move m = append-nil (singles_from m.sender m.receivers)
 
 -- a single move of the code is between the records of its layouts where what it stands for is
-pub is_single : (l : Layouts) (s : Single) (t : SingleMove) → single_of l s ≡ t → IsSender (layout_records l) t.sender → IsOperand l.output.now t.receiver → IsSingle l s
+pub is_single : (l : BothLayouts) (s : Single) (t : SingleMove) → single_of l s ≡ t → IsSender (layout_records l) t.sender → IsOperand l.output.now t.receiver → IsSingle l s
 is_single l s t is sender receiver = record {
   sender = subst (λ (u : SingleMove). IsSender (layout_records l) u.sender) (sym is) sender;
   receiver = subst (λ (u : SingleMove). IsOperand l.output.now u.receiver) (sym is) receiver;

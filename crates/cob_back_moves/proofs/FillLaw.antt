@@ -19,8 +19,8 @@ use Rattle.cob_codec.proofs.ZonedLaws as zoned
 use Rattle.cob_codec.proofs.SeparateLaws as separate
 use Rattle.cob_codec.proofs.PackedLaws as packed
 use Rattle.cob_codec.proofs.BinaryLaws as binary
-use Rattle.cob_edit.specs.declared.place.Place.{Place}
-use Rattle.cob_edit.specs.declared.place.Place.TheVariants.{Inserted}
+use Rattle.cob_edit.specs.declared.place.EditedPlace.{EditedPlace}
+use Rattle.cob_edit.specs.declared.place.EditedPlace.TheVariants.{Inserted}
 use Rattle.cob_edit.specs.Places.{bytes_of, has_byte}
 use Rattle.cob_edit.specs.Characters.{HasCharacters}
 use Rattle.cob_edit.specs.Editing.{IsSuppressedTo, IsText, cell, digit_of, empty_cell, has_stars, place_at, printed, region_end, shows_nothing}
@@ -63,20 +63,20 @@ fills_number i v bytes sound number h =
 
 -- ---- edited texts
 
-count-cons : (p : Place) (ps : List Place) → bytes_of (p ∷ ps) ≡ cond (has_byte p) 1 0 + bytes_of ps
+count-cons : (p : EditedPlace) (ps : List EditedPlace) → bytes_of (p ∷ ps) ≡ cond (has_byte p) 1 0 + bytes_of ps
 count-cons p ps = sum_by-cons (λ y. cond (has_byte y) 1 0) p ps
 
-length_empty : (stars : Bool) (ps : List Place) → length (flat_map (empty_cell stars) ps) ≡ bytes_of ps
+length_empty : (stars : Bool) (ps : List EditedPlace) → length (flat_map (empty_cell stars) ps) ≡ bytes_of ps
 length_empty stars [] = refl
 length_empty stars (p ∷ ps) =
     length-append (empty_cell stars p) (flat_map (empty_cell stars) ps)
     ∙ omega (arith, length-empty_cell stars p, length_empty stars ps, count-cons p ps)
 
-first_place : (ps : List Place) (j : ℕ) (p : Place) (rest : List Place) → drop j ps ≡ p ∷ rest → p ≡ place_at ps j
+first_place : (ps : List EditedPlace) (j : ℕ) (p : EditedPlace) (rest : List EditedPlace) → drop j ps ≡ p ∷ rest → p ≡ place_at ps j
 first_place ps j p rest e =
-    ap (λ (xs : List Place). get_or xs 0 (Inserted 0)) (sym e) ∙ get_or-drop j ps 0 (Inserted 0) ∙ ap (λ (k : ℕ). get_or ps k (Inserted 0)) (omega arith)
+    ap (λ (xs : List EditedPlace). get_or xs 0 (Inserted 0)) (sym e) ∙ get_or-drop j ps 0 (Inserted 0) ∙ ap (λ (k : ℕ). get_or ps k (Inserted 0)) (omega arith)
 
-behind_place : (ps : List Place) (j : ℕ) (p : Place) (rest : List Place) → drop j ps ≡ p ∷ rest → drop (j + 1) ps ≡ rest
+behind_place : (ps : List EditedPlace) (j : ℕ) (p : EditedPlace) (rest : List EditedPlace) → drop j ps ≡ p ∷ rest → drop (j + 1) ps ≡ rest
 behind_place ps j p rest e = elim (cases_lt j (length ps)) [
   | inl lt ↦
       let both : get_or ps j (Inserted 0) ∷ drop (j + 1) ps ≡ p ∷ rest = sym (drop_more ps j (Inserted 0) lt) ∙ e in
@@ -84,17 +84,17 @@ behind_place ps j p rest e = elim (cases_lt j (length ps)) [
   | inr ge ↦ let none : [] ≡ p ∷ rest = sym (drop_all j ps ge) ∙ e in absurd (cc)
 ]
 
-length_printed : (ps : List Place) (ds : List ℕ) (negative : Bool) (k j : ℕ) (rest : List Place) → k ≤ region_end ps → drop j ps ≡ rest
+length_printed : (ps : List EditedPlace) (ds : List ℕ) (negative : Bool) (k j : ℕ) (rest : List EditedPlace) → k ≤ region_end ps → drop j ps ≡ rest
     → length (printed ps ds negative k j rest) ≡ bytes_of rest
 length_printed ps ds negative k j [] le e = refl
 length_printed ps ds negative k j (p ∷ rest) le e =
     let is : p ≡ place_at ps j = first_place ps j p rest e in
     let first : length (cell ps negative k j p (digit_of ps ds j)) ≡ cond (has_byte p) 1 0 =
-    ap (λ (q : Place). length (cell ps negative k j q (digit_of ps ds j))) is ∙ length-cell ps negative k j (digit_of ps ds j) le ∙ ap (λ (q : Place). cond (has_byte q) 1 0) (sym is) in
+    ap (λ (q : EditedPlace). length (cell ps negative k j q (digit_of ps ds j))) is ∙ length-cell ps negative k j (digit_of ps ds j) le ∙ ap (λ (q : EditedPlace). cond (has_byte q) 1 0) (sym is) in
     length-append (cell ps negative k j p (digit_of ps ds j)) (printed ps ds negative k (j + 1) rest)
     ∙ omega (arith, first, length_printed ps ds negative k (j + 1) rest le (behind_place ps j p rest e), count-cons p rest)
 
-length_text : (ps : List Place) (blank negative : Bool) (ds bytes : List ℕ) → IsText ps blank negative ds bytes → length bytes ≡ bytes_of ps
+length_text : (ps : List EditedPlace) (blank negative : Bool) (ds bytes : List ℕ) → IsText ps blank negative ds bytes → length bytes ≡ bytes_of ps
 length_text ps blank negative ds bytes text = at (shows_nothing ps blank ds) text
   where
     at : (b : Bool) → MatchBool b (bytes ≡ flat_map (empty_cell (has_stars ps blank)) ps) ((k : ℕ) × IsSuppressedTo ps ds k × (bytes ≡ printed ps ds negative k 0 ps)) → length bytes ≡ bytes_of ps

@@ -20,6 +20,7 @@ use Rattle.cob_layout.specs.Laws.{EndInLength, OneOfNeeded}
 use Rattle.cob_layout.specs.Sound.{RecordsAreSound}
 use Rattle.cob_copybook.specs.Books.{IsRecordDescription}
 use Rattle.cob_layout.specs.Storage.{greatest_length}
+use Rattle.cob_layout.specs.Kept.{IsIn}
 use Rattle.cob_move_data.specs.declared.operands.Operand.{Operand}
 use Rattle.cob_move_data.specs.declared.operands.Side.TheVariants.{In, Out}
 use Rattle.cob_move_data.specs.Moves.{AreMoves, Entry, Literal, Move, Records, Sender}
@@ -27,12 +28,12 @@ use Rattle.cob_move_receive.specs.Sent.{Entry as SentEntry}
 use Rattle.cob_move_receive.specs.Received.{OneReceived, Received}
 use Rattle.cob_move_apply.specs.Applied.{Applied, done}
 use Rattle.cob_codec.specs.declared.reading.Reading.{Reading}
-use Rattle.cob_copybook_same.specs.Same.{IsSameRecord, told_name, unnamed}
+use Rattle.cob_back_moves.specs.Same.{IsSameRecord, told_name, unnamed}
 use Rattle.cob_back_moves.specs.Apart.{OccurrencesApart, StandsOneWay}
 use Rattle.cob_back_moves.specs.Laws.{IsSoundItem, ItemsAreSound, ItemsFill, ItemsReturn, ReturnsKeep}
 use Rattle.cob_back_moves.specs.Wider.{IsReadPictured, IsSameIn, LosesNothing}
 use Rattle.cob_move_data.specs.Singles.{SingleMove, occurrence_of, all_singles}
-use Rattle.cob_back_moves.specs.Singles.{Goes, IsElementary, IsOneOf, ReceiveOnce, Receives, SendsPictured}
+use Rattle.cob_back_moves.specs.Singles.{Goes, IsElementary, ReceiveOnce, Receives, SendsPictured}
 use Rattle.cob_back_moves.specs.Returns.{AreTurned, HoldsAgain, BearsName, IsNamedItem, IsReturned, Returns}
 use Rattle.cob_back_moves.proofs.SteadyLemmas.{IsSteady, steady}
 use Rattle.cob_back_moves.proofs.MoveLemmas.{Gained, Ground, IsGood, Puts, all_good, from_puts, goes_through, holds, one_good, puts_length, to_puts}
@@ -52,12 +53,12 @@ part_of f bytes = bytes_at f.offset f.length bytes
 
 -- ---- one receiver
 
-receives_of : (s : SingleMove) (ss : List SingleMove) → IsOneOf s ss → Receives (occurrence_of s.receiver) ss
+receives_of : (s : SingleMove) (ss : List SingleMove) → IsIn s ss → Receives (occurrence_of s.receiver) ss
 receives_of s [] h = h
 receives_of s (t ∷ ts) (inl e) = inl (ap (λ (x : SingleMove). occurrence_of x.receiver) (sym e))
 receives_of s (t ∷ ts) (inr h) = inr (receives_of s ts h)
 
-one_receiver : (s t : SingleMove) (ss : List SingleMove) → ReceiveOnce ss → IsOneOf s ss → IsOneOf t ss → occurrence_of s.receiver ≡ occurrence_of t.receiver → s ≡ t
+one_receiver : (s t : SingleMove) (ss : List SingleMove) → ReceiveOnce ss → IsIn s ss → IsIn t ss → occurrence_of s.receiver ≡ occurrence_of t.receiver → s ≡ t
 one_receiver s t [] once h k e = absurd h
 one_receiver s t (u ∷ us) once (inl a) (inl b) e = a ∙ sym b
 one_receiver s t (u ∷ us) once (inl a) (inr k) e =
@@ -70,7 +71,7 @@ one_receiver s t (u ∷ us) once (inr h) (inr k) e = one_receiver s t us once.1 
 abbrev AllNamed : Forest Resolved → List SingleMove → Type 0
 AllNamed t ss = AllByRecursion (λ (s : SingleMove). BearsName s.receiver.entry.node t) ss
 
-named_one : (t : Forest Resolved) (s : SingleMove) (ss : List SingleMove) → IsOneOf s ss → AllNamed t ss → BearsName s.receiver.entry.node t
+named_one : (t : Forest Resolved) (s : SingleMove) (ss : List SingleMove) → IsIn s ss → AllNamed t ss → BearsName s.receiver.entry.node t
 named_one t s [] h all = absurd h
 named_one t s (u ∷ us) (inl e) all = subst (λ (x : SingleMove). BearsName x.receiver.entry.node t) (sym e) all.0
 named_one t s (u ∷ us) (inr h) all = named_one t s us h all.1
@@ -148,7 +149,7 @@ field_size p bytes h = length-take-le p.length (drop p.offset bytes) (omega (ari
 -- what a single move back finds to store, for the occurrence of a named item
 comes_back : (r s : Records) (there back : List Move) (input before after : List ℕ) → Trip r s there back input before after
     → (x : Occurrence) (i : Item) (f : Found) (m : SingleMove) (good : IsGood s m) (p : Place) → IsNamedItem r.input x i
-    → place_of greatest_number x.number r.input 0 0 x.subscripts ≡ Some f → IsOneOf m (all_singles back) → occurrence_of m.receiver ≡ x → IsSteady s.input good.from p
+    → place_of greatest_number x.number r.input 0 0 x.subscripts ≡ Some f → IsIn m (all_singles back) → occurrence_of m.receiver ≡ x → IsSteady s.input good.from p
     → (c : List ℕ) × Gained s m good p after c × IsSameIn i (part_of f input) c
 comes_back r s there back input before after trip x i f m good p named at is reaches from =
     let ret : IsReturned (all_singles there) (all_singles back) x i = trip.returns.returned x i named in

@@ -1,3 +1,5 @@
+pub mod RunLemmas
+pub mod SameLemmas
 pub mod NumberLemmas
 pub mod TextLemmas
 pub mod ReturnLaw

@@ -5,7 +5,7 @@ use Rattle.std.specs.Bool.{Decides}
 use Rattle.cob_back_moves.specs.Losses.{IsLoss, LoseItem, LoseNothing, ReturnAll}
 use Rattle.cob_back_moves.specs.declared.lossless.Loss.{Loss}
 use Rattle.cob_back_moves.specs.declared.lossless.Loss.TheVariants as loss
-use Rattle.cob_back_moves.specs.declared.lossless.Way.TheVariants.{There, Back}
+use Rattle.cob_back_moves.specs.declared.lossless.Direction.TheVariants.{There, Back}
 use Rattle.cob_back_moves.specs.declared.some.MovesBetween.{MovesBetween}
 
 pub no_loss : (there back : MovesBetween) (l : Loss) → LoseNothing there back → IsLoss there back l → ⊥

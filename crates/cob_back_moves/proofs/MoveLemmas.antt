@@ -20,6 +20,7 @@ use Rattle.cob_layout.specs.Sound.{IsSound, RecordsAreSound}
 use Rattle.cob_copybook.specs.Books.{IsRecordDescription}
 use Rattle.cob_layout.specs.Storage.{greatest_length}
 use Rattle.cob_layout.proofs.KeepLaw.{as_many_with}
+use Rattle.cob_layout.specs.Kept.{IsIn}
 use Rattle.cob_move_data.specs.declared.operands.Operand.{Operand}
 use Rattle.cob_move_data.specs.declared.operands.Side.TheVariants.{In, Out}
 use Rattle.cob_move_data.specs.Moves.{AreMoves, Entry, IsMove, IsOperand, IsSender, Literal, Move, Records, Sender}
@@ -34,7 +35,7 @@ use Rattle.cob_back_moves.specs.Apart.{AreApart, OccurrencesApart, StandsOneWay}
 use Rattle.cob_back_moves.specs.Laws.{IsSoundItem, ItemsAreSound, ItemsFill}
 use Rattle.cob_back_moves.specs.Wider.{IsReadPictured}
 use Rattle.cob_move_data.specs.Singles.{SingleMove, occurrence_of, all_singles, singles_from}
-use Rattle.cob_back_moves.specs.Singles.{IsElementary, IsInputItem, IsItemKind, IsKindReadPictured, IsOneOf, IsSenderReadPictured, ReceiveOnce, Receives, SendsPictured}
+use Rattle.cob_back_moves.specs.Singles.{IsElementary, IsInputItem, IsItemKind, IsKindReadPictured, IsSenderReadPictured, ReceiveOnce, Receives, SendsPictured}
 use Rattle.cob_back_moves.proofs.SteadyLemmas.{IsSteady, steady}
 
 -- ---- single moves, one after another
@@ -207,7 +208,7 @@ all_good r (m ∷ ms) are all read =
     let (own_read, others_read) = all_front SendsPictured (singles_from m.sender m.receivers) (all_singles ms) read in
     all_append (IsGood r) (singles_from m.sender m.receivers) (all_singles ms) (good_from r m.sender m.receivers own own_read are.0.sender are.0.receivers) (all_good r ms are.1 others others_read)
 
-pub one_good : (r : Records) (s : SingleMove) (ss : List SingleMove) → IsOneOf s ss → AllByRecursion (IsGood r) ss → IsGood r s
+pub one_good : (r : Records) (s : SingleMove) (ss : List SingleMove) → IsIn s ss → AllByRecursion (IsGood r) ss → IsGood r s
 one_good r s [] h all = absurd h
 one_good r s (t ∷ ts) (inl e) all = subst (IsGood r) (sym e) all.0
 one_good r s (t ∷ ts) (inr h) all = one_good r s ts h all.1
@@ -328,7 +329,7 @@ stays r (s ∷ ss) input before after o i p g good is kind at none size (next, p
     ∙ ap (field_of p) st.next_is ∙ beside p.offset p.length q before st.bytes (omega (arith, to_at.within, size)) st.long away
 
 -- behind all moves each receiver holds what it received
-pub holds : (r : Records) (ss : List SingleMove) (input before after : List ℕ) (s : SingleMove) (good : IsGood r s) (p q : Place) → Ground r → AllByRecursion (IsGood r) ss → ReceiveOnce ss → IsOneOf s ss
+pub holds : (r : Records) (ss : List SingleMove) (input before after : List ℕ) (s : SingleMove) (good : IsGood r s) (p q : Place) → Ground r → AllByRecursion (IsGood r) ss → ReceiveOnce ss → IsIn s ss
     → IsSteady r.input good.from p → IsSteady r.output s.receiver q → length before ≡ greatest_length r.output → Puts r ss input before after
     → Gained r s good p input (field_of q after)
 holds r [] input before after s good p q g all once h from to size puts = absurd h
@@ -347,7 +348,7 @@ holds r (t ∷ ts) input before after s good p q g all once (inr h) from to size
 
 -- where each of the single moves has something to store, none stops
 pub goes_through : (r : Records) (ss : List SingleMove) (input before : List ℕ) → Ground r → AllByRecursion (IsGood r) ss → length before ≡ greatest_length r.output
-    → ((s : SingleMove) (good : IsGood r s) (p : Place) → IsOneOf s ss → IsSteady r.input good.from p → (bytes : List ℕ) × Gained r s good p input bytes)
+    → ((s : SingleMove) (good : IsGood r s) (p : Place) → IsIn s ss → IsSteady r.input good.from p → (bytes : List ℕ) × Gained r s good p input bytes)
     → (after : List ℕ) × Puts r ss input before after
 goes_through r [] input before g all size able = (before, refl)
 goes_through r (s ∷ ss) input before g all size able =

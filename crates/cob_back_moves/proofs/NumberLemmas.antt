@@ -32,7 +32,7 @@ pub record Laws : Type 0 where
   pub below : BelowPower
 
 -- a number that an item can have: as many digits, at its scale, and a minus only with a sign and where it isn't zero
-pub record IsIn (i : Item) (v : Amount) : Type 0 where
+pub record CanHave (i : Item) (v : Amount) : Type 0 where
   pub valid : IsDigits v.digits
   pub count : length v.digits ≡ digits i.picture.positions
   pub point : v.scale ≡ scale i.picture.positions
@@ -76,10 +76,10 @@ gives_unedited AlphanumericEdited i bytes v e h = absurd (cc)
 
 -- ---- what an item gives, it can have
 
-pub given_in : Laws → (i : Item) (bytes : List ℕ) (v : Amount) → IsSoundItem i → shows_number i.picture.category ≡ true → ItemGives Pictured i bytes v → IsIn i v
+pub given_in : Laws → (i : Item) (bytes : List ℕ) (v : Amount) → IsSoundItem i → shows_number i.picture.category ≡ true → ItemGives Pictured i bytes v → CanHave i v
 given_in law i bytes v sound shows gives = at (is_number i) refl gives
   where
-    at : (b : Bool) → is_number i ≡ b → MatchBool b (IsNumberIn Pictured i bytes v) (GivesUnder i.picture.category i bytes v) → IsIn i v
+    at : (b : Bool) → is_number i ≡ b → MatchBool b (IsNumberIn Pictured i bytes v) (GivesUnder i.picture.category i bytes v) → CanHave i v
     at true e h =
         let held : IsHeld (digits i.picture.positions) (signed i.picture.positions) v.negative v.digits = law.held i bytes v.negative v.digits (number_item i sound e) h.represents in
         record { valid = held.valid; count = held.count_is; point = h.point; nonzero = held.nonzero; minus = held.minus }
@@ -109,11 +109,11 @@ aligned_same a s n below =
     let same : a * 10 ^ 0 ≡ a = omega arith in
     ap (λ z. shifted a z % 10 ^ n) none ∙ ap (λ x. x % 10 ^ n) same ∙ mod-eq_of_lt below
 
-below_digits : Laws → (i : Item) (v : Amount) → IsIn i v → number_of v.digits < 10 ^ digits i.picture.positions
+below_digits : Laws → (i : Item) (v : Amount) → CanHave i v → number_of v.digits < 10 ^ digits i.picture.positions
 below_digits law i v in_i = subst (λ (n : ℕ). number_of v.digits < 10 ^ n) in_i.count (law.below v.digits in_i.valid)
 
 -- what a wider item has of it, put back
-pub back_again : Laws → (i j : Item) (v : Amount) (m : ℕ) → IsWiderNumber i j → IsIn i v
+pub back_again : Laws → (i j : Item) (v : Amount) (m : ℕ) → IsWiderNumber i j → CanHave i v
     → m ≡ aligned (number_of v.digits) v.scale (scale j.picture.positions) (digits j.picture.positions)
     → aligned m (scale j.picture.positions) (scale i.picture.positions) (digits i.picture.positions) ≡ number_of v.digits
 back_again law i j v m wider in_i is =
@@ -122,7 +122,7 @@ back_again law i j v m wider in_i is =
     ∙ law.keeps (number_of v.digits) (digits i.picture.positions) (digits j.picture.positions) (scale i.picture.positions) (scale j.picture.positions)
     (below_digits law i v in_i) wider.behind wider.before
 
-some_left : Laws → (i j : Item) (v : Amount) (m : ℕ) → IsWiderNumber i j → IsIn i v
+some_left : Laws → (i j : Item) (v : Amount) (m : ℕ) → IsWiderNumber i j → CanHave i v
     → m ≡ aligned (number_of v.digits) v.scale (scale j.picture.positions) (digits j.picture.positions)
     → 0 < number_of v.digits → 0 < m
 some_left law i j v zero wider in_i is some =
@@ -160,7 +160,7 @@ pub record IsCarried (i j : Item) (v w : Amount) (bytes : List ℕ) : Type 0 whe
   pub minus : w.negative ≡ v.negative
   pub value : number_of w.digits ≡ aligned (number_of v.digits) v.scale (scale j.picture.positions) (digits j.picture.positions)
 
-pub moved : Laws → (i j : Item) (v : Amount) (bytes : List ℕ) → IsSoundItem j → IsWiderNumber i j → IsIn i v → HoldsAmount j v bytes
+pub moved : Laws → (i j : Item) (v : Amount) (bytes : List ℕ) → IsSoundItem j → IsWiderNumber i j → CanHave i v → HoldsAmount j v bytes
     → (w : Amount) × IsCarried i j v w bytes
 moved law i j v bytes sound wider in_i holds = at (is_number j) refl holds
   where
@@ -220,7 +220,7 @@ moved law i j v bytes sound wider in_i holds = at (is_number j) refl holds
 
 -- ---- and back
 
-pub returned : Laws → (i j : Item) (v w : Amount) (a b : List ℕ) → IsSoundItem i → IsWiderNumber i j → IsIn i v → ItemGives Pictured i a v → IsCarried i j v w b
+pub returned : Laws → (i j : Item) (v w : Amount) (a b : List ℕ) → IsSoundItem i → IsWiderNumber i j → CanHave i v → ItemGives Pictured i a v → IsCarried i j v w b
     → (c : List ℕ) × HoldsAmount i w c × ItemGives Pictured i c v
 returned law i j v w a b sound wider in_i gives is = at (is_number i) refl gives
   where

@@ -7,30 +7,31 @@ use Rattle.cob_copybook_tree.specs.declared.node.Item.{Item}
 use Rattle.cob_copybook_tree.specs.declared.node.Kind.{Kind}
 use Rattle.cob_copybook_tree.specs.declared.node.Kind.TheVariants.{Group, Item as ItemKind}
 use Rattle.cob_layout_places.specs.Cover.{Occurrence}
+use Rattle.cob_layout.specs.Kept.{IsIn}
 use Rattle.cob_move_data.specs.declared.operands.Operand.{Operand}
 use Rattle.cob_move_data.specs.declared.operands.Side.TheVariants.{In, Out}
 use Rattle.cob_move_data.specs.Moves.{Entry, Literal, operand_in}
 use Rattle.cob_back_moves.specs.Returns.{BringsHome, IsReturned}
 use Rattle.cob_move_data.specs.Singles.{SingleMove, occurrence_of}
-use Rattle.cob_back_moves.specs.Singles.{Goes, IsOneOf}
+use Rattle.cob_back_moves.specs.Singles.{Goes}
 use Rattle.cob_back_moves.specs.Wider.{LosesNothing}
 use Rattle.cob_back_moves.specs.Brought.{IsCarried, LosesNothingAs, occurrence_at}
 use Rattle.cob_move_apply.specs.Some.{SomeOf}
 use Rattle.cob_back_moves.specs.Tested.{ref_of, sender_of, single_of}
 use Rattle.cob_back_moves.specs.declared.single.Element.{Element}
-use Rattle.cob_back_moves.specs.declared.single.Layouts.{Layouts}
+use Rattle.cob_back_moves.specs.declared.single.BothLayouts.{BothLayouts}
 use Rattle.cob_back_moves.specs.declared.single.Sent as sent_code
 use Rattle.cob_back_moves.specs.declared.single.Sent.TheVariants as sent
 use Rattle.cob_back_moves.specs.declared.single.Single.{Single}
 
 -- ---- one of some
 
-some_one : (P : SingleMove → Type 0) (ss : List SingleMove) → SomeOf P ss → (s : SingleMove) × IsOneOf s ss × P s
+some_one : (P : SingleMove → Type 0) (ss : List SingleMove) → SomeOf P ss → (s : SingleMove) × IsIn s ss × P s
 some_one P [] h = absurd h
 some_one P (s ∷ ss) (inl h) = (s, inl refl, h)
 some_one P (s ∷ ss) (inr h) = let (t, one, is) = some_one P ss h in (t, inr one, is)
 
-one_some : (P : SingleMove → Type 0) (s : SingleMove) (ss : List SingleMove) → IsOneOf s ss → P s → SomeOf P ss
+one_some : (P : SingleMove → Type 0) (s : SingleMove) (ss : List SingleMove) → IsIn s ss → P s → SomeOf P ss
 one_some P s [] one is = one
 one_some P s (t ∷ ts) (inl e) is = inl (subst P e is)
 one_some P s (t ∷ ts) (inr one) is = inr (one_some P s ts one is)
@@ -43,22 +44,22 @@ operand_is a b o u e = cc
 pub comes_once : (s : SingleMove) (a b x : Occurrence) → Goes s a x → Goes s b x → a ≡ b
 comes_once s a b x g h = sym g.leaves ∙ ap occurrence_of (operand_is g.reading h.reading g.operand h.operand (sym g.sends ∙ h.sends)) ∙ h.leaves
 
-pub comes_from : (l : Layouts) (s : Single) (e : Element) (x : Occurrence) → s.sent ≡ sent.Entry In e → occurrence_at s.receiver ≡ x → Goes (single_of l s) (occurrence_at e) x
+pub comes_from : (l : BothLayouts) (s : Single) (e : Element) (x : Occurrence) → s.sent ≡ sent.Entry In e → occurrence_at s.receiver ≡ x → Goes (single_of l s) (occurrence_at e) x
 comes_from l s e x is at = record { reading = l.reading; operand = operand_in l.input.now (ref_of e); sends = ap (sender_of l) is; leaves = refl; reaches = at }
 
-not_out : (l : Layouts) (e : Element) (x : Reading) (o : Operand) → sender_of l (sent.Entry Out e) ≡ Entry In x o → ⊥
+not_out : (l : BothLayouts) (e : Element) (x : Reading) (o : Operand) → sender_of l (sent.Entry Out e) ≡ Entry In x o → ⊥
 not_out l e x o h = cc
 
-pub from_output : (l : Layouts) (s : Single) (e : Element) (from x : Occurrence) → s.sent ≡ sent.Entry Out e → Goes (single_of l s) from x → ⊥
+pub from_output : (l : BothLayouts) (s : Single) (e : Element) (from x : Occurrence) → s.sent ≡ sent.Entry Out e → Goes (single_of l s) from x → ⊥
 from_output l s e from x is g = not_out l e g.reading g.operand (sym (ap (sender_of l) is) ∙ g.sends)
 
 not_entry : (v : PlainValue) (x : Reading) (o : Operand) → Literal v ≡ Entry In x o → ⊥
 not_entry v x o h = cc
 
-pub from_constant : (l : Layouts) (s : Single) (t : sent_code.Sent) (v : PlainValue) (from x : Occurrence) → s.sent ≡ t → sender_of l t ≡ Literal v → Goes (single_of l s) from x → ⊥
+pub from_constant : (l : BothLayouts) (s : Single) (t : sent_code.Sent) (v : PlainValue) (from x : Occurrence) → s.sent ≡ t → sender_of l t ≡ Literal v → Goes (single_of l s) from x → ⊥
 from_constant l s t v from x is literal g = not_entry v g.reading g.operand (sym literal ∙ sym (ap (sender_of l) is) ∙ g.sends)
 
-pub elsewhere : (l : Layouts) (s : Single) (from x : Occurrence) (b : Bool) → b ≡ false → Decides b (occurrence_at s.receiver ≡ x) → Goes (single_of l s) from x → ⊥
+pub elsewhere : (l : BothLayouts) (s : Single) (from x : Occurrence) (b : Bool) → b ≡ false → Decides b (occurrence_at s.receiver ≡ x) → Goes (single_of l s) from x → ⊥
 elsewhere l s from x b isnt (one, only) g = let is : b ≡ true = only g.reaches in cc
 
 -- ---- carried, and brought home

@@ -5,7 +5,7 @@ use Rattle.std.specs.List.{AllByRecursion, flat_map, list_any}
 use Rattle.cob_source.specs.Tokens.{Lexeme}
 use Rattle.cob_picture.specs.declared.symbol.Symbol.{Symbol}
 use Rattle.cob_picture.specs.declared.symbol.Symbol.TheVariants.{S, V, P, Nine}
-use Rattle.cob_picture.specs.declared.position.Role.TheVariants as role
+use Rattle.cob_picture.specs.declared.position.PositionRole.TheVariants as role
 use Rattle.cob_picture.specs.declared.position.Position.{Position}
 use Rattle.cob_picture.specs.declared.category.Category.{Category}
 use Rattle.cob_picture.specs.declared.category.Category.TheVariants.{Alphabetic, Numeric, Alphanumeric, AlphanumericEdited, NumericEdited}
@@ -14,8 +14,8 @@ use Rattle.cob_picture.specs.Counts.{digits, signed}
 use Rattle.cob_picture.specs.Numeric.{numeric_symbols}
 use Rattle.cob_picture.specs.Pictures.{IsPicture, IsPictureOf}
 use Rattle.cob_picture.proofs.Placed.{MayFloat, floating_may}
-use Rattle.cob_edit.specs.declared.place.Place.{Place}
-use Rattle.cob_edit.specs.declared.place.Place.TheVariants.{Inserted, Point, Digit, Suppressed, Floating, First, Fixed, AssumedPoint}
+use Rattle.cob_edit.specs.declared.place.EditedPlace.{EditedPlace}
+use Rattle.cob_edit.specs.declared.place.EditedPlace.TheVariants.{Inserted, Point, Digit, Suppressed, Floating, First, Fixed, AssumedPoint}
 use Rattle.cob_edit.specs.Editing.{place_at, region_start, shows_sign}
 use Rattle.cob_edit.specs.Places.{is_fixed_sign, is_floating_sign}
 use Rattle.cob_edit.specs.Pictured.{places, position_places}
@@ -44,7 +44,7 @@ use Rattle.cob_back_moves.specs.Laws.{IsSoundItem, ItemsAreSound}
 
 -- ---- a numeric picture shows no sign
 
-abbrev is_dull : Place → Bool
+abbrev is_dull : EditedPlace → Bool
 is_dull Digit = true
 is_dull AssumedPoint = true
 is_dull (Inserted byte) = false
@@ -54,7 +54,7 @@ is_dull Floating = false
 is_dull (First mark) = false
 is_dull (Fixed mark) = false
 
-abbrev AreDull : List Place → Type 0
+abbrev AreDull : List EditedPlace → Type 0
 AreDull ps = AllByRecursion (λ p. is_dull p ≡ true) ps
 
 all_append : {X : Type 0} (Q : X → Type 0) (xs ys : List X) → AllByRecursion Q xs → AllByRecursion Q ys → AllByRecursion Q (xs ++ ys)
@@ -106,7 +106,7 @@ dull_picture symbols is =
     (all_append StandsDull (replicate n.after V) _ (all_replicate StandsDull n.after V dull_v) (all_replicate StandsDull n.fraction Nine dull_nine)))))) in
     dull_from (floating symbols) false symbols (floating_may symbols) (subst (AllByRecursion StandsDull) (sym is.order.2) all)
 
-not_fixed : (p : Place) → is_dull p ≡ true → (is_fixed_sign p ≡ false) × (is_floating_sign p ≡ false)
+not_fixed : (p : EditedPlace) → is_dull p ≡ true → (is_fixed_sign p ≡ false) × (is_floating_sign p ≡ false)
 not_fixed Digit e = (refl, refl)
 not_fixed AssumedPoint e = (refl, refl)
 not_fixed (Inserted byte) e = (refl, refl)
@@ -116,19 +116,19 @@ not_fixed Floating e = (refl, refl)
 not_fixed (First mark) e = absurd (cc)
 not_fixed (Fixed mark) e = absurd (cc)
 
-none_fixed : (ps : List Place) → AreDull ps → list_any is_fixed_sign ps ≡ false
+none_fixed : (ps : List EditedPlace) → AreDull ps → list_any is_fixed_sign ps ≡ false
 none_fixed [] h = refl
 none_fixed (p ∷ ps) h = list_any_cons p ps (not_fixed p h.0).0 (none_fixed ps h.1)
   where
-    list_any_cons : (p : Place) (ps : List Place) → is_fixed_sign p ≡ false → list_any is_fixed_sign ps ≡ false → list_any is_fixed_sign (p ∷ ps) ≡ false
+    list_any_cons : (p : EditedPlace) (ps : List EditedPlace) → is_fixed_sign p ≡ false → list_any is_fixed_sign ps ≡ false → list_any is_fixed_sign (p ∷ ps) ≡ false
     list_any_cons p ps a b = rw (a, b) refl
 
-none_floats : (ps : List Place) (j : ℕ) → AreDull ps → is_floating_sign (place_at ps j) ≡ false
+none_floats : (ps : List EditedPlace) (j : ℕ) → AreDull ps → is_floating_sign (place_at ps j) ≡ false
 none_floats [] j h = refl
 none_floats (p ∷ ps) zero h = (not_fixed p h.0).1
 none_floats (p ∷ ps) (suc j) h = none_floats ps j h.1
 
-shows_none : (ps : List Place) → AreDull ps → shows_sign ps ≡ false
+shows_none : (ps : List EditedPlace) → AreDull ps → shows_sign ps ≡ false
 shows_none ps h = rw (none_fixed ps h, none_floats ps (region_start ps) h) refl
 
 -- ---- the pictures of a text's entries

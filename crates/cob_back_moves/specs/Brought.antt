@@ -16,11 +16,11 @@ use Rattle.cob_back_moves.specs.Tested.{AreSound, layout_records}
 use Rattle.cob_back_moves.specs.declared.returned.Carried.{Carried}
 use Rattle.cob_back_moves.specs.declared.returned.ItemElement.{ItemElement}
 use Rattle.cob_back_moves.specs.declared.single.Element.{Element}
-use Rattle.cob_back_moves.specs.declared.single.Layouts.{Layouts}
+use Rattle.cob_back_moves.specs.declared.single.BothLayouts.{BothLayouts}
 use Rattle.cob_back_moves.specs.declared.some.MovesBetween.{MovesBetween}
 
 -- the moves of these statements between the records of the layouts
-abbrev pub moves_between : Layouts → List StatementMoves → List Move
+abbrev pub moves_between : BothLayouts → List StatementMoves → List Move
 moves_between l statements = moves_by l.reading (layout_records l) statements
 
 -- the single moves that these are

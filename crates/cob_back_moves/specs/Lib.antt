@@ -1,6 +1,7 @@
 pub mod Apart
 pub mod Wider
 pub mod Singles
+pub mod Same
 pub mod Returns
 pub mod Lossless
 pub mod Laws

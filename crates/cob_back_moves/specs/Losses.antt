@@ -12,13 +12,13 @@ use Rattle.cob_back_moves.specs.Brought.{AllReturned, IsLostItem, moves_between,
 use Rattle.cob_back_moves.specs.Tested.{layout_records}
 use Rattle.cob_back_moves.specs.declared.lossless.Loss.{Loss}
 use Rattle.cob_back_moves.specs.declared.lossless.Loss.TheVariants as loss
-use Rattle.cob_back_moves.specs.declared.lossless.Way.{Way}
-use Rattle.cob_back_moves.specs.declared.lossless.Way.TheVariants.{There, Back}
-use Rattle.cob_back_moves.specs.declared.single.Layouts.{Layouts}
+use Rattle.cob_back_moves.specs.declared.lossless.Direction.{Direction}
+use Rattle.cob_back_moves.specs.declared.lossless.Direction.TheVariants.{There, Back}
+use Rattle.cob_back_moves.specs.declared.single.BothLayouts.{BothLayouts}
 use Rattle.cob_back_moves.specs.declared.some.MovesBetween.{MovesBetween}
 
 -- both records stand in one way
-abbrev pub StandOneWay : Layouts → Type 0
+abbrev pub StandOneWay : BothLayouts → Type 0
 StandOneWay l = StandsOneWay l.input.now × StandsOneWay l.output.now
 
 -- All are elementary and read their senders as their pictures say, and no occurrence receives twice.
@@ -55,7 +55,7 @@ abbrev pub LoseItem : MovesBetween → MovesBetween → ℕ → Type 0
 LoseItem there back entry = IsLostItem there.layouts.input.now (singles_in there) (singles_in back) entry
 
 -- the moves of a way
-abbrev pub moves_of_way : MovesBetween → MovesBetween → Way → MovesBetween
+abbrev pub moves_of_way : MovesBetween → MovesBetween → Direction → MovesBetween
 moves_of_way there back There = there
 moves_of_way there back Back = back
 
@@ -70,5 +70,5 @@ IsLoss there back loss.Name = AreAllNamed there.layouts.input.now (singles_in ba
 IsLoss there back (loss.Item entry) = IsLostItem there.layouts.input.now (singles_in there) (singles_in back) entry
 
 -- the point fails of the moves of a way, whatever those of the other are
-abbrev pub IsLossOf : MovesBetween → Way → Loss → Type 0
+abbrev pub IsLossOf : MovesBetween → Direction → Loss → Type 0
 IsLossOf moves way l = (there back : MovesBetween) → moves_of_way there back way ≡ moves → IsLoss there back l

@@ -6,15 +6,16 @@ use Rattle.cob_copybook_tree.specs.declared.node.Kind.TheVariants.{Item as ItemK
 use Rattle.cob_copybook_tree.specs.Forests.{Forest, NoEntries, AnEntry}
 use Rattle.cob_copybook_tree.specs.Nodes.{Resolved}
 use Rattle.cob_copybook_tree.specs.Lengths.{greatest_number}
-use Rattle.cob_copybook_same.specs.Same.{IsSameRecord}
+use Rattle.cob_back_moves.specs.Same.{IsSameRecord}
 use Rattle.cob_layout_places.specs.Counts.{bytes_at, kind_in}
 use Rattle.cob_layout_places.specs.Cover.{Occurrence}
 use Rattle.cob_layout_places.specs.declared.places.Found.{Found}
 use Rattle.cob_layout_places.specs.Places.{place_of}
 use Rattle.cob_layout_places.specs.References.{Refers}
+use Rattle.cob_layout.specs.Kept.{IsIn}
 use Rattle.cob_move_data.specs.Moves.{Move, Records}
 use Rattle.cob_move_data.specs.Singles.{SingleMove, all_singles}
-use Rattle.cob_back_moves.specs.Singles.{Goes, IsElementary, IsOneOf, ReceiveOnce, SendsPictured}
+use Rattle.cob_back_moves.specs.Singles.{Goes, IsElementary, ReceiveOnce, SendsPictured}
 use Rattle.cob_back_moves.specs.Wider.{IsSameIn, LosesNothing}
 
 -- the entry with this number has a name
@@ -32,8 +33,8 @@ pub record IsNamedItem (tree : Forest Resolved) (x : Occurrence) (i : Item) : Ty
 pub record IsReturned (there back : List SingleMove) (x : Occurrence) (i : Item) : Type 0 where
   pub out : SingleMove
   pub home : SingleMove
-  pub sent : IsOneOf out there
-  pub came : IsOneOf home back
+  pub sent : IsIn out there
+  pub came : IsIn home back
   pub away : Occurrence
   pub goes : Goes out x away
   pub comes : Goes home away x
@@ -46,7 +47,7 @@ pub record BringsHome (there : List SingleMove) (m : SingleMove) (x : Occurrence
   pub away : Occurrence
   pub comes : Goes m away x
   pub out : SingleMove
-  pub sent : IsOneOf out there
+  pub sent : IsIn out there
   pub goes : Goes out x away
   pub other : Item
   pub kind : out.receiver.kind ≡ ItemKind other

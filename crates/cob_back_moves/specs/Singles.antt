@@ -40,11 +40,6 @@ IsSenderReadPictured (Literal c) = Unit {0}
 abbrev pub SendsPictured : SingleMove → Type 0
 SendsPictured s = IsSenderReadPictured s.sender
 
--- a single move is one of these
-abbrev pub IsOneOf : SingleMove → List SingleMove → Type 0
-IsOneOf s [] = ⊥
-IsOneOf s (t ∷ ts) = (s ≡ t) ⊎ IsOneOf s ts
-
 -- the occurrence receives in one of these
 abbrev pub Receives : Occurrence → List SingleMove → Type 0
 Receives x [] = ⊥

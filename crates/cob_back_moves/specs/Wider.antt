@@ -1,7 +1,7 @@
 -- Items that lose nothing of what another item holds.
-use Rattle.std.specs.Prelude.{◌≡◌, ◌⊎◌, ℕ, ◌≤◌, pos, ◌-ℤ◌, ◌≤ℤ◌, ℤ, Bool, true, false, not, ◌&&◌, List, IsTrue, MatchBool}
-use Rattle.cob_picture.specs.Positions.{PlainPicture, shows_number}
-use Rattle.cob_picture.specs.Counts.{digits, scale, signed}
+use Rattle.std.specs.Prelude.{◌≡◌, ◌⊎◌, ℕ, ◌≤◌, ◌≤ℤ◌, Bool, true, false, not, ◌&&◌, List, IsTrue, MatchBool}
+use Rattle.cob_picture.specs.Positions.{shows_number}
+use Rattle.cob_picture.specs.Counts.{digits_before, scale, signed}
 use Rattle.cob_codec.specs.declared.reading.Reading.{Reading}
 use Rattle.cob_codec.specs.declared.reading.Reading.TheVariants.{Pictured, Whole}
 use Rattle.cob_copybook_tree.specs.declared.node.Item.{Item}
@@ -11,10 +11,6 @@ use Rattle.cob_copybook_tree.specs.Storage.{is_read_whole}
 use Rattle.cob_move_receive.specs.Copying.{is_of_characters}
 use Rattle.cob_move_receive.specs.Sent.{Amount}
 use Rattle.cob_move_receive.specs.Numbers.{ItemGives}
-
--- how many digits of a picture's number stand before the point
-abbrev pub digits_before : PlainPicture → ℤ
-digits_before p = pos (digits p.positions) -ℤ scale p.positions
 
 -- an alphabetic or alphanumeric item whose characters stand from the left
 abbrev pub is_left_text : Item → Bool

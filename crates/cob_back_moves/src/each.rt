@@ -10,14 +10,14 @@ ghost use Rattle.cob_back_moves.specs.Brought.{moves_between};
 ghost use Rattle.cob_back_moves.specs.Losses.{AreAllNamed};
 ghost use Rattle.cob_back_moves.specs.Tested.{AreMovesBetween, AreSound, PassAll, move_between, move_single, pair_single, moves_of_pairs, single_of, moves_of_statement};
 
-use crate::single::{Element, Layouts, Sent, Single, Test, element_of, passes, sent_of};
+use crate::single::{BothLayouts, Element, Sent, Single, Test, element_of, passes, sent_of};
 use cob_copybook_tree::Node;
 use cob_layout_places::Ref;
 use cob_move_data::{Move, NumberedPair, PairMoves, StatementMoves};
 
 /// The single move of a move's sender to one of its receivers.
 pub(crate) fn move_single<'a>(one: &'a Move, receiver: &'a Ref) -> Single<'a>
-    ensures { (l : Layouts) → single_of l result ≡ move_single l one.now receiver.now }
+    ensures { (l : BothLayouts) → single_of l result ≡ move_single l one.now receiver.now }
 {
     Single {
         sent: sent_of(&one.sender),
@@ -26,7 +26,7 @@ pub(crate) fn move_single<'a>(one: &'a Move, receiver: &'a Ref) -> Single<'a>
 }
 
 /// Whether each single move of a move is as is asked.
-fn move_passes(test: &Test<'_>, layouts: &Layouts<'_>, one: &Move) -> bool
+fn move_passes(test: &Test<'_>, layouts: &BothLayouts<'_>, one: &Move) -> bool
     requires sound { AreSound layouts.now }
     requires moves { AreMovesBetween layouts.now (move_between layouts.now one.now ∷ []) }
     ensures { Decides result (PassAll test.now (move_between layouts.now one.now ∷ [])) }
@@ -42,7 +42,7 @@ fn move_passes(test: &Test<'_>, layouts: &Layouts<'_>, one: &Move) -> bool
 
 /// The single move of a pair of two groups.
 pub(crate) fn pair_single<'a>(group: &'a PairMoves, pair: &NumberedPair) -> Single<'a>
-    ensures { (l : Layouts) → single_of l result ≡ pair_single l group.now pair.now }
+    ensures { (l : BothLayouts) → single_of l result ≡ pair_single l group.now pair.now }
 {
     Single {
         sent: Sent::Entry {
@@ -60,7 +60,7 @@ pub(crate) fn pair_single<'a>(group: &'a PairMoves, pair: &NumberedPair) -> Sing
 }
 
 /// Whether the move of each pair of two groups is as is asked.
-fn pairs_pass(test: &Test<'_>, layouts: &Layouts<'_>, group: &PairMoves) -> bool
+fn pairs_pass(test: &Test<'_>, layouts: &BothLayouts<'_>, group: &PairMoves) -> bool
     requires sound { AreSound layouts.now }
     requires moves { AreMovesBetween layouts.now
         (moves_of_pairs layouts.now group.now group.now.pairs.items) }
@@ -77,7 +77,7 @@ fn pairs_pass(test: &Test<'_>, layouts: &Layouts<'_>, group: &PairMoves) -> bool
 }
 
 /// Whether each single move of a statement is as is asked.
-fn statement_passes(test: &Test<'_>, layouts: &Layouts<'_>, statement: &StatementMoves) -> bool
+fn statement_passes(test: &Test<'_>, layouts: &BothLayouts<'_>, statement: &StatementMoves) -> bool
     requires sound { AreSound layouts.now }
     requires moves { AreMovesBetween layouts.now (moves_of_statement layouts.now statement.now) }
     ensures { Decides result (PassAll test.now (moves_of_statement layouts.now statement.now)) }
@@ -89,7 +89,7 @@ fn statement_passes(test: &Test<'_>, layouts: &Layouts<'_>, statement: &Statemen
 }
 
 /// Whether each single move of statements is as is asked.
-fn all_pass(test: &Test<'_>, layouts: &Layouts<'_>, statements: &[StatementMoves]) -> bool
+fn all_pass(test: &Test<'_>, layouts: &BothLayouts<'_>, statements: &[StatementMoves]) -> bool
     requires sound { AreSound layouts.now }
     requires moves { AreMovesBetween layouts.now (moves_between layouts.now statements.now) }
     ensures { Decides result (PassAll test.now (moves_between layouts.now statements.now)) }
@@ -103,7 +103,7 @@ fn all_pass(test: &Test<'_>, layouts: &Layouts<'_>, statements: &[StatementMoves
 }
 
 /// Whether each single move of statements is elementary: it sends an item of the input record to an item. It takes no memory.
-pub fn are_elementary(layouts: &Layouts<'_>, statements: &[StatementMoves]) -> bool
+pub fn are_elementary(layouts: &BothLayouts<'_>, statements: &[StatementMoves]) -> bool
     requires sound { AreSound layouts.now }
     requires moves { AreMovesBetween layouts.now (moves_between layouts.now statements.now) }
     ensures { Decides result (AllByRecursion IsElementary
@@ -113,7 +113,7 @@ pub fn are_elementary(layouts: &Layouts<'_>, statements: &[StatementMoves]) -> b
 }
 
 /// Whether the sender of each single move of statements is read as its picture says: none is a binary item that is read whole. It takes no memory.
-pub fn are_read_pictured(layouts: &Layouts<'_>, statements: &[StatementMoves]) -> bool
+pub fn are_read_pictured(layouts: &BothLayouts<'_>, statements: &[StatementMoves]) -> bool
     requires sound { AreSound layouts.now }
     requires moves { AreMovesBetween layouts.now (moves_between layouts.now statements.now) }
     ensures { Decides result (AllByRecursion SendsPictured
@@ -123,7 +123,7 @@ pub fn are_read_pictured(layouts: &Layouts<'_>, statements: &[StatementMoves]) -
 }
 
 /// Whether the entry of each receiver of statements has a name in this record. It takes no memory.
-pub fn are_named(named_in: &Node, layouts: &Layouts<'_>, statements: &[StatementMoves]) -> bool
+pub fn are_named(named_in: &Node, layouts: &BothLayouts<'_>, statements: &[StatementMoves]) -> bool
     requires sound { AreSound layouts.now }
     requires moves { AreMovesBetween layouts.now (moves_between layouts.now statements.now) }
     ensures { Decides result (AreAllNamed (tree_of named_in.now)

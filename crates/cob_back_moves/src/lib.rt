@@ -36,13 +36,21 @@
 //! moves times the entries of a record at most, in whatever order they stand. Only where two receivers begin at one byte are they compared
 //! (src/once.rt). The notes of both ways take half a megabyte of the stack.
 //!
-//! What these words mean stands in cob_back_moves (specs/Apart.antt, Singles.antt, Returns.antt, Lossless.antt) and in cob_copybook_same; the
-//! points of the list stand in specs/Losses.antt.
+//! What these words mean stands in specs/Apart.antt, Singles.antt, Returns.antt, Lossless.antt and Same.antt; the points of the list stand in
+//! specs/Losses.antt.
+//!
+//! # Whether two copybooks describe one record
+//!
+//! [`is_same_record`] tells whether the trees of two copybooks are the same, but for the name of the record itself: the same entries in the same
+//! order, with the same levels, names, pictures, usages, signs, tables, redefinitions and values (`IsSameRecord` of specs/Same.antt, both ways). Clauses
+//! count as they act: an entry's usage and sign may be its own or those of its group. A record that is an item by itself has a name in both or
+//! in neither. It takes no memory.
 //!
 //! # Where it is proved
 //!
 //! The laws `items_return`, `occurrences_apart`, `items_fill`, `items_are_sound`, `returns_keep`; the clauses of `is_lossless`, `first_loss` and
-//! `returns`; of `stands_one_way`, `are_elementary`, `are_read_pictured`, `receive_once`, `are_named`, `is_same_book`, `is_same_layout`.
+//! `returns`; of `stands_one_way`, `are_elementary`, `are_read_pictured`, `receive_once`, `are_named`, `is_same_book`, `is_same_layout`,
+//! `is_same_record`, `is_same_item`.
 #![tactic(auto)]
 
 mod books;
@@ -54,6 +62,9 @@ mod named;
 mod noted;
 mod once;
 mod returned;
+mod same_entries;
+mod same_parts;
+mod same_pictures;
 mod single;
 mod some;
 mod standing;
@@ -63,8 +74,10 @@ mod wider;
 pub use books::{is_same_book, is_same_layout};
 pub use each::{are_elementary, are_named, are_read_pictured};
 pub use laws::{items_are_sound, items_fill, items_return, occurrences_apart, returns_keep};
-pub use lossless::{Loss, Way, first_loss, is_lossless, returns};
+pub use lossless::{Direction, Loss, first_loss, is_lossless, returns};
 pub use once::receive_once;
-pub use single::Layouts;
+pub use same_entries::is_same_record;
+pub use same_parts::is_same_item;
+pub use single::BothLayouts;
 pub use some::MovesBetween;
 pub use standing::stands_one_way;

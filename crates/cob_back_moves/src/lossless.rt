@@ -13,7 +13,7 @@ use crate::each::{are_elementary, are_named, are_read_pictured};
 use crate::noted::MOST_BYTES;
 use crate::once::receive_once_in;
 use crate::returned::Starts;
-use crate::single::Layouts;
+use crate::single::BothLayouts;
 use crate::some::MovesBetween;
 use crate::standing::stands_one_way;
 use crate::walk::first_lost;
@@ -21,7 +21,7 @@ use cob_layout::Layout;
 
 /// The moves there, or the moves back.
 #[derive(Clone, Copy, PartialEq, Eq)]
-pub enum Way {
+pub enum Direction {
     There,
     Back,
 }
@@ -32,13 +32,13 @@ pub enum Loss {
     /// The records of the moves back aren't those of the moves there with their sides exchanged.
     Records,
     /// In a record of these moves an entry redefines another, or a table varies.
-    Storage(Way),
+    Storage(Direction),
     /// One of these moves doesn't send an item of the input record, or doesn't send it to an item.
-    Operand(Way),
+    Operand(Direction),
     /// One of these moves sends a binary item that is read whole.
-    Reading(Way),
+    Reading(Direction),
     /// An occurrence receives twice in these moves.
-    Receiver(Way),
+    Receiver(Direction),
     /// A receiver back has no name in the record from which the moves there go.
     Name,
     /// An occurrence of the entry with this number, a named item of that record, isn't moved to an item that loses nothing of it and moved back.
@@ -46,7 +46,7 @@ pub enum Loss {
 }
 
 /// Whether the records of moves back are those of the moves there with their sides exchanged, the names of the records apart.
-fn are_turned(there: &Layouts<'_>, back: &Layouts<'_>) -> bool
+fn are_turned(there: &BothLayouts<'_>, back: &BothLayouts<'_>) -> bool
     ensures { Decides result (AreTurned (layout_records there.now) (layout_records back.now)) }
 {
     is_same_layout(there.output, back.input) && is_same_layout(there.input, back.output)
@@ -60,7 +60,7 @@ fn layout_stands_one_way(layout: &Layout) -> bool
 }
 
 /// Whether both records stand in one way.
-fn stand_one_way(layouts: &Layouts<'_>) -> bool
+fn stand_one_way(layouts: &BothLayouts<'_>) -> bool
     ensures { Decides result (StandOneWay layouts.now) }
 {
     layout_stands_one_way(layouts.input) && layout_stands_one_way(layouts.output)
@@ -89,7 +89,7 @@ fn lost_item(
 }
 
 /// The first point in which the moves of one way fail by themselves. Their receivers are noted.
-fn loss_of(moves: &MovesBetween<'_>, way: Way, noted: &mut [Option<u32>]) -> Option<Loss>
+fn loss_of(moves: &MovesBetween<'_>, way: Direction, noted: &mut [Option<u32>]) -> Option<Loss>
     requires { AreLegal moves.now }
     ensures loss { IfSome result (λ l. IsLossOf moves.now way l) }
     ensures none { IfNone result (AreSimple (singles_in moves.now)) }
@@ -115,10 +115,10 @@ fn loss_in_return(there: &MovesBetween<'_>, back: &MovesBetween<'_>) -> Option<L
 {
     let mut noted_there = [None; MOST_BYTES];
     let mut noted_back = [None; MOST_BYTES];
-    if let Some(loss) = loss_of(there, Way::There, &mut noted_there) {
+    if let Some(loss) = loss_of(there, Direction::There, &mut noted_there) {
         return Some(loss);
     }
-    if let Some(loss) = loss_of(back, Way::Back, &mut noted_back) {
+    if let Some(loss) = loss_of(back, Direction::Back, &mut noted_back) {
         return Some(loss);
     }
     if !are_all_named(there, back) {
@@ -146,10 +146,10 @@ pub fn first_loss(there: &MovesBetween<'_>, back: &MovesBetween<'_>) -> Option<L
         return Some(Loss::Records);
     }
     if !stand_one_way(&there.layouts) {
-        return Some(Loss::Storage(Way::There));
+        return Some(Loss::Storage(Direction::There));
     }
     if !stand_one_way(&back.layouts) {
-        return Some(Loss::Storage(Way::Back));
+        return Some(Loss::Storage(Direction::Back));
     }
     loss_in_return(there, back)
 }
@@ -189,6 +189,7 @@ fn return_all(there: &MovesBetween<'_>, back: &MovesBetween<'_>, starts: &Starts
 
 /// Whether moves back bring back all that moves there take, and the records stand in one way: all that is asked of moves that lose nothing, but that
 /// their records agree crosswise. It takes no memory.
+/// It is there for callers of this library: nothing in this repository but its tests calls it.
 pub fn returns(there: &MovesBetween<'_>, back: &MovesBetween<'_>) -> bool
     requires there { AreLegal there.now }
     requires back { AreLegal back.now }

@@ -12,7 +12,7 @@ ghost use Rattle.cob_back_moves.specs.Tested.{AreSound, IsSingle, ref_of, single
 
 use crate::noted::noted_for;
 use crate::once::are_same_subscripts;
-use crate::single::{Element, Layouts, Sent, Single, kind_of};
+use crate::single::{BothLayouts, Element, Sent, Single, kind_of};
 use crate::some::{Condition, MovesBetween, some_meets};
 use crate::wider::loses_nothing;
 use cob_copybook_tree::{Item, Kind};
@@ -58,7 +58,7 @@ fn is_at(element: &Element<'_>, number: usize, subscripts: &[u32]) -> bool
 
 /// Where a single move to this occurrence comes from; None where it goes to another one, or comes from no entry of the input record.
 fn origin<'a>(
-    layouts: &Layouts<'_>,
+    layouts: &BothLayouts<'_>,
     single: &Single<'a>,
     number: usize,
     subscripts: &[u32],
@@ -81,7 +81,7 @@ fn origin<'a>(
 }
 
 /// Whether an element of the output record is of an item that loses nothing of what this one holds.
-fn loses_nothing_at(layouts: &Layouts<'_>, element: &Element<'_>, item: &Item) -> bool
+fn loses_nothing_at(layouts: &BothLayouts<'_>, element: &Element<'_>, item: &Item) -> bool
     requires sound { AreSound layouts.now }
     requires operand { IsOperand layouts.now.output.now
         (operand_in layouts.now.output.now (ref_of element.now)) }
@@ -97,7 +97,7 @@ fn loses_nothing_at(layouts: &Layouts<'_>, element: &Element<'_>, item: &Item) -
 /// Whether a single move that goes from this element to where it is to be carried carries the occurrence.
 fn is_carried_from(
     carried: &Carried<'_, '_>,
-    layouts: &Layouts<'_>,
+    layouts: &BothLayouts<'_>,
     single: &Single<'_>,
     from: &Element<'_>,
 ) -> bool
@@ -118,7 +118,7 @@ impl Condition for Carried<'_, '_> {
 
     ghost ready = { λ c. Unit {0} };
 
-    fn is_met(&self, layouts: &Layouts<'_>, single: &Single<'_>) -> bool {
+    fn is_met(&self, layouts: &BothLayouts<'_>, single: &Single<'_>) -> bool {
         let to = self.to.subscripts.as_slice();
         match origin(layouts, single, self.to.number, to) {
             None => false,
@@ -133,7 +133,7 @@ impl Condition for BroughtHome<'_> {
 
     ghost ready = { λ b. AreLegal b.there.now };
 
-    fn is_met(&self, layouts: &Layouts<'_>, single: &Single<'_>) -> bool {
+    fn is_met(&self, layouts: &BothLayouts<'_>, single: &Single<'_>) -> bool {
         let there = self.there;
         match origin(layouts, single, self.to.number, self.to.subscripts) {
             None => false,

@@ -3,7 +3,7 @@
 ghost use Rattle.std.specs.Prelude.{◌≡◌};
 ghost use Rattle.std.specs.Bool.{Decides};
 ghost use Rattle.cob_layout.specs.Sound.{IsSound};
-ghost use Rattle.cob_move_data.specs.Moves.{IsOperand, IsSender, operand_in, sender_by};
+ghost use Rattle.cob_move_data.specs.Moves.{IsOperand, IsSender, operand_in, record_of, sender_by};
 ghost use Rattle.cob_back_moves.specs.Singles.{IsElementary, IsInputItem, IsItemKind, IsSenderReadPictured, SendsPictured};
 ghost use Rattle.cob_back_moves.specs.Tested.{AreSound, IsSingle, PassesTest, layout_records, ref_of, sender_of, single_of};
 
@@ -19,10 +19,22 @@ use cob_move_data::{Sender, Side};
 
 /// The layouts of the two records that moves go between, and how their binary items are read that are sent.
 #[derive(Clone, Copy)]
-pub struct Layouts<'a> {
+pub struct BothLayouts<'a> {
     pub input: &'a Layout,
     pub output: &'a Layout,
     pub reading: Reading,
+}
+
+impl<'a> BothLayouts<'a> {
+    /// The layout of a side's record.
+    pub fn of(&self, side: Side) -> &'a Layout
+        ensures { result.now ≡ record_of (layout_records self.now) side }
+    {
+        match side {
+            Side::In => self.input,
+            Side::Out => self.output,
+        }
+    }
 }
 
 /// An occurrence of an entry of a record: the number of the entry, and its subscripts.
@@ -71,7 +83,7 @@ pub(crate) fn element_of(entry: &Ref) -> Element<'_>
 
 /// What a sender sends.
 pub(crate) fn sent_of(sender: &Sender) -> Sent<'_>
-    ensures { (l : Layouts) → sender_of l result ≡ sender_by l.reading (layout_records l)
+    ensures { (l : BothLayouts) → sender_of l result ≡ sender_by l.reading (layout_records l)
         sender.now }
 {
     match sender {
@@ -93,7 +105,7 @@ pub(crate) fn kind_of<'a>(layout: &'a Layout, entry: &Element<'_>) -> &'a Kind
 }
 
 /// Whether what is sent is an item of the input record.
-fn is_input_item(layouts: &Layouts<'_>, sent: &Sent<'_>) -> bool
+fn is_input_item(layouts: &BothLayouts<'_>, sent: &Sent<'_>) -> bool
     requires sound { AreSound layouts.now }
     requires sender { IsSender (layout_records layouts.now) (sender_of layouts.now sent.now) }
     ensures { Decides result (IsInputItem (sender_of layouts.now sent.now)) }
@@ -108,7 +120,7 @@ fn is_input_item(layouts: &Layouts<'_>, sent: &Sent<'_>) -> bool
 }
 
 /// Whether what is sent is read as its picture says.
-fn is_sent_pictured(layouts: &Layouts<'_>, sent: &Sent<'_>) -> bool
+fn is_sent_pictured(layouts: &BothLayouts<'_>, sent: &Sent<'_>) -> bool
     requires sound { AreSound layouts.now }
     requires sender { IsSender (layout_records layouts.now) (sender_of layouts.now sent.now) }
     ensures { Decides result (IsSenderReadPictured (sender_of layouts.now sent.now)) }
@@ -123,7 +135,7 @@ fn is_sent_pictured(layouts: &Layouts<'_>, sent: &Sent<'_>) -> bool
 }
 
 /// Whether a single move is elementary.
-fn is_elementary(layouts: &Layouts<'_>, single: &Single<'_>) -> bool
+fn is_elementary(layouts: &BothLayouts<'_>, single: &Single<'_>) -> bool
     requires sound { AreSound layouts.now }
     requires single { IsSingle layouts.now single.now }
     ensures { Decides result (IsElementary (single_of layouts.now single.now)) }
@@ -132,7 +144,7 @@ fn is_elementary(layouts: &Layouts<'_>, single: &Single<'_>) -> bool
 }
 
 /// Whether a single move is as is asked.
-pub(crate) fn passes(test: &Test<'_>, layouts: &Layouts<'_>, single: &Single<'_>) -> bool
+pub(crate) fn passes(test: &Test<'_>, layouts: &BothLayouts<'_>, single: &Single<'_>) -> bool
     requires sound { AreSound layouts.now }
     requires single { IsSingle layouts.now single.now }
     ensures { Decides result (PassesTest test.now (single_of layouts.now single.now)) }

@@ -10,14 +10,14 @@ ghost use Rattle.cob_move_apply.specs.Some.{SomeOf};
 ghost use Rattle.cob_back_moves.specs.Tested.{AreMovesBetween, AreSound, IsSingle, layout_records, operands_between, moves_of_pairs, sender_by_reading, single_of, singles_between, moves_of_statement};
 
 use crate::each::{move_single, pair_single};
-use crate::single::{Layouts, Single};
+use crate::single::{BothLayouts, Single};
 use cob_layout_places::Ref;
 use cob_move_data::{Move, NumberedPair, PairMoves, StatementMoves};
 
 /// The moves of statements, and the layouts of the records between which they are.
 #[derive(Clone, Copy)]
 pub struct MovesBetween<'a> {
-    pub layouts: Layouts<'a>,
+    pub layouts: BothLayouts<'a>,
     pub statements: &'a [StatementMoves],
 }
 
@@ -30,7 +30,7 @@ pub(crate) trait Condition {
     ghost ready: { Self → Type 0 };
 
     /// Whether a single move meets it.
-    fn is_met(&self, layouts: &Layouts<'_>, single: &Single<'_>) -> bool
+    fn is_met(&self, layouts: &BothLayouts<'_>, single: &Single<'_>) -> bool
         requires ready { ready self.now }
         requires sound { AreSound layouts.now }
         requires single { IsSingle layouts.now single.now }
@@ -40,13 +40,14 @@ pub(crate) trait Condition {
 /// Whether the single move of a move's sender to one of these receivers meets the condition.
 fn some_receiver_meets<C: Condition>(
     condition: &C,
-    layouts: &Layouts<'_>,
+    layouts: &BothLayouts<'_>,
     one: &Move,
     receivers: &[Ref],
 ) -> bool
     requires ready { C.ready condition.now }
     requires sound { AreSound layouts.now }
-    requires sender { IsSender (layout_records layouts.now) (sender_by_reading layouts.now one.now) }
+    requires sender { IsSender (layout_records layouts.now)
+        (sender_by_reading layouts.now one.now) }
     requires receivers { AllByRecursion (IsOperand layouts.now.output.now)
         (operands_between layouts.now receivers.now) }
     ensures { Decides result (SomeOf (C.met condition.now)
@@ -64,7 +65,7 @@ fn some_receiver_meets<C: Condition>(
 /// Whether the single move of one of these pairs of two groups meets the condition.
 fn some_pair_meets<C: Condition>(
     condition: &C,
-    layouts: &Layouts<'_>,
+    layouts: &BothLayouts<'_>,
     group: &PairMoves,
     pairs: &[NumberedPair],
 ) -> bool
@@ -86,7 +87,7 @@ fn some_pair_meets<C: Condition>(
 /// Whether a single move of a statement meets the condition.
 fn some_of_statement_meets<C: Condition>(
     condition: &C,
-    layouts: &Layouts<'_>,
+    layouts: &BothLayouts<'_>,
     statement: &StatementMoves,
 ) -> bool
     requires ready { C.ready condition.now }
@@ -114,7 +115,7 @@ fn some_of_statement_meets<C: Condition>(
 /// Whether a single move of these statements meets the condition.
 fn some_of_these_meets<C: Condition>(
     condition: &C,
-    layouts: &Layouts<'_>,
+    layouts: &BothLayouts<'_>,
     statements: &[StatementMoves],
 ) -> bool
     requires ready { C.ready condition.now }

@@ -2,19 +2,12 @@
 
 ghost use Rattle.std.specs.Prelude.{◌≡◌, ◌≤ℤ◌, IsTrue};
 ghost use Rattle.std.specs.Bool.{Decides};
-ghost use Rattle.cob_picture.specs.Counts.{scale, signed};
-ghost use Rattle.cob_back_moves.specs.Wider.{IsLongerText, IsWiderNumber, LosesNothing, digits_before, is_left_text};
+ghost use Rattle.cob_picture.specs.Counts.{digits_before, scale, signed};
+ghost use Rattle.cob_back_moves.specs.Wider.{IsLongerText, IsWiderNumber, LosesNothing, is_left_text};
 
 use cob_copybook_tree::Item;
 use cob_move_receive::is_of_characters;
 use cob_picture::Picture;
-
-/// How many digits of a picture's number stand before the point.
-fn digits_before(picture: &Picture) -> i16
-    ensures { result ≡ digits_before picture.now }
-{
-    i16::from(picture.digits()) - i16::from(picture.scale())
-}
 
 /// Whether the second picture has at least as many digits behind the point.
 fn is_as_wide_behind(picture: &Picture, other: &Picture) -> bool
@@ -27,7 +20,7 @@ fn is_as_wide_behind(picture: &Picture, other: &Picture) -> bool
 fn is_as_wide_before(picture: &Picture, other: &Picture) -> bool
     ensures { Decides result (digits_before picture.now ≤ℤ digits_before other.now) }
 {
-    digits_before(picture) <= digits_before(other)
+    picture.digits_before() <= other.digits_before()
 }
 
 /// Whether the second picture has a sign where the first has one.

@@ -8,7 +8,7 @@ ghost use Rattle.cob_back_runs.specs.Keeps.{AreLossless, Keeps};
 ghost use Rattle.cob_back_runs.specs.Laws.{IsPrepared};
 
 use crate::laws::lossless_keep;
-use cob_back_moves::{Layouts, Loss, MovesBetween, is_lossless};
+use cob_back_moves::{BothLayouts, Loss, MovesBetween, is_lossless};
 use cob_convert::Converter;
 use cob_convert_record::Conversion;
 use cob_layout::records_are_sound;
@@ -27,7 +27,7 @@ pub fn carried(conversion: &Conversion) -> MovesBetween<'_>
     let _ = output.root();
     let moves = conversion.moves();
     MovesBetween {
-        layouts: Layouts {
+        layouts: BothLayouts {
             input,
             output,
             reading: moves.reading(),

@@ -24,6 +24,6 @@
 mod converters;
 mod laws;
 
-pub use cob_back_moves::{Loss, MovesBetween, Way};
+pub use cob_back_moves::{Direction, Loss, MovesBetween};
 pub use converters::{carried, first_loss, lossless};
 pub use laws::{lossless_keep, lossless_runs};

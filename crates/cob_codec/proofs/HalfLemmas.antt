@@ -5,7 +5,7 @@ use Rattle.cob_decimal.specs.Decimal.{IsDigits, number_of}
 use Rattle.cob_codec.specs.Packed.{halves}
 use Rattle.cob_codec.specs.Sign.{IsSigned}
 use Rattle.std.proofs.lemmas.Bool.{cases_lt}
-use Rattle.cob_codec.specs.declared.flaw.Wanted.{Wanted}
+use Rattle.cob_codec.specs.declared.flaw.ExpectedPart.{ExpectedPart}
 use Rattle.cob_codec.specs.Flaws.{is_either, suits}
 
 -- ---- half bytes
@@ -41,11 +41,11 @@ half_low bs at lt odd = sym (low_is bs (at / 2) at (omega (arith, odd)) (omega (
 
 -- ---- parts that suit, one after another
 
-pub more_suit : (signed : Bool) (wanted : ℕ → Wanted) (parts : List ℕ) (at : ℕ) (w : Wanted) (part : ℕ) → ((k : ℕ) → k < at → suits signed (wanted k) (get_or parts k 0) ≡ true)
+pub more_suit : (signed : Bool) (wanted : ℕ → ExpectedPart) (parts : List ℕ) (at : ℕ) (w : ExpectedPart) (part : ℕ) → ((k : ℕ) → k < at → suits signed (wanted k) (get_or parts k 0) ≡ true)
     → w ≡ wanted at → part ≡ get_or parts at 0 → suits signed w part ≡ true → (k : ℕ) → k < at + 1 → suits signed (wanted k) (get_or parts k 0) ≡ true
 more_suit signed wanted parts at w part before is there so k lt =
     let here : suits signed (wanted at) (get_or parts at 0) ≡ true =
-    subst (λ (v : Wanted). suits signed v (get_or parts at 0) ≡ true) is (subst (λ (n : ℕ). suits signed w n ≡ true) there so) in
+    subst (λ (v : ExpectedPart). suits signed v (get_or parts at 0) ≡ true) is (subst (λ (n : ℕ). suits signed w n ≡ true) there so) in
     elim (cases_lt k at) [
       | inl below ↦ before k below
       | inr above ↦ let same : at ≡ k = omega (arith, lt, above) in subst (λ (n : ℕ). suits signed (wanted n) (get_or parts n 0) ≡ true) same here

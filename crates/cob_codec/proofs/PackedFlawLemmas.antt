@@ -5,8 +5,8 @@ use Rattle.std.proofs.lemmas.List.{length-take, length-drop}
 use Rattle.cob_decimal.specs.Decimal.{IsDigits}
 use Rattle.cob_codec.specs.Packed.{IsPacked, halves, pad_count}
 use Rattle.cob_codec.specs.Sign.{sign_meaning}
-use Rattle.cob_codec.specs.declared.flaw.Wanted.{Wanted}
-use Rattle.cob_codec.specs.declared.flaw.Wanted.TheVariants.{Zero, Digit, Sign}
+use Rattle.cob_codec.specs.declared.flaw.ExpectedPart.{ExpectedPart}
+use Rattle.cob_codec.specs.declared.flaw.ExpectedPart.TheVariants.{Zero, Digit, Sign}
 use Rattle.cob_codec.specs.Flaws.{AllSuit, packed_wanted, suits}
 use Rattle.cob_codec.proofs.HalfLemmas.{either_is, length-halves, signed_so}
 
@@ -21,8 +21,8 @@ digit_wanted count k le lt = rw (le-ltb k (pad_count count) le, lt-ltb k (pad_co
 sign_wanted : (count k : ℕ) → k ≡ pad_count count + count → packed_wanted count k ≡ Sign
 sign_wanted count k is = rw (le-ltb k (pad_count count) (omega (arith, is)), le-ltb k (pad_count count + count) (omega (arith, is))) refl
 
-suits_as : (signed : Bool) (w v : Wanted) (h : ℕ) → w ≡ v → suits signed w h ≡ true → suits signed v h ≡ true
-suits_as signed w v h same so = subst (λ (x : Wanted). suits signed x h ≡ true) same so
+suits_as : (signed : Bool) (w v : ExpectedPart) (h : ℕ) → w ≡ v → suits signed w h ≡ true → suits signed v h ≡ true
+suits_as signed w v h same so = subst (λ (x : ExpectedPart). suits signed x h ≡ true) same so
 
 -- ---- the parts of a list
 

@@ -7,8 +7,8 @@ use Rattle.cob_cp037.specs.Named.{minus_byte, plus_byte}
 use Rattle.cob_decimal.specs.Decimal.{IsDigits}
 use Rattle.cob_codec.specs.Separate.{IsSignedSeparately, sign_byte}
 use Rattle.cob_codec.specs.Zoned.{digit_bytes}
-use Rattle.cob_codec.specs.declared.flaw.Wanted.{Wanted}
-use Rattle.cob_codec.specs.declared.flaw.Wanted.TheVariants.{DigitByte, SignByte}
+use Rattle.cob_codec.specs.declared.flaw.ExpectedPart.{ExpectedPart}
+use Rattle.cob_codec.specs.declared.flaw.ExpectedPart.TheVariants.{DigitByte, SignByte}
 use Rattle.cob_codec.specs.Flaws.{AllSuit, separate_wanted, suits}
 use Rattle.cob_codec.proofs.HalfLemmas.{signed_so}
 use Rattle.cob_codec.proofs.PackedFlawLemmas.{last_one}
@@ -53,11 +53,11 @@ other_test a b other = grind (arith, other)
 
 digit_at : (signed : Bool) (place k b : ℕ) → k ≢ place → suits signed (separate_wanted place k) b ≡ true → (240 ≤ b) × (b ≤ 249)
 digit_at signed place k b other h =
-    in_range b (subst (λ (w : Wanted). suits signed w b ≡ true) (ap (λ (t : Bool). if t then SignByte else DigitByte) (other_test k place other)) h)
+    in_range b (subst (λ (w : ExpectedPart). suits signed w b ≡ true) (ap (λ (t : Bool). if t then SignByte else DigitByte) (other_test k place other)) h)
 
 sign_at : (signed : Bool) (place k b : ℕ) → k ≡ place → suits signed (separate_wanted place k) b ≡ true → (minus : Bool) × (b ≡ sign_byte minus)
 sign_at signed place k b is h =
-    sign_is signed b (subst (λ (w : Wanted). suits signed w b ≡ true) (ap (λ (t : Bool). if t then SignByte else DigitByte) (same_test k place is)) h)
+    sign_is signed b (subst (λ (w : ExpectedPart). suits signed w b ≡ true) (ap (λ (t : Bool). if t then SignByte else DigitByte) (same_test k place is)) h)
 
 get_front : (n : ℕ) (bs : List ℕ) (k : ℕ) → k < n → n ≤ length bs → get_or (take n bs) k 0 ≡ get_or bs k 0
 get_front zero bs k lt le = absurd (omega (arith, lt))

@@ -5,8 +5,8 @@ use Rattle.std.proofs.lemmas.List.{length-map, get_or-map}
 use Rattle.cob_codec.specs.Packed.{halves}
 use Rattle.cob_codec.specs.Sign.{sign_meaning, sign_place}
 use Rattle.cob_codec.specs.Zoned.{IsZoned, low_digit}
-use Rattle.cob_codec.specs.declared.flaw.Wanted.{Wanted}
-use Rattle.cob_codec.specs.declared.flaw.Wanted.TheVariants.{Digit, Sign, Zone}
+use Rattle.cob_codec.specs.declared.flaw.ExpectedPart.{ExpectedPart}
+use Rattle.cob_codec.specs.declared.flaw.ExpectedPart.TheVariants.{Digit, Sign, Zone}
 use Rattle.cob_codec.specs.Flaws.{AllSuit, suits, zoned_wanted}
 use Rattle.cob_codec.proofs.HalfLemmas.{digits_from, either_is, high_is, length-halves, low_is, signed_so}
 
@@ -25,8 +25,8 @@ sign_wanted place k at is there = rw (other_test (at % 2) 1 (λ e. omega (arith,
 zone_wanted : (place k at : ℕ) → at ≡ 2 * k → k ≢ place → zoned_wanted place at ≡ Zone
 zone_wanted place k at is other = rw (other_test (at % 2) 1 (λ e. omega (arith, is, e)), other_test (at / 2) place (λ e. other (omega (arith, is, e)))) refl
 
-suits_as : (signed : Bool) (w v : Wanted) (g h : ℕ) → w ≡ v → g ≡ h → suits signed w g ≡ true → suits signed v h ≡ true
-suits_as signed w v g h same there so = subst (λ (x : Wanted). suits signed x h ≡ true) same (subst (λ (n : ℕ). suits signed w n ≡ true) there so)
+suits_as : (signed : Bool) (w v : ExpectedPart) (g h : ℕ) → w ≡ v → g ≡ h → suits signed w g ≡ true → suits signed v h ≡ true
+suits_as signed w v g h same there so = subst (λ (x : ExpectedPart). suits signed x h ≡ true) same (subst (λ (n : ℕ). suits signed w n ≡ true) there so)
 
 place_within : (signed leading : Bool) (count : ℕ) → 0 < count → sign_place signed leading count < count
 place_within true true count some = some

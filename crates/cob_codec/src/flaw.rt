@@ -8,7 +8,7 @@ use cob_cp037::{MINUS, NINE, PLUS, ZERO};
 
 /// What a part of a number's bytes has to be.
 #[derive(Clone, Copy, PartialEq, Eq)]
-pub enum Wanted {
+pub enum ExpectedPart {
     /// A half byte 0, in front of an even number of packed digits.
     Zero,
     /// A half byte that is a digit, 0 to 9.
@@ -29,7 +29,7 @@ pub struct Flaw {
     /// The number of the part, from 0: of half bytes, the high one of each byte first; or of bytes, where these are wanted.
     pub at: usize,
     pub found: u8,
-    pub wanted: Wanted,
+    pub wanted: ExpectedPart,
 }
 
 /// Why the bytes of a number represent none.
@@ -53,15 +53,15 @@ fn is_sign(signed: bool, half: u8) -> bool
 }
 
 /// Whether a part is as its place asks.
-pub(crate) fn suits(signed: bool, wanted: Wanted, part: u8) -> bool
+pub(crate) fn suits(signed: bool, wanted: ExpectedPart, part: u8) -> bool
     ensures { result ≡ suits signed wanted part }
 {
     match wanted {
-        Wanted::Zero => part == 0,
-        Wanted::Digit => part < 10,
-        Wanted::Sign => is_sign(signed, part),
-        Wanted::Zone => part == 0xF,
-        Wanted::DigitByte => ZERO <= part && part <= NINE,
-        Wanted::SignByte => part == PLUS || part == MINUS,
+        ExpectedPart::Zero => part == 0,
+        ExpectedPart::Digit => part < 10,
+        ExpectedPart::Sign => is_sign(signed, part),
+        ExpectedPart::Zone => part == 0xF,
+        ExpectedPart::DigitByte => ZERO <= part && part <= NINE,
+        ExpectedPart::SignByte => part == PLUS || part == MINUS,
     }
 }

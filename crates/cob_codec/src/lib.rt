@@ -17,7 +17,8 @@
 //! the first part that isn't as its place asks: a half byte of a zoned or a packed item, or a byte of one with a separate sign. An answer is that part
 //! (`found`, by `IsFirstFlaw` of specs/Flaws.antt), and then the bytes represent no number (`only`); there is no answer only where they represent
 //! one (`none`). Binary bytes have no such part: those that represent none are a number past the picture's digits ([`NumberFlaw`]).
-//! [`Zoned::natural`] and [`Binary::natural`] tell numbers that are not below zero in few steps, where these tell them (`IsNaturalOf`).
+//! [`Zoned::natural`] and [`Binary::natural`] tell numbers that are not below zero in few steps, where these tell them (`IsNaturalOf`). [`sign_place`] is
+//! the place of the byte of a zoned item that has the sign.
 //!
 //! The crate stands on cob_cp037 for the characters of digits and signs, on cob_decimal for numbers and on byteorder for binary items.
 //! Nothing here takes memory.
@@ -47,7 +48,7 @@ mod zoned;
 mod zoned_flaws;
 
 pub use crate::binary::Binary;
-pub use crate::flaw::{Flaw, NumberFlaw, Wanted};
+pub use crate::flaw::{ExpectedPart, Flaw, NumberFlaw};
 pub use crate::laws::{bytes_represent_one_number, stored_numbers_read_back, whole_reading_agrees};
 pub use crate::packed::Packed;
 pub use crate::packed_flaws::packed_flaw;
@@ -56,6 +57,6 @@ pub use crate::separate::Separate;
 pub use crate::separate_flaws::separate_flaw;
 pub use crate::shape::Shape;
 pub use crate::storage::Storage;
-pub use crate::zoned::{Zoned, read_digits};
+pub use crate::zoned::{Zoned, read_digits, sign_place};
 pub use crate::zoned_flaws::zoned_flaw;
 pub use cob_limits::MAX_BINARY_DIGITS;

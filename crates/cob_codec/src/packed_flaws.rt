@@ -5,24 +5,24 @@ ghost use Rattle.cob_codec.specs.Packed.{IsPacked, halves};
 ghost use Rattle.cob_limits.specs.Limits.{most_digits};
 ghost use Rattle.cob_codec.specs.Flaws.{AllSuit, IsFirstFlaw, packed_wanted};
 
-use crate::flaw::{Flaw, Wanted, suits};
+use crate::flaw::{ExpectedPart, Flaw, suits};
 use crate::halves::half_at;
 use crate::packed::Packed;
 use crate::shape::Shape;
 use crate::storage::Storage;
 
 /// What a half byte of a packed item of so many digits has to be.
-fn packed_wanted(count: u8, at: usize) -> Wanted
+fn packed_wanted(count: u8, at: usize) -> ExpectedPart
     requires { count ≤ most_digits }
     ensures { result ≡ packed_wanted count at }
 {
     let pad = usize::from((count + 1) % 2);
     if at < pad {
-        Wanted::Zero
+        ExpectedPart::Zero
     } else if at < pad + usize::from(count) {
-        Wanted::Digit
+        ExpectedPart::Digit
     } else {
-        Wanted::Sign
+        ExpectedPart::Sign
     }
 }
 

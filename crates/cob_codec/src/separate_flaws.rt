@@ -4,7 +4,7 @@ ghost use Rattle.std.specs.Prelude.{◌≡◌, ◌+◌, ◌-◌, ◌<◌, ℕ, L
 ghost use Rattle.cob_codec.specs.Separate.{IsSignedSeparately};
 ghost use Rattle.cob_codec.specs.Flaws.{AllSuit, IsFirstFlaw, separate_wanted, separate_wanted_in};
 
-use crate::flaw::{Flaw, Wanted, suits};
+use crate::flaw::{ExpectedPart, Flaw, suits};
 use crate::separate::Separate;
 use crate::shape::Shape;
 use crate::storage::Storage;
@@ -18,13 +18,13 @@ fn sign_byte_at(leads: bool, count: usize) -> usize
 }
 
 /// What a byte has to be, where the sign's byte has this number.
-fn separate_wanted(place: usize, at: usize) -> Wanted
+fn separate_wanted(place: usize, at: usize) -> ExpectedPart
     ensures { result ≡ separate_wanted place at }
 {
     if at == place {
-        Wanted::SignByte
+        ExpectedPart::SignByte
     } else {
-        Wanted::DigitByte
+        ExpectedPart::DigitByte
     }
 }
 

@@ -38,15 +38,15 @@ impl Storage for Zoned {
     fn store(shape: &Shape, number: &Number, bytes: &mut [u8]) {
         let digits = number.digits().as_slice();
         put_digits(bytes, digits);
-        let place = sign_at(shape.signed, shape.leading, bytes.len());
+        let place = sign_place(shape.signed, shape.leading, bytes.len());
         bytes[place] = code_of(shape.signed, number.negative()) * 16 + digits[place];
     }
 
     fn laws() {}
 }
 
-/// The place of the sign among the bytes.
-pub(crate) fn sign_at(signed: bool, leading: bool, count: usize) -> usize
+/// The place of the sign among the bytes of a zoned item.
+pub fn sign_place(signed: bool, leading: bool, count: usize) -> usize
     requires { 0 < count }
     ensures place { result ≡ sign_place signed leading count }
     ensures within { result < count }
@@ -63,7 +63,7 @@ fn read_zoned(shape: &Shape, bytes: &[u8]) -> Option<Number>
     ensures none { IfNone result ((negative : Bool) (digits : List ℕ)
         → ¬ IsZoned shape.now.digits shape.now.signed shape.now.leading bytes.now negative digits) }
 {
-    let place = sign_at(shape.signed, shape.leading, bytes.len());
+    let place = sign_place(shape.signed, shape.leading, bytes.len());
     let mut digits = Digits::new();
     for (at, byte) in bytes.iter().enumerate() {
         let digit = *byte % 16;

@@ -4,22 +4,22 @@ ghost use Rattle.std.specs.Prelude.{◌≡◌, ◌<◌, ℕ, List, Bool, IfNone,
 ghost use Rattle.cob_codec.specs.Packed.{halves};
 ghost use Rattle.cob_codec.specs.Flaws.{AllSuit, IsFirstFlaw, IsZonedBy, zoned_wanted, zoned_wanted_in};
 
-use crate::flaw::{Flaw, Wanted, suits};
+use crate::flaw::{ExpectedPart, Flaw, suits};
 use crate::halves::half_at;
 use crate::shape::Shape;
 use crate::storage::Storage;
-use crate::zoned::{Zoned, sign_at};
+use crate::zoned::{Zoned, sign_place};
 
 /// What a half byte of a zoned item has to be, whose sign stands in this byte.
-fn zoned_wanted(place: usize, at: usize) -> Wanted
+fn zoned_wanted(place: usize, at: usize) -> ExpectedPart
     ensures { result ≡ zoned_wanted place at }
 {
     if at % 2 == 1 {
-        Wanted::Digit
+        ExpectedPart::Digit
     } else if at / 2 == place {
-        Wanted::Sign
+        ExpectedPart::Sign
     } else {
-        Wanted::Zone
+        ExpectedPart::Zone
     }
 }
 
@@ -33,7 +33,7 @@ fn first_in_zoned(shape: &Shape, bytes: &[u8]) -> Option<Flaw>
         (zoned_wanted_in shape.now (length bytes.now))
         (halves bytes.now)) }
 {
-    let place = sign_at(shape.signed, shape.leading, bytes.len());
+    let place = sign_place(shape.signed, shape.leading, bytes.len());
     for at in 0..2 * bytes.len() {
         let found = half_at(bytes, at);
         let wanted = zoned_wanted(place, at);

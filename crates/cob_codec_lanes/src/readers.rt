@@ -3,7 +3,6 @@
 ghost use Rattle.std.specs.Prelude.{◌≡◌, ◌+◌, ◌/◌, ◌<◌, ◌≤◌, ℕ};
 ghost use Rattle.cob_codec.specs.Packed.{IsPacked};
 ghost use Rattle.cob_codec.specs.Separate.{IsSignedSeparately};
-ghost use Rattle.cob_codec.specs.Sign.{sign_place};
 ghost use Rattle.cob_codec.specs.Zoned.{IsZoned};
 ghost use Rattle.cob_codec_lanes.specs.Readers.{AreNumeralsOf, IsReaderOf};
 ghost use Rattle.cob_codec_lanes.specs.Windows.{first_lane, pad_bound, sign_lane};
@@ -15,19 +14,10 @@ use crate::picks::{Spread, power_picks};
 use crate::reader::LaneReader;
 use crate::signs::{SignByte, table_start};
 use crate::wanted::Wanted;
-use cob_codec::Shape;
+use cob_codec::{Shape, sign_place};
 
 /// The greatest half byte that is a digit.
 const NINE: u8 = 9;
-
-/// The place of the sign among the bytes of a zoned item.
-pub(crate) fn sign_place(signed: bool, leading: bool, count: usize) -> usize
-    requires { 0 < count }
-    ensures place { result ≡ sign_place signed leading count }
-    ensures within { result < count }
-{
-    if signed && leading { 0 } else { count - 1 }
-}
 
 /// Where the first digit stands in a window that ends with an item of so many digits with a separate sign.
 fn first_lane(leading: bool, count: usize) -> usize

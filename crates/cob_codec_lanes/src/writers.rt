@@ -10,9 +10,8 @@ ghost use Rattle.cob_codec_lanes.specs.Writers.{IsWriterOf};
 
 use crate::filling::{lanes_between, with_lane};
 use crate::picks::{Spread, digit_picks};
-use crate::readers::sign_place;
 use crate::writer::LaneWriter;
-use cob_codec::Shape;
+use cob_codec::{Shape, sign_place};
 
 /// The zone of a digit, in its byte.
 const ZONE: u8 = 0xF0;

@@ -12,10 +12,11 @@ use Rattle.cob_convert_stream.specs.declared.fault.Reason.{Reason}
 use Rattle.cob_convert_stream.specs.declared.fault.RunFault.{RunFault}
 use Rattle.cob_convert_stream.specs.Reasons.{frame_reason, is_read_cause, is_write_cause, misfit_reason}
 use Rattle.cob_convert.specs.declared.aside.AsideFault.{AsideFault}
-use Rattle.cob_convert.specs.declared.aside.Ending.{Ending}
-use Rattle.cob_convert.specs.declared.aside.Ending.TheVariants as ending
+use Rattle.cob_convert.specs.declared.aside.AsideOutcome.{AsideOutcome}
+use Rattle.cob_convert.specs.declared.aside.AsideOutcome.TheVariants as ending
 use Rattle.cob_convert.specs.declared.aside.Tally.{Tally}
-use Rattle.cob_convert.specs.Run.{IsConverted, most_records, stop_reason}
+use Rattle.cob_convert_record.specs.Reasons.{stop_reason}
+use Rattle.cob_convert.specs.Run.{IsConverted, most_records}
 use Rattle.cob_convert.specs.Outcomes.{Became, ByConversion, ByLayout, HasItsOutcome, HasOutcome, IsRejected, Outcome, WasRejected, append_notes, converted_of, inputs_of, notes_of, rejected_of, rejected_part, set_aside_of}
 use Rattle.cob_convert.specs.Aside.{EndsUnwritten, EndsWritten, IsOverAside, Outputs, RanAside, answer_over, count_of, is_aside_fault, is_read_fault, is_sink_fault, tally_of}
 use Rattle.cob_convert.specs.AsideLaws.{AsideIsOne, is_device_fault}
@@ -50,7 +51,7 @@ whole_of conversion input (WasRejected why) (whole, p) = whole
 -- ---- why a run is over
 
 -- why a run is over is no device that failed
-abbrev pub IsWorking : Ending → Type 0
+abbrev pub IsWorking : AsideOutcome → Type 0
 IsWorking ending.Done = Unit {0}
 IsWorking (ending.Stopped why) = (is_read_cause why.cause ≡ false) × (is_write_cause why.cause ≡ false)
 IsWorking (ending.NotSetAside cause) = ⊥
@@ -59,7 +60,7 @@ or_false : (a b : Bool) → (a || b) ≡ false → (a ≡ false) × (b ≡ false
 or_false true b e = absurd (cc)
 or_false false b e = (refl, e)
 
-pub working : (why : Ending) (t : Tally) (n w : ℕ) (answer : Result Tally AsideFault) → answer ≡ answer_over t n w why → is_device_fault answer ≡ false → IsWorking why
+pub working : (why : AsideOutcome) (t : Tally) (n w : ℕ) (answer : Result Tally AsideFault) → answer ≡ answer_over t n w why → is_device_fault answer ≡ false → IsWorking why
 working ending.Done t n w answer is e = tt
 working (ending.Stopped why) t n w answer is e =
     let (unread, others) = or_false (is_read_fault answer) (is_sink_fault answer || is_aside_fault answer) e in
@@ -79,7 +80,7 @@ not_unwritten conversion most records opened left rest written part answer ends 
     let failed : is_sink_fault answer ≡ true = ap is_sink_fault ends.is ∙ (put_kind ends.bytes ends.part ends.cause ends.puts).0 in
     cc
 
-over_within : (conversion : Conversion) (most : ℕ) (records : List (List ℕ × Outcome)) (opened : ℕ) (left rest part : List ℕ) (why : Ending)
+over_within : (conversion : Conversion) (most : ℕ) (records : List (List ℕ × Outcome)) (opened : ℕ) (left rest part : List ℕ) (why : AsideOutcome)
     → IsOverAside conversion most records (remains opened left rest) part why → length records ≤ most_records
 over_within conversion most records opened left rest part ending.Done (ends, none) = omega (arith, ends.below)
 over_within conversion most records opened left rest part (ending.Stopped why) (inl limit, none) = omega (arith, limit.limit)
@@ -87,7 +88,7 @@ over_within conversion most records opened left rest part (ending.Stopped why) (
 over_within conversion most records opened left rest part (ending.NotSetAside cause) stops = omega (arith, stops.below)
 
 -- of no record a part was set aside
-part_none : (conversion : Conversion) (most : ℕ) (records : List (List ℕ × Outcome)) (opened : ℕ) (left rest part : List ℕ) (why : Ending)
+part_none : (conversion : Conversion) (most : ℕ) (records : List (List ℕ × Outcome)) (opened : ℕ) (left rest part : List ℕ) (why : AsideOutcome)
     → IsOverAside conversion most records (remains opened left rest) part why → IsWorking why → part ≡ []
 part_none conversion most records opened left rest part ending.Done (ends, none) works = none
 part_none conversion most records opened left rest part (ending.Stopped why) (stops, none) works = none
@@ -97,7 +98,7 @@ rejected_one : (came : List ℕ × Outcome) (why : Reason) → came.1 ≡ WasRej
 rejected_one came why e = ap (λ (outcome : Outcome). length (rejected_part came.0 outcome)) e
 
 -- where a record comes that is converted, or may be set aside, a run goes on
-goes_on : (conversion : Conversion) (most : ℕ) (records : List (List ℕ × Outcome)) (opened : ℕ) (left rest part : List ℕ) (why : Ending) (came : List ℕ × Outcome) (after : ℕ) (more : List ℕ)
+goes_on : (conversion : Conversion) (most : ℕ) (records : List (List ℕ × Outcome)) (opened : ℕ) (left rest part : List ℕ) (why : AsideOutcome) (came : List ℕ × Outcome) (after : ℕ) (more : List ℕ)
     → IsSettled conversion → length records < most_records → HasItsOutcome conversion came → length (rejected_of records) + length (rejected_part came.0 came.1) ≤ most
     → ComesFirst conversion.in_form opened came.0 left after more → IsOverAside conversion most records (remains opened left rest) part why → IsWorking why → ⊥
 goes_on conversion most records opened left rest part ending.Done came after more settled below one few first (ends, none) works =
@@ -114,7 +115,7 @@ goes_on conversion most records opened left rest part (ending.Stopped why) came 
 goes_on conversion most records opened left rest part (ending.NotSetAside cause) came after more settled below one few first stops works = works
 
 -- a run is over for one reason
-over_one : (conversion : Conversion) (most : ℕ) (records : List (List ℕ × Outcome)) (opened : ℕ) (left rest other part side : List ℕ) (why reason : Ending) → IsSettled conversion
+over_one : (conversion : Conversion) (most : ℕ) (records : List (List ℕ × Outcome)) (opened : ℕ) (left rest other part side : List ℕ) (why reason : AsideOutcome) → IsSettled conversion
     → IsOverAside conversion most records (remains opened left rest) part why → IsOverAside conversion most records (remains opened left other) side reason → IsWorking why → IsWorking reason
     → (why ≡ reason) × (rest ≡ other)
 over_one conversion most records opened left rest other part side ending.Done ending.Done settled (p, none) (q, nil) u v = (refl, p.rest ∙ sym q.rest)
@@ -177,7 +178,7 @@ low_with : (front : List (List ℕ × Outcome)) (came : List ℕ × Outcome) (re
 low_with front came records all these e f top =
     omega (arith, top, ap length e, length-append front (came ∷ records), ap length (f ∙ append-nil front))
 
-same_records : (conversion : Conversion) (most : ℕ) (front records others all these : List (List ℕ × Outcome)) (bytes : List ℕ) (l opened yard : ℕ) (left end rest other part side : List ℕ) (why reason : Ending)
+same_records : (conversion : Conversion) (most : ℕ) (front records others all these : List (List ℕ × Outcome)) (bytes : List ℕ) (l opened yard : ℕ) (left end rest other part side : List ℕ) (why reason : AsideOutcome)
     → IsSettled conversion → all ≡ front ++ records → these ≡ front ++ others → AllByRecursion (HasItsOutcome conversion) records → AllByRecursion (HasItsOutcome conversion) others
     → Come conversion.in_form l (inputs_of records) bytes opened left → Come conversion.in_form l (inputs_of others) bytes yard end
     → length (rejected_of all) ≤ most → length (rejected_of these) ≤ most

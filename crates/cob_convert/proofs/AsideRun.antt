@@ -11,11 +11,12 @@ use Rattle.cob_convert_stream.specs.declared.fault.Reason.{Reason}
 use Rattle.cob_convert_stream.specs.declared.fault.RunFault.{RunFault}
 use Rattle.cob_convert_stream.specs.Input.{Remains, records_in}
 use Rattle.cob_convert.specs.declared.aside.AsideFault.{AsideFault}
-use Rattle.cob_convert.specs.declared.aside.Ending.{Ending}
-use Rattle.cob_convert.specs.declared.aside.Ending.TheVariants as ending
+use Rattle.cob_convert.specs.declared.aside.AsideOutcome.{AsideOutcome}
+use Rattle.cob_convert.specs.declared.aside.AsideOutcome.TheVariants as ending
 use Rattle.cob_convert.specs.declared.aside.Tally.{Tally}
 use Rattle.cob_convert.specs.Run.{InRead, IsConverted, StopsFor, records_out}
-use Rattle.cob_convert.specs.Outcomes.{Became, HasItsOutcome, Outcome, WasRejected, append_notes, converted_of, fault_at, inputs_of, notes_behind, notes_of, rejected_of}
+use Rattle.cob_convert_stream.specs.Reasons.{fault_at}
+use Rattle.cob_convert.specs.Outcomes.{Became, HasItsOutcome, Outcome, WasRejected, append_notes, converted_of, inputs_of, notes_behind, notes_of, rejected_of}
 use Rattle.cob_convert.specs.Aside.{IsOverAside, Outputs, RanAside, StopsAside, answer_over, count_of, tally_of}
 use Rattle.cob_convert.specs.AsideLaws.{AsideIsRun, IsConversion, RejectedAgain, RejectsNone, is_device_fault, IsPlainAnswer}
 use Rattle.cob_convert.proofs.AsideOne.{IsWorking, not_unwritten, working}
@@ -56,7 +57,7 @@ stops_plain conversion most records n at why count (inr (low, inr rejects)) =
     inr (omega (arith, low, count), stops_record conversion at rejects.input why rejects.came rejects.rejected)
 
 plain_by : (conversion : Conversion) (most : ℕ) (bytes rest : List ℕ) (before now : Outputs) (answer : Result Tally AsideFault) → (ran : RanAside conversion most answer bytes rest before now)
-    → length (rejected_of ran.records) ≡ 0 → (why : Ending) → IsOverAside conversion most ran.records (remains ran.opened ran.left rest) ran.aside_part why → IsWorking why
+    → length (rejected_of ran.records) ≡ 0 → (why : AsideOutcome) → IsOverAside conversion most ran.records (remains ran.opened ran.left rest) ran.aside_part why → IsWorking why
     → answer ≡ answer_over (tally_of ran.records) (length ran.records) (count_of ran.written) why
     → ran.written ≡ written_of conversion.out_form (converted_of ran.records) → IsConversion conversion bytes rest before now answer
 plain_by conversion most bytes rest before now answer ran none ending.Done (ends, nil) works is all =
@@ -125,7 +126,7 @@ plain_of conversion most bytes rest before now answer ran none works =
     ]
 
 -- an answer that counts is that of the records
-counts_rejected : (t u : Tally) (n w : ℕ) (why : Ending) → Ok t ≡ answer_over u n w why → t.rejected ≡ u.rejected
+counts_rejected : (t u : Tally) (n w : ℕ) (why : AsideOutcome) → Ok t ≡ answer_over u n w why → t.rejected ≡ u.rejected
 counts_rejected t u n w ending.Done e = let same : ◌≡◌ {A = Result Tally AsideFault} (Ok t) (Ok u) = e in let one : t ≡ u = cc in ap (λ (x : Tally). x.rejected) one
 counts_rejected t u n w (ending.Stopped why) e = absurd (cc)
 counts_rejected t u n w (ending.NotSetAside cause) e = absurd (cc)

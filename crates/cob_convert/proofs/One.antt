@@ -18,7 +18,8 @@ use Rattle.cob_convert_stream.specs.Reasons.{frame_reason, is_read_cause, misfit
 use Rattle.cob_convert_stream.specs.Sizes.{IsSized, IsMeasureFault}
 use Rattle.cob_convert_record.specs.Becoming.{Becomes, StopsAt}
 use Rattle.cob_convert_stream.specs.Input.{Remains, records_in}
-use Rattle.cob_convert.specs.Run.{Came, Ends, InConversion, InLayout, InRead, InputEnds, IsConverted, IsOver, RecordStops, is_read_end, is_read_stop, is_write_stop, most_records, records_out, stop_reason}
+use Rattle.cob_convert_record.specs.Reasons.{stop_reason}
+use Rattle.cob_convert.specs.Run.{Came, Ends, InConversion, InLayout, InRead, InputEnds, IsConverted, IsOver, RecordStops, is_read_end, is_read_stop, is_write_stop, most_records, records_out}
 use Rattle.cob_convert.specs.Unique.{HasBytes, ConversionIsOne}
 use Rattle.cob_convert.proofs.Carried.{remains}
 use Rattle.cob_convert.proofs.Headline.{not_in_write}

@@ -8,7 +8,8 @@ use Rattle.cob_convert_stream.specs.declared.misfit.MeasureFault.{MeasureFault}
 use Rattle.cob_convert_stream.specs.declared.misfit.MeasureFault.TheVariants.{Count as Uncounted, Length as Unfitting}
 use Rattle.cob_convert_stream.specs.Input.{Remains}
 use Rattle.cob_convert_stream.specs.Reasons.{is_read_cause, is_write_cause, refusal_from}
-use Rattle.cob_convert.specs.Run.{Came, InConversion, InLayout, RecordStops, cause_from}
+use Rattle.cob_convert_record.specs.Reasons.{cause_from}
+use Rattle.cob_convert.specs.Run.{Came, InConversion, InLayout, RecordStops}
 use Rattle.cob_convert.specs.Outcomes.{ByConversion, ByLayout, IsRejected}
 
 misfit_unread : (misfit : MeasureFault) → is_read_cause (refusal_from misfit) ≡ false

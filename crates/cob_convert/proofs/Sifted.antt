@@ -19,15 +19,15 @@ use Rattle.cob_convert_record.specs.Conversion.{Conversion, in_length, out_lengt
 use Rattle.cob_convert_stream.specs.declared.fault.Reason.{Reason}
 use Rattle.cob_convert_stream.specs.declared.fault.RunFault.{RunFault}
 use Rattle.cob_convert_stream.specs.Output.{PutsCounted}
-use Rattle.cob_convert_stream.specs.Reasons.{write_reason}
+use Rattle.cob_convert_stream.specs.Reasons.{fault_at, write_reason}
 use Rattle.cob_convert_stream.specs.Whole.{IsWholeRecord, ReadsWhole}
 use Rattle.cob_convert.specs.declared.aside.AsideFault.{AsideFault}
 use Rattle.cob_convert.specs.declared.aside.AsideFault.TheVariants as fault
-use Rattle.cob_convert.specs.declared.aside.Ending.{Ending}
-use Rattle.cob_convert.specs.declared.aside.Ending.TheVariants as ending
+use Rattle.cob_convert.specs.declared.aside.AsideOutcome.{AsideOutcome}
+use Rattle.cob_convert.specs.declared.aside.AsideOutcome.TheVariants as ending
 use Rattle.cob_convert.specs.declared.aside.Tally.{Tally}
 use Rattle.cob_convert.specs.Run.{IsConverted, limit_reason, most_records}
-use Rattle.cob_convert.specs.Outcomes.{Became, IsRejected, HasItsOutcome, Outcome, WasRejected, append_notes, converted_of, fault_at, inputs_of, note_of, notes_behind, notes_of, outlet_for, output_of, rejected_of, rejected_part, set_aside_of, written_behind}
+use Rattle.cob_convert.specs.Outcomes.{Became, IsRejected, HasItsOutcome, Outcome, WasRejected, append_notes, converted_of, inputs_of, note_of, notes_behind, notes_of, outlet_for, output_of, rejected_of, rejected_part, set_aside_of, written_behind}
 use Rattle.cob_convert.specs.Aside.{AllOut, BeginsConverted, ByEnd, ByRecord, ClosesAside, CountsUnlessSink, IsFirstUnwritten, IsOverAside, Outputs, PartOut, RanAside, answer_over, count_of, is_aside_ending, is_aside_error, is_aside_error_ending, is_aside_fault, is_read_ending, is_read_fault, is_sink_fault, tally_for, tally_of}
 use Rattle.cob_convert.proofs.Carried.{append_none, append_twice, put_kind, remains, told_both, told_here, told_same}
 use Rattle.cob_convert.proofs.Outlets.{at_end, come_one, comes_of, emptied_behind, fits_behind, holds_none, none_pending, with_one_more, written_more}
@@ -325,11 +325,11 @@ counted_tally conversion most n rejected first written opened outlet r0 r before
     let tally : ℕ → ℕ → Tally = λ c k. record { converted = c; rejected = k } in
     is ∙ ap (λ (c : ℕ). tally c rejected) size ∙ ap (tally (length (converted_of so_far.records))) (sym so_far.rejects)
 
-same_answer : (t u : Tally) (n m w v : ℕ) (why : Ending) → t ≡ u → n ≡ m → w ≡ v → answer_over t n w why ≡ answer_over u m v why
+same_answer : (t u : Tally) (n m w v : ℕ) (why : AsideOutcome) → t ≡ u → n ≡ m → w ≡ v → answer_over t n w why ≡ answer_over u m v why
 same_answer t u n m w v why a b c = rw (a, b, c) refl
 
 -- a run is over, and what the outlet held back is written
-close_exit : (conversion : Conversion) (most n rejected first written opened : ℕ) (outlet : Outlet) (why : Ending) (t : Tally) (answer : Result Tally AsideFault) (r0 r1 r2 : Option (List ℕ)) (before now later : Outputs)
+close_exit : (conversion : Conversion) (most n rejected first written opened : ℕ) (outlet : Outlet) (why : AsideOutcome) (t : Tally) (answer : Result Tally AsideFault) (r0 r1 r2 : Option (List ℕ)) (before now later : Outputs)
     (aside_part : List ℕ) (P : List ℕ → List ℕ → Type 0)
     → (so_far : Sifted conversion most n rejected first written opened outlet r0 r1 before now) → Told r1 r2 P → t ≡ tally_for n rejected
     → Took now.sink later.sink (ClosesAside outlet t n first written why answer) → later.aside ≡ append_known now.aside aside_part → later.notes ≡ now.notes
@@ -510,13 +510,13 @@ write_exit conversion most n rejected first written total opened after count mad
 -- ---- what the outlet held back
 
 -- all of it went out
-pub closes_all : (o : Outlet) (t : Tally) (n first written total : ℕ) (why : Ending) (answer : Result Tally AsideFault) (w0 w1 : Option (List ℕ))
+pub closes_all : (o : Outlet) (t : Tally) (n first written total : ℕ) (why : AsideOutcome) (answer : Result Tally AsideFault) (w0 w1 : Option (List ℕ))
     → Took w0 w1 (PutsCounted (pending_in o) (Ok tt) written total) → answer ≡ answer_over t n total why → Took w0 w1 (ClosesAside o t n first written why answer)
 closes_all o t n first written total why answer w0 w1 (part, puts, put) is =
     (part, AllOut puts.puts (is ∙ ap (λ (w : ℕ). answer_over t n w why) puts.counts), put)
 
 -- a part of it went out
-pub closes_part : (o : Outlet) (t : Tally) (n first written total : ℕ) (why : Ending) (cause : RecordFault) (f : RunFault) (w0 w1 : Option (List ℕ))
+pub closes_part : (o : Outlet) (t : Tally) (n first written total : ℕ) (why : AsideOutcome) (cause : RecordFault) (f : RunFault) (w0 w1 : Option (List ℕ))
     → Took w0 w1 (PutsCounted (pending_in o) (Err cause) written total) → f ≡ fault_at first (write_reason cause) total
     → Took w0 w1 (ClosesAside o t n first written why (Err (fault.Stopped f)))
 closes_part o t n first written total why cause f w0 w1 (part, puts, put) is =
@@ -538,7 +538,7 @@ emptied_again conversion most n rejected first written opened outlet began last 
 
 -- ---- how often calls failed
 
-counts_in : (form : Form) (o : Outlet) (t : Tally) (n first written : ℕ) (why : Ending) (answer : Result Tally AsideFault) (part : List ℕ) (of : Ending → Bool) (is : Result Tally AsideFault → Bool) (before now : ℕ)
+counts_in : (form : Form) (o : Outlet) (t : Tally) (n first written : ℕ) (why : AsideOutcome) (answer : Result Tally AsideFault) (part : List ℕ) (of : AsideOutcome → Bool) (is : Result Tally AsideFault → Bool) (before now : ℕ)
     → (is_unblocked form ≡ true → pending_in o ≡ []) → ((u : Tally) (m w : ℕ) → is (answer_over u m w why) ≡ of why)
     → ClosesAside o t n first written why answer part → now ≡ counted (of why) before → CountsUnlessSink form answer (is answer) before now
 counts_in form o t n first written why answer part of is before now unblocked same (AllOut all eq) e =
@@ -553,7 +553,7 @@ counts_in form o t n first written why answer part of is before now unblocked sa
       ],
     )
 
-pub counts_closed : (conversion : Conversion) (most n rejected first written opened : ℕ) (outlet : Outlet) (t : Tally) (why : Ending) (answer : Result Tally AsideFault) (of : Ending → Bool) (is : Result Tally AsideFault → Bool)
+pub counts_closed : (conversion : Conversion) (most n rejected first written opened : ℕ) (outlet : Outlet) (t : Tally) (why : AsideOutcome) (answer : Result Tally AsideFault) (of : AsideOutcome → Bool) (is : Result Tally AsideFault → Bool)
     (r0 r1 w0 w1 : Option (List ℕ)) (ends now : Outputs) (old new : ℕ)
     → Sifted conversion most n rejected first written opened outlet r0 r1 ends now → ((u : Tally) (m w : ℕ) → is (answer_over u m w why) ≡ of why)
     → Took w0 w1 (ClosesAside outlet t n first written why answer) → new ≡ counted (of why) old
@@ -563,18 +563,18 @@ counts_closed conversion most n rejected first written opened outlet t why answe
     (λ unblocked. ap pending_in so_far.is ∙ none_pending conversion.out_form (converted_of so_far.records) unblocked) same closes e
 
 -- an answer that a run gives that is over tells a failed read just where that is why
-pub read_over : (why : Ending) (u : Tally) (m w : ℕ) → is_read_fault (answer_over u m w why) ≡ is_read_ending why
+pub read_over : (why : AsideOutcome) (u : Tally) (m w : ℕ) → is_read_fault (answer_over u m w why) ≡ is_read_ending why
 read_over ending.Done u m w = refl
 read_over (ending.Stopped why) u m w = refl
 read_over (ending.NotSetAside cause) u m w = refl
 
 -- and a record that couldn't be set aside just where that is
-pub aside_over : (why : Ending) (u : Tally) (m w : ℕ) → is_aside_fault (answer_over u m w why) ≡ is_aside_ending why
+pub aside_over : (why : AsideOutcome) (u : Tally) (m w : ℕ) → is_aside_fault (answer_over u m w why) ≡ is_aside_ending why
 aside_over ending.Done u m w = refl
 aside_over (ending.Stopped why) u m w = refl
 aside_over (ending.NotSetAside cause) u m w = refl
 
-pub aside_error_over : (why : Ending) (u : Tally) (m w : ℕ) → is_aside_error (answer_over u m w why) ≡ is_aside_error_ending why
+pub aside_error_over : (why : AsideOutcome) (u : Tally) (m w : ℕ) → is_aside_error (answer_over u m w why) ≡ is_aside_error_ending why
 aside_error_over ending.Done u m w = refl
 aside_error_over (ending.Stopped why) u m w = refl
 aside_error_over (ending.NotSetAside cause) u m w = refl

@@ -13,14 +13,14 @@ use Rattle.cob_convert_record.specs.Conversion.{Conversion}
 use Rattle.cob_convert_stream.specs.declared.fault.Reason.{Reason}
 use Rattle.cob_convert_stream.specs.declared.fault.RunFault.{RunFault}
 use Rattle.cob_convert_stream.specs.Input.{Remains}
-use Rattle.cob_convert_stream.specs.Reasons.{is_error_cause, is_read_cause, is_write_cause, write_reason}
+use Rattle.cob_convert_stream.specs.Reasons.{fault_at, is_error_cause, is_read_cause, is_write_cause, write_reason}
 use Rattle.cob_convert.specs.declared.aside.AsideFault.{AsideFault}
 use Rattle.cob_convert.specs.declared.aside.AsideFault.TheVariants as fault
-use Rattle.cob_convert.specs.declared.aside.Ending.{Ending}
-use Rattle.cob_convert.specs.declared.aside.Ending.TheVariants as ending
+use Rattle.cob_convert.specs.declared.aside.AsideOutcome.{AsideOutcome}
+use Rattle.cob_convert.specs.declared.aside.AsideOutcome.TheVariants as ending
 use Rattle.cob_convert.specs.declared.aside.Tally.{Tally}
 use Rattle.cob_convert.specs.Run.{Came, InputEnds, IsConverted, LimitStops, ReadStops, limit_reason, most_records}
-use Rattle.cob_convert.specs.Outcomes.{Became, IsRejected, HasItsOutcome, Outcome, append_notes, converted_of, fault_at, inputs_of, notes_of, outlet_for, rejected_of, set_aside_of, written_behind}
+use Rattle.cob_convert.specs.Outcomes.{Became, IsRejected, HasItsOutcome, Outcome, append_notes, converted_of, inputs_of, notes_of, outlet_for, rejected_of, set_aside_of, written_behind}
 
 -- how many of these records were converted, and how many rejected
 abbrev pub tally_of : List (List ℕ × Outcome) → Tally
@@ -55,13 +55,13 @@ pub record SetAsideStops (conversion : Conversion) (most : ℕ) (records : List 
 
 -- A run is over behind these records, of a further one a part of its frame set aside: at the end of the input, for a reason of the next record, or
 -- because it couldn't be set aside.
-abbrev pub IsOverAside : Conversion → ℕ → List (List ℕ × Outcome) → Remains → List ℕ → Ending → Type 0
+abbrev pub IsOverAside : Conversion → ℕ → List (List ℕ × Outcome) → Remains → List ℕ → AsideOutcome → Type 0
 IsOverAside conversion most records at part ending.Done = InputEnds (length records) at × (part ≡ [])
 IsOverAside conversion most records at part (ending.Stopped why) = StopsAside conversion most records at why × (part ≡ [])
 IsOverAside conversion most records at part (ending.NotSetAside cause) = SetAsideStops conversion most records at part cause
 
 -- what a run answers that is over for this behind n records, where so many bytes were written
-abbrev pub answer_over : Tally → (n written : ℕ) → Ending → Result Tally AsideFault
+abbrev pub answer_over : Tally → (n written : ℕ) → AsideOutcome → Result Tally AsideFault
 answer_over tally n written ending.Done = Ok tally
 answer_over tally n written (ending.Stopped why) = Err (fault.Stopped (fault_at (n + 1) why written))
 answer_over tally n written (ending.NotSetAside cause) = Err (fault.NotSetAside (n + 1) cause written)
@@ -85,7 +85,7 @@ pub record IsFirstUnwritten (conversion : Conversion) (records : List (List ℕ 
 pub data IsToWriteAside (conversion : Conversion) (most : ℕ) (records : List (List ℕ × Outcome)) (at : Remains) (part bytes : List ℕ) : Type 0 where
   ByRecord : (input written : List ℕ) → length records < most_records → Came conversion input at → IsConverted conversion (input, written)
       → part ≡ [] → bytes ≡ written_by (outlet_for conversion records) written → IsToWriteAside conversion most records at part bytes
-  ByEnd : (why : Ending) → IsOverAside conversion most records at part why → bytes ≡ pending_in (outlet_for conversion records)
+  ByEnd : (why : AsideOutcome) → IsOverAside conversion most records at part why → bytes ≡ pending_in (outlet_for conversion records)
       → IsToWriteAside conversion most records at part bytes
 
 -- how many bytes went out, up to the greatest count
@@ -95,7 +95,7 @@ count_of bytes = min (length bytes) greatest_count
 -- A run ends behind these records, and all that they became is written.
 pub record EndsWritten (conversion : Conversion) (most : ℕ) (records : List (List ℕ × Outcome)) (at : Remains) (written aside_part : List ℕ)
     (answer : Result Tally AsideFault) : Type 0 where
-  pub why : Ending
+  pub why : AsideOutcome
   pub over : IsOverAside conversion most records at aside_part why
   pub is : answer ≡ answer_over (tally_of records) (length records) (count_of written) why
   pub all : written ≡ written_of conversion.out_form (converted_of records)
@@ -173,7 +173,7 @@ CountsUnlessSink form answer told before now =
 -- ---- in two steps
 
 -- what the call that writes what an outlet holds back answers, where a run is over for this behind n records, for which so many bytes were written
-pub data ClosesAside (o : Outlet) (tally : Tally) (n first written : ℕ) (why : Ending) (answer : Result Tally AsideFault)
+pub data ClosesAside (o : Outlet) (tally : Tally) (n first written : ℕ) (why : AsideOutcome) (answer : Result Tally AsideFault)
     (part : List ℕ) : Type 0 where
   AllOut : part ≡ pending_in o → answer ≡ answer_over tally n (min (written + length part) greatest_count) why
       → ClosesAside o tally n first written why answer part
@@ -187,21 +187,21 @@ ClosesAtLimit o rejected first written answer part =
     ClosesAside o (tally_for most_records rejected) most_records first written (ending.Stopped limit_reason) answer part
 
 -- why a run is over: a read failed
-abbrev pub is_read_ending : Ending → Bool
+abbrev pub is_read_ending : AsideOutcome → Bool
 is_read_ending (ending.Stopped why) = is_read_cause why.cause
 is_read_ending _ = false
 
 -- why a run is over: a reason that is a failed write of what records became
-abbrev pub is_sink_ending : Ending → Bool
+abbrev pub is_sink_ending : AsideOutcome → Bool
 is_sink_ending (ending.Stopped why) = is_write_cause why.cause
 is_sink_ending _ = false
 
 -- why a run is over: a rejected record couldn't be set aside
-abbrev pub is_aside_ending : Ending → Bool
+abbrev pub is_aside_ending : AsideOutcome → Bool
 is_aside_ending (ending.NotSetAside cause) = true
 is_aside_ending _ = false
 
 -- why a run is over: a write of a rejected record failed, and not that it took nothing
-abbrev pub is_aside_error_ending : Ending → Bool
+abbrev pub is_aside_error_ending : AsideOutcome → Bool
 is_aside_error_ending (ending.NotSetAside cause) = is_write_error (Err cause)
 is_aside_error_ending _ = false

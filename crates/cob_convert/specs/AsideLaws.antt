@@ -12,7 +12,8 @@ use Rattle.cob_convert.specs.declared.aside.AsideFault.TheVariants as fault
 use Rattle.cob_convert.specs.declared.aside.Tally.{Tally}
 use Rattle.cob_convert.specs.Converted.{Converted}
 use Rattle.cob_convert.specs.Unique.{HasBytes}
-use Rattle.cob_convert.specs.Outcomes.{IsRejected, fault_at}
+use Rattle.cob_convert_stream.specs.Reasons.{fault_at}
+use Rattle.cob_convert.specs.Outcomes.{IsRejected}
 use Rattle.cob_convert.specs.Aside.{Outputs, RanAside, is_aside_fault, is_read_fault, is_sink_fault}
 
 -- the answer is that a call of an end failed

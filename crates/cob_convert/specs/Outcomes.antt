@@ -9,12 +9,14 @@ use Rattle.cob_records.specs.Forms.{outlet_of, outlet_with_all, written_by_all}
 use Rattle.cob_records.specs.Frame.{IsRecord}
 use Rattle.cob_convert_record.specs.Becoming.{StopsAt}
 use Rattle.cob_convert_record.specs.Conversion.{Conversion, in_length}
+use Rattle.cob_convert_record.specs.Reasons.{stop_reason}
 use Rattle.cob_move_apply.specs.declared.stop.Stop.{Stop}
 use Rattle.cob_convert_stream.specs.declared.fault.Reason.{Reason}
 use Rattle.cob_convert_stream.specs.declared.fault.RunFault.{RunFault}
+use Rattle.cob_convert_stream.specs.Reasons.{fault_at}
 use Rattle.cob_convert_stream.specs.Sizes.{IsSized}
 use Rattle.cob_convert_stream.specs.Whole.{IsMisfitReason}
-use Rattle.cob_convert.specs.Run.{IsConverted, stop_reason}
+use Rattle.cob_convert.specs.Run.{IsConverted}
 
 -- what became of a record that came whole: what is written of it, or why it was rejected
 pub data Outcome : Type 0 where
@@ -69,10 +71,6 @@ written_behind conversion records = written_by_all (outlet_of conversion.out_for
 -- the outlet, to which went what they became: in form b it holds the open block
 abbrev pub outlet_for : Conversion → List (List ℕ × Outcome) → Outlet
 outlet_for conversion records = outlet_with_all (outlet_of conversion.out_form) (converted_of records)
-
--- the fault of a record for this reason, where so many bytes were written
-abbrev pub fault_at : ℕ → Reason → ℕ → RunFault
-fault_at number why written = record { number = number; side = why.side; offset = why.offset; cause = why.cause; written = written }
 
 -- what is noted of a record behind these: if it was rejected its fault, with its number among all
 abbrev pub note_of : Conversion → List (List ℕ × Outcome) → Outcome → List RunFault

@@ -11,10 +11,7 @@ use Rattle.cob_records.specs.Frame.{IsRecord, Puts, is_unblocked}
 use Rattle.cob_convert_record.specs.Conversion.{Conversion, in_length}
 use Rattle.cob_move_apply.specs.declared.stop.Stop.{Stop}
 use Rattle.cob_move_data.specs.declared.operands.Side.TheVariants.{In}
-use Rattle.cob_move_apply.specs.declared.stop.StopCause.{StopCause}
-use Rattle.cob_convert_stream.specs.declared.fault.Cause.{Cause}
-use Rattle.cob_convert_stream.specs.declared.fault.Cause.TheVariants.{NoValue, Count, Subscript, Limit}
-use Rattle.cob_move_apply.specs.declared.stop.StopCause.TheVariants.{NoValue as StopNoValue, Count as StopCount, Subscript as StopSubscript}
+use Rattle.cob_convert_stream.specs.declared.fault.Cause.TheVariants.{Limit}
 use Rattle.cob_convert_stream.specs.declared.fault.Reason.{Reason}
 use Rattle.cob_convert_stream.specs.declared.fault.RunFault.{RunFault}
 use Rattle.cob_convert_stream.specs.Reasons.{frame_reason, is_error_cause, is_read_cause, is_write_cause, misfit_reason, reason_of, write_reason}
@@ -22,6 +19,7 @@ use Rattle.cob_convert_stream.specs.declared.misfit.MeasureFault.{MeasureFault}
 use Rattle.cob_convert_stream.specs.Input.{Remains, records_in}
 use Rattle.cob_convert_stream.specs.Sizes.{IsSized, IsMeasureFault}
 use Rattle.cob_convert_record.specs.Becoming.{Becomes, StopsAt}
+use Rattle.cob_convert_record.specs.Reasons.{stop_reason}
 
 -- a record that came, and what it became
 pub record IsConverted (conversion : Conversion) (pair : List ℕ × List ℕ) : Type 0 where
@@ -40,16 +38,6 @@ outlet_behind conversion pairs = outlet_with_all (outlet_of conversion.out_form)
 -- how many records a run converts at most
 abbrev pub most_records : ℕ
 most_records = 2 ^ 64 - 2
-
--- a conversion's cause as a run's
-abbrev pub cause_from : StopCause → Cause
-cause_from StopNoValue = NoValue
-cause_from StopCount = Count
-cause_from StopSubscript = Subscript
-
--- the reason of a conversion that stopped
-abbrev pub stop_reason : Stop → Reason
-stop_reason stop = record { side = stop.side; offset = stop.offset; cause = cause_from stop.cause }
 
 -- the reason where as many records were converted as a run converts at most
 abbrev pub limit_reason : Reason

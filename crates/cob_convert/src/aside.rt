@@ -9,7 +9,7 @@ ghost use Rattle.cob_records.specs.Frame.{Puts, is_write_error};
 ghost use Rattle.cob_convert_record.specs.Rooms.{capacity_for};
 ghost use Rattle.cob_convert_record.specs.Conversion.{in_length, out_length};
 ghost use Rattle.cob_convert_stream.specs.Reasons.{is_read_cause, is_write_cause};
-ghost use Rattle.cob_convert.specs.Outcomes.{append_notes, fault_at};
+ghost use Rattle.cob_convert.specs.Outcomes.{append_notes};
 ghost use Rattle.cob_convert.specs.Aside.{ClosesAside, ClosesAtLimit, CountsUnlessSink, RanAside, is_aside_error, is_aside_fault, is_read_fault, is_sink_ending, is_sink_error, is_sink_fault, tally_for};
 ghost use Rattle.cob_convert.specs.declared.run.TheConstants.{LIMIT};
 
@@ -55,31 +55,13 @@ impl fmt::Display for AsideFault {
 
 /// Why a run that sets rejected records aside is over.
 #[derive(Clone, Copy)]
-pub(crate) enum Ending {
+pub(crate) enum AsideOutcome {
     /// The input is at its end.
     Done,
     /// The next record stops it, or as many as a run takes came.
     Stopped(Reason),
     /// The next record is rejected, and it could not be set aside.
     NotSetAside(RecordFault),
-}
-
-/// The fault of the record of this number for this reason.
-fn fault_of(number: u64, why: Reason, written: u64) -> RunFault
-    ensures { result ≡ fault_at number why written }
-{
-    let Reason {
-        side,
-        offset,
-        cause,
-    } = why;
-    RunFault {
-        number,
-        side,
-        offset,
-        cause,
-        written,
-    }
 }
 
 /// Sets a rejected record aside, as it came, and notes why.
@@ -156,7 +138,7 @@ fn close_aside<W: Sink>(
     done: u64,
     first: u64,
     written: u64,
-    why: Ending,
+    why: AsideOutcome,
 ) -> Result<Tally, AsideFault>
     requires done { done ≤ LIMIT }
     requires why { is_sink_ending why ≡ false }
@@ -168,13 +150,13 @@ fn close_aside<W: Sink>(
 {
     let mut written = written;
     if let Err(fault) = write_pending(sink, outlet, &mut written) {
-        let fault = fault_of(first, Reason::of_write(fault), written);
+        let fault = Reason::of_write(fault).at(first, written);
         return Err(AsideFault::Stopped(fault));
     }
     match why {
-        Ending::Done => Ok(tally),
-        Ending::Stopped(reason) => Err(AsideFault::Stopped(fault_of(done + 1, reason, written))),
-        Ending::NotSetAside(cause) => Err(AsideFault::NotSetAside {
+        AsideOutcome::Done => Ok(tally),
+        AsideOutcome::Stopped(reason) => Err(AsideFault::Stopped(reason.at(done + 1, written))),
+        AsideOutcome::NotSetAside(cause) => Err(AsideFault::NotSetAside {
             number: done + 1,
             cause,
             written,
@@ -197,7 +179,7 @@ fn close_at_limit<W: Sink>(
     ensures errors { W.errors sink.new ≡ counted (is_sink_error result) (W.errors sink.old) }
     ensures emptied { outlet.new ≡ emptied outlet.old }
 {
-    let why = Ending::Stopped(Reason {
+    let why = AsideOutcome::Stopped(Reason {
         side: Side::In,
         offset: 0,
         cause: Cause::Limit,
@@ -252,9 +234,17 @@ pub fn run_over_aside<R: Source, W: Sink, A: Sink, N: Notes>(
         let tally = tally_behind(done, rejected);
         let count = match conversion.next_whole(source, input, &mut left) {
             Ok(Some(count)) => count,
-            Ok(None) => return close_aside(outlet, sink, tally, done, first, written, Ending::Done),
+            Ok(None) => return close_aside(
+                outlet,
+                sink,
+                tally,
+                done,
+                first,
+                written,
+                AsideOutcome::Done,
+            ),
             Err(why) => {
-                let why = Ending::Stopped(why);
+                let why = AsideOutcome::Stopped(why);
                 return close_aside(outlet, sink, tally, done, first, written, why);
             }
         };
@@ -262,12 +252,12 @@ pub fn run_over_aside<R: Source, W: Sink, A: Sink, N: Notes>(
             Ok(made) => made,
             Err(why) => {
                 if rejected == most {
-                    let why = Ending::Stopped(why);
+                    let why = AsideOutcome::Stopped(why);
                     return close_aside(outlet, sink, tally, done, first, written, why);
                 }
-                let fault = fault_of(done + 1, why, written);
+                let fault = why.at(done + 1, written);
                 if let Err(cause) = set_aside(aside, notes, form, &input[..count], fault) {
-                    let why = Ending::NotSetAside(cause);
+                    let why = AsideOutcome::NotSetAside(cause);
                     return close_aside(outlet, sink, tally, done, first, written, why);
                 }
                 rejected += 1;
@@ -276,7 +266,7 @@ pub fn run_over_aside<R: Source, W: Sink, A: Sink, N: Notes>(
             }
         };
         if let Err(fault) = write_record(sink, outlet, &output[..made], &mut written) {
-            let fault = fault_of(first, Reason::of_write(fault), written);
+            let fault = Reason::of_write(fault).at(first, written);
             return Err(AsideFault::Stopped(fault));
         }
         first = first_behind_converted(outlet.held(), done + 1, first);

@@ -7,32 +7,10 @@ ghost use Rattle.cob_convert_record.specs.Conversion.{Conversion as Converts, in
 ghost use Rattle.cob_convert_record.specs.Rejecting.{IsRejectedFor};
 ghost use Rattle.cob_convert_record.specs.Rooms.{capacity_for};
 ghost use Rattle.cob_convert.specs.Outcomes.{IsRejected};
-ghost use Rattle.cob_convert.specs.Run.{IsConverted, cause_from, stop_reason};
+ghost use Rattle.cob_convert.specs.Run.{IsConverted};
 
-use cob_convert_record::{Conversion, Rejection, Room, Stop, StopCause};
-use cob_convert_stream::{Cause, Reason};
-
-/// A conversion's cause as a run's.
-fn cause_of(cause: StopCause) -> Cause
-    ensures { result ≡ cause_from cause }
-{
-    match cause {
-        StopCause::NoValue => Cause::NoValue,
-        StopCause::Count => Cause::Count,
-        StopCause::Subscript => Cause::Subscript,
-    }
-}
-
-/// The reason of a conversion that stopped.
-fn reason_of_stop(stop: Stop) -> Reason
-    ensures { result ≡ stop_reason stop }
-{
-    Reason {
-        side: stop.side,
-        offset: stop.offset,
-        cause: cause_of(stop.cause),
-    }
-}
+use cob_convert_record::{Conversion, Rejection, Room, stop_reason};
+use cob_convert_stream::Reason;
 
 /// The reason of a record that is rejected.
 fn reason_of(rejection: Rejection) -> Reason
@@ -41,7 +19,7 @@ fn reason_of(rejection: Rejection) -> Reason
 {
     match rejection {
         Rejection::Misfit(why) => why,
-        Rejection::Stopped(stop) => reason_of_stop(stop),
+        Rejection::Stopped(stop) => stop_reason(stop),
     }
 }
 

@@ -17,31 +17,6 @@ use cob_records::{Outlet, Sink, Source};
 /// How many records a run converts at most.
 pub(crate) const LIMIT: u64 = u64::MAX - 1;
 
-/// The stop of a run at the record behind so many others.
-fn stop_behind(done: u64, why: Reason, written: u64) -> RunFault
-    requires { done ≤ LIMIT }
-    ensures { result ≡ record {
-      number = done + 1;
-      side = why.side;
-      offset = why.offset;
-      cause = why.cause;
-      written = written;
-    } }
-{
-    let Reason {
-        side,
-        offset,
-        cause,
-    } = why;
-    RunFault {
-        number: done + 1,
-        side,
-        offset,
-        cause,
-        written,
-    }
-}
-
 /// Writes what the outlet holds back, and then answers the number of records that were converted, or why the next one stops the run. Where
 /// the write fails, that is the answer, at the first record that was held back.
 fn close<W: Sink>(
@@ -63,11 +38,11 @@ fn close<W: Sink>(
     let held = u64::from(outlet.held());
     let mut written = written;
     if let Err(fault) = write_pending(sink, outlet, &mut written) {
-        return Err(stop_behind(done - held, Reason::of_write(fault), written));
+        return Err(Reason::of_write(fault).at(done - held + 1, written));
     }
     match why {
         None => Ok(done),
-        Some(reason) => Err(stop_behind(done, reason, written)),
+        Some(reason) => Err(reason.at(done + 1, written)),
     }
 }
 
@@ -110,7 +85,7 @@ pub fn run_over<R: Source, W: Sink>(
         };
         let held = u64::from(outlet.held());
         if let Err(fault) = write_record(sink, outlet, &output[..made], &mut written) {
-            return Err(stop_behind(done - held, Reason::of_write(fault), written));
+            return Err(Reason::of_write(fault).at(done - held + 1, written));
         }
     }
     let why = Reason {

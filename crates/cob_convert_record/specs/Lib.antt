@@ -1,5 +1,6 @@
 pub mod Conversion
 pub mod Becoming
 pub mod Rejecting
+pub mod Reasons
 pub mod Rooms
 pub mod Laws

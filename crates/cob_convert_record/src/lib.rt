@@ -18,19 +18,21 @@
 //! - [`Conversion::convert_whole`] makes the output record of one that came whole, where it is one of the layout (`converts`, by `BecomesWhole` of
 //!   specs/Rejecting.antt), and else tells by a [`Rejection`] why it has none, as [`Conversion::judge`] and [`Conversion::convert`] do (`rejects`, by
 //!   `IsRejectedFor`). Counts that judging read are kept for the moves, and those that the moves read of the output for its length.
+//! - [`stop_reason`] tells a stop as the [`Reason`] of a run (`reason`), and [`cause_from`] its cause (`cause`), by the words of specs/Reasons.antt.
 //! - What becomes of a record is determined ([`conversions_are_decided`]): a record is one of its layout or a misfit, for one reason; and it has
 //!   one output or one stop, and never both.
 //! - They ask for no memory, which tests show: all that they need is a [`Room`], made once, which each call leaves as large as it was (`room`).
 //!
 //! # Where it is proved
 //!
-//! The clauses of `image_of`, `Conversion::new`, `next_input`, `next_whole`, `judge`, `convert`, `convert_whole` and `moves`; the law
+//! The clauses of `image_of`, `Conversion::new`, `next_input`, `next_whole`, `judge`, `convert`, `convert_whole`, `moves` and `stop_reason`; the law
 //! `conversions_are_decided`.
 #![tactic(auto)]
 
 mod conversion;
 mod laws;
 mod lengths;
+mod reasons;
 mod rejection;
 mod room;
 
@@ -38,5 +40,6 @@ pub use cob_convert_stream::{Cause, MeasureFault, Reason};
 pub use cob_move_apply::{Book, Layout, Moves, Side, Stop, StopCause};
 pub use conversion::{Conversion, image_of};
 pub use laws::conversions_are_decided;
+pub use reasons::{cause_from, stop_reason};
 pub use rejection::Rejection;
 pub use room::Room;

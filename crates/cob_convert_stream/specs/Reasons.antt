@@ -30,6 +30,10 @@ is_error_cause _ = false
 abbrev pub reason_of : RunFault → Reason
 reason_of fault = record { side = fault.side; offset = fault.offset; cause = fault.cause }
 
+-- the fault of a record for this reason, where so many bytes were written
+abbrev pub fault_at : ℕ → Reason → ℕ → RunFault
+fault_at number why written = record { number = number; side = why.side; offset = why.offset; cause = why.cause; written = written }
+
 -- the reason of a frame that can't be read
 abbrev pub frame_reason : RecordFault → Reason
 frame_reason fault = record { side = In; offset = 0; cause = Record fault }

@@ -1,7 +1,7 @@
 //! Where and why a record stops a run.
 
 ghost use Rattle.std.specs.Prelude.{◌≡◌, false};
-ghost use Rattle.cob_convert_stream.specs.Reasons.{frame_reason, is_write_cause, misfit_reason, write_reason};
+ghost use Rattle.cob_convert_stream.specs.Reasons.{fault_at, frame_reason, is_write_cause, misfit_reason, write_reason};
 
 use crate::misfit::MeasureFault;
 use cob_move_data::Side;
@@ -46,13 +46,14 @@ pub struct RunFault {
 
 impl Reason {
     /// The reason of a frame that can't be read.
-    pub(crate) fn of_frame(fault: RecordFault) -> Reason
+    pub fn of_frame(fault: RecordFault) -> Reason
         ensures { result ≡ frame_reason fault }
     {
+        let cause = Cause::Record(fault);
         Reason {
             side: Side::In,
             offset: 0,
-            cause: Cause::Record(fault),
+            cause,
         }
     }
 
@@ -80,6 +81,19 @@ impl Reason {
             side: Side::In,
             offset,
             cause,
+        }
+    }
+
+    /// The fault of a run that stops for this reason at the record of this number, where the sink took so many bytes.
+    pub fn at(self, number: u64, written: u64) -> RunFault
+        ensures { result ≡ fault_at number self written }
+    {
+        RunFault {
+            number,
+            side: self.side,
+            offset: self.offset,
+            cause: self.cause,
+            written,
         }
     }
 }

@@ -22,8 +22,10 @@
 //! - [`write_record`] writes a record in its frame, or in form b gathers it, and first writes the open block where the frame does not fit into it;
 //!   [`write_pending`] writes the open block. Both count the bytes that the sink took (`puts`, by `PutsCounted`); a write failed or took nothing
 //!   exactly where that is the answer (`cause`, `errors`).
-//! - A [`RunFault`] is why a run stopped: the number of its record, the [`Reason`] in it, and the bytes that were written. Which end failed follows
-//!   from its [`Cause`] (`is_read_cause`, `is_write_cause`, `is_error_cause` of specs/Reasons.antt).
+//! - A [`RunFault`] is why a run stopped: the number of its record, the [`Reason`] in it, and the bytes that were written. [`Reason::at`] makes it of these
+//!   three (`fault_at` of specs/Reasons.antt). A reason is that of a frame that can't be read ([`Reason::of_frame`]), of a write that failed
+//!   ([`Reason::of_write`]) or of a misfit ([`Reason::of_misfit`]). Which end failed follows from its [`Cause`] (`is_read_cause`, `is_write_cause`,
+//!   `is_error_cause`).
 //! - A record is one of its layout or a misfit, for one reason, and of a storage one part is written ([`records_are_judged_once`]); a record that
 //!   is one of its layout holds a record of it ([`sized_are_storages`]).
 //!
@@ -31,8 +33,8 @@
 //!
 //! # Where it is proved
 //!
-//! The clauses of `measure`, `measure_by`, `read_record`, `next_whole`, `judge`, `written_length`, `length_in_form` and `write_record`; the laws
-//! `records_are_judged_once`, `sized_are_storages`.
+//! The clauses of `measure`, `measure_by`, `read_record`, `next_whole`, `judge`, `written_length`, `length_in_form`, `write_record` and `Reason::at`; the
+//! laws `records_are_judged_once`, `sized_are_storages`.
 #![tactic(auto)]
 
 mod fault;

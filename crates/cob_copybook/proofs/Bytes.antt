@@ -18,7 +18,8 @@ use Rattle.cob_copybook_entries.specs.Books.{IsSentence, AreDescribed}
 use Rattle.cob_copybook_tree.specs.Forests.{Forest, NoEntries, AnEntry, Tree, flat, entries_in}
 use Rattle.cob_copybook_tree.specs.Branches.{AreLevels}
 use Rattle.cob_copybook_tree.specs.Nodes.{Resolved}
-use Rattle.cob_copybook_tree.specs.Resolving.{inherited, kind_by_picture, resolved}
+use Rattle.cob_copybook_tree.specs.Resolving.{acting, inherited, keeps_sign, kind_by_picture, resolved}
+use Rattle.cob_copybook_tree.specs.Storage.{display_kind, is_separate, stored_size}
 use Rattle.cob_codec.specs.Binary.{binary_length}
 use Rattle.cob_copybook_tree.specs.Lengths.{greatest_number, own_length, length_by_kind, sum_of}
 use Rattle.cob_copybook_rules.specs.Filled.{IsFilled, AreFilled}
@@ -76,9 +77,14 @@ binary_takes n = at (nat_le n 4) (nat_le n 9)
     at false true = omega arith
     at false false = omega arith
 
+-- a DISPLAY item takes its characters, and a separate sign's byte besides
+display_takes : (b : Bool) (p : PlainPicture) → 0 < size p.positions → 0 < stored_size (display_kind b) p
+display_takes false p h = omega (arith, h)
+display_takes true p h = omega (arith, h)
+
 item_takes : (p : Option PlainPicture) (usage : Usage) (sign : Option Sign) (right zero : Bool) → PictureTakes p → TakesByte (kind_by_picture p usage sign right zero)
 item_takes None usage sign right zero h = tt
-item_takes (Some p) Display sign right zero h = omega (arith, h)
+item_takes (Some p) Display sign right zero h = display_takes (is_separate (acting (keeps_sign Display p) sign)) p h
 item_takes (Some p) Packed sign right zero h = omega arith
 item_takes (Some p) Binary sign right zero h = binary_takes (digits p.positions)
 

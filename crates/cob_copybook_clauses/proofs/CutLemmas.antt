@@ -1,15 +1,15 @@
 -- Sentences, one after another.
 use Rattle.std.proofs.Common.{◌≡◌, ◌≢◌, [], ◌∷◌, ◌++◌, refl, ap, ◌∙◌}
-use Rattle.cob_source.specs.declared.token.Kind.{Kind}
-use Rattle.cob_source.specs.declared.token.Kind.TheVariants as kind
+use Rattle.cob_source.specs.declared.token.TokenKind.{TokenKind}
+use Rattle.cob_source.specs.declared.token.TokenKind.TheVariants as kind
 use Rattle.cob_source.specs.Tokens.{Lexeme}
 use Rattle.cob_copybook_clauses.specs.Entries.{Sentences, word_before, sentence_before, sentences}
 use Rattle.cob_copybook_clauses.specs.Laws.{SentencesCut, SentencesEnd}
 
-at_stop : (k : Kind) (w : Lexeme) (ss : Sentences) → k ≡ kind.Stop → sentence_before k w ss ≡ record { ended = [] ∷ ss.ended; open_end = ss.open_end }
+at_stop : (k : TokenKind) (w : Lexeme) (ss : Sentences) → k ≡ kind.Stop → sentence_before k w ss ≡ record { ended = [] ∷ ss.ended; open_end = ss.open_end }
 at_stop k w ss e = ap (λ k. sentence_before k w ss) e
 
-at_word : (k : Kind) (w : Lexeme) (ss : Sentences) → k ≢ kind.Stop → sentence_before k w ss ≡ word_before w ss.ended ss.open_end
+at_word : (k : TokenKind) (w : Lexeme) (ss : Sentences) → k ≢ kind.Stop → sentence_before k w ss ≡ word_before w ss.ended ss.open_end
 at_word kind.Word w ss not = refl
 at_word kind.Literal w ss not = refl
 at_word kind.Stop w ss not = absurd (not refl)

@@ -4,8 +4,8 @@ use Rattle.std.proofs.lemmas.List.{at_drop_more, take-append-drop, map-append}
 use Rattle.std.proofs.lemmas.Slice.Eq.{bytes_eq-Decides}
 use Rattle.std.specs.List.{AllByRecursion, list_all}
 use Rattle.cob_source.specs.declared.token.Token.{Token}
-use Rattle.cob_source.specs.declared.token.Kind.{Kind}
-use Rattle.cob_source.specs.declared.token.Kind.TheVariants as kind
+use Rattle.cob_source.specs.declared.token.TokenKind.{TokenKind}
+use Rattle.cob_source.specs.declared.token.TokenKind.TheVariants as kind
 use Rattle.cob_source.specs.Tokens.{Lexeme, lexeme, lexemes}
 use Rattle.cob_copybook_clauses.specs.declared.term.WordClass.{WordClass}
 use Rattle.cob_copybook_clauses.specs.declared.term.WordClass.TheVariants as term
@@ -92,7 +92,7 @@ pub short_word : (text : List ℕ) → term_of_word text ≡ term.LeftOut → Is
 unfolding term_of_word is_short
 short_word text e = short_else text _ (by_table reserved_words text term.LeftOut _ (short_table reserved_words refl) e) (short_usage text)
 
-pub short_lexeme : (k : Kind) (text : List ℕ) → term_of_kind k text ≡ term.LeftOut → IsShort text
+pub short_lexeme : (k : TokenKind) (text : List ℕ) → term_of_kind k text ≡ term.LeftOut → IsShort text
 short_lexeme kind.Word text e = short_word text e
 short_lexeme kind.Literal text e = absurd cc
 short_lexeme kind.Stop text e = absurd cc

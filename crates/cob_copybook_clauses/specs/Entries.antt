@@ -2,8 +2,8 @@
 use Rattle.std.specs.Prelude.{◌≡◌, ◌≢◌, ◌⊎◌, ℕ, Bool, true, false, ◌&&◌, if◌then◌else◌, bytes_eq, List, [], ◌∷◌, ◌++◌, take, codes, Option, Some, None}
 use Rattle.std.specs.List.{AllByRecursion}
 use Rattle.cob_source.specs.Tokens.{Lexeme}
-use Rattle.cob_source.specs.declared.token.Kind.{Kind}
-use Rattle.cob_source.specs.declared.token.Kind.TheVariants as kind
+use Rattle.cob_source.specs.declared.token.TokenKind.{TokenKind}
+use Rattle.cob_source.specs.declared.token.TokenKind.TheVariants as kind
 use Rattle.cob_copybook_clauses.specs.declared.term.WordClass.{WordClass}
 use Rattle.cob_copybook_clauses.specs.declared.term.WordClass.TheVariants as term
 use Rattle.cob_copybook_clauses.specs.Terms.{word_class}
@@ -85,7 +85,7 @@ pub record IsCondition (ws : List Lexeme) (name : List ℕ) : Type 0 where
   pub words : ws ≡ level ∷ (named ∷ (value ∷ more))
 
 -- whether it is a word, and no literal and no Stop
-abbrev pub is_word_kind : Kind → Bool
+abbrev pub is_word_kind : TokenKind → Bool
 is_word_kind kind.Word = true
 is_word_kind kind.Literal = false
 is_word_kind kind.Stop = false
@@ -124,7 +124,7 @@ word_before w [] open_end = record { ended = []; open_end = w ∷ open_end }
 word_before w (s ∷ ss) open_end = record { ended = (w ∷ s) ∷ ss; open_end = open_end }
 
 -- sentences with one more word, literal or Stop in front
-abbrev pub sentence_before : Kind → Lexeme → Sentences → Sentences
+abbrev pub sentence_before : TokenKind → Lexeme → Sentences → Sentences
 sentence_before kind.Stop w ss = record { ended = [] ∷ ss.ended; open_end = ss.open_end }
 sentence_before kind.Word w ss = word_before w ss.ended ss.open_end
 sentence_before kind.Literal w ss = word_before w ss.ended ss.open_end

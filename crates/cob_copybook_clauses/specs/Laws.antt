@@ -1,7 +1,7 @@
 -- What holds of entries and sentences whatever their words are.
 use Rattle.std.specs.Prelude.{◌≡◌, List, [], ◌∷◌, ◌++◌}
 use Rattle.cob_source.specs.Tokens.{Lexeme}
-use Rattle.cob_source.specs.declared.token.Kind.TheVariants as kind
+use Rattle.cob_source.specs.declared.token.TokenKind.TheVariants as kind
 use Rattle.cob_copybook_clauses.specs.Written.{WrittenEntry}
 use Rattle.cob_copybook_clauses.specs.Entries.{HasNoStop, IsWritten, sentences}
 

@@ -3,7 +3,7 @@ use Rattle.std.specs.Prelude.{◌≡◌, ◌≢◌, ℕ, true, List, [], ◌∷�
 use denote.Ref.{Bor}
 use Rattle.cob_source.specs.Tokens.{Lexeme, lexemes}
 use Rattle.cob_source.specs.declared.token.Token.{Token}
-use Rattle.cob_source.specs.declared.token.Kind.TheVariants as kind
+use Rattle.cob_source.specs.declared.token.TokenKind.TheVariants as kind
 use Rattle.cob_copybook_clauses.specs.declared.term.WordClass.{WordClass}
 use Rattle.cob_copybook_clauses.specs.declared.term.WordClass.TheVariants as term
 use Rattle.cob_copybook_clauses.specs.declared.parts.Clauses.{Clauses}

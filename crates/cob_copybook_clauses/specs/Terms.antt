@@ -2,8 +2,8 @@
 use Rattle.std.specs.Prelude.{ℕ, ◌==◌, List, [], ◌∷◌, ◌++◌, length, filter, map, codes, if◌then◌else◌, bytes_eq, Option, Some, None}
 use denote.Ref.{Bor}
 use Rattle.cob_source.specs.Tokens.{Lexeme}
-use Rattle.cob_source.specs.declared.token.Kind.{Kind}
-use Rattle.cob_source.specs.declared.token.Kind.TheVariants as kind
+use Rattle.cob_source.specs.declared.token.TokenKind.{TokenKind}
+use Rattle.cob_source.specs.declared.token.TokenKind.TheVariants as kind
 use Rattle.cob_copybook_entry.specs.declared.kinds.UsageWord.{UsageWord}
 use Rattle.cob_copybook_entry.specs.declared.kinds.UsageWord.TheVariants as usage
 use Rattle.cob_copybook_entry.specs.Kinds.{usage_word}
@@ -90,7 +90,7 @@ unfoldable pub term_of_word : List ℕ → WordClass
 term_of_word text = term_by reserved_words text (term_of_usage (usage_word text))
 
 -- what a text means as a word, and what a literal and a Stop are
-abbrev pub term_of_kind : Kind → List ℕ → WordClass
+abbrev pub term_of_kind : TokenKind → List ℕ → WordClass
 term_of_kind kind.Word text = term_of_word text
 term_of_kind kind.Literal text = term.Literal
 term_of_kind kind.Stop text = term.Stop

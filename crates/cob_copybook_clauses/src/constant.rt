@@ -2,7 +2,7 @@ ghost use Rattle.cob_copybook_clauses.specs.Clauses.{IsConstant, IsFigurativeWor
 ghost use Rattle.cob_copybook_clauses.specs.Reading.{Answers, AnswersText, ReadsRepeated, RepeatedInFront, StandInFront};
 ghost use Rattle.cob_copybook_clauses.specs.Terms.{word_class};
 ghost use Rattle.cob_copybook_clauses.specs.Written.{WrittenValue, written_value};
-ghost use Rattle.cob_source.specs.declared.token.Kind.TheVariants as kind;
+ghost use Rattle.cob_source.specs.declared.token.TokenKind.TheVariants as kind;
 ghost use Rattle.cob_source.specs.Tokens.{Lexeme, lexemes};
 ghost use Rattle.std.specs.Prelude.{◌++◌, ◌∷◌, ◌≡◌, IfSome, IsSomeAnd, List};
 

@@ -39,7 +39,7 @@ pub use entry::read_entry;
 pub use laws::{one_entry, sentences_cut, sentences_end};
 pub use names::is_name;
 pub use parts::{Clauses, Count, OccursClause, ValueClause, Written};
-pub use qualifiers::qualifiers_at;
+pub use qualifiers::{front, qualifiers_at};
 pub use sentence::{is_condition, left_out, read_condition_name, sentence_at};
 pub use term::{WordClass, word_class};
 pub use words::{behind, is_name_word, is_term};

@@ -75,7 +75,7 @@ pub fn qualifiers_at(words: &[Token]) -> (&[Token], &[Token])
 }
 
 /// The words without this many at the end.
-fn front(words: &[Token], behind: usize) -> &[Token]
+pub fn front(words: &[Token], behind: usize) -> &[Token]
     requires { behind ≤ length words.now }
     ensures { (done more : List Lexeme)
         → lexemes words.now ≡ done ++ more → length more ≡ behind → lexemes result.now ≡ done }

@@ -11,7 +11,7 @@ ghost use Rattle.cob_copybook_clauses.specs.Entries.{
 };
 ghost use Rattle.cob_copybook_clauses.specs.Reading.{StopFirst};
 ghost use Rattle.cob_source.specs.Tokens.{Lexeme, lexeme, lexemes};
-ghost use Rattle.cob_source.specs.declared.token.Kind.TheVariants as kind;
+ghost use Rattle.cob_source.specs.declared.token.TokenKind.TheVariants as kind;
 ghost use Rattle.std.specs.List.{AllByRecursion};
 ghost use Rattle.std.specs.Prelude.{
   ◌++◌,
@@ -35,13 +35,13 @@ ghost use Rattle.std.specs.Prelude.{
 
 use crate::term::WordClass;
 use crate::words::{behind, is_term, is_word, word_at};
-use cob_source::{Kind, Token};
+use cob_source::{Token, TokenKind};
 
 /// Whether a token is a Stop.
 fn is_stop(token: &Token) -> bool
     ensures { IsTrue result ↔ (lexeme token.now).kind ≡ kind.Stop }
 {
-    token.kind == Kind::Stop
+    token.kind == TokenKind::Stop
 }
 
 /// How many words stand before the first Stop.
@@ -74,7 +74,7 @@ fn is_that_word(token: &Token, text: &[u8]) -> bool
     ensures { result ≡ (is_word_kind
         (lexeme token.now).kind && bytes_eq (lexeme token.now).text text.now) }
 {
-    token.kind == Kind::Word && token.text.as_slice() == text
+    token.kind == TokenKind::Word && token.text.as_slice() == text
 }
 
 /// Whether a sentence is an entry of level 88.

@@ -4,7 +4,7 @@ ghost use Rattle.cob_copybook_clauses.specs.Terms.{term_by, term_of_usage, term_
 ghost use Rattle.cob_source.specs.Tokens.{lexeme};
 
 use cob_copybook_entry::{UsageWord, usage_word};
-use cob_source::{Kind, Token};
+use cob_source::{Token, TokenKind};
 
 /// What a word, a literal or a Stop is to the grammar of entries.
 #[derive(Clone, Copy, PartialEq, Eq)]
@@ -228,8 +228,8 @@ pub fn word_class(token: &Token) -> WordClass
     ensures { result ≡ word_class (lexeme token.now) }
 {
     match token.kind {
-        Kind::Word => term_of_word(token.text.as_slice()),
-        Kind::Literal => WordClass::Literal,
-        Kind::Stop => WordClass::Stop,
+        TokenKind::Word => term_of_word(token.text.as_slice()),
+        TokenKind::Literal => WordClass::Literal,
+        TokenKind::Stop => WordClass::Stop,
     }
 }

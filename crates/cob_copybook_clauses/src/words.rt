@@ -26,7 +26,7 @@ ghost use Rattle.std.specs.Prelude.{
 
 use crate::names::is_name;
 use crate::term::{WordClass, word_class};
-use cob_source::{Kind, Token};
+use cob_source::{Token, TokenKind};
 
 /// Whether a token is this to the grammar.
 pub fn is_term(token: &Token, term: WordClass) -> bool
@@ -37,16 +37,16 @@ pub fn is_term(token: &Token, term: WordClass) -> bool
 
 /// Whether a token is a word.
 pub fn is_word(token: &Token) -> bool
-    ensures { IsTrue result ↔ (lexeme token.now).kind ≡ Kind.Word }
+    ensures { IsTrue result ↔ (lexeme token.now).kind ≡ TokenKind.Word }
 {
-    token.kind == Kind::Word
+    token.kind == TokenKind::Word
 }
 
 /// Whether a token is a quoted literal.
 pub fn is_literal(token: &Token) -> bool
-    ensures { IsTrue result ↔ (lexeme token.now).kind ≡ Kind.Literal }
+    ensures { IsTrue result ↔ (lexeme token.now).kind ≡ TokenKind.Literal }
 {
-    token.kind == Kind::Literal
+    token.kind == TokenKind::Literal
 }
 
 /// Whether a token is a name.

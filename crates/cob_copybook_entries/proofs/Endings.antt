@@ -5,7 +5,7 @@ use Rattle.std.proofs.lemmas.List.{length-map}
 use Rattle.std.proofs.lemmas.List.Sums.{sum_by-cons}
 use Rattle.cob_source.specs.declared.token.Token.{Token}
 use Rattle.cob_source.specs.Tokens.{Lexeme, lexeme, lexemes}
-use Rattle.cob_source.specs.declared.token.Kind.TheVariants as kind
+use Rattle.cob_source.specs.declared.token.TokenKind.TheVariants as kind
 use Rattle.cob_copybook_clauses.proofs.CutLemmas.{cut, ends}
 use Rattle.cob_copybook_clauses.specs.Entries.{Sentences, sentences, is_condition, HasNoStop}
 use Rattle.cob_copybook_entry.specs.declared.fault.BookRule.{BookRule}

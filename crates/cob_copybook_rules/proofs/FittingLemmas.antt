@@ -10,7 +10,8 @@ use Rattle.cob_decimal.proofs.DecimalLemmas.{ten_pos, number_of-lt, parts_same}
 use Rattle.cob_decimal.proofs.NumberTextLemmas.{number_of-append}
 use Rattle.std.proofs.lemmas.Int.{ints}
 use lib.IntN.{nat_abs}
-use Rattle.cob_copybook_rules.specs.Fitting.{IsSignificant, CanBeHeld}
+use Rattle.cob_decimal.specs.Parts.{IsSignificant}
+use Rattle.cob_copybook_rules.specs.Fitting.{CanBeHeld}
 
 pub within : (a b : ℕ) → IsTrue (leb a b) → a ≤ b
 within a b h = grind (arith, nat_tests)

@@ -1,11 +1,6 @@
--- What the digits of a literal have to be, that a number of so many digits may hold it.
-use Rattle.std.specs.Prelude.{ℕ, ◌^◌, ◌<◌, ℤ, List, [], ◌∷◌}
+-- Which literals a number of so many digits may hold.
+use Rattle.std.specs.Prelude.{ℕ, ◌^◌, ◌<◌, ℤ}
 use Rattle.cob_copybook_rules.specs.Values.{IsSameBy}
-
--- no zero stands in front
-abbrev pub IsSignificant : List ℕ → Type 0
-IsSignificant [] = Unit {0}
-IsSignificant (d ∷ ds) = 0 < d
 
 -- a number of so many digits, in units that are so many powers of ten finer or coarser, can be this one
 pub record CanBeHeld (shift : ℤ) (a room : ℕ) : Type 0 where

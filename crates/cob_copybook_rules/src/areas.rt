@@ -24,23 +24,13 @@ fn hold_varying(entries: &[Node]) -> bool
     false
 }
 
-/// Whether an entry has this name.
-fn is_called(entry: &Node, name: &Name) -> bool
-    ensures { IsTrue result ↔ ((node entry.now).top.name ≡ Some name.now) }
-{
-    match &entry.name {
-        Some(own) => own.as_bytes() == name.as_bytes(),
-        None => false,
-    }
-}
-
 /// Whether one of the entries has this name and level.
 fn bears(area: &[Node], name: &Name, level: u8) -> bool
     ensures yes { IsTrue result → Bears name.now level (map node area.now) }
     ensures must { Bears name.now level (map node area.now) → IsTrue result }
 {
     for entry in area {
-        if entry.level == level && is_called(entry, name) {
+        if entry.level == level && entry.is_called(name) {
             return true;
         }
     }

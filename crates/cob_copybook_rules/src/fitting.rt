@@ -3,26 +3,12 @@
 ghost use Rattle.std.specs.Prelude.{◌≡◌, ℕ, ◌*◌, ◌^◌, ◌-ℤ◌, ◌<◌, ◌≤◌, ◌↔◌, ◌==◌, IsTrue};
 ghost use Rattle.std.specs.List.{list_all};
 ghost use Rattle.cob_decimal.specs.Decimal.{IsDigits, number_of};
-ghost use Rattle.cob_copybook_rules.specs.Fitting.{IsSignificant, CanBeHeld};
+ghost use Rattle.cob_decimal.specs.Parts.{IsSignificant};
+ghost use Rattle.cob_copybook_rules.specs.Fitting.{CanBeHeld};
 ghost use Rattle.cob_copybook_rules.specs.Values.{HoldsNumber};
 
-use cob_decimal::{Number, are_zeros};
+use cob_decimal::{Number, are_zeros, without_zeros};
 use cob_picture::Picture;
-
-/// The digits from the first that isn't zero on.
-fn significant(digits: &[u8]) -> &[u8]
-    requires { IsDigits digits.now }
-    ensures digits { IsDigits result.now }
-    ensures value { number_of result.now ≡ number_of digits.now }
-    ensures first { IsSignificant result.now }
-{
-    for (at, digit) in digits.iter().enumerate() {
-        if *digit != 0 {
-            return &digits[at..];
-        }
-    }
-    &[]
-}
 
 /// Whether digits, with so many zeros behind them, are at most `room` digits.
 fn holds_finer(digits: &[u8], zeros: usize, room: usize) -> bool
@@ -54,7 +40,7 @@ fn holds(digits: &[u8], shift: i16, room: usize) -> bool
     ensures yes { IsTrue result → CanBeHeld shift (number_of digits.now) room }
     ensures must { CanBeHeld shift (number_of digits.now) room → IsTrue result }
 {
-    let digits = significant(digits);
+    let digits = without_zeros(digits);
     let places = usize::from(shift.unsigned_abs());
     if shift < 0 {
         holds_coarser(digits, places, room)

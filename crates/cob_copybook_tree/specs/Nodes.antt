@@ -1,5 +1,6 @@
 -- Entries with what they inherit and what their names refer to, as a tree.
 use Rattle.std.specs.Prelude.{ℕ, Bool, true, false, List, [], ◌∷◌, map, Option, option_map}
+use Rattle.cob_picture.specs.Positions.{shows_number}
 use Rattle.cob_copybook_entry.specs.Described.{PlainValue, plain_value}
 use Rattle.cob_copybook_tree.specs.declared.node.Node.{Node}
 use Rattle.cob_copybook_tree.specs.declared.node.Node.TheOpen.{Node-F}
@@ -15,6 +16,16 @@ abbrev pub is_varying : ResolvedOccurs → Bool
 is_varying Once = false
 is_varying (Fixed n) = false
 is_varying (Varying least most count) = true
+
+-- an entry of this kind is a group
+abbrev pub is_group_kind : Kind → Bool
+is_group_kind Group = true
+is_group_kind (ItemKind i) = false
+
+-- an entry of this kind is an item that shows a number
+abbrev pub kind_shows_number : Kind → Bool
+kind_shows_number Group = false
+kind_shows_number (ItemKind i) = shows_number i.picture.category
 
 -- an entry by itself
 pub record Resolved : Type 0 where

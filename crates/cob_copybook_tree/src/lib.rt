@@ -14,7 +14,8 @@
 //! - [`Item::size`] is the bytes of an item, [`ResolvedOccurs::most`] how often an entry occurs at most, and [`element_length`] and
 //!   [`whole_length`] are the greatest lengths of one element of an entry and of all of them (`item_size`, `greatest_number_by`, `element_length` and
 //!   `whole_length` of specs/Lengths.antt); one of over [`MANY`] bytes counts as [`MANY`].
-//! - [`Kind::clone`] is what an entry describes, once more, and takes no memory.
+//! - [`Kind::clone`] is what an entry describes, once more, and takes no memory. [`Kind::is_group`], [`Kind::shows_number`] and [`Node::is_called`] tell of an
+//!   entry what their names say.
 //! - [`branch_opens`] and [`node_opens`] are the laws that say what a branch and a node are to contracts, an entry and those beneath
 //!   it, and [`as_many_entries`] says that a tree has as many entries as their list is long.
 //!

@@ -1,8 +1,8 @@
 //! The entries of a record with what they inherit.
 
-ghost use Rattle.std.specs.Prelude.{◌≡◌, ◌↔◌, IsTrue};
+ghost use Rattle.std.specs.Prelude.{◌≡◌, ◌↔◌, Some, IsTrue};
 ghost use Rattle.cob_copybook_tree.specs.declared.node.ResolvedOccurs.TheVariants.{Once};
-ghost use Rattle.cob_copybook_tree.specs.Nodes.{is_varying};
+ghost use Rattle.cob_copybook_tree.specs.Nodes.{is_group_kind, is_varying, kind_shows_number, node};
 
 use cob_copybook_entry::{Name, Sign, Usage, Value};
 use cob_picture::Picture;
@@ -80,6 +80,23 @@ impl Kind {
             Kind::Item(item) => Kind::Item(item.clone()),
         }
     }
+
+    /// Whether the entry is a group.
+    pub fn is_group(&self) -> bool
+        ensures { result ≡ is_group_kind self.now }
+    {
+        matches!(self, Kind::Group)
+    }
+
+    /// Whether the entry is an item that shows a number.
+    pub fn shows_number(&self) -> bool
+        ensures { result ≡ kind_shows_number self.now }
+    {
+        match self {
+            Kind::Group => false,
+            Kind::Item(item) => item.picture.category().shows_number(),
+        }
+    }
 }
 
 /// An entry of a record with those beneath it.
@@ -97,4 +114,16 @@ pub struct Node {
     pub redefines: Option<Name>,
     pub value: Option<Value>,
     pub children: Vec<Node>,
+}
+
+impl Node {
+    /// Whether the entry has this name.
+    pub fn is_called(&self, name: &Name) -> bool
+        ensures { IsTrue result ↔ ((node self.now).top.name ≡ Some name.now) }
+    {
+        match &self.name {
+            Some(own) => own.as_bytes() == name.as_bytes(),
+            None => false,
+        }
+    }
 }

@@ -98,6 +98,7 @@ pub fn decode_byte(byte: u8) -> Option<u8>
 /// Writes the byte of each character at its place.
 ///
 /// The two have one length. The answer is false where a character is not in the table, and then nothing is changed.
+/// It is there for callers of this library: nothing in this repository but its tests calls it.
 pub fn encode_into(characters: &[u8], bytes: &mut [u8]) -> bool
     requires { length characters.now ≡ length bytes.old }
     ensures coded { OnTrue result (AreCoded characters.now bytes.new) }

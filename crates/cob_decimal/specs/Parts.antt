@@ -29,6 +29,11 @@ abbrev pub zeros_of : ℤ → ℕ
 zeros_of (pos k) = 0
 zeros_of (negsuc k) = k + 1
 
+-- No zero stands in front of these digits.
+abbrev pub IsSignificant : List ℕ → Type 0
+IsSignificant [] = Unit {0}
+IsSignificant (d ∷ ds) = 0 < d
+
 -- The whole part that digits without a zero in front and so many zeros more make; zero gets none.
 abbrev pub whole_part : List ℕ → ℕ → List ℕ
 whole_part [] z = 0 ∷ []

@@ -13,7 +13,8 @@
 //! - [`Number::of_text`] answers a number exactly for the numeric literals (`found`, `only`), with the value that is written there.
 //! - [`Number::write_text`] writes the text of the number: `IsNumberText` of specs/Literals.antt, of which [`laws`] says that a
 //!   number has just one.
-//! - [`are_digits`] says whether each character of a text is a digit, and [`are_zeros`] whether each digit of a list is 0.
+//! - [`are_digits`] says whether each character of a text is a digit, and [`are_zeros`] whether each digit of a list is 0. [`without_zeros`] are the
+//!   digits of a list from the first on that is not 0, and [`zeros_of`] counts the zeros that a scale below 0 puts before the point.
 //! - The laws of digits that other crates build on are contracts of their own, in [`laws`].
 //!
 //! It stands on `cob_limits`, for how many digits there are at most, and on `arrayvec`, for lists of bounded length.
@@ -33,3 +34,4 @@ pub use cob_limits::{MAX_DIGITS, MAX_SCALE, MIN_SCALE};
 pub use digits::{Digits, are_zeros};
 pub use literal::are_digits;
 pub use number::Number;
+pub use number_text::{without_zeros, zeros_of};

@@ -6,7 +6,7 @@ ghost use Rattle.cob_decimal.specs.Decimal.{number_of, aligned};
 ghost use Rattle.cob_decimal.specs.Literals.{Literal, IsLiteral, IsValueOf, literal_text, IsNumberText};
 
 use crate::literal::{is_literal, or_empty, split_point, split_sign};
-use crate::number_text::{places, without_zeros, write_fraction, write_whole, zeros};
+use crate::number_text::{places, without_zeros, write_fraction, write_whole, zeros_of};
 use crate::{Digits, MAX_DIGITS, MAX_SCALE, MIN_SCALE};
 use arrayvec::ArrayVec;
 
@@ -79,7 +79,8 @@ impl Number {
         if self.negative {
             out.push(b'-');
         }
-        write_whole(out, without_zeros(&digits[..point]), zeros(self.scale));
+        let zeros = zeros_of(self.scale) as usize;
+        write_whole(out, without_zeros(&digits[..point]), zeros);
         write_fraction(out, &digits[point..], places);
     }
 

@@ -3,9 +3,9 @@
 ghost use Rattle.std.specs.Prelude.{◌≡◌, ◌+◌, ◌<◌, ◌≤◌, ◌==◌, ◌++◌, length, drop, replicate};
 ghost use Rattle.std.specs.List.{prefix_len};
 ghost use Rattle.arrayvec.specs.ArrayVec.{array_vec_len};
-ghost use Rattle.cob_decimal.specs.Decimal.{IsDigits};
+ghost use Rattle.cob_decimal.specs.Decimal.{IsDigits, number_of};
 ghost use Rattle.cob_decimal.specs.Literals.{characters, fraction_text, digits_behind_point};
-ghost use Rattle.cob_decimal.specs.Parts.{zeros_of, whole_part, fraction_part};
+ghost use Rattle.cob_decimal.specs.Parts.{IsSignificant, zeros_of, whole_part, fraction_part};
 
 use arrayvec::ArrayVec;
 
@@ -16,20 +16,19 @@ pub(crate) fn places(scale: i8) -> usize
     if scale > 0 { scale as usize } else { 0 }
 }
 
-/// How many zeros stand between the last digit and the point.
-pub(crate) fn zeros(scale: i8) -> usize
+/// How many zeros stand between the last digit of a number of this scale and the point.
+pub fn zeros_of(scale: i8) -> u8
     ensures { result ≡ zeros_of scale }
 {
-    if scale < 0 {
-        scale.unsigned_abs() as usize
-    } else {
-        0
-    }
+    if scale < 0 { scale.unsigned_abs() } else { 0 }
 }
 
 /// The digits from the first that is not zero on.
-pub(crate) fn without_zeros(digits: &[u8]) -> &[u8]
-    ensures { result.now ≡ drop (prefix_len (λ d. d == 0) digits.now) digits.now }
+pub fn without_zeros(digits: &[u8]) -> &[u8]
+    ensures rest { result.now ≡ drop (prefix_len (λ d. d == 0) digits.now) digits.now }
+    ensures digits { IsDigits digits.now → IsDigits result.now }
+    ensures value { number_of result.now ≡ number_of digits.now }
+    ensures first { IsSignificant result.now }
 {
     for (at, digit) in digits.iter().enumerate() {
         if *digit != 0 {

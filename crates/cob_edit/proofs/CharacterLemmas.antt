@@ -6,7 +6,8 @@ use Rattle.std.proofs.lemmas.List.Sums.{sum_by-cons}
 use Rattle.cob_picture.specs.declared.symbol.Symbol.{Symbol}
 use Rattle.cob_picture.specs.declared.position.Position.{Position}
 use Rattle.cob_edit.specs.Pictured.{insertion_byte}
-use Rattle.cob_edit.specs.Characters.{is_character, position, character_at, HasCharacters, characters_from, OneSpelling}
+use Rattle.cob_picture.specs.Counts.{is_character}
+use Rattle.cob_edit.specs.Characters.{position, character_at, HasCharacters, characters_from, OneSpelling}
 
 -- ---- the text place by place
 

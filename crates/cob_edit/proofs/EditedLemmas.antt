@@ -8,15 +8,15 @@ use Rattle.std.proofs.lemmas.List.Folds.{list_any-append}
 use Rattle.cob_picture.specs.declared.symbol.Symbol.{Symbol}
 use Rattle.cob_picture.specs.declared.symbol.Symbol.TheVariants as sy
 use Rattle.cob_picture.specs.declared.category.Category.TheVariants.{NumericEdited}
-use Rattle.cob_picture.specs.declared.edited.Kind.{Kind}
-use Rattle.cob_picture.specs.declared.edited.Kind.TheVariants.{OfRun, OfInsertion, OfNine, OfPoint, OfSign, OfCurrency, OfCredit, OfNone}
-use Rattle.cob_picture.specs.declared.edited.Part.{Part}
-use Rattle.cob_picture.specs.declared.edited.Part.TheVariants.{Lead, Currency, Front, Whole, PointPart, Fraction, Trail}
+use Rattle.cob_picture.specs.declared.edited.SymbolKind.{SymbolKind}
+use Rattle.cob_picture.specs.declared.edited.SymbolKind.TheVariants.{OfRun, OfInsertion, OfNine, OfPoint, OfSign, OfCurrency, OfCredit, OfNone}
+use Rattle.cob_picture.specs.declared.edited.EditedPart.{EditedPart}
+use Rattle.cob_picture.specs.declared.edited.EditedPart.TheVariants.{Lead, Currency, Front, Whole, PointPart, Fraction, Trail}
 use Rattle.cob_picture.specs.Positions.{is, is_that, symbol_count, floating, settled_role, role_at, positions_from, positions}
 use Rattle.cob_picture.specs.Counts.{is_sign_symbol, signed}
 use Rattle.cob_picture.specs.Edited.{run_symbol, is_sign_run, is_floating_run, settled_kind, symbol_kind, belongs, AreOf, edited_symbols, IsNumericEdited}
-use Rattle.cob_edit.specs.declared.place.Place.{Place}
-use Rattle.cob_edit.specs.declared.place.Place.TheVariants.{Inserted, Point, Digit, Suppressed, Floating, First, Fixed, AssumedPoint}
+use Rattle.cob_edit.specs.declared.place.EditedPlace.{EditedPlace}
+use Rattle.cob_edit.specs.declared.place.EditedPlace.TheVariants.{Inserted, Point, Digit, Suppressed, Floating, First, Fixed, AssumedPoint}
 use Rattle.cob_edit.specs.Places.{is_run, is_run_or_insertion, is_point_place, is_fixed_sign, is_floating_sign, tells}
 use Rattle.cob_picture.specs.Categories.{IsOf}
 use Rattle.cob_picture.proofs.EditedFacts.{edited_none}
@@ -29,17 +29,17 @@ use Rattle.cob_edit.proofs.RegionLemmas.{is_still, AreWithin, has_region}
 -- ---- places, one before others
 
 -- no symbol of the run stands left of the point
-abbrev pub HasNoRun : List Place → Type 0
+abbrev pub HasNoRun : List EditedPlace → Type 0
 HasNoRun ps = (j : ℕ) → IsOfRun ps j → ⊥
 
 -- each symbol of the run left of the point is among the first that are of the run or insertions
-abbrev AreFront : List Place → Type 0
+abbrev AreFront : List EditedPlace → Type 0
 AreFront ps = (j : ℕ) → IsOfRun ps j → j < prefix_len is_run_or_insertion ps
 
-behind_first : (p : Place) (ps : List Place) (j : ℕ) → IsOfRun (p ∷ ps) (suc j) → IsOfRun ps j
+behind_first : (p : EditedPlace) (ps : List EditedPlace) (j : ℕ) → IsOfRun (p ∷ ps) (suc j) → IsOfRun ps j
 behind_first p ps j h = record { inside = omega (arith, h.inside); run = h.run; left = λ k le. h.left (suc k) (omega arith) }
 
-still_run : (p : Place) → is_still p ≡ true → is_run p ≡ false
+still_run : (p : EditedPlace) → is_still p ≡ true → is_run p ≡ false
 still_run (Inserted b) h = refl
 still_run (Suppressed f) h = sym h
 still_run Floating h = sym h
@@ -52,31 +52,31 @@ still_run AssumedPoint h = refl
 pub no_run-nil : HasNoRun []
 no_run-nil j h = omega (arith, h.inside)
 
-pub no_run-cons : (p : Place) (ps : List Place) → is_still p ≡ true → HasNoRun ps → HasNoRun (p ∷ ps)
+pub no_run-cons : (p : EditedPlace) (ps : List EditedPlace) → is_still p ≡ true → HasNoRun ps → HasNoRun (p ∷ ps)
 no_run-cons p ps still none zero h = let no : is_run p ≡ false = still_run p still in let yes : is_run p ≡ true = h.run in absurd (cc)
 no_run-cons p ps still none (suc j) h = none j (behind_first p ps j h)
 
-pub no_run-point : (p : Place) (ps : List Place) → is_point_place p ≡ true → HasNoRun (p ∷ ps)
+pub no_run-point : (p : EditedPlace) (ps : List EditedPlace) → is_point_place p ≡ true → HasNoRun (p ∷ ps)
 no_run-point p ps point j h = let no : is_point_place p ≡ false = h.left 0 (omega arith) in absurd (cc)
 
-front-none : (ps : List Place) → HasNoRun ps → AreFront ps
+front-none : (ps : List EditedPlace) → HasNoRun ps → AreFront ps
 front-none ps none j h = absurd (none j h)
 
-front-cons : (p : Place) (ps : List Place) → is_run_or_insertion p ≡ true → AreFront ps → AreFront (p ∷ ps)
+front-cons : (p : EditedPlace) (ps : List EditedPlace) → is_run_or_insertion p ≡ true → AreFront ps → AreFront (p ∷ ps)
 front-cons p ps goes front zero h = let n : prefix_len is_run_or_insertion (p ∷ ps) ≡ 1 + prefix_len is_run_or_insertion ps = ap (λ b. cond {A = ℕ} b (1 + prefix_len is_run_or_insertion ps) 0) goes in omega arith
 front-cons p ps goes front (suc j) h =
     let n : prefix_len is_run_or_insertion (p ∷ ps) ≡ 1 + prefix_len is_run_or_insertion ps = ap (λ b. cond {A = ℕ} b (1 + prefix_len is_run_or_insertion ps) 0) goes in
     let before : j < prefix_len is_run_or_insertion ps = front j (behind_first p ps j h) in
     omega arith
 
-within-none : (ps : List Place) → HasNoRun ps → AreWithin ps
+within-none : (ps : List EditedPlace) → HasNoRun ps → AreWithin ps
 within-none ps none j h = absurd (none j h)
 
 -- one more still place in front moves the region by one
-pub start_behind : (p : Place) (ps : List Place) → is_still p ≡ true → region_start (p ∷ ps) ≡ suc (region_start ps)
+pub start_behind : (p : EditedPlace) (ps : List EditedPlace) → is_still p ≡ true → region_start (p ∷ ps) ≡ suc (region_start ps)
 start_behind p ps still = let n : region_start (p ∷ ps) ≡ 1 + region_start ps = ap (λ b. cond {A = ℕ} b (1 + region_start ps) 0) still in omega arith
 
-within-cons : (p : Place) (ps : List Place) → is_still p ≡ true → AreWithin ps → AreWithin (p ∷ ps)
+within-cons : (p : EditedPlace) (ps : List EditedPlace) → is_still p ≡ true → AreWithin ps → AreWithin (p ∷ ps)
 within-cons p ps still all zero h = let no : is_run p ≡ false = still_run p still in let yes : is_run p ≡ true = h.run in absurd (cc)
 within-cons p ps still all (suc j) h =
     let start = start_behind p ps still in
@@ -85,7 +85,7 @@ within-cons p ps still all (suc j) h =
     let before : j < region_end ps = all j (behind_first p ps j h) in
     omega arith
 
-run_moves : (p : Place) → is_run p ≡ true → is_still p ≡ false
+run_moves : (p : EditedPlace) → is_run p ≡ true → is_still p ≡ false
 run_moves (Inserted b) h = sym h
 run_moves (Suppressed f) h = refl
 run_moves Floating h = refl
@@ -95,10 +95,10 @@ run_moves Point h = refl
 run_moves (Fixed m) h = sym h
 run_moves AssumedPoint h = refl
 
-pub start_here : (p : Place) (ps : List Place) → is_run p ≡ true → region_start (p ∷ ps) ≡ 0
+pub start_here : (p : EditedPlace) (ps : List EditedPlace) → is_run p ≡ true → region_start (p ∷ ps) ≡ 0
 start_here p ps run = ap (λ b. cond {A = ℕ} b (1 + region_start ps) 0) (run_moves p run)
 
-within-run : (p : Place) (ps : List Place) → is_run p ≡ true → AreFront (p ∷ ps) → AreWithin (p ∷ ps)
+within-run : (p : EditedPlace) (ps : List EditedPlace) → is_run p ≡ true → AreFront (p ∷ ps) → AreWithin (p ∷ ps)
 within-run p ps run front j h =
     let start = start_here p ps run in
     let rest : prefix_len is_run_or_insertion (drop (region_start (p ∷ ps)) (p ∷ ps)) ≡ prefix_len is_run_or_insertion (p ∷ ps) =
@@ -107,11 +107,11 @@ within-run p ps run front j h =
     omega arith
 
 -- the same of several still places
-no_run-append : (a ps : List Place) → list_all is_still a ≡ true → HasNoRun ps → HasNoRun (a ++ ps)
+no_run-append : (a ps : List EditedPlace) → list_all is_still a ≡ true → HasNoRun ps → HasNoRun (a ++ ps)
 no_run-append [] ps all none = none
 no_run-append (p ∷ a) ps all none = no_run-cons p (a ++ ps) (and_parts (is_still p) (list_all is_still a) all).0 (no_run-append a ps (and_parts (is_still p) (list_all is_still a) all).1 none)
 
-within-append : (a ps : List Place) → list_all is_still a ≡ true → AreWithin ps → AreWithin (a ++ ps)
+within-append : (a ps : List EditedPlace) → list_all is_still a ≡ true → AreWithin ps → AreWithin (a ++ ps)
 within-append [] ps all within = within
 within-append (p ∷ a) ps all within = within-cons p (a ++ ps) (and_parts (is_still p) (list_all is_still a) all).0 (within-append a ps (and_parts (is_still p) (list_all is_still a) all).1 within)
 
@@ -123,7 +123,7 @@ pub record Agree (f q : Option Symbol) : Type 0 where
   pub fills : (s : Symbol) → is_that q s ≡ true → is_that f s ≡ false → (is sy.Z s || is sy.Star s) ≡ true
 
 -- a kind that is neither of the run nor a point
-abbrev is_quiet : Kind → Bool
+abbrev is_quiet : SymbolKind → Bool
 is_quiet OfRun = false
 is_quiet OfPoint = false
 is_quiet OfNone = false
@@ -154,14 +154,14 @@ settled_still sy.Credit h = refl
 settled_still sy.Debit h = refl
 
 -- the places of a symbol
-abbrev pub here : Option Symbol → Bool → Symbol → List Place
+abbrev pub here : Option Symbol → Bool → Symbol → List EditedPlace
 here f seen s = position_places (role_at NumericEdited (is_that f s) seen s) s
 
 quiet_still : (f : Option Symbol) (seen : Bool) (s : Symbol) → is_that f s ≡ false → is_quiet (settled_kind s) ≡ true → list_all is_still (here f seen s) ≡ true
 quiet_still f seen s out quiet = ap (λ b. list_all is_still (position_places (role_at NumericEdited b seen s) s)) out ∙ settled_still s quiet
 
 -- the parts that hold neither the run nor the point
-abbrev is_quiet_part : Part → Bool
+abbrev is_quiet_part : EditedPart → Bool
 is_quiet_part Lead = true
 is_quiet_part Currency = true
 is_quiet_part Front = false
@@ -170,7 +170,7 @@ is_quiet_part PointPart = false
 is_quiet_part Fraction = false
 is_quiet_part Trail = true
 
-quiet_kind : (part : Part) (k : Kind) → is_quiet_part part ≡ true → belongs part k ≡ true → is_quiet k ≡ true
+quiet_kind : (part : EditedPart) (k : SymbolKind) → is_quiet_part part ≡ true → belongs part k ≡ true → is_quiet k ≡ true
 quiet_kind part OfInsertion h e = refl
 quiet_kind part OfNine h e = refl
 quiet_kind part OfSign h e = refl
@@ -199,33 +199,33 @@ quiet_kind Fraction OfPoint h e = h
 quiet_kind Fraction OfNone h e = h
 
 -- a symbol of such a part is outside the run
-quiet_symbol : (part : Part) (q : Option Symbol) (s : Symbol) → is_quiet_part part ≡ true → belongs part (symbol_kind q s) ≡ true → (is_that q s ≡ false) × (is_quiet (settled_kind s) ≡ true)
+quiet_symbol : (part : EditedPart) (q : Option Symbol) (s : Symbol) → is_quiet_part part ≡ true → belongs part (symbol_kind q s) ≡ true → (is_that q s ≡ false) × (is_quiet (settled_kind s) ≡ true)
 quiet_symbol part q s h e = at (is_that q s) refl e
   where
     at : (b : Bool) → is_that q s ≡ b → belongs part (if b then OfRun else settled_kind s) ≡ true → (is_that q s ≡ false) × (is_quiet (settled_kind s) ≡ true)
     at false b k = (b, quiet_kind part (settled_kind s) h k)
     at true b k = let no : false ≡ true = quiet_kind part OfRun h k in absurd (cc)
 
-still_here : (part : Part) (f q : Option Symbol) (seen : Bool) (s : Symbol) → Agree f q → is_quiet_part part ≡ true → belongs part (symbol_kind q s) ≡ true → list_all is_still (here f seen s) ≡ true
+still_here : (part : EditedPart) (f q : Option Symbol) (seen : Bool) (s : Symbol) → Agree f q → is_quiet_part part ≡ true → belongs part (symbol_kind q s) ≡ true → list_all is_still (here f seen s) ≡ true
 still_here part f q seen s agree h e =
     let p = quiet_symbol part q s h e in
     quiet_still f seen s (agree.outside s p.0) p.1
 
 -- the places of symbols, the floating one seen before or not
-abbrev pub placed_from : Option Symbol → Bool → List Symbol → List Place
+abbrev pub placed_from : Option Symbol → Bool → List Symbol → List EditedPlace
 placed_from f seen xs = places (positions_from NumericEdited f seen xs)
 
-pub quiet_no_run : (part : Part) (f q : Option Symbol) (xs ys : List Symbol) → Agree f q → is_quiet_part part ≡ true → AreOf part q xs → ((seen : Bool) → HasNoRun (placed_from f seen ys)) → (seen : Bool) → HasNoRun (placed_from f seen (xs ++ ys))
+pub quiet_no_run : (part : EditedPart) (f q : Option Symbol) (xs ys : List Symbol) → Agree f q → is_quiet_part part ≡ true → AreOf part q xs → ((seen : Bool) → HasNoRun (placed_from f seen ys)) → (seen : Bool) → HasNoRun (placed_from f seen (xs ++ ys))
 quiet_no_run part f q [] ys agree h all rest seen = rest seen
 quiet_no_run part f q (s ∷ xs) ys agree h all rest seen = no_run-append (here f seen s) (placed_from f (seen || is_that f s) (xs ++ ys)) (still_here part f q seen s agree h all.0) (quiet_no_run part f q xs ys agree h all.1 rest (seen || is_that f s))
 
-quiet_within : (part : Part) (f q : Option Symbol) (xs ys : List Symbol) → Agree f q → is_quiet_part part ≡ true → AreOf part q xs → ((seen : Bool) → AreWithin (placed_from f seen ys)) → (seen : Bool) → AreWithin (placed_from f seen (xs ++ ys))
+quiet_within : (part : EditedPart) (f q : Option Symbol) (xs ys : List Symbol) → Agree f q → is_quiet_part part ≡ true → AreOf part q xs → ((seen : Bool) → AreWithin (placed_from f seen ys)) → (seen : Bool) → AreWithin (placed_from f seen (xs ++ ys))
 quiet_within part f q [] ys agree h all rest seen = rest seen
 quiet_within part f q (s ∷ xs) ys agree h all rest seen = within-append (here f seen s) (placed_from f (seen || is_that f s) (xs ++ ys)) (still_here part f q seen s agree h all.0) (quiet_within part f q xs ys agree h all.1 rest (seen || is_that f s))
 
 -- a symbol of the run has one place, of the run
-abbrev IsOneRun : List Place → Type 0
-IsOneRun ps = (p : Place) × (is_run p ≡ true) × (ps ≡ p ∷ [])
+abbrev IsOneRun : List EditedPlace → Type 0
+IsOneRun ps = (p : EditedPlace) × (is_run p ≡ true) × (ps ≡ p ∷ [])
 
 fill_run : (s : Symbol) → (is sy.Z s || is sy.Star s) ≡ true → IsOneRun (position_places (settled_role NumericEdited s) s)
 fill_run sy.Z h = (_, refl, refl)
@@ -259,7 +259,7 @@ run_here f q seen s agree run = at (is_that f s) refl
     at false e = fill_run s (agree.fills s run e)
 
 -- an insertion has one place
-abbrev IsOneInsertion : List Place → Type 0
+abbrev IsOneInsertion : List EditedPlace → Type 0
 IsOneInsertion ps = (b : ℕ) × (ps ≡ Inserted b ∷ [])
 
 settled_front : (s : Symbol) → belongs Front (settled_kind s) ≡ true → IsOneInsertion (position_places (settled_role NumericEdited s) s)
@@ -294,7 +294,7 @@ insertion_here f q seen s agree out k =
     let one = settled_front s k in
     (one.0, ap (λ b. position_places (role_at NumericEdited b seen s) s) (agree.outside s out) ∙ one.1)
 
-run_goes : (p : Place) → is_run p ≡ true → is_run_or_insertion p ≡ true
+run_goes : (p : EditedPlace) → is_run p ≡ true → is_run_or_insertion p ≡ true
 run_goes (Inserted b) h = refl
 run_goes (Suppressed f) h = refl
 run_goes Floating h = refl
@@ -307,7 +307,7 @@ run_goes AssumedPoint h = h
 front_front : (f q : Option Symbol) (xs ys : List Symbol) → Agree f q → AreOf Front q xs → ((seen : Bool) → HasNoRun (placed_from f seen ys)) → (seen : Bool) → AreFront (placed_from f seen (xs ++ ys))
 front_front f q [] ys agree all rest seen = front-none (placed_from f seen ys) (rest seen)
 front_front f q (s ∷ xs) ys agree all rest seen =
-    let more : List Place = placed_from f (seen || is_that f s) (xs ++ ys) in
+    let more : List EditedPlace = placed_from f (seen || is_that f s) (xs ++ ys) in
     let behind : AreFront more = front_front f q xs ys agree all.1 rest (seen || is_that f s) in
     elim (front_symbol q s all.0) [
       | inl run ↦
@@ -321,7 +321,7 @@ front_front f q (s ∷ xs) ys agree all rest seen =
 front_within : (f q : Option Symbol) (xs ys : List Symbol) → Agree f q → AreOf Front q xs → ((seen : Bool) → HasNoRun (placed_from f seen ys)) → (seen : Bool) → AreWithin (placed_from f seen (xs ++ ys))
 front_within f q [] ys agree all rest seen = within-none (placed_from f seen ys) (rest seen)
 front_within f q (s ∷ xs) ys agree all rest seen =
-    let more : List Place = placed_from f (seen || is_that f s) (xs ++ ys) in
+    let more : List EditedPlace = placed_from f (seen || is_that f s) (xs ++ ys) in
     elim (front_symbol q s all.0) [
       | inl run ↦
           let one = run_here f q seen s agree run in
@@ -334,7 +334,7 @@ front_within f q (s ∷ xs) ys agree all rest seen =
 
 -- ---- the point and what follows it
 
-settled_point : (s : Symbol) → belongs PointPart (settled_kind s) ≡ true → (p : Place) × (is_point_place p ≡ true) × (position_places (settled_role NumericEdited s) s ≡ p ∷ [])
+settled_point : (s : Symbol) → belongs PointPart (settled_kind s) ≡ true → (p : EditedPlace) × (is_point_place p ≡ true) × (position_places (settled_role NumericEdited s) s ≡ p ∷ [])
 settled_point sy.A h = let no : false ≡ true = h in absurd (cc)
 settled_point sy.X h = let no : false ≡ true = h in absurd (cc)
 settled_point sy.Nine h = let no : false ≡ true = h in absurd (cc)
@@ -354,10 +354,10 @@ settled_point sy.Minus h = let no : false ≡ true = h in absurd (cc)
 settled_point sy.Credit h = let no : false ≡ true = h in absurd (cc)
 settled_point sy.Debit h = let no : false ≡ true = h in absurd (cc)
 
-point_here : (f q : Option Symbol) (seen : Bool) (s : Symbol) → Agree f q → belongs PointPart (symbol_kind q s) ≡ true → (p : Place) × (is_point_place p ≡ true) × (here f seen s ≡ p ∷ [])
+point_here : (f q : Option Symbol) (seen : Bool) (s : Symbol) → Agree f q → belongs PointPart (symbol_kind q s) ≡ true → (p : EditedPlace) × (is_point_place p ≡ true) × (here f seen s ≡ p ∷ [])
 point_here f q seen s agree h = at (is_that q s) refl h
   where
-    at : (b : Bool) → is_that q s ≡ b → belongs PointPart (if b then OfRun else settled_kind s) ≡ true → (p : Place) × (is_point_place p ≡ true) × (here f seen s ≡ p ∷ [])
+    at : (b : Bool) → is_that q s ≡ b → belongs PointPart (if b then OfRun else settled_kind s) ≡ true → (p : EditedPlace) × (is_point_place p ≡ true) × (here f seen s ≡ p ∷ [])
     at true e k = let no : false ≡ true = k in absurd (cc)
     at false e k =
         let one = settled_point s k in
@@ -371,7 +371,7 @@ point_no_run f q [] [] trail agree is_point all none seen = trail_no_run f q tra
 point_no_run f q [] (s ∷ fraction) trail agree is_point all none seen = let no : length (s ∷ fraction) ≡ 0 = none refl in absurd (omega (arith, no))
 point_no_run f q (s ∷ point) fraction trail agree is_point all none seen =
     let one = point_here f q seen s agree is_point.0 in
-    let more : List Place = placed_from f (seen || is_that f s) (point ++ (fraction ++ trail)) in
+    let more : List EditedPlace = placed_from f (seen || is_that f s) (point ++ (fraction ++ trail)) in
     subst (λ a. HasNoRun (a ++ more)) (sym one.2) (no_run-point one.0 more one.1)
 
 -- ---- what floats
@@ -578,13 +578,13 @@ chosen_none false false false e g h = record { untold = λ s k. absurd (true≢f
 -- ---- a sign that floats
 
 -- the region begins with a sign that floats
-abbrev FloatsFirst : List Place → Type 0
+abbrev FloatsFirst : List EditedPlace → Type 0
 FloatsFirst ps = is_floating_sign (place_at ps (region_start ps)) ≡ true
 
-floats-cons : (p : Place) (ps : List Place) → is_still p ≡ true → FloatsFirst ps → FloatsFirst (p ∷ ps)
+floats-cons : (p : EditedPlace) (ps : List EditedPlace) → is_still p ≡ true → FloatsFirst ps → FloatsFirst (p ∷ ps)
 floats-cons p ps still h = ap (λ n. is_floating_sign (place_at (p ∷ ps) n)) (start_behind p ps still) ∙ h
 
-floats-first : (p : Place) (ps : List Place) → is_run p ≡ true → is_floating_sign p ≡ true → FloatsFirst (p ∷ ps)
+floats-first : (p : EditedPlace) (ps : List EditedPlace) → is_run p ≡ true → is_floating_sign p ≡ true → FloatsFirst (p ∷ ps)
 floats-first p ps run sign = ap (λ n. is_floating_sign (place_at (p ∷ ps) n)) (start_here p ps run) ∙ sign
 
 front_floats : (f q : Option Symbol) (xs ys : List Symbol) → Agree f q → IsSignRun f q → AreOf Front q xs → list_any (is_that q) xs ≡ true → FloatsFirst (placed_from f false (xs ++ ys))
@@ -594,7 +594,7 @@ front_floats f q (s ∷ xs) ys agree sign all some =
       | inl run ↦
           let floats : is_that f s ≡ true = sign.floats s run in
           let first : here f false s ≡ First (mark_of s) ∷ [] = ap (λ b. position_places (role_at NumericEdited b false s) s) floats in
-          let more : List Place = placed_from f (false || is_that f s) (xs ++ ys) in
+          let more : List EditedPlace = placed_from f (false || is_that f s) (xs ++ ys) in
           subst (λ a. FloatsFirst (a ++ more)) (sym first) (floats-first (First (mark_of s)) more refl (sign.told s run))
       | inr out ↦
           let one = insertion_here f q false s agree out.0 out.1 in
@@ -676,7 +676,7 @@ fixed_here f seen s plain h = at (is_that f s) refl seen
 fixed_shown : (f : Option Symbol) (seen : Bool) (xs : List Symbol) → IsNoSign f → symbol_count sy.S xs ≡ 0 → list_any is_fixed_sign (placed_from f seen xs) ≡ list_any is_sign_symbol xs
 fixed_shown f seen [] plain none = refl
 fixed_shown f seen (s ∷ xs) plain none =
-    let rest : List Place = placed_from f (seen || is_that f s) xs in
+    let rest : List EditedPlace = placed_from f (seen || is_that f s) xs in
     list_any-append is_fixed_sign (here f seen s) rest
     ∙ ap (λ b. b || list_any is_fixed_sign rest) (fixed_here f seen s plain (first (is sy.S s) refl none))
     ∙ ap (λ b. is_sign_symbol s || b) (fixed_shown f (seen || is_that f s) xs plain (omega (arith, none)))
@@ -716,7 +716,7 @@ float_here f seen s plain = at (is_that f s) refl seen
 none_floats : (f : Option Symbol) (seen : Bool) (xs : List Symbol) → IsNoSign f → list_any is_floating_sign (placed_from f seen xs) ≡ false
 none_floats f seen [] plain = refl
 none_floats f seen (s ∷ xs) plain =
-    let rest : List Place = placed_from f (seen || is_that f s) xs in
+    let rest : List EditedPlace = placed_from f (seen || is_that f s) xs in
     list_any-append is_floating_sign (here f seen s) rest
     ∙ ap (λ b. b || list_any is_floating_sign rest) (float_here f seen s plain)
     ∙ none_floats f (seen || is_that f s) xs plain
@@ -725,7 +725,7 @@ or_parts : (a b : Bool) → (a || b) ≡ false → (a ≡ false) × (b ≡ false
 or_parts true b h = absurd (true≢false h)
 or_parts false b h = (refl, h)
 
-none_at : (ps : List Place) (j : ℕ) → list_any is_floating_sign ps ≡ false → is_floating_sign (place_at ps j) ≡ false
+none_at : (ps : List EditedPlace) (j : ℕ) → list_any is_floating_sign ps ≡ false → is_floating_sign (place_at ps j) ≡ false
 none_at [] j h = refl
 none_at (p ∷ ps) zero h = (or_parts (is_floating_sign p) (list_any is_floating_sign ps) h).0
 none_at (p ∷ ps) (suc j) h = none_at ps j (or_parts (is_floating_sign p) (list_any is_floating_sign ps) h).1

@@ -7,8 +7,8 @@ use Rattle.std.proofs.lemmas.Bool.Decides.{nat_tests}
 use Rattle.std.proofs.lemmas.List.{drop_more, length-drop, take_all, drop_all}
 use Rattle.std.proofs.lemmas.List.Sums.{sum_by_more, sum_by-take-le}
 use Rattle.cob_decimal.specs.Decimal.{IsDigits}
-use Rattle.cob_edit.specs.declared.place.Place.{Place}
-use Rattle.cob_edit.specs.declared.place.Place.TheVariants.{Inserted, Point, Digit, Suppressed, Floating, First, Fixed, AssumedPoint}
+use Rattle.cob_edit.specs.declared.place.EditedPlace.{EditedPlace}
+use Rattle.cob_edit.specs.declared.place.EditedPlace.TheVariants.{Inserted, Point, Digit, Suppressed, Floating, First, Fixed, AssumedPoint}
 use Rattle.cob_edit.specs.Places.{is_digit, has_byte}
 use Rattle.cob_edit.specs.Editing.{region_start, place_at, digit_of, IsSuppressedTo, hidden, cell, printed, empty_cell, has_stars, shows_nothing, IsText, FitsPlaces, shown_digit, extract}
 use Rattle.cob_edit.proofs.OneValueLemmas.{places, printed_places, zero_places, length-cell, length-empty_cell, cell_shown, cell_hidden, hidden_small, digit_cell, all_zero_at, and_left}
@@ -25,7 +25,7 @@ digit_back d h = elim (cases_lt 0 d) [ inl some ↦ above d some h | inr none �
     below : (d : ℕ) → d ≡ 0 → shown_digit (d + 240) ≡ d
     below d e = grind (arith, nat_tests)
 
-digits_bytes : (r : Place) → is_digit r ≡ true → has_byte r ≡ true
+digits_bytes : (r : EditedPlace) → is_digit r ≡ true → has_byte r ≡ true
 digits_bytes (Inserted b) h = absurd (cc)
 digits_bytes Point h = absurd (cc)
 digits_bytes Digit h = refl
@@ -46,11 +46,11 @@ extract_step X false false [] tail g len is has_byte = refl
 extract_step X false false (b ∷ bs) tail g len is has_byte = absurd (omega arith)
 
 -- the digits of the places from place j on
-abbrev digits_from : (ℕ → ℕ) → ℕ → List Place → List ℕ
+abbrev digits_from : (ℕ → ℕ) → ℕ → List EditedPlace → List ℕ
 digits_from g j [] = []
 digits_from g j (r ∷ rest) = (if is_digit r then g j ∷ [] else []) ++ digits_from g (j + 1) rest
 
-extract-places : (f : ℕ → Place → List ℕ) (g : ℕ → ℕ) (rest : List Place) (j : ℕ) → ((i : ℕ) → i < length rest → length (f (j + i) (get_or rest i (Inserted 0))) ≡ (if has_byte (get_or rest i (Inserted 0)) then 1 else 0)) → ((i : ℕ) → i < length rest → is_digit (get_or rest i (Inserted 0)) ≡ true → shown_digit (get_or (f (j + i) (get_or rest i (Inserted 0))) 0 0) ≡ g (j + i)) → extract rest (places f j rest) ≡ digits_from g j rest
+extract-places : (f : ℕ → EditedPlace → List ℕ) (g : ℕ → ℕ) (rest : List EditedPlace) (j : ℕ) → ((i : ℕ) → i < length rest → length (f (j + i) (get_or rest i (Inserted 0))) ≡ (if has_byte (get_or rest i (Inserted 0)) then 1 else 0)) → ((i : ℕ) → i < length rest → is_digit (get_or rest i (Inserted 0)) ≡ true → shown_digit (get_or (f (j + i) (get_or rest i (Inserted 0))) 0 0) ≡ g (j + i)) → extract rest (places f j rest) ≡ digits_from g j rest
 extract-places f g [] j len is = refl
 extract-places f g (r ∷ rest) j len is =
     let zero_is : j + 0 ≡ j = omega arith in
@@ -60,7 +60,7 @@ extract-places f g (r ∷ rest) j len is =
     extract_step (λ xs. extract rest xs) (has_byte r) (is_digit r) (f j r) (places f (j + 1) rest) (g j) first digit (digits_bytes r)
     ∙ ap (λ xs. (if is_digit r then g j ∷ [] else []) ++ xs) (extract-places f g rest (j + 1) (λ m below. rw (← move m) (len (suc m) (omega arith))) (λ m below. rw (← move m) (is (suc m) (omega arith))))
 
-cons_parts : (x y : Place) (xs ys : List Place) → x ∷ xs ≡ y ∷ ys → (x ≡ y) × (xs ≡ ys)
+cons_parts : (x y : EditedPlace) (xs ys : List EditedPlace) → x ∷ xs ≡ y ∷ ys → (x ≡ y) × (xs ≡ ys)
 cons_parts x y xs ys e = (cc, cc)
 
 digits_step : (ds xs : List ℕ) (b : Bool) (c n : ℕ) → n ≡ c + cond b 1 0 → xs ≡ drop n ds → n ≤ length ds → (if b then get_or ds c 0 ∷ [] else []) ++ xs ≡ drop c ds
@@ -70,7 +70,7 @@ digits_step ds xs true c n e h fits =
 digits_step ds xs false c n e h fits = let same : n ≡ c = omega arith in h ∙ ap (λ k. drop k ds) same
 
 -- the digits of all places are the digits
-digits_all : (rs : List Place) (ds : List ℕ) (rest : List Place) (j : ℕ) → length ds ≡ count_by is_digit rs → drop j rs ≡ rest → digits_from (λ i. digit_of rs ds i) j rest ≡ drop (count_by is_digit (take j rs)) ds
+digits_all : (rs : List EditedPlace) (ds : List ℕ) (rest : List EditedPlace) (j : ℕ) → length ds ≡ count_by is_digit rs → drop j rs ≡ rest → digits_from (λ i. digit_of rs ds i) j rest ≡ drop (count_by is_digit (take j rs)) ds
 digits_all rs ds [] j len e =
     let past : length rs ≤ j = omega (arith, length-drop j rs, ap length e) in
     sym (ap (λ xs. drop (count_by is_digit xs) ds) (take_all j rs past) ∙ drop_all (count_by is_digit rs) ds (omega arith))
@@ -87,7 +87,7 @@ digit_small [] i h = omega arith
 digit_small (d ∷ ds) zero h = h.0
 digit_small (d ∷ ds) (suc i) h = digit_small ds i h.1
 
-zero_byte : (star : Bool) (r : Place) → get_or (empty_cell star r) 0 0 ≤ 240
+zero_byte : (star : Bool) (r : EditedPlace) → get_or (empty_cell star r) 0 0 ≤ 240
 zero_byte true (Inserted b) = omega arith
 zero_byte false (Inserted b) = omega arith
 zero_byte true Point = omega arith
@@ -105,7 +105,7 @@ zero_byte false (Fixed m) = omega arith
 zero_byte star AssumedPoint = omega arith
 
 -- what a digit place of a text shows
-cell_digit : (rs : List Place) (ds : List ℕ) (n : Bool) (k j : ℕ) → IsDigits ds → IsSuppressedTo rs ds k → is_digit (place_at rs j) ≡ true → shown_digit (get_or (cell rs n k j (place_at rs j) (digit_of rs ds j)) 0 0) ≡ digit_of rs ds j
+cell_digit : (rs : List EditedPlace) (ds : List ℕ) (n : Bool) (k j : ℕ) → IsDigits ds → IsSuppressedTo rs ds k → is_digit (place_at rs j) ≡ true → shown_digit (get_or (cell rs n k j (place_at rs j) (digit_of rs ds j)) 0 0) ≡ digit_of rs ds j
 cell_digit rs ds n k j valid cut is =
     elim (cases_lt j (region_start rs)) [
       | inl before ↦ visible (inr before)
@@ -122,7 +122,7 @@ cell_digit rs ds n k j valid cut is =
         ap (λ c. shown_digit (get_or c 0 0)) (cell_shown rs n k j (digit_of rs ds j) (place_at rs j) outside ∙ digit_cell (place_at rs j) n (digit_of rs ds j) is)
         ∙ digit_back (digit_of rs ds j) (digit_small ds (count_by is_digit (take j rs)) valid)
 
-pub extract_edited : (rs : List Place) (blank n : Bool) (ds bytes : List ℕ) → FitsPlaces rs n ds → IsText rs blank n ds bytes → extract rs bytes ≡ ds
+pub extract_edited : (rs : List EditedPlace) (blank n : Bool) (ds bytes : List ℕ) → FitsPlaces rs n ds → IsText rs blank n ds bytes → extract rs bytes ≡ ds
 extract_edited rs blank n ds bytes range edited = go (shows_nothing rs blank ds) refl edited
   where
     go : (b : Bool) → shows_nothing rs blank ds ≡ b → MatchBool b (bytes ≡ flat_map (empty_cell (has_stars rs blank)) rs) ((k : ℕ) × IsSuppressedTo rs ds k × (bytes ≡ printed rs ds n k 0 rs)) → extract rs bytes ≡ ds
@@ -141,7 +141,7 @@ extract_edited rs blank n ds bytes range edited = go (shows_nothing rs blank ds)
         ∙ digits_all rs ds rs 0 range.count refl
 
 -- digits without a minus fit
-pub plus_fits : (ps : List Place) (ds : List ℕ) → IsDigits ds → length ds ≡ count_by is_digit ps → FitsPlaces ps false ds
+pub plus_fits : (ps : List EditedPlace) (ds : List ℕ) → IsDigits ds → length ds ≡ count_by is_digit ps → FitsPlaces ps false ds
 plus_fits ps ds valid count = record {
   digits = valid;
   count = count;

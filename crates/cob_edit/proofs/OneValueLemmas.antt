@@ -6,8 +6,8 @@ use Rattle.std.proofs.lemmas.Bool.{cases_lt}
 use Rattle.std.proofs.lemmas.Bool.Decides.{nat_tests}
 use Rattle.std.proofs.lemmas.List.{same_lists, get_or_default, get_or-drop}
 use Rattle.std.proofs.lemmas.List.Sums.{sum_by-cons}
-use Rattle.cob_edit.specs.declared.place.Place.{Place}
-use Rattle.cob_edit.specs.declared.place.Place.TheVariants.{Inserted, Point, Digit, Suppressed, Floating, First, Fixed, AssumedPoint}
+use Rattle.cob_edit.specs.declared.place.EditedPlace.{EditedPlace}
+use Rattle.cob_edit.specs.declared.place.EditedPlace.TheVariants.{Inserted, Point, Digit, Suppressed, Floating, First, Fixed, AssumedPoint}
 use Rattle.cob_edit.specs.declared.place.Mark.{Mark}
 use Rattle.cob_edit.specs.declared.place.Mark.TheVariants.{Currency, PlusOrMinus, SpaceOrMinus, CreditC, CreditR, DebitD, DebitB}
 use Rattle.cob_edit.specs.declared.place.Fill.{Fill}
@@ -18,15 +18,15 @@ use Rattle.cob_edit.proofs.EditingLemmas.{region_bytes, region_run, region_insid
 
 -- ---- texts as the cells of places
 
-abbrev pub places : (ℕ → Place → List ℕ) → ℕ → List Place → List ℕ
+abbrev pub places : (ℕ → EditedPlace → List ℕ) → ℕ → List EditedPlace → List ℕ
 places f j [] = []
 places f j (r ∷ rest) = f j r ++ places f (j + 1) rest
 
-pub printed_places : (rs : List Place) (ds : List ℕ) (n : Bool) (k j : ℕ) (rest : List Place) → printed rs ds n k j rest ≡ places (λ i r. cell rs n k i r (digit_of rs ds i)) j rest
+pub printed_places : (rs : List EditedPlace) (ds : List ℕ) (n : Bool) (k j : ℕ) (rest : List EditedPlace) → printed rs ds n k j rest ≡ places (λ i r. cell rs n k i r (digit_of rs ds i)) j rest
 printed_places rs ds n k j [] = refl
 printed_places rs ds n k j (r ∷ rest) = ap (λ xs. cell rs n k j r (digit_of rs ds j) ++ xs) (printed_places rs ds n k (j + 1) rest)
 
-pub zero_places : (star : Bool) (j : ℕ) (rest : List Place) → flat_map (empty_cell star) rest ≡ places (λ i r. empty_cell star r) j rest
+pub zero_places : (star : Bool) (j : ℕ) (rest : List EditedPlace) → flat_map (empty_cell star) rest ≡ places (λ i r. empty_cell star r) j rest
 zero_places star j [] = refl
 zero_places star j (r ∷ rest) = ap (λ xs. empty_cell star r ++ xs) (zero_places star (j + 1) rest)
 
@@ -42,7 +42,7 @@ fronts (c ∷ a) (d ∷ b) x y e h =
     (cc, same.1)
 
 -- equal texts have equal cells
-cells_same : (f g : ℕ → Place → List ℕ) (rest : List Place) (j : ℕ) → ((i : ℕ) → i < length rest → length (f (j + i) (get_or rest i (Inserted 0))) ≡ length (g (j + i) (get_or rest i (Inserted 0)))) → places f j rest ≡ places g j rest → (i : ℕ) → i < length rest → f (j + i) (get_or rest i (Inserted 0)) ≡ g (j + i) (get_or rest i (Inserted 0))
+cells_same : (f g : ℕ → EditedPlace → List ℕ) (rest : List EditedPlace) (j : ℕ) → ((i : ℕ) → i < length rest → length (f (j + i) (get_or rest i (Inserted 0))) ≡ length (g (j + i) (get_or rest i (Inserted 0)))) → places f j rest ≡ places g j rest → (i : ℕ) → i < length rest → f (j + i) (get_or rest i (Inserted 0)) ≡ g (j + i) (get_or rest i (Inserted 0))
 cells_same f g [] j len e i lt = elim lt [ ]
 cells_same f g (r ∷ rest) j len e zero lt =
     let zero_is : j + 0 ≡ j = omega arith in
@@ -57,7 +57,7 @@ cells_same f g (r ∷ rest) j len e (suc i) lt =
 
 -- ---- what a cell is
 
-pub length-empty_cell : (star : Bool) (r : Place) → length (empty_cell star r) ≡ (if has_byte r then 1 else 0)
+pub length-empty_cell : (star : Bool) (r : EditedPlace) → length (empty_cell star r) ≡ (if has_byte r then 1 else 0)
 length-empty_cell star (Inserted b) = refl
 length-empty_cell star Point = refl
 length-empty_cell star Digit = refl
@@ -68,13 +68,13 @@ length-empty_cell star (Fixed m) = refl
 length-empty_cell star AssumedPoint = refl
 
 -- a place from the cut on, or outside the region
-pub cell_shown : (rs : List Place) (n : Bool) (k j d : ℕ) (r : Place) → (k ≤ j) ⊎ (j < region_start rs) → cell rs n k j r d ≡ shown r n d
+pub cell_shown : (rs : List EditedPlace) (n : Bool) (k j d : ℕ) (r : EditedPlace) → (k ≤ j) ⊎ (j < region_start rs) → cell rs n k j r d ≡ shown r n d
 cell_shown rs n k j d r outside = grind (arith, nat_tests)
 
-pub cell_hidden : (rs : List Place) (n : Bool) (k j d : ℕ) (r : Place) → region_start rs ≤ j → j < k → cell rs n k j r d ≡ hidden (place_at rs (region_start rs)) n (j + 1 == k) ∷ []
+pub cell_hidden : (rs : List EditedPlace) (n : Bool) (k j d : ℕ) (r : EditedPlace) → region_start rs ≤ j → j < k → cell rs n k j r d ≡ hidden (place_at rs (region_start rs)) n (j + 1 == k) ∷ []
 cell_hidden rs n k j d r low high = grind (arith, nat_tests)
 
-length-shown : (r : Place) (n : Bool) (d : ℕ) → length (shown r n d) ≡ (if has_byte r then 1 else 0)
+length-shown : (r : EditedPlace) (n : Bool) (d : ℕ) → length (shown r n d) ≡ (if has_byte r then 1 else 0)
 length-shown (Inserted b) n d = refl
 length-shown Point n d = refl
 length-shown Digit n d = refl
@@ -84,7 +84,7 @@ length-shown (First m) n d = refl
 length-shown (Fixed m) n d = refl
 length-shown AssumedPoint n d = refl
 
-pub length-cell : (rs : List Place) (n : Bool) (k j d : ℕ) → k ≤ region_end rs → length (cell rs n k j (place_at rs j) d) ≡ (if has_byte (place_at rs j) then 1 else 0)
+pub length-cell : (rs : List EditedPlace) (n : Bool) (k j d : ℕ) → k ≤ region_end rs → length (cell rs n k j (place_at rs j) d) ≡ (if has_byte (place_at rs j) then 1 else 0)
 length-cell rs n k j d within =
     elim (cases_lt j (region_start rs)) [
       | inl before ↦ ap length (cell_shown rs n k j d (place_at rs j) (inr before)) ∙ length-shown (place_at rs j) n d
@@ -134,7 +134,7 @@ or_cases true b h = inl refl
 or_cases false b h = inr h
 
 -- a sign in its place has a place
-fixed_at : (ps : List Place) → list_any is_fixed_sign ps ≡ true → (j : ℕ) × (j < length ps) × (is_fixed_sign (place_at ps j) ≡ true)
+fixed_at : (ps : List EditedPlace) → list_any is_fixed_sign ps ≡ true → (j : ℕ) × (j < length ps) × (is_fixed_sign (place_at ps j) ≡ true)
 fixed_at [] h = let no : false ≡ true = h in absurd (cc)
 fixed_at (p ∷ ps) h = elim (or_cases (is_fixed_sign p) (list_any is_fixed_sign ps) h) [
   | inl here ↦ (0, omega arith, here)
@@ -142,7 +142,7 @@ fixed_at (p ∷ ps) h = elim (or_cases (is_fixed_sign p) (list_any is_fixed_sign
 ]
 
 -- the first of a floating sign is of the region that it begins
-first_in : (ps : List Place) → is_floating_sign (get_or ps 0 (Inserted 0)) ≡ true → 0 < prefix_len is_run_or_insertion ps
+first_in : (ps : List EditedPlace) → is_floating_sign (get_or ps 0 (Inserted 0)) ≡ true → 0 < prefix_len is_run_or_insertion ps
 first_in [] h = let no : false ≡ true = h in absurd (cc)
 first_in (Inserted b ∷ ps) h = let no : false ≡ true = h in absurd (cc)
 first_in (Point ∷ ps) h = let no : false ≡ true = h in absurd (cc)
@@ -153,7 +153,7 @@ first_in (First m ∷ ps) h = omega arith
 first_in (Fixed m ∷ ps) h = let no : false ≡ true = h in absurd (cc)
 first_in (AssumedPoint ∷ ps) h = let no : false ≡ true = h in absurd (cc)
 
-region_begins : (ps : List Place) → is_floating_sign (place_at ps (region_start ps)) ≡ true → region_start ps < region_end ps
+region_begins : (ps : List EditedPlace) → is_floating_sign (place_at ps (region_start ps)) ≡ true → region_start ps < region_end ps
 region_begins ps h =
     let s : ℕ = region_start ps in
     let place : s + 0 ≡ s = omega arith in
@@ -163,11 +163,11 @@ region_begins ps h =
 
 -- ---- two texts
 
-module _ (rs : List Place) where
+module _ (rs : List EditedPlace) where
   pub hidden_small : (n last : Bool) → hidden (place_at rs (region_start rs)) n last < 240
   hidden_small n last = small (place_at rs (region_start rs)) n last
     where
-      small : (p : Place) (n last : Bool) → hidden p n last < 240
+      small : (p : EditedPlace) (n last : Bool) → hidden p n last < 240
       small (Inserted b) n last = omega arith
       small Point n last = omega arith
       small Digit n last = omega arith
@@ -197,7 +197,7 @@ module _ (rs : List Place) where
 single : (a b : ℕ) → a ∷ [] ≡ b ∷ [] → a ≡ b
 single a b e = cc
 
-pub digit_cell : (r : Place) (n : Bool) (d : ℕ) → is_digit r ≡ true → shown r n d ≡ (d + 240) ∷ []
+pub digit_cell : (r : EditedPlace) (n : Bool) (d : ℕ) → is_digit r ≡ true → shown r n d ≡ (d + 240) ∷ []
 digit_cell (Inserted b) n d h = absurd (cc)
 digit_cell Point n d h = absurd (cc)
 digit_cell Digit n d h = refl
@@ -207,7 +207,7 @@ digit_cell (First m) n d h = absurd (cc)
 digit_cell (Fixed m) n d h = absurd (cc)
 digit_cell AssumedPoint n d h = absurd (cc)
 
-zero_small : (star : Bool) (r : Place) (d : ℕ) → 0 < d → empty_cell star r ≡ (d + 240) ∷ [] → ⊥
+zero_small : (star : Bool) (r : EditedPlace) (d : ℕ) → 0 < d → empty_cell star r ≡ (d + 240) ∷ [] → ⊥
 zero_small true (Inserted b) d p e = omega (arith, single 92 (d + 240) e)
 zero_small false (Inserted b) d p e = omega (arith, single 64 (d + 240) e)
 zero_small true Point d p e = omega (arith, single 75 (d + 240) e)
@@ -225,7 +225,7 @@ zero_small false (Fixed m) d p e = omega (arith, single 64 (d + 240) e)
 zero_small star AssumedPoint d p e = absurd (cc)
 
 -- the place of a digit
-place_of : (rs : List Place) (i : ℕ) → i < count_by is_digit rs → (j : ℕ) × (j < length rs) × (is_digit (place_at rs j) ≡ true) × (count_by is_digit (take j rs) ≡ i)
+place_of : (rs : List EditedPlace) (i : ℕ) → i < count_by is_digit rs → (j : ℕ) × (j < length rs) × (is_digit (place_at rs j) ≡ true) × (count_by is_digit (take j rs) ≡ i)
 place_of [] i lt = elim lt [ ]
 place_of (r ∷ rs) i lt = first (is_digit r) refl i lt (place_of rs)
   where
@@ -264,7 +264,7 @@ all_zero_at (suc d ∷ ds) h i = let no : (false && list_all (λ x. x == 0) ds) 
 
 -- ---- the law
 
-module _ (rs : List Place) where
+module _ (rs : List EditedPlace) where
   abbrev CellsAgree : List ℕ → List ℕ → Bool → Bool → ℕ → ℕ → Type 0
   CellsAgree ds es m n k l = (j : ℕ) → j < length rs → cell rs m k j (place_at rs j) (digit_of rs ds j) ≡ cell rs n l j (place_at rs j) (digit_of rs es j)
 
@@ -320,7 +320,7 @@ module _ (rs : List Place) where
   floating_told : (ds es : List ℕ) (k : ℕ) → IsSuppressedTo rs ds k → CellsAgree ds es true false k k → is_floating_sign (place_at rs (region_start rs)) ≡ true → ⊥
   floating_told ds es k a agree floats = by_place (place_at rs (region_start rs)) refl
     where
-      by_place : (p : Place) → place_at rs (region_start rs) ≡ p → ⊥
+      by_place : (p : EditedPlace) → place_at rs (region_start rs) ≡ p → ⊥
       by_place (Inserted b) e = let no : false ≡ true = rw e at floats in absurd (cc)
       by_place Point e = let no : false ≡ true = rw e at floats in absurd (cc)
       by_place Digit e = let no : false ≡ true = rw e at floats in absurd (cc)
@@ -360,7 +360,7 @@ module _ (rs : List Place) where
   fixed_told : (ds es : List ℕ) (k : ℕ) → IsSuppressedTo rs ds k → CellsAgree ds es true false k k → (j : ℕ) → j < length rs → is_fixed_sign (place_at rs j) ≡ true → ⊥
   fixed_told ds es k a agree j lt sign = by_place (place_at rs j) refl
     where
-      by_place : (p : Place) → place_at rs j ≡ p → ⊥
+      by_place : (p : EditedPlace) → place_at rs j ≡ p → ⊥
       by_place (Inserted b) e = let no : false ≡ true = rw e at sign in absurd (cc)
       by_place Point e = let no : false ≡ true = rw e at sign in absurd (cc)
       by_place Digit e = let no : false ≡ true = rw e at sign in absurd (cc)
@@ -447,7 +447,7 @@ and_not a true b h k = let no : b ≡ false = k in absurd (ends a b h no)
 and_not a false b h k = refl
 
 -- each text is that of one sign and one list of digits at most
-pub one_reading : (rs : List Place) (blank m n : Bool) (ds es bytes : List ℕ) → FitsPlaces rs m ds → FitsPlaces rs n es
+pub one_reading : (rs : List EditedPlace) (blank m n : Bool) (ds es bytes : List ℕ) → FitsPlaces rs m ds → FitsPlaces rs n es
     → IsText rs blank m ds bytes → IsText rs blank n es bytes → (m ≡ n) × (ds ≡ es)
 one_reading rs blank m n ds es bytes dr er p q =
     go (shows_nothing rs blank ds) refl (shows_nothing rs blank es) refl p q

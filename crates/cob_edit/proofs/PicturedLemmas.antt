@@ -7,7 +7,7 @@ use Rattle.cob_decimal.specs.Decimal.{IsDigits, number_of, shifted, aligned}
 use Rattle.cob_decimal.proofs.DecimalLemmas.{all_zero, number_of-lt, one_list}
 use Rattle.cob_picture.specs.Positions.{PlainPicture}
 use Rattle.cob_picture.specs.Counts.{digits, scale}
-use Rattle.cob_edit.specs.declared.place.Place.{Place}
+use Rattle.cob_edit.specs.declared.place.EditedPlace.{EditedPlace}
 use Rattle.cob_edit.specs.Editing.{are_zero, IsText, FitsPlaces, shows_sign}
 use Rattle.cob_edit.specs.Pictured.{places, IsEdited, IsInRange, OneEditedText, SomeText, OneEditedNumber}
 use Rattle.cob_edit.proofs.EditingLemmas.{text_same, text_exists}
@@ -90,14 +90,14 @@ one_value p blank m n ds es bytes a b x y =
     one_reading (places p.positions) blank m n ds es bytes (range_fits p m ds a) (range_fits p n es b) (text_in_range p blank m ds bytes a x) (text_in_range p blank n es bytes b y)
 
 -- a number that is made of what fits keeps its sign
-made_sign : (ps : List Place) (n r : Bool) (ds : List ℕ) → FitsPlaces ps n ds → (IsTrue r ↔ (IsTrue n × (0 < number_of ds))) → r ≡ n
+made_sign : (ps : List EditedPlace) (n r : Bool) (ds : List ℕ) → FitsPlaces ps n ds → (IsTrue r ↔ (IsTrue n × (0 < number_of ds))) → r ≡ n
 made_sign ps true true ds f h = refl
 made_sign ps false false ds f h = refl
 made_sign ps true false ds f h = let no : false ≡ true = h.1 (refl, some_number ds (f.nonzero refl)) in absurd (cc)
 made_sign ps false true ds f h = let no : false ≡ true = (h.0 refl).0 in absurd (cc)
 
 -- what is read from a text is in range, and the text is its own
-pub made_found : (p : PlainPicture) (blank n r : Bool) (ds made bytes : List ℕ) (ps : List Place) (s : ℤ) → ps ≡ places p.positions → FitsPlaces ps n ds → IsText ps blank n ds bytes → (IsTrue r ↔ (IsTrue n × (0 < number_of ds))) → made ≡ ds → s ≡ scale p.positions → IsInRange p r made × (s ≡ scale p.positions) × IsEdited p blank r made s bytes
+pub made_found : (p : PlainPicture) (blank n r : Bool) (ds made bytes : List ℕ) (ps : List EditedPlace) (s : ℤ) → ps ≡ places p.positions → FitsPlaces ps n ds → IsText ps blank n ds bytes → (IsTrue r ↔ (IsTrue n × (0 < number_of ds))) → made ≡ ds → s ≡ scale p.positions → IsInRange p r made × (s ≡ scale p.positions) × IsEdited p blank r made s bytes
 made_found p blank n r ds made bytes ps s same fits text sign digits_are scale_is =
     let negative : n ≡ r = sym (made_sign ps n r ds fits sign) in
     let own_fits : FitsPlaces (places p.positions) r made = subst (λ b. FitsPlaces (places p.positions) b made) negative (subst (λ xs. FitsPlaces (places p.positions) n xs) (sym digits_are) (subst (λ qs. FitsPlaces qs n ds) same fits)) in
@@ -106,9 +106,9 @@ made_found p blank n r ds made bytes ps s same fits text sign digits_are scale_i
     (range, scale_is, subst (λ z. IsEdited p blank r made z bytes) (sym scale_is) (edited_in_range p blank r made bytes range own_text))
 
 -- a number in range whose text the bytes are fits, and the bytes are its text
-pub range_places : (p : PlainPicture) (blank n : Bool) (ds bytes : List ℕ) (ps : List Place) → ps ≡ places p.positions → IsInRange p n ds → IsEdited p blank n ds (scale p.positions) bytes → FitsPlaces ps n ds × IsText ps blank n ds bytes
+pub range_places : (p : PlainPicture) (blank n : Bool) (ds bytes : List ℕ) (ps : List EditedPlace) → ps ≡ places p.positions → IsInRange p n ds → IsEdited p blank n ds (scale p.positions) bytes → FitsPlaces ps n ds × IsText ps blank n ds bytes
 range_places p blank n ds bytes ps same range edited = (subst (λ qs. FitsPlaces qs n ds) (sym same) (range_fits p n ds range), subst (λ qs. IsText qs blank n ds bytes) (sym same) (text_in_range p blank n ds bytes range edited))
 
 -- what is read is the number in range whose text the bytes are
-pub made_only : (n r own : Bool) (ds made read : List ℕ) (ps : List Place) (s t : ℤ) → FitsPlaces ps own read → (IsTrue r ↔ (IsTrue own × (0 < number_of read))) → made ≡ read → s ≡ t → (own ≡ n) × (read ≡ ds) → (r ≡ n) × (made ≡ ds) × (s ≡ t)
+pub made_only : (n r own : Bool) (ds made read : List ℕ) (ps : List EditedPlace) (s t : ℤ) → FitsPlaces ps own read → (IsTrue r ↔ (IsTrue own × (0 < number_of read))) → made ≡ read → s ≡ t → (own ≡ n) × (read ≡ ds) → (r ≡ n) × (made ≡ ds) × (s ≡ t)
 made_only n r own ds made read ps s t fits sign digits_are scale_is both = (made_sign ps own r read fits sign ∙ both.0, digits_are ∙ both.1, scale_is)

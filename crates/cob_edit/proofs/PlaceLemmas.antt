@@ -6,8 +6,8 @@ use Rattle.std.proofs.lemmas.List.Sums.{sum_by-append}
 use Rattle.cob_picture.specs.declared.symbol.Symbol.{Symbol}
 use Rattle.cob_picture.specs.declared.symbol.Symbol.TheVariants.{A, X, Nine, S, V, P, B, Zero, Slash, Comma, Point, Z, Star, Dollar, Plus, Minus, Credit, Debit}
 use Rattle.cob_picture.specs.declared.position.Position.{Position}
-use Rattle.cob_picture.specs.declared.position.Role.{Role}
-use Rattle.cob_picture.specs.declared.position.Role.TheVariants.{Character, Insertion, DecimalPoint, Digit, Suppressed, Floating, FirstFloating, FixedSign, FixedCurrency, NoByte}
+use Rattle.cob_picture.specs.declared.position.PositionRole.{PositionRole}
+use Rattle.cob_picture.specs.declared.position.PositionRole.TheVariants.{Character, Insertion, DecimalPoint, Digit, Suppressed, Floating, FirstFloating, FixedSign, FixedCurrency, NoByte}
 use Rattle.cob_picture.specs.declared.category.Category.{Category}
 use Rattle.cob_picture.specs.declared.category.Category.TheVariants.{Alphabetic, Numeric, Alphanumeric, AlphanumericEdited, NumericEdited}
 use Rattle.cob_picture.specs.Positions.{is, is_that, symbol_count, shows_number, floating, settled_role, role_at, position_at, positions_from, positions}
@@ -16,16 +16,16 @@ use Rattle.cob_picture.specs.Measures.{symbols_size}
 use Rattle.cob_picture.specs.Pictures.{IsPicture}
 use Rattle.cob_picture.proofs.Placed.{MayFloat, floating_may, size-placed, decimal-placed, digits-cons}
 use Rattle.cob_picture.proofs.Limits.{few_numeric, once_at_most}
-use Rattle.cob_edit.specs.declared.place.Place.{Place}
-use Rattle.cob_edit.specs.declared.place.Place.TheVariants.{AssumedPoint}
+use Rattle.cob_edit.specs.declared.place.EditedPlace.{EditedPlace}
+use Rattle.cob_edit.specs.declared.place.EditedPlace.TheVariants.{AssumedPoint}
 use Rattle.cob_edit.specs.Places.{is_digit, has_byte, bytes_of}
 use Rattle.cob_edit.specs.Pictured.{fixed_places, position_places, places}
 
-bytes-append : (a b : List Place) → bytes_of (a ++ b) ≡ bytes_of a + bytes_of b
-bytes-append a b = sum_by-append (λ (p : Place). cond (has_byte p) 1 0) a b
+bytes-append : (a b : List EditedPlace) → bytes_of (a ++ b) ≡ bytes_of a + bytes_of b
+bytes-append a b = sum_by-append (λ (p : EditedPlace). cond (has_byte p) 1 0) a b
 
-digits-append : (a b : List Place) → count_by is_digit (a ++ b) ≡ count_by is_digit a + count_by is_digit b
-digits-append a b = sum_by-append (λ (p : Place). cond (is_digit p) 1 0) a b
+digits-append : (a b : List EditedPlace) → count_by is_digit (a ++ b) ≡ count_by is_digit a + count_by is_digit b
+digits-append a b = sum_by-append (λ (p : EditedPlace). cond (is_digit p) 1 0) a b
 
 -- ---- digits
 
@@ -53,7 +53,7 @@ no_byte_digits : (v : Bool) → count_by is_digit (if v then AssumedPoint ∷ []
 no_byte_digits true = refl
 no_byte_digits false = refl
 
-digits_here : (r : Role) (s : Symbol) → count_by is_digit (position_places r s) ≡ cond (is_digit_place r) 1 0
+digits_here : (r : PositionRole) (s : Symbol) → count_by is_digit (position_places r s) ≡ cond (is_digit_place r) 1 0
 digits_here Character s = refl
 digits_here Insertion s = refl
 digits_here DecimalPoint s = refl

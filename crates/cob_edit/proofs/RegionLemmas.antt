@@ -4,8 +4,8 @@ use Rattle.std.specs.List.{prefix_len}
 use Rattle.std.proofs.lemmas.List.Sums.{prefix_len_passes, prefix_len_stops, prefix_len-drop_all, prefix_len-drop_no}
 use Rattle.std.proofs.lemmas.List.{get_or-drop, length-drop}
 use Rattle.std.proofs.lemmas.Bool.{cases_lt}
-use Rattle.cob_edit.specs.declared.place.Place.{Place}
-use Rattle.cob_edit.specs.declared.place.Place.TheVariants.{Inserted, Point, Digit, Suppressed, Floating, First, Fixed, AssumedPoint}
+use Rattle.cob_edit.specs.declared.place.EditedPlace.{EditedPlace}
+use Rattle.cob_edit.specs.declared.place.EditedPlace.TheVariants.{Inserted, Point, Digit, Suppressed, Floating, First, Fixed, AssumedPoint}
 use Rattle.cob_edit.specs.Places.{is_run, is_run_or_insertion, is_point_place}
 use Rattle.cob_edit.specs.Editing.{place_at, region_start, region_end}
 use Rattle.cob_edit.specs.Regions.{is_insertion, IsOfRun, IsRegion, HasRegion, OneRegion}
@@ -13,7 +13,7 @@ use Rattle.cob_edit.proofs.EditingLemmas.{region_run, region_inside}
 
 -- ---- one place
 
-run_or_insertion : (p : Place) → is_run_or_insertion p ≡ true → (is_run p ≡ true) ⊎ (is_insertion p ≡ true)
+run_or_insertion : (p : EditedPlace) → is_run_or_insertion p ≡ true → (is_run p ≡ true) ⊎ (is_insertion p ≡ true)
 run_or_insertion (Inserted b) h = inr refl
 run_or_insertion (Suppressed f) h = inl refl
 run_or_insertion Floating h = inl refl
@@ -23,7 +23,7 @@ run_or_insertion Point h = inl h
 run_or_insertion (Fixed m) h = inl h
 run_or_insertion AssumedPoint h = inl h
 
-neither : (p : Place) → is_run_or_insertion p ≡ false → is_insertion p ≡ false
+neither : (p : EditedPlace) → is_run_or_insertion p ≡ false → is_insertion p ≡ false
 neither (Inserted b) h = h
 neither (Suppressed f) h = refl
 neither Floating h = refl
@@ -33,7 +33,7 @@ neither Point h = refl
 neither (Fixed m) h = refl
 neither AssumedPoint h = refl
 
-insertion_no_point : (p : Place) → is_insertion p ≡ true → is_point_place p ≡ false
+insertion_no_point : (p : EditedPlace) → is_insertion p ≡ true → is_point_place p ≡ false
 insertion_no_point (Inserted b) h = refl
 insertion_no_point (Suppressed f) h = refl
 insertion_no_point Floating h = refl
@@ -43,7 +43,7 @@ insertion_no_point Point h = sym h
 insertion_no_point (Fixed m) h = refl
 insertion_no_point AssumedPoint h = sym h
 
-run_no_point : (p : Place) → is_run p ≡ true → is_point_place p ≡ false
+run_no_point : (p : EditedPlace) → is_run p ≡ true → is_point_place p ≡ false
 run_no_point (Inserted b) h = refl
 run_no_point (Suppressed f) h = refl
 run_no_point Floating h = refl
@@ -53,7 +53,7 @@ run_no_point Point h = sym h
 run_no_point (Fixed m) h = refl
 run_no_point AssumedPoint h = sym h
 
-point_ends : (p : Place) → is_point_place p ≡ true → is_run_or_insertion p ≡ false
+point_ends : (p : EditedPlace) → is_point_place p ≡ true → is_run_or_insertion p ≡ false
 point_ends (Inserted b) h = sym h
 point_ends (Suppressed f) h = sym h
 point_ends Floating h = sym h
@@ -64,7 +64,7 @@ point_ends (Fixed m) h = refl
 point_ends AssumedPoint h = refl
 
 -- a place that is neither of the run nor a point
-abbrev pub is_still : Place → Bool
+abbrev pub is_still : EditedPlace → Bool
 is_still p = not (is_run p || is_point_place p)
 
 still_parts : (a b : Bool) → not (a || b) ≡ true → (a ≡ false) × (b ≡ false)
@@ -84,7 +84,7 @@ not_still false false h e = sym h
 -- ---- the region begins where the run does
 
 -- no place before the region is of the run
-none_before : (ps : List Place) (j : ℕ) → is_run (place_at ps j) ≡ true → region_start ps ≤ j
+none_before : (ps : List EditedPlace) (j : ℕ) → is_run (place_at ps j) ≡ true → region_start ps ≤ j
 none_before ps j run =
     elim (cases_lt j (region_start ps)) [
       | inl lt ↦
@@ -94,11 +94,11 @@ none_before ps j run =
       | inr ge ↦ ge
     ]
 
-before_left : (ps : List Place) (k : ℕ) → k < region_start ps → is_point_place (place_at ps k) ≡ false
+before_left : (ps : List EditedPlace) (k : ℕ) → k < region_start ps → is_point_place (place_at ps k) ≡ false
 before_left ps k lt = (still_parts (is_run (place_at ps k)) (is_point_place (place_at ps k)) (prefix_len_passes is_still ps k (Inserted 0) lt)).1
 
 -- where a symbol of the run stands left of the point, the region begins at the first of them
-begins : (ps : List Place) (j : ℕ) → IsOfRun ps j → IsOfRun ps (region_start ps)
+begins : (ps : List EditedPlace) (j : ℕ) → IsOfRun ps j → IsOfRun ps (region_start ps)
 begins ps j h =
     let s : ℕ = region_start ps in
     let low : s ≤ j = none_before ps j h.run in
@@ -111,7 +111,7 @@ begins ps j h =
     }
 
 -- where none does, there is no region
-empty : (ps : List Place) → ((j : ℕ) → IsOfRun ps j → ⊥) → region_end ps ≡ region_start ps
+empty : (ps : List EditedPlace) → ((j : ℕ) → IsOfRun ps j → ⊥) → region_end ps ≡ region_start ps
 empty ps none =
     let s : ℕ = region_start ps in
     elim (cases_lt s (length ps)) [
@@ -133,10 +133,10 @@ empty ps none =
 -- ---- the region has what stands left of the point
 
 -- each symbol of the run left of the point is in the region
-abbrev pub AreWithin : List Place → Type 0
+abbrev pub AreWithin : List EditedPlace → Type 0
 AreWithin ps = (j : ℕ) → IsOfRun ps j → j < region_end ps
 
-region_ends : (ps : List Place) → region_end ps < length ps → is_insertion (place_at ps (region_end ps)) ≡ false
+region_ends : (ps : List EditedPlace) → region_end ps < length ps → is_insertion (place_at ps (region_end ps)) ≡ false
 region_ends ps inside =
     let s : ℕ = region_start ps in
     let n : ℕ = prefix_len is_run_or_insertion (drop s ps) in
@@ -144,7 +144,7 @@ region_ends ps inside =
     let stop : is_run_or_insertion (get_or (drop s ps) n (Inserted 0)) ≡ false = prefix_len_stops is_run_or_insertion (drop s ps) (Inserted 0) few in
     neither (place_at ps (region_end ps)) (ap is_run_or_insertion (sym (get_or-drop s ps n (Inserted 0))) ∙ stop)
 
-pub has_region : (ps : List Place) → AreWithin ps → HasRegion ps
+pub has_region : (ps : List EditedPlace) → AreWithin ps → HasRegion ps
 has_region ps within = record {
   some = λ j h. record {
     inside = region_inside ps;
@@ -158,14 +158,14 @@ has_region ps within = record {
 
 -- ---- places have one region
 
-region_left : (ps : List Place) (from behind j : ℕ) → IsRegion ps from behind → j < behind → is_point_place (place_at ps j) ≡ false
+region_left : (ps : List EditedPlace) (from behind j : ℕ) → IsRegion ps from behind → j < behind → is_point_place (place_at ps j) ≡ false
 region_left ps from behind j r high =
     elim (cases_lt from j) [
       | inr before ↦ r.first.left j before
       | inl low ↦ elim (r.only j (omega arith) high) [ inl run ↦ run_no_point (place_at ps j) run | inr between ↦ insertion_no_point (place_at ps j) between ]
     ]
 
-no_longer : (ps : List Place) (from other behind past : ℕ) → from ≡ other → IsRegion ps from behind → IsRegion ps other past → behind < past → ⊥
+no_longer : (ps : List EditedPlace) (from other behind past : ℕ) → from ≡ other → IsRegion ps from behind → IsRegion ps other past → behind < past → ⊥
 no_longer ps from other behind past same r q lt =
     let start : from < behind = (r.all from r.first).1 in
     elim (q.only behind (omega arith) lt) [

@@ -10,11 +10,11 @@ use Rattle.cob_picture.specs.Positions.{PlainPicture}
 use Rattle.cob_picture.specs.Counts.{digits, scale}
 use Rattle.cob_edit.proofs.EditingLemmas.{digit_inside}
 use Rattle.cob_edit.proofs.PicturedLemmas.{kept_value, not_zero, some_number}
-use Rattle.cob_edit.specs.declared.cell.Cell.{Cell}
+use Rattle.cob_edit.specs.declared.cell.TextCell.{TextCell}
 use Rattle.cob_edit.specs.Rows.{cell_byte, row_bytes}
 use Rattle.cob_edit.specs.Pictured.{places, IsEdited}
-use Rattle.cob_edit.specs.declared.place.Place.{Place}
-use Rattle.cob_edit.specs.declared.place.Place.TheVariants.{Inserted}
+use Rattle.cob_edit.specs.declared.place.EditedPlace.{EditedPlace}
+use Rattle.cob_edit.specs.declared.place.EditedPlace.TheVariants.{Inserted}
 use Rattle.cob_edit.specs.Places.{is_digit, has_byte}
 use Rattle.cob_edit.specs.Editing.{region_start, region_end, place_at, IsSuppressedTo, printed, empty_cell, has_stars, are_zero, shows_nothing, shows_sign, IsText}
 
@@ -43,18 +43,18 @@ some_at ds lt = positive _ (prefix_len_stops (λ d. d == 0) ds 0 lt)
 
 -- ---- the text
 
-pub text_empty : (ps : List Place) (blank negative : Bool) (ds bytes : List ℕ) → shows_nothing ps blank ds ≡ true → bytes ≡ flat_map (empty_cell (has_stars ps blank)) ps → IsText ps blank negative ds bytes
+pub text_empty : (ps : List EditedPlace) (blank negative : Bool) (ds bytes : List ℕ) → shows_nothing ps blank ds ≡ true → bytes ≡ flat_map (empty_cell (has_stars ps blank)) ps → IsText ps blank negative ds bytes
 text_empty ps blank negative ds bytes e is =
     subst (λ b. MatchBool b (bytes ≡ flat_map (empty_cell (has_stars ps blank)) ps) ((k : ℕ) × IsSuppressedTo ps ds k × (bytes ≡ printed ps ds negative k 0 ps))) (sym e) is
 
-pub text_shown : (ps : List Place) (blank negative : Bool) (ds bytes : List ℕ) (k : ℕ) → shows_nothing ps blank ds ≡ false → IsSuppressedTo ps ds k → bytes ≡ printed ps ds negative k 0 ps → IsText ps blank negative ds bytes
+pub text_shown : (ps : List EditedPlace) (blank negative : Bool) (ds bytes : List ℕ) (k : ℕ) → shows_nothing ps blank ds ≡ false → IsSuppressedTo ps ds k → bytes ≡ printed ps ds negative k 0 ps → IsText ps blank negative ds bytes
 text_shown ps blank negative ds bytes k e cut is =
     subst (λ b. MatchBool b (bytes ≡ flat_map (empty_cell (has_stars ps blank)) ps) ((k : ℕ) × IsSuppressedTo ps ds k × (bytes ≡ printed ps ds negative k 0 ps))) (sym e) (k, cut, is)
 
 -- ---- the cut
 
 -- what a place adds to the digits before
-pub digits_more : (ps : List Place) (at : ℕ) → at < length ps → count_by is_digit (take (at + 1) ps) ≡ count_by is_digit (take at ps) + cond {A = ℕ} (is_digit (place_at ps at)) 1 0
+pub digits_more : (ps : List EditedPlace) (at : ℕ) → at < length ps → count_by is_digit (take (at + 1) ps) ≡ count_by is_digit (take at ps) + cond {A = ℕ} (is_digit (place_at ps at)) 1 0
 digits_more ps at lt = sum_by_more (λ x. cond (is_digit x) 1 0) ps at (Inserted 0) lt
 
 pub one_digit : (b : Bool) (n : ℕ) → n < cond {A = ℕ} b 1 0 → (b ≡ true) × (n ≡ 0)
@@ -66,7 +66,7 @@ one_is true h = refl
 one_is false h = absurd (cc)
 
 -- the cut where a digit that isn't 0 stands
-pub cut_here : (ps : List Place) (ds : List ℕ) (at front_zeros : ℕ) → region_start ps ≤ at → at < region_end ps → at < length ps
+pub cut_here : (ps : List EditedPlace) (ds : List ℕ) (at front_zeros : ℕ) → region_start ps ≤ at → at < region_end ps → at < length ps
     → count_by is_digit (take at ps) ≡ front_zeros → IsTrue (is_digit (place_at ps at))
     → ((j : ℕ) → j < at → region_start ps ≤ j → IsTrue (is_digit (place_at ps j)) → count_by is_digit (take j ps) < front_zeros)
     → length ds ≡ count_by is_digit ps → prefix_len (λ d. d == 0) ds ≡ front_zeros → IsSuppressedTo ps ds at
@@ -82,7 +82,7 @@ cut_here ps ds at front_zeros low high inside count digit before long front =
     }
 
 -- the cut at the end of the region
-pub cut_end : (ps : List Place) (ds : List ℕ) (front_zeros : ℕ) → region_start ps ≤ region_end ps
+pub cut_end : (ps : List EditedPlace) (ds : List ℕ) (front_zeros : ℕ) → region_start ps ≤ region_end ps
     → ((j : ℕ) → j < region_end ps → region_start ps ≤ j → IsTrue (is_digit (place_at ps j)) → count_by is_digit (take j ps) < front_zeros)
     → prefix_len (λ d. d == 0) ds ≡ front_zeros → IsSuppressedTo ps ds (region_end ps)
 cut_end ps ds front_zeros order before front = record {
@@ -117,7 +117,7 @@ some_left ds = (
 )
 
 -- a row's bytes are the text of each number that has the zeros in front
-pub row_edited : (p : PlainPicture) (blank negative shows : Bool) (ds bytes : List ℕ) (ps : List Place) (n front : ℕ) → ps ≡ places p.positions → IsDigits ds → length ds ≡ digits p.positions → n ≡ digits p.positions
+pub row_edited : (p : PlainPicture) (blank negative shows : Bool) (ds bytes : List ℕ) (ps : List EditedPlace) (n front : ℕ) → ps ≡ places p.positions → IsDigits ds → length ds ≡ digits p.positions → n ≡ digits p.positions
     → prefix_len (λ d. d == 0) ds ≡ front → shows ≡ (ltb front n && shows_sign ps) → IsText ps blank (negative && shows) ds bytes → IsEdited p blank negative ds (scale p.positions) bytes
 row_edited p blank negative shows ds bytes ps n front same valid count many zeros is text =
     let told : shows ≡ (ltb (prefix_len (λ d. d == 0) ds) (length ds) && shows_sign (places p.positions)) =
@@ -134,7 +134,7 @@ row_edited p blank negative shows ds bytes ps n front same valid count many zero
     }
 
 -- one more place of a row
-pub row_more : (ds : List ℕ) (negative : Bool) (row more new : List Cell) (show : Place → List ℕ) (ps : List Place) (at : ℕ) (all : List ℕ) → at < length ps → row_bytes ds negative row ++ flat_map show (drop at ps) ≡ all
+pub row_more : (ds : List ℕ) (negative : Bool) (row more new : List TextCell) (show : EditedPlace → List ℕ) (ps : List EditedPlace) (at : ℕ) (all : List ℕ) → at < length ps → row_bytes ds negative row ++ flat_map show (drop at ps) ≡ all
     → new ≡ row ++ more → row_bytes ds negative more ≡ show (place_at ps at) → row_bytes ds negative new ++ flat_map show (drop (at + 1) ps) ≡ all
 row_more ds negative row more new show ps at all inside so_far is here =
     ap (λ xs. row_bytes ds negative xs ++ flat_map show (drop (at + 1) ps)) is
@@ -144,10 +144,10 @@ row_more ds negative row more new show ps at all inside so_far is here =
     ∙ ap (λ rest. row_bytes ds negative row ++ flat_map show rest) (sym (drop_more ps at (Inserted 0) inside))
     ∙ so_far
 
-pub row_done : (bytes : List ℕ) (show : Place → List ℕ) (ps : List Place) (at : ℕ) (all : List ℕ) → length ps ≤ at → bytes ++ flat_map show (drop at ps) ≡ all → bytes ≡ all
+pub row_done : (bytes : List ℕ) (show : EditedPlace → List ℕ) (ps : List EditedPlace) (at : ℕ) (all : List ℕ) → length ps ≤ at → bytes ++ flat_map show (drop at ps) ≡ all → bytes ≡ all
 row_done bytes show ps at all past so_far = sym (append-nil bytes) ∙ ap (λ rest. bytes ++ flat_map show rest) (sym (drop_all at ps past)) ∙ so_far
 
-pub room_more : (row more new : List Cell) (ps : List Place) (at all : ℕ) → at < length ps → length row + count_by has_byte (drop at ps) ≡ all → new ≡ row ++ more → length more ≡ cond {A = ℕ} (has_byte (place_at ps at)) 1 0
+pub room_more : (row more new : List TextCell) (ps : List EditedPlace) (at all : ℕ) → at < length ps → length row + count_by has_byte (drop at ps) ≡ all → new ≡ row ++ more → length more ≡ cond {A = ℕ} (has_byte (place_at ps at)) 1 0
     → length new + count_by has_byte (drop (at + 1) ps) ≡ all
 room_more row more new ps at all inside so_far is one =
     let long : length new ≡ length row + length more = ap length is ∙ length-append row more in

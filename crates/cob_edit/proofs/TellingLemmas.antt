@@ -8,17 +8,17 @@ use Rattle.cob_picture.specs.declared.symbol.Symbol.{Symbol}
 use Rattle.cob_picture.specs.declared.symbol.Symbol.TheVariants as sy
 use Rattle.cob_picture.specs.declared.category.Category.{Category}
 use Rattle.cob_picture.specs.declared.category.Category.TheVariants.{Alphabetic, Numeric, Alphanumeric, AlphanumericEdited, NumericEdited}
-use Rattle.cob_picture.specs.declared.edited.Kind.{Kind}
-use Rattle.cob_picture.specs.declared.edited.Kind.TheVariants.{OfRun, OfInsertion, OfNine, OfPoint, OfSign, OfCurrency, OfCredit, OfNone}
-use Rattle.cob_picture.specs.declared.edited.Part.{Part}
-use Rattle.cob_picture.specs.declared.edited.Part.TheVariants.{Lead, Currency, Front, Whole}
+use Rattle.cob_picture.specs.declared.edited.SymbolKind.{SymbolKind}
+use Rattle.cob_picture.specs.declared.edited.SymbolKind.TheVariants.{OfRun, OfInsertion, OfNine, OfPoint, OfSign, OfCurrency, OfCredit, OfNone}
+use Rattle.cob_picture.specs.declared.edited.EditedPart.{EditedPart}
+use Rattle.cob_picture.specs.declared.edited.EditedPart.TheVariants.{Lead, Currency, Front, Whole}
 use Rattle.cob_picture.specs.Positions.{is, is_that, symbol_count, floating, settled_role, role_at, positions_from, positions, shows_number}
 use Rattle.cob_picture.specs.Edited.{run_symbol, settled_kind, symbol_kind, belongs, AreOf, edited_symbols, IsNumericEdited}
 use Rattle.cob_picture.specs.declared.numeric.NumericParts.{NumericParts}
 use Rattle.cob_picture.specs.Numeric.{numeric_symbols}
 use Rattle.cob_picture.specs.Pictures.{IsPicture}
-use Rattle.cob_edit.specs.declared.place.Place.{Place}
-use Rattle.cob_edit.specs.declared.place.Place.TheVariants.{Inserted, Point, Digit, Suppressed, Floating, First, Fixed, AssumedPoint}
+use Rattle.cob_edit.specs.declared.place.EditedPlace.{EditedPlace}
+use Rattle.cob_edit.specs.declared.place.EditedPlace.TheVariants.{Inserted, Point, Digit, Suppressed, Floating, First, Fixed, AssumedPoint}
 use Rattle.cob_edit.specs.Places.{is_digit, is_run, is_run_or_insertion}
 use Rattle.cob_edit.specs.Editing.{place_at, region_start, region_end}
 use Rattle.cob_edit.specs.Pictured.{places, position_places}
@@ -27,10 +27,10 @@ use Rattle.cob_edit.proofs.RegionLemmas.{is_still, has_region}
 use Rattle.cob_edit.proofs.EditedLemmas.{Agree, HasNoRun, agree, front_symbol, here, insertion_here, no_run-cons, no_run-nil, no_run-point, placed_from, point_no_run, quiet_no_run, run_here, start_behind, start_here}
 
 -- there is no region, or no digit stands before it
-abbrev Tell : List Place → Type 0
+abbrev Tell : List EditedPlace → Type 0
 Tell ps = (region_end ps ≤ region_start ps) ⊎ ((j : ℕ) → j < region_start ps → is_digit (place_at ps j) ≡ false)
 
-none_before : (ps : List Place) (n : ℕ) → n ≤ length ps → ((j : ℕ) → j < n → is_digit (place_at ps j) ≡ false) → count_by is_digit (take n ps) ≡ 0
+none_before : (ps : List EditedPlace) (n : ℕ) → n ≤ length ps → ((j : ℕ) → j < n → is_digit (place_at ps j) ≡ false) → count_by is_digit (take n ps) ≡ 0
 none_before ps zero le none = refl
 none_before ps (suc n) le none =
     let next : suc n ≡ n + 1 = omega arith in
@@ -42,7 +42,7 @@ second_true : (a b : Bool) → b ≡ true → (a || b) ≡ true
 second_true true b e = refl
 second_true false b e = e
 
-told : (ps : List Place) → Tell ps → zeros_tell ps ≡ true
+told : (ps : List EditedPlace) → Tell ps → zeros_tell ps ≡ true
 told ps t =
     elim t [
       | inl none ↦ ap (λ b. b || zeros_before) (le-leb _ _ none)
@@ -56,11 +56,11 @@ told ps t =
 
 -- ---- places, one before others
 
-tell-none : (ps : List Place) → HasNoRun ps → Tell ps
+tell-none : (ps : List EditedPlace) → HasNoRun ps → Tell ps
 tell-none ps none = inl (omega (arith, (has_region ps (λ j h. absurd (none j h))).none none))
 
 -- a place that is neither of the run nor a point, and no digit
-abbrev is_bare : Place → Bool
+abbrev is_bare : EditedPlace → Bool
 is_bare (Inserted b) = true
 is_bare (Fixed m) = true
 is_bare Digit = false
@@ -70,7 +70,7 @@ is_bare Floating = false
 is_bare (First m) = false
 is_bare AssumedPoint = false
 
-bare_still : (p : Place) → is_bare p ≡ true → is_still p ≡ true
+bare_still : (p : EditedPlace) → is_bare p ≡ true → is_still p ≡ true
 bare_still (Inserted b) h = refl
 bare_still (Fixed m) h = refl
 bare_still Digit h = absurd (cc)
@@ -80,7 +80,7 @@ bare_still Floating h = absurd (cc)
 bare_still (First m) h = absurd (cc)
 bare_still AssumedPoint h = absurd (cc)
 
-bare_none : (p : Place) → is_bare p ≡ true → is_digit p ≡ false
+bare_none : (p : EditedPlace) → is_bare p ≡ true → is_digit p ≡ false
 bare_none (Inserted b) h = refl
 bare_none (Fixed m) h = refl
 bare_none Digit h = absurd (cc)
@@ -90,7 +90,7 @@ bare_none Floating h = absurd (cc)
 bare_none (First m) h = refl
 bare_none AssumedPoint h = refl
 
-tell-cons : (p : Place) (ps : List Place) → is_bare p ≡ true → Tell ps → Tell (p ∷ ps)
+tell-cons : (p : EditedPlace) (ps : List EditedPlace) → is_bare p ≡ true → Tell ps → Tell (p ∷ ps)
 tell-cons p ps bare t =
     let start = start_behind p ps (bare_still p bare) in
     let rest : prefix_len is_run_or_insertion (drop (region_start (p ∷ ps)) (p ∷ ps)) ≡ prefix_len is_run_or_insertion (drop (region_start ps) ps) =
@@ -104,17 +104,17 @@ tell-cons p ps bare t =
     at zero lt none = bare_none p bare
     at (suc j) lt none = none j (omega arith)
 
-tell-run : (p : Place) (ps : List Place) → is_run p ≡ true → Tell (p ∷ ps)
+tell-run : (p : EditedPlace) (ps : List EditedPlace) → is_run p ≡ true → Tell (p ∷ ps)
 tell-run p ps run = inr (λ j lt. absurd (omega (arith, start_here p ps run, lt)))
 
-tell-append : (a ps : List Place) → list_all is_bare a ≡ true → Tell ps → Tell (a ++ ps)
+tell-append : (a ps : List EditedPlace) → list_all is_bare a ≡ true → Tell ps → Tell (a ++ ps)
 tell-append [] ps all t = t
 tell-append (p ∷ a) ps all t = tell-cons p (a ++ ps) (and_parts (is_bare p) (list_all is_bare a) all).0 (tell-append a ps (and_parts (is_bare p) (list_all is_bare a) all).1 t)
 
 -- ---- numeric edited pictures, part by part
 
 -- the parts before the run
-abbrev is_lead : Part → Kind → Bool
+abbrev is_lead : EditedPart → SymbolKind → Bool
 is_lead part OfSign = true
 is_lead part OfCurrency = true
 is_lead part OfRun = false
@@ -124,10 +124,10 @@ is_lead part OfPoint = false
 is_lead part OfCredit = false
 is_lead part OfNone = false
 
-lead_kind : (part : Part) (k : Kind) → (part ≡ Lead) ⊎ (part ≡ Currency) → belongs part k ≡ true → is_lead part k ≡ true
+lead_kind : (part : EditedPart) (k : SymbolKind) → (part ≡ Lead) ⊎ (part ≡ Currency) → belongs part k ≡ true → is_lead part k ≡ true
 lead_kind part k which e = elim which [ inl l ↦ lead k (ap (λ p. belongs p k) (sym l) ∙ e) | inr m ↦ money k (ap (λ p. belongs p k) (sym m) ∙ e) ]
   where
-    lead : (k : Kind) → belongs Lead k ≡ true → is_lead part k ≡ true
+    lead : (k : SymbolKind) → belongs Lead k ≡ true → is_lead part k ≡ true
     lead OfSign e = refl
     lead OfCurrency e = refl
     lead OfRun e = e
@@ -137,7 +137,7 @@ lead_kind part k which e = elim which [ inl l ↦ lead k (ap (λ p. belongs p k)
     lead OfCredit e = e
     lead OfNone e = e
 
-    money : (k : Kind) → belongs Currency k ≡ true → is_lead part k ≡ true
+    money : (k : SymbolKind) → belongs Currency k ≡ true → is_lead part k ≡ true
     money OfSign e = refl
     money OfCurrency e = refl
     money OfRun e = e
@@ -147,7 +147,7 @@ lead_kind part k which e = elim which [ inl l ↦ lead k (ap (λ p. belongs p k)
     money OfCredit e = e
     money OfNone e = e
 
-settled_bare : (part : Part) (s : Symbol) → is_lead part (settled_kind s) ≡ true → list_all is_bare (position_places (settled_role NumericEdited s) s) ≡ true
+settled_bare : (part : EditedPart) (s : Symbol) → is_lead part (settled_kind s) ≡ true → list_all is_bare (position_places (settled_role NumericEdited s) s) ≡ true
 settled_bare part sy.A h = refl
 settled_bare part sy.X h = refl
 settled_bare part sy.Nine h = h
@@ -167,21 +167,21 @@ settled_bare part sy.Minus h = refl
 settled_bare part sy.Credit h = refl
 settled_bare part sy.Debit h = refl
 
-lead_here : (part : Part) (f q : Option Symbol) (seen : Bool) (s : Symbol) → Agree f q → (part ≡ Lead) ⊎ (part ≡ Currency) → belongs part (symbol_kind q s) ≡ true → list_all is_bare (here f seen s) ≡ true
+lead_here : (part : EditedPart) (f q : Option Symbol) (seen : Bool) (s : Symbol) → Agree f q → (part ≡ Lead) ⊎ (part ≡ Currency) → belongs part (symbol_kind q s) ≡ true → list_all is_bare (here f seen s) ≡ true
 lead_here part f q seen s agree which e = at (is_that q s) refl e
   where
     at : (b : Bool) → is_that q s ≡ b → belongs part (if b then OfRun else settled_kind s) ≡ true → list_all is_bare (here f seen s) ≡ true
     at false out k = ap (λ b. list_all is_bare (position_places (role_at NumericEdited b seen s) s)) (agree.outside s out) ∙ settled_bare part s (lead_kind part (settled_kind s) which k)
     at true run k = let no : false ≡ true = lead_kind part OfRun which k in absurd (cc)
 
-lead_tell : (part : Part) (f q : Option Symbol) (xs ys : List Symbol) → Agree f q → (part ≡ Lead) ⊎ (part ≡ Currency) → AreOf part q xs → ((seen : Bool) → Tell (placed_from f seen ys)) → (seen : Bool) → Tell (placed_from f seen (xs ++ ys))
+lead_tell : (part : EditedPart) (f q : Option Symbol) (xs ys : List Symbol) → Agree f q → (part ≡ Lead) ⊎ (part ≡ Currency) → AreOf part q xs → ((seen : Bool) → Tell (placed_from f seen ys)) → (seen : Bool) → Tell (placed_from f seen (xs ++ ys))
 lead_tell part f q [] ys agree which all rest seen = rest seen
 lead_tell part f q (s ∷ xs) ys agree which all rest seen = tell-append (here f seen s) (placed_from f (seen || is_that f s) (xs ++ ys)) (lead_here part f q seen s agree which all.0) (lead_tell part f q xs ys agree which all.1 rest (seen || is_that f s))
 
 front_tell : (f q : Option Symbol) (xs ys : List Symbol) → Agree f q → AreOf Front q xs → ((seen : Bool) → HasNoRun (placed_from f seen ys)) → (seen : Bool) → Tell (placed_from f seen (xs ++ ys))
 front_tell f q [] ys agree all rest seen = tell-none (placed_from f seen ys) (rest seen)
 front_tell f q (s ∷ xs) ys agree all rest seen =
-    let more : List Place = placed_from f (seen || is_that f s) (xs ++ ys) in
+    let more : List EditedPlace = placed_from f (seen || is_that f s) (xs ++ ys) in
     elim (front_symbol q s all.0) [
       | inl run ↦
           let one = run_here f q seen s agree run in
@@ -298,7 +298,7 @@ floats_none false true d = no_plus
 floats_none false false true = no_minus
 floats_none false false false = λ s is. refl
 
-symbol_no_run : (s : Symbol) (more : List Place) → is_numeric_symbol s ≡ true → HasNoRun more → HasNoRun (position_places (settled_role Numeric s) s ++ more)
+symbol_no_run : (s : Symbol) (more : List EditedPlace) → is_numeric_symbol s ≡ true → HasNoRun more → HasNoRun (position_places (settled_role Numeric s) s ++ more)
 symbol_no_run sy.A more is none = absurd (cc)
 symbol_no_run sy.X more is none = absurd (cc)
 symbol_no_run sy.Nine more is none = no_run-cons Digit more refl none
@@ -322,7 +322,7 @@ numeric_no_run : (f : Option Symbol) (xs : List Symbol) → FloatsNone f → lis
 numeric_no_run f [] none all seen = no_run-nil
 numeric_no_run f (s ∷ xs) none all seen =
     let parts = and_parts (is_numeric_symbol s) (list_all is_numeric_symbol xs) all in
-    let more : List Place = places (positions_from Numeric f (seen || is_that f s) xs) in
+    let more : List EditedPlace = places (positions_from Numeric f (seen || is_that f s) xs) in
     subst (λ b. HasNoRun (position_places (role_at Numeric b seen s) s ++ more)) (sym (none s parts.0))
     (symbol_no_run s more parts.0 (numeric_no_run f xs none parts.1 (seen || is_that f s)))
 

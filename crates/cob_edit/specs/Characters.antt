@@ -1,24 +1,11 @@
 -- Characters moved to an edited item that holds characters.
-use Rattle.std.specs.Prelude.{◌≡◌, ℕ, ◌<◌, Bool, true, false, List, [], ◌∷◌, length, take, drop, slice_index, slice_index_or, count_by, if◌then◌else◌}
+use Rattle.std.specs.Prelude.{◌≡◌, ℕ, ◌<◌, List, [], ◌∷◌, length, take, drop, slice_index, slice_index_or, count_by, if◌then◌else◌}
 use Rattle.cob_cp037.specs.Named.{space_byte}
 use Rattle.cob_picture.specs.declared.symbol.Symbol.TheVariants.{A}
-use Rattle.cob_picture.specs.declared.position.Role.{Role}
-use Rattle.cob_picture.specs.declared.position.Role.TheVariants.{Character, Insertion, DecimalPoint, Digit, Suppressed, Floating, FirstFloating, FixedSign, FixedCurrency, NoByte}
+use Rattle.cob_picture.specs.Counts.{is_character}
+use Rattle.cob_picture.specs.declared.position.PositionRole.TheVariants.{Character}
 use Rattle.cob_picture.specs.declared.position.Position.{Position}
 use Rattle.cob_edit.specs.Pictured.{insertion_byte}
-
--- a place that holds any character
-abbrev pub is_character : Role → Bool
-is_character Character = true
-is_character Insertion = false
-is_character DecimalPoint = false
-is_character Digit = false
-is_character Suppressed = false
-is_character Floating = false
-is_character FirstFloating = false
-is_character FixedSign = false
-is_character FixedCurrency = false
-is_character NoByte = false
 
 -- the position with this number
 abbrev pub position : List Position → ℕ → Position

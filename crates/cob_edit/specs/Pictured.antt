@@ -5,8 +5,8 @@ use Rattle.cob_cp037.specs.Named.{comma_byte, slash_byte, space_byte, zero_byte}
 use Rattle.cob_decimal.specs.Decimal.{IsDigits, number_of, aligned}
 use Rattle.cob_picture.specs.declared.symbol.Symbol.{Symbol}
 use Rattle.cob_picture.specs.declared.symbol.Symbol.TheVariants.{V, Zero, Slash, Comma, Star, Plus, Minus, Credit, Debit}
-use Rattle.cob_picture.specs.declared.position.Role.{Role}
-use Rattle.cob_picture.specs.declared.position.Role.TheVariants as role
+use Rattle.cob_picture.specs.declared.position.PositionRole.{PositionRole}
+use Rattle.cob_picture.specs.declared.position.PositionRole.TheVariants as role
 use Rattle.cob_picture.specs.declared.position.Position.{Position}
 use Rattle.cob_picture.specs.Positions.{PlainPicture, is}
 use Rattle.cob_picture.specs.Counts.{digits, scale}
@@ -14,8 +14,8 @@ use Rattle.cob_edit.specs.declared.place.Mark.{Mark}
 use Rattle.cob_edit.specs.declared.place.Mark.TheVariants.{Currency, PlusOrMinus, SpaceOrMinus, CreditC, CreditR, DebitD, DebitB}
 use Rattle.cob_edit.specs.declared.place.Fill.{Fill}
 use Rattle.cob_edit.specs.declared.place.Fill.TheVariants.{Space, Asterisk}
-use Rattle.cob_edit.specs.declared.place.Place.{Place}
-use Rattle.cob_edit.specs.declared.place.Place.TheVariants as place
+use Rattle.cob_edit.specs.declared.place.EditedPlace.{EditedPlace}
+use Rattle.cob_edit.specs.declared.place.EditedPlace.TheVariants as place
 use Rattle.cob_edit.specs.Editing.{IsText, shows_sign}
 
 -- the byte of an insertion, in code page 037: a space for B, and itself for 0, the stroke and the comma
@@ -37,13 +37,13 @@ fill_of Star = Asterisk
 fill_of _ = Space
 
 -- the places of a sign or a currency sign that doesn't float: CR and DB have two
-abbrev pub fixed_places : Symbol → List Place
+abbrev pub fixed_places : Symbol → List EditedPlace
 fixed_places Credit = place.Fixed CreditC ∷ place.Fixed CreditR ∷ []
 fixed_places Debit = place.Fixed DebitD ∷ place.Fixed DebitB ∷ []
 fixed_places s = place.Fixed (mark_of s) ∷ []
 
 -- The places of a position: one, but two for CR and DB. S and P have none, and V has one without a byte.
-abbrev pub position_places : Role → Symbol → List Place
+abbrev pub position_places : PositionRole → Symbol → List EditedPlace
 position_places role.Character s = place.Inserted space_byte ∷ []
 position_places role.Insertion s = place.Inserted (insertion_byte s) ∷ []
 position_places role.DecimalPoint s = place.Point ∷ []
@@ -56,7 +56,7 @@ position_places role.FixedCurrency s = fixed_places s
 position_places role.NoByte s = if is V s then place.AssumedPoint ∷ [] else []
 
 -- the places of an item
-abbrev pub places : List Position → List Place
+abbrev pub places : List Position → List EditedPlace
 places ps = flat_map (λ p. position_places p.role p.symbol) ps
 
 -- The bytes are the text that the picture gives the number whose digits are these, with this scale. The number is first put into the

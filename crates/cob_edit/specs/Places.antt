@@ -5,8 +5,8 @@ use Rattle.cob_edit.specs.declared.place.Mark.{Mark}
 use Rattle.cob_edit.specs.declared.place.Mark.TheVariants.{Currency, PlusOrMinus, SpaceOrMinus, CreditC, CreditR, DebitD, DebitB}
 use Rattle.cob_edit.specs.declared.place.Fill.{Fill}
 use Rattle.cob_edit.specs.declared.place.Fill.TheVariants.{Space, Asterisk}
-use Rattle.cob_edit.specs.declared.place.Place.{Place}
-use Rattle.cob_edit.specs.declared.place.Place.TheVariants.{Inserted, Point, Digit, Suppressed, Floating, First, Fixed, AssumedPoint}
+use Rattle.cob_edit.specs.declared.place.EditedPlace.{EditedPlace}
+use Rattle.cob_edit.specs.declared.place.EditedPlace.TheVariants.{Inserted, Point, Digit, Suppressed, Floating, First, Fixed, AssumedPoint}
 
 -- The byte of a mark, in code page 037, for a value that is negative or not: `$` is itself; a plus sign gives way to a minus sign, a
 -- space to a minus sign, and the letters of CR and DB to spaces where the value isn't negative.
@@ -35,7 +35,7 @@ fill_byte Space = space_byte
 fill_byte Asterisk = asterisk_byte
 
 -- a place that holds a digit: a 9, a Z, an asterisk, or a floating symbol but the first
-abbrev pub is_digit : Place → Bool
+abbrev pub is_digit : EditedPlace → Bool
 is_digit Digit = true
 is_digit (Suppressed fill) = true
 is_digit Floating = true
@@ -46,7 +46,7 @@ is_digit (Fixed mark) = false
 is_digit AssumedPoint = false
 
 -- a place of the run
-abbrev pub is_run : Place → Bool
+abbrev pub is_run : EditedPlace → Bool
 is_run (Suppressed fill) = true
 is_run Floating = true
 is_run (First mark) = true
@@ -57,7 +57,7 @@ is_run (Fixed mark) = false
 is_run AssumedPoint = false
 
 -- a place of the run, or an insertion
-abbrev pub is_run_or_insertion : Place → Bool
+abbrev pub is_run_or_insertion : EditedPlace → Bool
 is_run_or_insertion (Inserted byte) = true
 is_run_or_insertion (Suppressed fill) = true
 is_run_or_insertion Floating = true
@@ -68,7 +68,7 @@ is_run_or_insertion (Fixed mark) = false
 is_run_or_insertion AssumedPoint = false
 
 -- a point, printed or not
-abbrev pub is_point_place : Place → Bool
+abbrev pub is_point_place : EditedPlace → Bool
 is_point_place Point = true
 is_point_place AssumedPoint = true
 is_point_place (Inserted byte) = false
@@ -79,7 +79,7 @@ is_point_place (First mark) = false
 is_point_place (Fixed mark) = false
 
 -- a place that holds a byte
-abbrev pub has_byte : Place → Bool
+abbrev pub has_byte : EditedPlace → Bool
 has_byte AssumedPoint = false
 has_byte Point = true
 has_byte (Inserted byte) = true
@@ -90,7 +90,7 @@ has_byte (First mark) = true
 has_byte (Fixed mark) = true
 
 -- a digit that always shows
-abbrev pub is_nine : Place → Bool
+abbrev pub is_nine : EditedPlace → Bool
 is_nine Digit = true
 is_nine AssumedPoint = false
 is_nine Point = false
@@ -106,7 +106,7 @@ is_asterisk Space = false
 is_asterisk Asterisk = true
 
 -- a digit whose leading zeros become asterisks
-abbrev pub is_star : Place → Bool
+abbrev pub is_star : EditedPlace → Bool
 is_star (Suppressed fill) = is_asterisk fill
 is_star Digit = false
 is_star AssumedPoint = false
@@ -117,7 +117,7 @@ is_star (First mark) = false
 is_star (Fixed mark) = false
 
 -- a sign in its place
-abbrev pub is_fixed_sign : Place → Bool
+abbrev pub is_fixed_sign : EditedPlace → Bool
 is_fixed_sign (Fixed mark) = tells mark
 is_fixed_sign (Inserted byte) = false
 is_fixed_sign Point = false
@@ -128,7 +128,7 @@ is_fixed_sign (First mark) = false
 is_fixed_sign AssumedPoint = false
 
 -- a floating sign
-abbrev pub is_floating_sign : Place → Bool
+abbrev pub is_floating_sign : EditedPlace → Bool
 is_floating_sign (First mark) = tells mark
 is_floating_sign (Inserted byte) = false
 is_floating_sign Point = false
@@ -139,5 +139,5 @@ is_floating_sign (Fixed mark) = false
 is_floating_sign AssumedPoint = false
 
 -- the number of bytes
-abbrev pub bytes_of : List Place → ℕ
+abbrev pub bytes_of : List EditedPlace → ℕ
 bytes_of places = count_by has_byte places

@@ -2,7 +2,7 @@
 
 /// What a byte of a text is, whatever the number's other digits are.
 #[derive(Clone, Copy, PartialEq, Eq)]
-pub enum Cell {
+pub enum TextCell {
     /// This byte.
     Same(u8),
     /// One byte, and another where the number is negative.
@@ -11,8 +11,8 @@ pub enum Cell {
     Taken(u8),
 }
 
-impl Default for Cell {
-    fn default() -> Cell {
-        Cell::Same(0)
+impl Default for TextCell {
+    fn default() -> TextCell {
+        TextCell::Same(0)
     }
 }

@@ -34,13 +34,13 @@ mod rows;
 mod spelling;
 mod text;
 
-pub use crate::cell::Cell;
+pub use crate::cell::TextCell;
 pub use crate::laws::{
     one_spelling, one_text, one_value, prints_characters, regions_are_of_runs, signs_are_shown,
     some_text,
 };
 pub use crate::numbers::{deedit, edit};
-pub use crate::place::{Fill, Mark, Place};
+pub use crate::place::{EditedPlace, Fill, Mark};
 pub use crate::positions::{Places, places_of};
 pub use crate::rows::{Row, row_of};
 pub use crate::spelling::edit_text;

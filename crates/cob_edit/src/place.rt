@@ -35,7 +35,7 @@ pub enum Fill {
 
 /// What a place of an edited item is for.
 #[derive(Clone, Copy, PartialEq, Eq)]
-pub enum Place {
+pub enum EditedPlace {
     /// A byte that prints itself, for B, 0, the stroke and the comma.
     Inserted(u8),
     /// A point that prints.
@@ -54,9 +54,9 @@ pub enum Place {
     AssumedPoint,
 }
 
-impl Default for Place {
-    fn default() -> Place {
-        Place::Inserted(0)
+impl Default for EditedPlace {
+    fn default() -> EditedPlace {
+        EditedPlace::Inserted(0)
     }
 }
 
@@ -97,12 +97,15 @@ impl Fill {
     }
 }
 
-impl Place {
+impl EditedPlace {
     /// Whether it holds a digit.
     pub fn is_digit(&self) -> bool
         ensures { result ≡ is_digit self.now }
     {
-        matches!(self, Place::Digit | Place::Suppressed(_) | Place::Floating)
+        matches!(
+            self,
+            EditedPlace::Digit | EditedPlace::Suppressed(_) | EditedPlace::Floating
+        )
     }
 
     /// Whether it is of the run.
@@ -111,7 +114,7 @@ impl Place {
     {
         matches!(
             self,
-            Place::First(_) | Place::Suppressed(_) | Place::Floating
+            EditedPlace::First(_) | EditedPlace::Suppressed(_) | EditedPlace::Floating
         )
     }
 
@@ -119,35 +122,35 @@ impl Place {
     pub fn is_run_or_insertion(&self) -> bool
         ensures { result ≡ is_run_or_insertion self.now }
     {
-        self.is_run() || matches!(self, Place::Inserted(_))
+        self.is_run() || matches!(self, EditedPlace::Inserted(_))
     }
 
     /// Whether it is the point.
     pub fn is_point(&self) -> bool
         ensures { result ≡ is_point_place self.now }
     {
-        matches!(self, Place::Point | Place::AssumedPoint)
+        matches!(self, EditedPlace::Point | EditedPlace::AssumedPoint)
     }
 
     /// Whether it holds a byte.
     pub fn has_byte(&self) -> bool
         ensures { result ≡ has_byte self.now }
     {
-        !matches!(self, Place::AssumedPoint)
+        !matches!(self, EditedPlace::AssumedPoint)
     }
 
     /// Whether it holds a digit that always shows.
     pub fn is_nine(&self) -> bool
         ensures { result ≡ is_nine self.now }
     {
-        matches!(self, Place::Digit)
+        matches!(self, EditedPlace::Digit)
     }
 
     /// Whether an asterisk stands for its suppressed zero.
     pub fn is_star(&self) -> bool
         ensures { result ≡ is_star self.now }
     {
-        matches!(self, Place::Suppressed(Fill::Asterisk))
+        matches!(self, EditedPlace::Suppressed(Fill::Asterisk))
     }
 
     /// Whether it is a sign in its place.
@@ -155,7 +158,7 @@ impl Place {
         ensures { result ≡ is_fixed_sign self.now }
     {
         match self {
-            Place::Fixed(mark) => mark.tells(),
+            EditedPlace::Fixed(mark) => mark.tells(),
             _ => false,
         }
     }
@@ -165,7 +168,7 @@ impl Place {
         ensures { result ≡ is_floating_sign self.now }
     {
         match self {
-            Place::First(mark) => mark.tells(),
+            EditedPlace::First(mark) => mark.tells(),
             _ => false,
         }
     }

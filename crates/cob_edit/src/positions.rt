@@ -8,14 +8,14 @@ ghost use Rattle.cob_edit.specs.Places.{is_digit, bytes_of};
 ghost use Rattle.cob_edit.specs.Pictured.{insertion_byte, mark_of, fill_of, fixed_places, position_places, places};
 
 use crate::MAX_PLACES;
-use crate::place::{Fill, Mark, Place};
+use crate::place::{EditedPlace, Fill, Mark};
 use arrayvec::ArrayVec;
 use cob_cp037::{COMMA, SLASH, SPACE, ZERO};
 use cob_limits::MAX_DIGITS;
-use cob_picture::{Picture, Position, Role, Symbol};
+use cob_picture::{Picture, Position, PositionRole, Symbol};
 
 /// The places of an item.
-pub type Places = ArrayVec<Place, MAX_PLACES>;
+pub type Places = ArrayVec<EditedPlace, MAX_PLACES>;
 
 /// The byte of an insertion.
 pub fn insertion_byte(symbol: Symbol) -> u8
@@ -57,34 +57,34 @@ fn push_fixed(places: &mut Places, symbol: Symbol)
 {
     match symbol {
         Symbol::Credit => {
-            places.push(Place::Fixed(Mark::CreditC));
-            places.push(Place::Fixed(Mark::CreditR));
+            places.push(EditedPlace::Fixed(Mark::CreditC));
+            places.push(EditedPlace::Fixed(Mark::CreditR));
         }
         Symbol::Debit => {
-            places.push(Place::Fixed(Mark::DebitD));
-            places.push(Place::Fixed(Mark::DebitB));
+            places.push(EditedPlace::Fixed(Mark::DebitD));
+            places.push(EditedPlace::Fixed(Mark::DebitB));
         }
-        _ => places.push(Place::Fixed(mark_of(symbol))),
+        _ => places.push(EditedPlace::Fixed(mark_of(symbol))),
     }
 }
 
 /// Adds the places of a position.
-fn push_places(places: &mut Places, role: Role, symbol: Symbol)
+fn push_places(places: &mut Places, role: PositionRole, symbol: Symbol)
     requires room { length places.old.items + 2 ≤ MAX_PLACES }
     ensures { places.new.items ≡ places.old.items ++ position_places role symbol }
 {
     match role {
-        Role::Character => places.push(Place::Inserted(SPACE)),
-        Role::Insertion => places.push(Place::Inserted(insertion_byte(symbol))),
-        Role::DecimalPoint => places.push(Place::Point),
-        Role::Digit => places.push(Place::Digit),
-        Role::Suppressed => places.push(Place::Suppressed(fill_of(symbol))),
-        Role::Floating => places.push(Place::Floating),
-        Role::FirstFloating => places.push(Place::First(mark_of(symbol))),
-        Role::FixedSign | Role::FixedCurrency => push_fixed(places, symbol),
-        Role::NoByte => {
+        PositionRole::Character => places.push(EditedPlace::Inserted(SPACE)),
+        PositionRole::Insertion => places.push(EditedPlace::Inserted(insertion_byte(symbol))),
+        PositionRole::DecimalPoint => places.push(EditedPlace::Point),
+        PositionRole::Digit => places.push(EditedPlace::Digit),
+        PositionRole::Suppressed => places.push(EditedPlace::Suppressed(fill_of(symbol))),
+        PositionRole::Floating => places.push(EditedPlace::Floating),
+        PositionRole::FirstFloating => places.push(EditedPlace::First(mark_of(symbol))),
+        PositionRole::FixedSign | PositionRole::FixedCurrency => push_fixed(places, symbol),
+        PositionRole::NoByte => {
             if matches!(symbol, Symbol::V) {
-                places.push(Place::AssumedPoint);
+                places.push(EditedPlace::AssumedPoint);
             }
         }
     }

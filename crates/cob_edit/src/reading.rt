@@ -7,11 +7,11 @@ ghost use Rattle.cob_edit.specs.Places.{is_digit, bytes_of};
 ghost use Rattle.cob_edit.specs.Editing.{IsText, FitsPlaces, shown_digit, extract};
 
 use crate::MAX_PLACES;
-use crate::place::Place;
+use crate::place::EditedPlace;
 use crate::region::shows_sign;
-use crate::text::{are_zero, write_text};
+use crate::text::write_text;
 use cob_cp037::{NINE, ZERO};
-use cob_decimal::Digits;
+use cob_decimal::{Digits, are_zeros};
 use cob_limits::MAX_DIGITS;
 
 /// The digit that a byte shows, and 0 for a byte that shows none.
@@ -27,7 +27,7 @@ fn shown_digit(byte: u8) -> u8
 }
 
 /// The digits that stand at the digit places of a text, whatever it is.
-fn digits_in(places: &[Place], bytes: &[u8]) -> Digits
+fn digits_in(places: &[EditedPlace], bytes: &[u8]) -> Digits
     requires room { length bytes.now ≡ bytes_of places.now }
     requires few { count_by is_digit places.now ≤ most_digits }
     ensures value { result ≡ extract places.now bytes.now }
@@ -48,7 +48,7 @@ fn digits_in(places: &[Place], bytes: &[u8]) -> Digits
 }
 
 /// Whether the bytes are the text of these digits.
-fn is_text(places: &[Place], blank: bool, negative: bool, digits: &[u8], bytes: &[u8]) -> bool
+fn is_text(places: &[EditedPlace], blank: bool, negative: bool, digits: &[u8], bytes: &[u8]) -> bool
     requires digits { length digits.now ≡ count_by is_digit places.now }
     requires valid { IsDigits digits.now }
     requires room { length bytes.now ≡ bytes_of places.now }
@@ -62,7 +62,7 @@ fn is_text(places: &[Place], blank: bool, negative: bool, digits: &[u8], bytes: 
 }
 
 /// Whether the bytes are the text of these digits with a minus.
-fn is_negative_text(places: &[Place], blank: bool, digits: &[u8], bytes: &[u8]) -> bool
+fn is_negative_text(places: &[EditedPlace], blank: bool, digits: &[u8], bytes: &[u8]) -> bool
     requires digits { length digits.now ≡ count_by is_digit places.now }
     requires valid { IsDigits digits.now }
     requires room { length bytes.now ≡ bytes_of places.now }
@@ -71,11 +71,11 @@ fn is_negative_text(places: &[Place], blank: bool, digits: &[u8], bytes: &[u8]) 
         (FitsPlaces places.now true digits.now
         × IsText places.now blank true digits.now bytes.now) }
 {
-    shows_sign(places) && !are_zero(digits) && is_text(places, blank, true, digits, bytes)
+    shows_sign(places) && !are_zeros(digits) && is_text(places, blank, true, digits, bytes)
 }
 
 /// The sign and the digits whose text the bytes are, if they are one.
-pub fn read_text(places: &[Place], blank: bool, bytes: &[u8]) -> Option<(bool, Digits)>
+pub fn read_text(places: &[EditedPlace], blank: bool, bytes: &[u8]) -> Option<(bool, Digits)>
     requires room { length bytes.now ≡ bytes_of places.now }
     requires most { length bytes.now ≤ MAX_PLACES }
     requires few { count_by is_digit places.now ≤ most_digits }

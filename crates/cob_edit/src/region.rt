@@ -5,7 +5,7 @@ ghost use Rattle.std.specs.List.{prefix_len, list_any};
 ghost use Rattle.cob_edit.specs.Places.{is_digit, is_run, is_run_or_insertion, is_point_place, is_fixed_sign};
 ghost use Rattle.cob_edit.specs.Editing.{region_start, region_end, IsSuppressedTo, shows_sign};
 
-use crate::place::Place;
+use crate::place::EditedPlace;
 
 /// Where the region of places stands.
 #[derive(Clone, Copy, PartialEq, Eq)]
@@ -17,7 +17,7 @@ pub struct Region {
 }
 
 /// How many places stand before the first of the run or the point.
-fn run_of(places: &[Place]) -> usize
+fn run_of(places: &[EditedPlace]) -> usize
     ensures value { result ≡ prefix_len (λ p. not (is_run p || is_point_place p)) places.now }
     ensures inside { result ≤ length places.now }
 {
@@ -30,7 +30,7 @@ fn run_of(places: &[Place]) -> usize
 }
 
 /// How many places from the front on are of the run or insertions.
-fn run_length(places: &[Place]) -> usize
+fn run_length(places: &[EditedPlace]) -> usize
     ensures value { result ≡ prefix_len is_run_or_insertion places.now }
     ensures inside { result ≤ length places.now }
 {
@@ -43,7 +43,7 @@ fn run_length(places: &[Place]) -> usize
 }
 
 /// Where the region begins and ends.
-pub fn region_of(places: &[Place]) -> Region
+pub fn region_of(places: &[EditedPlace]) -> Region
     ensures start { result.start ≡ region_start places.now }
     ensures end { result.end ≡ region_end places.now }
     ensures order { result.start ≤ result.end }
@@ -55,7 +55,7 @@ pub fn region_of(places: &[Place]) -> Region
 }
 
 /// Where the suppressed places end: at the first digit of the region that isn't 0, or just after it.
-pub fn cut_of(places: &[Place], digits: &[u8], region: Region) -> usize
+pub fn cut_of(places: &[EditedPlace], digits: &[u8], region: Region) -> usize
     requires start { region.start ≡ region_start places.now }
     requires end { region.end ≡ region_end places.now }
     requires inside { region.end ≤ length places.now }
@@ -75,7 +75,7 @@ pub fn cut_of(places: &[Place], digits: &[u8], region: Region) -> usize
 }
 
 /// Whether the places tell the sign of a value.
-pub fn shows_sign(places: &[Place]) -> bool
+pub fn shows_sign(places: &[EditedPlace]) -> bool
     ensures { result ≡ shows_sign places.now }
 {
     if has_fixed_sign(places) {
@@ -86,7 +86,7 @@ pub fn shows_sign(places: &[Place]) -> bool
 }
 
 /// Whether a sign stands in its place.
-fn has_fixed_sign(places: &[Place]) -> bool
+fn has_fixed_sign(places: &[EditedPlace]) -> bool
     ensures { result ≡ list_any is_fixed_sign places.now }
 {
     places.iter().any(|place| place.is_fixed_sign())

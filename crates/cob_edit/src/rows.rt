@@ -11,8 +11,8 @@ ghost use Rattle.cob_edit.specs.Editing.{region_start, region_end, shows_sign, p
 ghost use Rattle.cob_edit.specs.Rows.{ArePlacesOf, CellShows, IsRowOf, RowShows, cell_byte, row_bytes, zeros_tell};
 
 use crate::MAX_PLACES;
-use crate::cell::Cell;
-use crate::place::{Mark, Place};
+use crate::cell::TextCell;
+use crate::place::{EditedPlace, Mark};
 use crate::positions::Places;
 use crate::region::{Region, region_of, shows_sign};
 use crate::text::{has_no_nine, has_star, hidden};
@@ -21,55 +21,57 @@ use cob_cp037::{ASTERISK, POINT, SPACE};
 use cob_picture::Picture;
 
 /// The bytes of a text that is made ready.
-pub type Row = ArrayVec<Cell, MAX_PLACES>;
+pub type Row = ArrayVec<TextCell, MAX_PLACES>;
 
 /// The byte of a mark, where a minus shows or not.
-fn marked(mark: Mark, shows: bool) -> Cell
+fn marked(mark: Mark, shows: bool) -> TextCell
     ensures { (ds : List ℕ) (negative : Bool) → cell_byte ds negative result
         ≡ mark_byte mark (negative && shows) }
 {
-    Cell::Signed {
+    TextCell::Signed {
         plus: mark.byte(false),
         minus: mark.byte(shows),
     }
 }
 
 /// What a place of the region shows before the cut.
-fn hidden_cell(first: &Place, shows: bool, at_cut: bool) -> Cell
+fn hidden_cell(first: &EditedPlace, shows: bool, at_cut: bool) -> TextCell
     ensures { (ds : List ℕ) (negative : Bool) → cell_byte ds negative result
         ≡ hidden first.now (negative && shows) at_cut }
 {
-    Cell::Signed {
+    TextCell::Signed {
         plus: hidden(first, false, at_cut),
         minus: hidden(first, shows, at_cut),
     }
 }
 
 /// What another place shows, where the next digit has this number.
-fn shown_cell(place: &Place, shows: bool, next: u8) -> Option<Cell>
+fn shown_cell(place: &EditedPlace, shows: bool, next: u8) -> Option<TextCell>
     ensures bytes { CellShows result shows next (shown place.now) }
     ensures count { length (option_to_list result) ≡ (if has_byte place.now then 1 else 0) }
 {
     match place {
-        Place::Inserted(byte) => Some(Cell::Same(*byte)),
-        Place::Point => Some(Cell::Same(POINT)),
-        Place::Digit | Place::Suppressed(_) | Place::Floating => Some(Cell::Taken(next)),
-        Place::First(_) => Some(Cell::Same(SPACE)),
-        Place::Fixed(mark) => Some(marked(*mark, shows)),
-        Place::AssumedPoint => None,
+        EditedPlace::Inserted(byte) => Some(TextCell::Same(*byte)),
+        EditedPlace::Point => Some(TextCell::Same(POINT)),
+        EditedPlace::Digit | EditedPlace::Suppressed(_) | EditedPlace::Floating => Some(
+            TextCell::Taken(next),
+        ),
+        EditedPlace::First(_) => Some(TextCell::Same(SPACE)),
+        EditedPlace::Fixed(mark) => Some(marked(*mark, shows)),
+        EditedPlace::AssumedPoint => None,
     }
 }
 
 /// What a place shows.
 #[tactic(auto, using(crate::proofs::EditingLemmas::region_bytes))]
 fn cell_at(
-    places: &[Place],
+    places: &[EditedPlace],
     start: usize,
     cut: usize,
     shows: bool,
     at: usize,
     next: u8,
-) -> Option<Cell>
+) -> Option<TextCell>
     requires start { start ≡ region_start places.now }
     requires inside { at < length places.now }
     requires cut { cut ≤ region_end places.now }
@@ -86,7 +88,7 @@ fn cell_at(
 }
 
 /// What the places show of a value that shows, where the suppressed places end there.
-fn printed_row(places: &[Place], shows: bool, start: usize, cut: usize) -> Row
+fn printed_row(places: &[EditedPlace], shows: bool, start: usize, cut: usize) -> Row
     requires start { start ≡ region_start places.now }
     requires cut { cut ≤ region_end places.now }
     requires few { count_by is_digit places.now ≤ most_digits }
@@ -109,27 +111,27 @@ fn printed_row(places: &[Place], shows: bool, start: usize, cut: usize) -> Row
 }
 
 /// What a place shows of a value that shows nothing.
-fn empty_place(stars: bool, place: &Place) -> Option<Cell>
+fn empty_place(stars: bool, place: &EditedPlace) -> Option<TextCell>
     ensures bytes { (ds : List ℕ) (negative : Bool)
         → map (cell_byte ds negative) (option_to_list result) ≡ empty_cell stars place.now }
     ensures count { length (option_to_list result) ≡ (if has_byte place.now then 1 else 0) }
 {
     match place {
-        Place::AssumedPoint => None,
-        Place::Point => Some(Cell::Same(if stars { POINT } else { SPACE })),
-        _ => Some(Cell::Same(if stars { ASTERISK } else { SPACE })),
+        EditedPlace::AssumedPoint => None,
+        EditedPlace::Point => Some(TextCell::Same(if stars { POINT } else { SPACE })),
+        _ => Some(TextCell::Same(if stars { ASTERISK } else { SPACE })),
     }
 }
 
 /// Whether asterisks stand for the value 0.
-fn has_stars(places: &[Place], blank: bool) -> bool
+fn has_stars(places: &[EditedPlace], blank: bool) -> bool
     ensures { result ≡ has_stars places.now blank }
 {
     !blank && has_star(places)
 }
 
 /// Adds what a place shows, if it has a byte.
-fn push_shown(row: &mut Row, cell: Option<Cell>)
+fn push_shown(row: &mut Row, cell: Option<TextCell>)
     requires { length row.old.items + length (option_to_list cell) ≤ MAX_PLACES }
     ensures { row.new.items ≡ row.old.items ++ option_to_list cell }
 {
@@ -139,7 +141,7 @@ fn push_shown(row: &mut Row, cell: Option<Cell>)
 }
 
 /// What the places show of a value that shows nothing.
-fn empty_row(places: &[Place], blank: bool) -> Row
+fn empty_row(places: &[EditedPlace], blank: bool) -> Row
     requires { bytes_of places.now ≤ MAX_PLACES }
     ensures text { (ds : List ℕ) (negative : Bool) → row_bytes ds negative result.items
         ≡ flat_map (empty_cell (has_stars places.now blank)) places.now }
@@ -154,14 +156,14 @@ fn empty_row(places: &[Place], blank: bool) -> Row
 }
 
 /// How many digits a place holds: one or none.
-fn digits_of(place: &Place) -> usize
+fn digits_of(place: &EditedPlace) -> usize
     ensures { result ≡ (if is_digit place.now then 1 else 0) }
 {
     if place.is_digit() { 1 } else { 0 }
 }
 
 /// Where the suppressed places end of digits with so many zeros in front, where all digits stand in the region or behind it.
-fn cut_within(places: &[Place], region: Region, zeros: usize) -> usize
+fn cut_within(places: &[EditedPlace], region: Region, zeros: usize) -> usize
     requires start { region.start ≡ region_start places.now }
     requires end { region.end ≡ region_end places.now }
     requires order { region.start ≤ region.end }
@@ -183,7 +185,7 @@ fn cut_within(places: &[Place], region: Region, zeros: usize) -> usize
 }
 
 /// Where the suppressed places end of digits with so many zeros in front.
-fn cut_after(places: &[Place], region: Region, zeros: usize) -> usize
+fn cut_after(places: &[EditedPlace], region: Region, zeros: usize) -> usize
     requires start { region.start ≡ region_start places.now }
     requires end { region.end ≡ region_end places.now }
     requires order { region.start ≤ region.end }
@@ -201,14 +203,14 @@ fn cut_after(places: &[Place], region: Region, zeros: usize) -> usize
 }
 
 /// Whether the value 0 shows nothing.
-fn hides_zero(places: &[Place], blank: bool) -> bool
+fn hides_zero(places: &[EditedPlace], blank: bool) -> bool
     ensures { result ≡ (blank || list_all (λ p. not (is_nine p)) places.now) }
 {
     blank || has_no_nine(places)
 }
 
 /// Whether digits with so many zeros in front show nothing.
-fn show_nothing(places: &[Place], blank: bool, digits: usize, zeros: usize) -> bool
+fn show_nothing(places: &[EditedPlace], blank: bool, digits: usize, zeros: usize) -> bool
     ensures { (ds : List ℕ) → length ds ≡ digits → prefix_len (λ d. d == 0) ds ≡ zeros
         → result ≡ shows_nothing places.now blank ds }
 {
@@ -220,7 +222,7 @@ fn show_nothing(places: &[Place], blank: bool, digits: usize, zeros: usize) -> b
 }
 
 /// What the places show of all digits with so many zeros in front, with a minus where it shows.
-fn row_at(places: &[Place], blank: bool, shows: bool, digits: usize, zeros: usize) -> Row
+fn row_at(places: &[EditedPlace], blank: bool, shows: bool, digits: usize, zeros: usize) -> Row
     requires digits { digits ≡ count_by is_digit places.now }
     requires few { count_by is_digit places.now ≤ most_digits }
     requires most { bytes_of places.now ≤ MAX_PLACES }
@@ -237,7 +239,7 @@ fn row_at(places: &[Place], blank: bool, shows: bool, digits: usize, zeros: usiz
 }
 
 /// Whether a minus shows of digits with so many zeros in front: the places tell the sign, and one of the digits is not 0.
-fn shows_minus(places: &[Place], digits: usize, zeros: usize) -> bool
+fn shows_minus(places: &[EditedPlace], digits: usize, zeros: usize) -> bool
     ensures { result ≡ (nat_lt zeros digits && shows_sign places.now) }
 {
     zeros < digits && shows_sign(places)

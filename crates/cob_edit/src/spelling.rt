@@ -4,18 +4,11 @@ ghost use Rattle.std.specs.Prelude.{◌≡◌, ◌≤◌, length, slice_index_or
 ghost use Rattle.cob_cp037.specs.Named.{space_byte};
 ghost use Rattle.cob_picture.specs.declared.category.Category.TheVariants.{AlphanumericEdited};
 ghost use Rattle.cob_picture.specs.Counts.{size};
-ghost use Rattle.cob_edit.specs.Characters.{is_character, characters_from, HasCharacters};
+ghost use Rattle.cob_edit.specs.Characters.{characters_from, HasCharacters};
 
 use crate::positions::insertion_byte;
 use cob_cp037::SPACE;
-use cob_picture::{Picture, Position, Role};
-
-/// Whether the place holds any character.
-fn is_character(role: Role) -> bool
-    ensures { result ≡ is_character role }
-{
-    matches!(role, Role::Character)
-}
+use cob_picture::{Picture, Position};
 
 /// The byte of this number, and a space past the last.
 fn byte_in(bytes: &[u8], at: usize) -> u8
@@ -31,7 +24,7 @@ fn spell(positions: &[Position], sender: &[u8], out: &mut [u8])
 {
     let mut next: usize = 0;
     for (at, position) in positions.iter().enumerate() {
-        if is_character(position.role) {
+        if position.role.is_character() {
             out[at] = byte_in(sender, next);
             next += 1;
         } else {

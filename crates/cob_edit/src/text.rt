@@ -5,42 +5,45 @@ ghost use Rattle.std.specs.List.{list_all, list_any, flat_map};
 ghost use Rattle.std.specs.Option.{option_to_list};
 ghost use Rattle.cob_decimal.specs.Decimal.{IsDigits};
 ghost use Rattle.cob_edit.specs.Places.{is_digit, has_byte, is_nine, is_star, bytes_of};
-ghost use Rattle.cob_edit.specs.Editing.{region_start, region_end, place_at, hidden, shown, cell, printed, empty_cell, has_stars, are_zero, shows_nothing, IsText};
+ghost use Rattle.cob_edit.specs.Editing.{region_start, region_end, place_at, hidden, shown, cell, printed, empty_cell, has_stars, shows_nothing, IsText};
 
-use crate::place::Place;
+use crate::place::EditedPlace;
 use crate::region::{Region, cut_of, region_of};
 use cob_cp037::{ASTERISK, POINT, SPACE, ZERO};
+use cob_decimal::are_zeros;
 
 /// What a place of the region holds before the cut.
-pub(crate) fn hidden(first: &Place, negative: bool, at_cut: bool) -> u8
+pub(crate) fn hidden(first: &EditedPlace, negative: bool, at_cut: bool) -> u8
     ensures { result ≡ hidden first.now negative at_cut }
 {
     match first {
-        Place::Suppressed(fill) => fill.byte(),
-        Place::First(mark) if at_cut => mark.byte(negative),
+        EditedPlace::Suppressed(fill) => fill.byte(),
+        EditedPlace::First(mark) if at_cut => mark.byte(negative),
         _ => SPACE,
     }
 }
 
 /// What another place holds.
-fn shown(place: &Place, negative: bool, digit: u8) -> Option<u8>
+fn shown(place: &EditedPlace, negative: bool, digit: u8) -> Option<u8>
     requires { digit < 10 }
     ensures { option_to_list result ≡ shown place.now negative digit }
 {
     match place {
-        Place::Inserted(byte) => Some(*byte),
-        Place::Point => Some(POINT),
-        Place::Digit | Place::Suppressed(_) | Place::Floating => Some(digit + ZERO),
-        Place::First(_) => Some(SPACE),
-        Place::Fixed(mark) => Some(mark.byte(negative)),
-        Place::AssumedPoint => None,
+        EditedPlace::Inserted(byte) => Some(*byte),
+        EditedPlace::Point => Some(POINT),
+        EditedPlace::Digit | EditedPlace::Suppressed(_) | EditedPlace::Floating => Some(
+            digit + ZERO,
+        ),
+        EditedPlace::First(_) => Some(SPACE),
+        EditedPlace::Fixed(mark) => Some(mark.byte(negative)),
+        EditedPlace::AssumedPoint => None,
     }
 }
 
 /// The byte of a place, if it holds one.
 #[tactic(auto, using(crate::proofs::EditingLemmas::region_bytes))]
 fn cell(
-    places: &[Place],
+    places: &[EditedPlace],
     start: usize,
     cut: usize,
     negative: bool,
@@ -73,7 +76,14 @@ fn digit_in(digits: &[u8], at: usize) -> u8
 }
 
 /// Writes the bytes of a value that shows.
-fn print(places: &[Place], digits: &[u8], negative: bool, start: usize, cut: usize, out: &mut [u8])
+fn print(
+    places: &[EditedPlace],
+    digits: &[u8],
+    negative: bool,
+    start: usize,
+    cut: usize,
+    out: &mut [u8],
+)
     requires start { start ≡ region_start places.now }
     requires cut { cut ≤ region_end places.now }
     requires valid { IsDigits digits.now }
@@ -93,47 +103,40 @@ fn print(places: &[Place], digits: &[u8], negative: bool, start: usize, cut: usi
     }
 }
 
-/// Whether the digits are all 0.
-pub fn are_zero(digits: &[u8]) -> bool
-    ensures { result ≡ are_zero digits.now }
-{
-    digits.iter().all(|digit| *digit == 0)
-}
-
 /// Whether no digit always shows.
-pub(crate) fn has_no_nine(places: &[Place]) -> bool
+pub(crate) fn has_no_nine(places: &[EditedPlace]) -> bool
     ensures { result ≡ list_all (λ p. not (is_nine p)) places.now }
 {
     places.iter().all(|place| !place.is_nine())
 }
 
 /// Whether asterisks stand for suppressed zeros.
-pub(crate) fn has_star(places: &[Place]) -> bool
+pub(crate) fn has_star(places: &[EditedPlace]) -> bool
     ensures { result ≡ list_any is_star places.now }
 {
     places.iter().any(|place| place.is_star())
 }
 
 /// Whether the value is 0 and shows nothing.
-fn shows_nothing(places: &[Place], blank: bool, digits: &[u8]) -> bool
+fn shows_nothing(places: &[EditedPlace], blank: bool, digits: &[u8]) -> bool
     ensures { result ≡ shows_nothing places.now blank digits.now }
 {
-    are_zero(digits) && (blank || has_no_nine(places))
+    are_zeros(digits) && (blank || has_no_nine(places))
 }
 
 /// The byte of a place of a value that shows nothing, if the place holds one.
-fn empty_cell(stars: bool, place: &Place) -> Option<u8>
+fn empty_cell(stars: bool, place: &EditedPlace) -> Option<u8>
     ensures { option_to_list result ≡ empty_cell stars place.now }
 {
     match place {
-        Place::AssumedPoint => None,
-        Place::Point => Some(if stars { POINT } else { SPACE }),
+        EditedPlace::AssumedPoint => None,
+        EditedPlace::Point => Some(if stars { POINT } else { SPACE }),
         _ => Some(if stars { ASTERISK } else { SPACE }),
     }
 }
 
 /// Writes the bytes of a value that shows nothing.
-fn print_nothing(places: &[Place], blank: bool, out: &mut [u8])
+fn print_nothing(places: &[EditedPlace], blank: bool, out: &mut [u8])
     requires { length out.old ≡ bytes_of places.now }
     ensures { out.new ≡ flat_map (empty_cell (has_stars places.now blank)) places.now }
 {
@@ -148,7 +151,13 @@ fn print_nothing(places: &[Place], blank: bool, out: &mut [u8])
 }
 
 /// Writes the text of as many digits as the places have room for.
-pub fn write_text(places: &[Place], blank: bool, negative: bool, digits: &[u8], out: &mut [u8])
+pub fn write_text(
+    places: &[EditedPlace],
+    blank: bool,
+    negative: bool,
+    digits: &[u8],
+    out: &mut [u8],
+)
     requires digits { length digits.now ≡ count_by is_digit places.now }
     requires valid { IsDigits digits.now }
     requires room { length out.old ≡ bytes_of places.now }

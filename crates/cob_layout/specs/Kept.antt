@@ -19,8 +19,8 @@ use Rattle.cob_layout_places.specs.declared.spots.Spot.{Spot}
 use Rattle.cob_layout_places.specs.Lengths.{times}
 use Rattle.cob_layout_places.specs.Places.{place_of}
 
--- one of the tables
-abbrev pub IsIn : Table → List Table → Type 0
+-- one of these
+abbrev pub IsIn : {A : Type 0} → A → List A → Type 0
 IsIn x [] = ⊥
 IsIn x (y ∷ ys) = (x ≡ y) ⊎ IsIn x ys
 
@@ -121,10 +121,10 @@ IsReadOne tree bytes x (Some w) c (Ok v) n = (v ≡ w) × (n ≡ 0)
 IsReadOne tree bytes x (Some w) c (Err e) n = ⊥
 IsReadOne tree bytes x None c r n = IsCounted tree bytes x c r × (n ≡ 1)
 
--- what an answer says of counts
-abbrev pub outcome_of : {A : Type 0} → Result A CountFault → List ℕ → Result (List ℕ) CountFault
-outcome_of (Ok a) c = Ok c
-outcome_of (Err e) c = Err e
+-- what an answer says of numbers that stand somewhere: that they are these now, or why there are none
+abbrev pub outcome_of : {A E : Type 0} → Result A E → List ℕ → Result (List ℕ) E
+outcome_of (Ok a) now = Ok now
+outcome_of (Err e) now = Err e
 
 -- the item of a table's count meets no byte of the place, wherever counts that are the storage's put it
 abbrev pub StandsApart : Forest Resolved → List ℕ → Place → Table → Type 0

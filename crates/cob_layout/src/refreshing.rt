@@ -92,6 +92,7 @@ impl Layout {
     /// Takes the counts that the place of a reference needs, as [`Layout::needed`] does, but reads only those of them that are not kept, and keeps
     /// those that it reads. Each count that is read adds one to `reads`, one that is refused too; `reads` stays at the greatest `u64`. The counts
     /// that are kept are those of these bytes. It takes no memory.
+    /// It is there for callers of this library: nothing in this repository but its tests calls it.
     ///
     /// # Errors
     ///

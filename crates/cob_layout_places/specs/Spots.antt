@@ -14,3 +14,7 @@ spots_of c (AnEntry e children more) at area =
     let start = begins e.redefines at area in
     record { offset = start; length = element_length c e children; times = c e }
     ∷ (spots_of c children start start ++ spots_of c more (at + own_length e.redefines (whole_length c e children)) start)
+
+-- the spot of no entry
+abbrev pub no_spot : Spot
+no_spot = record { offset = 0; length = 0; times = 0 }

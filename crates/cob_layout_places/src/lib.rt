@@ -10,7 +10,7 @@
 //!   the record's greatest length, and [`covering`] that each byte of a record is in exactly one occurrence of an item that stands in no
 //!   redefinition (specs/Cover.antt).
 //! - [`put_spots`] writes where the first element of each entry stands, how long it is, and how often the entry occurs, in one walk over the
-//!   record (`spots_of` of specs/Spots.antt).
+//!   record (`spots_of` of specs/Spots.antt), and [`Spot::of`] looks one up.
 //! - A [`Ref`] is a reference to an element of an entry: which ones are legal `Refers` of specs/References.antt says.
 //! - [`tables`] lists the tables that vary. [`count_of`] and [`count_there`] take the count of one from a storage, or answer that it ends past the bytes
 //!   or gives no number within its table's bounds (`IsCounted` of specs/Counts.antt); [`count_at`] does so where the count's item is known

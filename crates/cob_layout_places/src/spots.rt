@@ -1,11 +1,11 @@
 //! Where the first elements of all entries stand, found in one walk.
 
-ghost use Rattle.std.specs.Prelude.{◌≡◌, ◌++◌, ◌+◌, ◌≤◌, drop, length};
+ghost use Rattle.std.specs.Prelude.{◌≡◌, ◌++◌, ◌+◌, ◌≤◌, drop, length, slice_get, unwrap_or};
 ghost use Rattle.cob_copybook_tree.specs.Forests.{entries_in};
 ghost use Rattle.cob_copybook_tree.specs.Lengths.{sum_of};
 ghost use Rattle.cob_copybook_tree.specs.Nodes.{forest, node, tree_of};
 ghost use Rattle.cob_layout_places.specs.Lengths.{times, EntryFits};
-ghost use Rattle.cob_layout_places.specs.Spots.{spots_of};
+ghost use Rattle.cob_layout_places.specs.Spots.{no_spot, spots_of};
 
 use crate::lengths::times_of;
 use crate::places::{begins_at, element_by, room_of};
@@ -20,6 +20,22 @@ pub struct Spot {
     pub length: u32,
     /// How many elements there are.
     pub times: u32,
+}
+
+impl Spot {
+    /// The spot of the entry with this number; where there is none, one of no bytes that never occurs.
+    pub fn of(spots: &[Spot], number: usize) -> Spot
+        ensures { result ≡ unwrap_or (slice_get spots.now number) no_spot }
+    {
+        match spots.get(number) {
+            Some(spot) => *spot,
+            None => Spot {
+                offset: 0,
+                length: 0,
+                times: 0,
+            },
+        }
+    }
 }
 
 /// Writes the spots of an entry that begins at `start`, be it a redefinition or not, and of those beneath it, in their order; the answer is how

@@ -86,11 +86,6 @@ Applied r (m ∷ ms) input before end =
     ((after : List ℕ) × IsMoved r m input before (done after) × Applied r ms input after end)
     ⊎ ((stop : Stop) × (after : List ℕ) × IsMoved r m input before (stopped stop after) × (end ≡ stopped stop after))
 
--- what an answer tells of one receiver: the storage now, or the stop
-abbrev pub kept : {A : Type 0} → Result A Stop → List ℕ → Result (List ℕ) Stop
-kept (Ok a) storage = Ok storage
-kept (Err stop) storage = Err stop
-
 -- the ending that an answer tells
 abbrev pub ending : {A : Type 0} → Result A Stop → List ℕ → Ending
 ending (Ok a) storage = done storage

@@ -42,7 +42,7 @@ pub(crate) struct PlacedReceivers<'a> {
 
 /// What an entry of the record of a layout describes.
 #[inline(always)]
-pub(crate) fn entry_kind<'a>(layout: &'a Layout, entry: &Ref) -> &'a Kind
+pub fn entry_kind<'a>(layout: &'a Layout, entry: &Ref) -> &'a Kind
     requires sound { IsSound layout.now }
     requires operand { IsOperand layout.now (operand_in layout.now entry.now) }
     ensures { result.now ≡ (operand_in layout.now entry.now).kind }

@@ -33,7 +33,8 @@
 //! [`Moves::apply`]; `HaveMet` of specs/Met.antt). [`Scratch::input_length`] keeps the counts that an input's length rests on, [`Moves::apply_kept`] carries
 //! the moves out by them, and [`Scratch::output_length`] tells the output's length by what the moves kept of it; so each count is read once.
 //!
-//! [`Moves::apply`] takes no memory: its room is a [`Scratch`].
+//! [`Moves::apply`] takes no memory: its room is a [`Scratch`]. [`entry_kind`] is what an entry of a record describes, and [`entry_below`] the entry of a
+//! pair of two groups, for whoever goes through the moves by themselves; [`Given`] is what a sender gives.
 //!
 //! # Where it is proved
 //!
@@ -70,6 +71,7 @@ mod survey;
 mod within;
 mod workspace;
 
+pub use basis::entry_kind;
 pub use cob_codec::Reading;
 pub use cob_layout::{
     Book, BookFault, BookRule, CountFault, Counts, Figurative, Item, Kind, Layout, Name, Node,
@@ -80,6 +82,8 @@ pub use cob_layout::{
 pub use cob_move_data::{Move, NumberedPair, Operand, PairMoves, Sender, Side, StatementMoves};
 pub use laws::one_ending;
 pub use moves::Moves;
+pub use pairs::entry_below;
 pub use places::stop_of;
+pub use receivers::Given;
 pub use scratch::Scratch;
 pub use stop::{Stop, StopCause};

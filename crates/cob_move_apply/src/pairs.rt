@@ -41,7 +41,7 @@ pub(crate) fn same_entry(entry: &Ref) -> Ref
 }
 
 /// The entry with this number, with the subscripts of a group.
-pub(crate) fn entry_below(group: &Ref, number: usize) -> Ref
+pub fn entry_below(group: &Ref, number: usize) -> Ref
     ensures { result ≡ entry_below group.now number }
 {
     Ref {

@@ -2,9 +2,10 @@
 
 ghost use Rattle.std.specs.Prelude.{◌≡◌, length, OnErr, true};
 ghost use Rattle.cob_layout.specs.Sound.{IsSound};
+ghost use Rattle.cob_layout.specs.Kept.{outcome_of};
 ghost use Rattle.cob_layout.specs.Storage.{greatest_length};
 ghost use Rattle.cob_move_receive.specs.Sent.{sent, HasAllBytes};
-ghost use Rattle.cob_move_apply.specs.Applied.{AllGet, Gets, ending, kept};
+ghost use Rattle.cob_move_apply.specs.Applied.{AllGet, Gets, ending};
 ghost use Rattle.cob_move_apply.specs.Placed.{ArePlacedReceivers, IsPlaced, content_of};
 ghost use Rattle.cob_move_apply.specs.Seen.{operand_of, receivers_in};
 ghost use Rattle.cob_move_apply.specs.Spent.{ReceiversSpend, ReceiverSpends};
@@ -18,12 +19,12 @@ use cob_layout::Layout;
 use cob_move_data::Side;
 use cob_move_receive::{Sent, receive};
 
-/// What a sender gives to each of its receivers, and where it lies.
+/// What a sender gives to each of its receivers, and where it lies. A constant lies nowhere: its offset is 0.
 #[derive(Clone, Copy)]
-pub(crate) struct Given<'a> {
-    pub(crate) sent: Sent<'a>,
-    pub(crate) side: Side,
-    pub(crate) offset: u32,
+pub struct Given<'a> {
+    pub sent: Sent<'a>,
+    pub side: Side,
+    pub offset: u32,
 }
 
 /// Moves what a sender gives to one receiver, at its place in the storage as it is now.
@@ -44,7 +45,7 @@ fn receive_one(
     requires output { length output.old ≡ greatest_length layout.now }
     requires survey { IsSurvey layout.now output.old survey.old }
     ensures gets { Gets layout.now (content_of given.now) (operand_of receiver.now) output.old
-        (kept result output.new) }
+        (outcome_of result output.new) }
     ensures same { OnErr result (output.new ≡ output.old) }
     ensures survey { IsSurvey layout.now output.new survey.new }
     ensures spends { ReceiverSpends layout.now (operand_of receiver.now) output.old result

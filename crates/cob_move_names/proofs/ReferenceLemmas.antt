@@ -11,6 +11,7 @@ use Rattle.cob_layout_places.specs.Cover.{AreNumbered}
 use Rattle.cob_layout_places.specs.Places.{choose, is_table, later, or_else}
 use Rattle.cob_layout_places.specs.References.{IsSubscripted, Refers}
 use Rattle.cob_layout.specs.Sound.{RecordsAreSound}
+use Rattle.cob_layout.specs.Kept.{IsIn}
 use Rattle.cob_move_data.specs.declared.operands.Side.{Side}
 use Rattle.cob_move_data.specs.declared.operands.Side.TheVariants.{In, Out}
 use Rattle.cob_move_data.specs.declared.operands.Operand.{Operand}
@@ -24,25 +25,21 @@ use Rattle.cob_move_names.specs.References.{AreSubscriptsOf, BreaksName, BreaksR
 
 -- ---- entries of a list
 
-abbrev pub IsOneOf : Candidate → List Candidate → Type 0
-IsOneOf c [] = ⊥
-IsOneOf c (x ∷ xs) = (x ≡ c) ⊎ IsOneOf c xs
-
-one_of : (c : Candidate) (xs ys : List Candidate) → IsOneOf c (xs ++ ys) → IsOneOf c xs ⊎ IsOneOf c ys
+one_of : (c : Candidate) (xs ys : List Candidate) → IsIn c (xs ++ ys) → IsIn c xs ⊎ IsIn c ys
 one_of c [] ys h = inr h
 one_of c (x ∷ xs) ys (inl e) = inl (inl e)
 one_of c (x ∷ xs) ys (inr h) = elim (one_of c xs ys h) [ inl a ↦ inl (inr a) | inr a ↦ inr a ]
 
-kept : (f : Candidate → Bool) (x : Candidate) (xs : List Candidate) (c : Candidate) (t : Bool) → f x ≡ t → (IsOneOf c (filter f xs) → IsOneOf c xs) → IsOneOf c (filter f (x ∷ xs)) → IsOneOf c (x ∷ xs)
+kept : (f : Candidate → Bool) (x : Candidate) (xs : List Candidate) (c : Candidate) (t : Bool) → f x ≡ t → (IsIn c (filter f xs) → IsIn c xs) → IsIn c (filter f (x ∷ xs)) → IsIn c (x ∷ xs)
 kept f x xs c true e so = rw e (λ h. elim h [ inl a ↦ inl a | inr a ↦ inr (so a) ])
 kept f x xs c false e so = rw e (λ h. inr (so h))
 
-among : (f : Candidate → Bool) (xs : List Candidate) (c : Candidate) → IsOneOf c (filter f xs) → IsOneOf c xs
+among : (f : Candidate → Bool) (xs : List Candidate) (c : Candidate) → IsIn c (filter f xs) → IsIn c xs
 among f [] c h = h
 among f (x ∷ xs) c h = kept f x xs c (f x) refl (among f xs c) h
 
-member : (name : List ℕ) (qs : List (List ℕ)) (all : List Candidate) (c : Candidate) → named name qs all ≡ c ∷ [] → IsOneOf c all
-member name qs all c is = among (λ x. is_named name qs x) all c (subst (IsOneOf c) (sym is) (inl refl))
+member : (name : List ℕ) (qs : List (List ℕ)) (all : List Candidate) (c : Candidate) → named name qs all ≡ c ∷ [] → IsIn c all
+member name qs all c is = among (λ x. is_named name qs x) all c (subst (IsIn c) (sym is) (inl refl))
 
 -- ---- subscripts as numbers
 
@@ -150,9 +147,9 @@ beside side n before e children more c h s = record {
   refers = λ subscripts w. inr (s.refers subscripts w);
 }
 
-stands : (side : Side) (above : List (List ℕ)) (n : ℕ) (before : List ℕ) (f : Forest Resolved) (c : Candidate) → AreNumbered n f → IsOneOf c (candidates side above before f) → Stands side n before f c
+stands : (side : Side) (above : List (List ℕ)) (n : ℕ) (before : List ℕ) (f : Forest Resolved) (c : Candidate) → AreNumbered n f → IsIn c (candidates side above before f) → Stands side n before f c
 stands side above n before NoEntries c h o = absurd o
-stands side above n before (AnEntry e children more) c h (inl is) = here side above n before e children more c h.0 is
+stands side above n before (AnEntry e children more) c h (inl is) = here side above n before e children more c h.0 (sym is)
 stands side above n before (AnEntry e children more) c h (inr o) =
     either (stands side (with_name e.name above) (n + 1) (with_table (is_table e.occurs) (greatest_number e) before) children c h.1) (stands side above (n + 1 + entries_in children) before more c h.2)
     (one_of c (candidates side (with_name e.name above) (with_table (is_table e.occurs) (greatest_number e) before) children) (candidates side above before more) o)

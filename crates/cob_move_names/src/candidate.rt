@@ -19,7 +19,7 @@ use cob_move_data::Side;
 use std::alloc::{AllocError, Global};
 
 /// The greatest numbers of tables, one within the other, the outermost first.
-type Tables = ArrayVec<u32, MAX_SUBSCRIPTS>;
+type CandidateTables = ArrayVec<u32, MAX_SUBSCRIPTS>;
 
 /// An entry of one of the two records.
 #[derive(Drop)]
@@ -27,11 +27,11 @@ pub(crate) struct RecordEntry<'a> {
     pub side: Side,
     pub entry: &'a Node,
     /// The tables that hold it or that it is.
-    pub tables: Tables,
+    pub tables: CandidateTables,
 }
 
 /// The tables that hold an entry, and itself if it is one.
-fn tables_of(entry: &Node, holding: &[u32]) -> Tables
+fn tables_of(entry: &Node, holding: &[u32]) -> CandidateTables
     requires nested { length holding.now + own_dimension (out-Node entry.now).occurs
         ≤ most_dimensions }
     ensures { result.items ≡ with_table (is_table (out-Node entry.now).occurs)

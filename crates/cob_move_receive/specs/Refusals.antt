@@ -2,7 +2,6 @@
 use Rattle.std.specs.Prelude.{◌≡◌, ℕ, Bool, true, false, ◌&&◌, ◌||◌, not, nat_lt, nat_le, List, [], ◌∷◌, length}
 use Rattle.std.specs.List.{list_all}
 use Rattle.cob_limits.specs.Limits.{most_digits}
-use Rattle.cob_picture.specs.Positions.{shows_number}
 use Rattle.cob_picture.specs.declared.category.Category.{Category}
 use Rattle.cob_picture.specs.declared.category.Category.TheVariants.{Alphabetic, Numeric, Alphanumeric, AlphanumericEdited, NumericEdited}
 use Rattle.cob_copybook_entry.specs.Described.{PlainValue, Quoted, Figure, Repeated, Numeric as NumericLiteral}
@@ -10,19 +9,10 @@ use Rattle.cob_copybook_tree.specs.declared.node.Kind.{Kind}
 use Rattle.cob_copybook_tree.specs.declared.node.Kind.TheVariants.{Group, Item as ItemKind}
 use Rattle.cob_copybook_tree.specs.declared.node.Item.{Item}
 use Rattle.cob_copybook_tree.specs.Lengths.{item_size}
+use Rattle.cob_copybook_tree.specs.Nodes.{is_group_kind, kind_shows_number}
 use Rattle.cob_move_receive.specs.declared.refusals.Refusal.{Refusal}
 use Rattle.cob_move_receive.specs.declared.refusals.Refusal.TheVariants as refusal
 use Rattle.cob_move_receive.specs.Table.{SenderKind, Entry, Literal, has_fraction, may_move}
-
--- the receiver is numeric or numeric edited
-abbrev pub receives_number : Kind → Bool
-receives_number Group = false
-receives_number (ItemKind i) = shows_number i.picture.category
-
--- the receiver is a group
-abbrev pub receives_bytes : Kind → Bool
-receives_bytes Group = true
-receives_bytes (ItemKind i) = false
 
 -- a digit as a character: 0 to 9
 abbrev pub is_digit_character : ℕ → Bool
@@ -36,8 +26,8 @@ is_empty_literal (c ∷ cs) = false
 -- A literal isn't as its receiver asks: it is empty; it isn't all digits where a numeric or numeric edited item receives; or it is a number
 -- with a sign or a fraction where a group receives.
 abbrev pub is_wrong_literal : PlainValue → Kind → Bool
-is_wrong_literal (NumericLiteral sign negative digits scale) to = receives_bytes to && (sign || has_fraction scale)
-is_wrong_literal (Quoted text) to = is_empty_literal text || (receives_number to && not (list_all is_digit_character text))
+is_wrong_literal (NumericLiteral sign negative digits scale) to = is_group_kind to && (sign || has_fraction scale)
+is_wrong_literal (Quoted text) to = is_empty_literal text || (kind_shows_number to && not (list_all is_digit_character text))
 is_wrong_literal (Figure f) to = false
 is_wrong_literal (Repeated text) to = is_empty_literal text
 
@@ -62,7 +52,7 @@ abbrev pub is_refused : Refusal → SenderKind → Kind → Bool
 is_refused refusal.NotAllowed s to = not (may_move s to)
 is_refused refusal.Literal (Entry kind) to = false
 is_refused refusal.Literal (Literal c) to = is_wrong_literal c to
-is_refused refusal.TooLong s to = receives_number to && is_too_long s
+is_refused refusal.TooLong s to = kind_shows_number to && is_too_long s
 
 -- the move breaks no rule
 abbrev pub IsAllowed : SenderKind → Kind → Type 0

@@ -4,12 +4,11 @@ ghost use Rattle.std.specs.Prelude.{◌≡◌, ◌≤◌, ◌+◌, ◌*◌, ◌+
 ghost use Rattle.cob_limits.specs.Limits.{most_digits};
 ghost use Rattle.cob_cp037.specs.Named.{zero_byte};
 ghost use Rattle.cob_decimal.specs.Decimal.{IsDigits};
-ghost use Rattle.cob_decimal.specs.Parts.{zeros_of};
 ghost use Rattle.cob_move_receive.specs.Characters.{numerals, numerals_to_point};
 
 use arrayvec::ArrayVec;
 use cob_cp037::ZERO;
-use cob_decimal::Number;
+use cob_decimal::{Number, zeros_of};
 use cob_limits::MAX_DIGITS;
 
 /// The most digits of a number, with the zeros up to the point.
@@ -36,24 +35,13 @@ fn push_zeros(text: &mut ArrayVec<u8, MAX_NUMERALS>, zeros: usize)
     }
 }
 
-/// How many zeros stand between the last digit and the point.
-fn zeros_of(scale: i8) -> usize
-    ensures { result ≡ zeros_of scale }
-{
-    if scale < 0 {
-        usize::from(scale.unsigned_abs())
-    } else {
-        0
-    }
-}
-
 /// The digits of a number as characters, without its sign, with a zero for each place up to the point.
 pub(crate) fn numerals_to_point(number: &Number) -> ArrayVec<u8, MAX_NUMERALS>
     ensures { result.items ≡ numerals_to_point number.now.digits number.now.scale }
 {
     let mut text = ArrayVec::new();
     push_digits(&mut text, number.digits().as_slice());
-    push_zeros(&mut text, zeros_of(number.scale()));
+    push_zeros(&mut text, usize::from(zeros_of(number.scale())));
     text
 }
 

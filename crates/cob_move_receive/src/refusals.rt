@@ -4,7 +4,7 @@ ghost use Rattle.std.specs.Prelude.{◌≡◌, true, IfNone, IfSome};
 ghost use Rattle.std.specs.List.{list_all};
 ghost use Rattle.cob_copybook_entry.specs.Described.{plain_value};
 ghost use Rattle.cob_move_receive.specs.Table.{sender_kind};
-ghost use Rattle.cob_move_receive.specs.Refusals.{is_digit_character, is_refused, is_empty_literal, is_longer_than_number, is_too_long, is_wrong_literal, receives_bytes, receives_number, IsAllowed};
+ghost use Rattle.cob_move_receive.specs.Refusals.{is_digit_character, is_refused, is_empty_literal, is_longer_than_number, is_too_long, is_wrong_literal, IsAllowed};
 
 use crate::table::{SenderKind, has_fraction, may_move};
 use cob_copybook_tree::{Item, Kind, Value};
@@ -20,23 +20,6 @@ pub enum Refusal {
     Literal,
     /// An alphanumeric sender of more than 31 characters to a numeric or numeric edited item (M10).
     TooLong,
-}
-
-/// Whether the receiver is numeric or numeric edited.
-fn receives_number(kind: &Kind) -> bool
-    ensures { result ≡ receives_number kind.now }
-{
-    match kind {
-        Kind::Group => false,
-        Kind::Item(item) => item.picture.category().shows_number(),
-    }
-}
-
-/// Whether the receiver is a group.
-fn receives_bytes(kind: &Kind) -> bool
-    ensures { result ≡ receives_bytes kind.now }
-{
-    matches!(kind, Kind::Group)
 }
 
 /// Whether each character is a digit.
@@ -58,11 +41,10 @@ fn is_wrong_literal(value: &Value, to: &Kind) -> bool
     ensures { result ≡ is_wrong_literal (plain_value value.now) to.now }
 {
     match value {
-        Value::Number { signed, number } => receives_bytes(to)
+        Value::Number { signed, number } => to.is_group()
             && (*signed || has_fraction(number.scale())),
         Value::Literal(text) => {
-            is_empty_literal(text.as_bytes())
-                || (receives_number(to) && !are_digits(text.as_bytes()))
+            is_empty_literal(text.as_bytes()) || (to.shows_number() && !are_digits(text.as_bytes()))
         }
         Value::Figurative(_) => false,
         Value::All(text) => is_empty_literal(text.as_bytes()),
@@ -103,7 +85,7 @@ pub fn refusal_of(from: &SenderKind<'_>, to: &Kind) -> Option<Refusal>
     ensures broken { IfSome result (λ r. is_refused r (sender_kind from.now) to.now ≡ true) }
     ensures fine { IfNone result (IsAllowed (sender_kind from.now) to.now) }
 {
-    if receives_number(to) && is_too_long(from) {
+    if to.shows_number() && is_too_long(from) {
         Some(Refusal::TooLong)
     } else if has_wrong_literal(from, to) {
         Some(Refusal::Literal)

@@ -42,14 +42,14 @@ use crate::actions::action_at;
 use crate::fault::{MoveFault, MoveRule};
 use crate::parts::Statement;
 use cob_copybook_clauses::{WordClass, is_name_word, is_term};
-use cob_source::{Kind, Token};
+use cob_source::{Token, TokenKind};
 use std::alloc::{AllocError, Global};
 
 /// Whether a token is a period.
 fn is_stop(token: &Token) -> bool
     ensures { IsTrue result ↔ IsPeriod (lexeme token.now) }
 {
-    token.kind == Kind::Stop
+    token.kind == TokenKind::Stop
 }
 
 /// The words behind the period in front, if there is one.

@@ -1,4 +1,4 @@
-ghost use Rattle.std.specs.Prelude.{◌≡◌, ◌≢◌, ◌≤◌, ◌<◌, ◌↔◌, List, ℕ, ◌∷◌, ◌++◌, [], length, IfSome, IsSomeAnd, IsTrue};
+ghost use Rattle.std.specs.Prelude.{◌≡◌, ◌≢◌, ◌<◌, ◌↔◌, List, ℕ, ◌∷◌, ◌++◌, [], IfSome, IsSomeAnd, IsTrue};
 ghost use Rattle.std.specs.List.{AllByRecursion};
 ghost use Rattle.cob_decimal.specs.Literals.{AreDigits};
 ghost use Rattle.cob_source.specs.Tokens.{Lexeme, lexeme, lexemes};
@@ -8,7 +8,7 @@ ghost use Rattle.cob_move_statements.specs.Statements.{AreSubscripts, IsNumeral}
 ghost use Rattle.cob_copybook_clauses.specs.Reading.{Answers, EachCut, NotFirstWord, StandInFront};
 ghost use Rattle.cob_move_statements.specs.Reading.{AnswersBracketed, BracketsInFront, Splits};
 
-use cob_copybook_clauses::{WordClass, behind, is_term};
+use cob_copybook_clauses::{WordClass, behind, front, is_term};
 use cob_decimal::are_digits;
 use cob_source::Token;
 
@@ -32,15 +32,6 @@ fn behind_numeral(words: &[Token]) -> Option<&[Token]>
         return None;
     }
     Some(more)
-}
-
-/// The words without this many at the end.
-fn front(words: &[Token], behind: usize) -> &[Token]
-    requires { behind ≤ length words.now }
-    ensures { (done more : List Lexeme) → lexemes words.now ≡ done ++ more → length more ≡ behind
-        → lexemes result.now ≡ done }
-{
-    &words[..words.len() - behind]
 }
 
 /// The words of digits in front, as many as there are, and what is behind them.

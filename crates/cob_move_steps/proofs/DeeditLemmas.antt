@@ -15,8 +15,8 @@ use Rattle.cob_picture.specs.Positions.{PlainPicture}
 use Rattle.cob_codec.specs.declared.reading.Reading.{Reading}
 use Rattle.cob_copybook_tree.specs.declared.node.Item.{Item}
 use Rattle.cob_copybook_tree.specs.Lengths.{item_size}
-use Rattle.cob_edit.specs.declared.place.Place.{Place}
-use Rattle.cob_edit.specs.declared.place.Place.TheVariants.{Inserted, Point, Digit, Suppressed, Floating, First, Fixed, AssumedPoint}
+use Rattle.cob_edit.specs.declared.place.EditedPlace.{EditedPlace}
+use Rattle.cob_edit.specs.declared.place.EditedPlace.TheVariants.{Inserted, Point, Digit, Suppressed, Floating, First, Fixed, AssumedPoint}
 use Rattle.cob_edit.specs.Editing.{extract, FitsPlaces, IsText, shown_digit, shows_sign}
 use Rattle.cob_edit.specs.Pictured.{IsEdited, IsInRange, places}
 use Rattle.cob_edit.specs.Places.{bytes_of, has_byte, is_digit}
@@ -58,20 +58,20 @@ digit_step true n bytes xs ats rest (suc k) lt = rest k (omega arith)
 digit_step false n bytes xs ats rest k lt = rest k lt
 
 -- as many as there are places of digits
-pub count_bytes : (n : ℕ) (ps : List Place) → length (digit_bytes_from n ps) ≡ count_by is_digit ps
+pub count_bytes : (n : ℕ) (ps : List EditedPlace) → length (digit_bytes_from n ps) ≡ count_by is_digit ps
 count_bytes n [] = refl
 count_bytes n (p ∷ ps) =
     let m : ℕ = if has_byte p then n + 1 else n in
     count_step (is_digit p) n (count_by is_digit ps) (digit_bytes_from m ps) (count_bytes m ps) ∙ sym (sum_by-cons (λ x. cond (is_digit x) 1 0) p ps)
 
-pub count_digits : (ps : List Place) (bytes : List ℕ) → length (extract ps bytes) ≡ count_by is_digit ps
+pub count_digits : (ps : List EditedPlace) (bytes : List ℕ) → length (extract ps bytes) ≡ count_by is_digit ps
 count_digits [] bytes = refl
 count_digits (p ∷ ps) bytes =
     let rest : List ℕ = if has_byte p then drop 1 bytes else bytes in
     count_step (is_digit p) (shown_digit (get_or bytes 0 0)) (count_by is_digit ps) (extract ps rest) (count_digits ps rest) ∙ sym (sum_by-cons (λ x. cond (is_digit x) 1 0) p ps)
 
 -- each is what the byte of its place shows
-pub extract_at : (ps : List Place) (n : ℕ) (bytes : List ℕ) (k : ℕ) → k < length (digit_bytes_from n ps) → get_or (extract ps (drop n bytes)) k 0 ≡ digit_shown (get_or bytes (get_or (digit_bytes_from n ps) k 0) 0)
+pub extract_at : (ps : List EditedPlace) (n : ℕ) (bytes : List ℕ) (k : ℕ) → k < length (digit_bytes_from n ps) → get_or (extract ps (drop n bytes)) k 0 ≡ digit_shown (get_or bytes (get_or (digit_bytes_from n ps) k 0) 0)
 extract_at [] n bytes k lt = absurd (omega arith)
 extract_at (p ∷ ps) n bytes k lt =
     let m : ℕ = if has_byte p then n + 1 else n in
@@ -79,7 +79,7 @@ extract_at (p ∷ ps) n bytes k lt =
     ∙ digit_step (is_digit p) n bytes (extract ps (drop m bytes)) (digit_bytes_from m ps) (extract_at ps m bytes) k lt
 
 -- a place of a digit has a byte
-digits_bytes : (p : Place) → is_digit p ≡ true → has_byte p ≡ true
+digits_bytes : (p : EditedPlace) → is_digit p ≡ true → has_byte p ≡ true
 digits_bytes (Inserted b) h = refl
 digits_bytes Point h = refl
 digits_bytes Digit h = refl
@@ -98,7 +98,7 @@ within_step false true n c ats has rest k lt = let behind : get_or ats k 0 < n +
 within_step false false n c ats has rest k lt = let behind : get_or ats k 0 < n + c = rest k lt in omega (arith, behind)
 
 -- each is one of the bytes that the places have
-pub bytes_within : (n : ℕ) (ps : List Place) (k : ℕ) → k < length (digit_bytes_from n ps) → get_or (digit_bytes_from n ps) k 0 < n + bytes_of ps
+pub bytes_within : (n : ℕ) (ps : List EditedPlace) (k : ℕ) → k < length (digit_bytes_from n ps) → get_or (digit_bytes_from n ps) k 0 < n + bytes_of ps
 bytes_within n [] k lt = absurd (omega arith)
 bytes_within n (p ∷ ps) k lt =
     let m : ℕ = if has_byte p then n + 1 else n in
@@ -119,7 +119,7 @@ padded_at xs n i =
       | inr ge ↦ get_or-append_right xs (replicate n 0) (length xs) i 0 refl ge ∙ zeros_at n (i - length xs) ∙ sym (get_or_past xs i 0 ge)
     ]
 
-pub digits_out : (ps : List Place) (bytes lanes : List ℕ) (count : ℕ) → count_by is_digit ps ≡ count → count ≤ 16 → AreDigitsAt (digit_bytes_from 0 ps) (padded_text bytes) lanes → take count lanes ≡ extract ps bytes
+pub digits_out : (ps : List EditedPlace) (bytes lanes : List ℕ) (count : ℕ) → count_by is_digit ps ≡ count → count ≤ 16 → AreDigitsAt (digit_bytes_from 0 ps) (padded_text bytes) lanes → take count lanes ≡ extract ps bytes
 digits_out ps bytes lanes count same few d =
     let ats : List ℕ = digit_bytes_from 0 ps in
     let long : length (take count lanes) ≡ count = length-take-le count lanes (omega (arith, d.long)) in

@@ -8,8 +8,8 @@ use Rattle.cob_picture.specs.Counts.{digits, scale, size}
 use Rattle.cob_copybook_tree.specs.declared.node.Item.{Item}
 use Rattle.cob_copybook_tree.specs.Lengths.{item_size}
 use Rattle.cob_decimal.specs.Decimal.{IsDigits}
-use Rattle.cob_edit.specs.declared.cell.Cell.{Cell}
-use Rattle.cob_edit.specs.declared.cell.Cell.TheVariants.{Same, Signed, Taken}
+use Rattle.cob_edit.specs.declared.cell.TextCell.{TextCell}
+use Rattle.cob_edit.specs.declared.cell.TextCell.TheVariants.{Same, Signed, Taken}
 use Rattle.cob_edit.specs.Pictured.{IsEdited}
 use Rattle.cob_edit.specs.Rows.{cell_byte, row_bytes, IsRowOf}
 use Rattle.cob_codec_lanes.specs.Lanes.{picked_at}
@@ -72,10 +72,10 @@ small_byte : (byte : ℕ) → byte < 256 → (0 + byte) % 256 ≡ byte
 small_byte byte lt = omega arith
 
 -- the byte that lanes show for a cell
-abbrev shown_byte : Bool → List ℕ → Cell → ℕ
+abbrev shown_byte : Bool → List ℕ → TextCell → ℕ
 shown_byte negative lanes c = (picked_at lanes (shown_lane c) + added_to negative c) % 256
 
-one_cell : (c : Cell) (count : ℕ) (negative : Bool) (lanes : List ℕ) → count ≤ 16 → AreLed count lanes → added_to negative c < 256
+one_cell : (c : TextCell) (count : ℕ) (negative : Bool) (lanes : List ℕ) → count ≤ 16 → AreLed count lanes → added_to negative c < 256
     → shown_byte negative lanes c ≡ cell_byte (take count lanes) negative c
 one_cell (Same byte) count negative lanes few led small = small_byte byte small
 one_cell (Signed plus minus) count true lanes few led small = small_byte minus small
@@ -83,17 +83,17 @@ one_cell (Signed plus minus) count false lanes few led small = small_byte plus s
 one_cell (Taken number) count negative lanes few led small = taken_cell count number lanes few led (ltb number 16) refl
 
 -- so many bytes are what lanes show of a row, and 0 behind it
-record AreRowShown (row : List Cell) (n : ℕ) (negative : Bool) (lanes bytes : List ℕ) : Type 0 where
+record AreRowShown (row : List TextCell) (n : ℕ) (negative : Bool) (lanes bytes : List ℕ) : Type 0 where
   long : length bytes ≡ n
   each : (i : ℕ) → i < n → get_or bytes i 0 ≡ shown_byte negative lanes (cell_in row i)
   small : (i : ℕ) → i < n → added_to negative (cell_in row i) < 256
 
-added_here : (row : List Cell) (start : ℕ) (t : LaneText) (negative : Bool) (i : ℕ) → IsTextOf row start t → i < 16
+added_here : (row : List TextCell) (start : ℕ) (t : LaneText) (negative : Bool) (i : ℕ) → IsTextOf row start t → i < 16
     → get_or (cond negative t.minus t.plus) i 0 ≡ added_to negative (cell_in row (start + i))
 added_here row start t true i is lt = is.minus i lt
 added_here row start t false i is lt = is.plus i lt
 
-shown_here : (row : List Cell) (start : ℕ) (t : LaneText) (negative : Bool) (lanes bytes : List ℕ) (at i : ℕ) → IsTextOf row start t → AreShown t negative lanes bytes → i < 16 → start + i ≡ at
+shown_here : (row : List TextCell) (start : ℕ) (t : LaneText) (negative : Bool) (lanes bytes : List ℕ) (at i : ℕ) → IsTextOf row start t → AreShown t negative lanes bytes → i < 16 → start + i ≡ at
     → get_or bytes i 0 ≡ shown_byte negative lanes (cell_in row at)
 shown_here row start t negative lanes bytes at i is shown lt there =
     shown.each i lt
@@ -101,17 +101,17 @@ shown_here row start t negative lanes bytes at i is shown lt there =
     ∙ ap (λ added. (picked_at lanes (shown_lane (cell_in row (start + i))) + added) % 256) (added_here row start t negative i is lt)
     ∙ ap (λ k. shown_byte negative lanes (cell_in row k)) there
 
-small_here : (row : List Cell) (start : ℕ) (t : LaneText) (negative : Bool) (at i : ℕ) → IsTextOf row start t → i < 16 → start + i ≡ at → added_to negative (cell_in row at) < 256
+small_here : (row : List TextCell) (start : ℕ) (t : LaneText) (negative : Bool) (at i : ℕ) → IsTextOf row start t → i < 16 → start + i ≡ at → added_to negative (cell_in row at) < 256
 small_here row start t negative at i is lt there = subst (λ k. added_to negative (cell_in row k) < 256) there (is.small i negative lt)
 
-short_shown : (row : List Cell) (t : LaneText) (negative : Bool) (lanes bytes : List ℕ) → IsTextOf row 0 t → AreShown t negative lanes bytes → AreRowShown row 16 negative lanes bytes
+short_shown : (row : List TextCell) (t : LaneText) (negative : Bool) (lanes bytes : List ℕ) → IsTextOf row 0 t → AreShown t negative lanes bytes → AreRowShown row 16 negative lanes bytes
 short_shown row t negative lanes bytes is shown = record {
   long = shown.long;
   each = λ i lt. shown_here row 0 t negative lanes bytes i i is shown lt (omega arith);
   small = λ i lt. small_here row 0 t negative i i is lt (omega arith);
 }
 
-wide_shown : (row : List Cell) (t : WideText) (negative : Bool) (lanes bytes : List ℕ) → IsWideTextOf row t → AreWidelyShown t negative lanes bytes → AreRowShown row 32 negative lanes bytes
+wide_shown : (row : List TextCell) (t : WideText) (negative : Bool) (lanes bytes : List ℕ) → IsWideTextOf row t → AreWidelyShown t negative lanes bytes → AreRowShown row 32 negative lanes bytes
 wide_shown row t negative lanes bytes is shown = record {
   long = ap length shown.both ∙ length-append shown.front shown.back ∙ omega (arith, shown.first.long, shown.last.long);
   each = λ i lt.
@@ -128,7 +128,7 @@ wide_shown row t negative lanes bytes is shown = record {
       ];
 }
 
-row_shown : (row : List Cell) (n count : ℕ) (negative : Bool) (lanes bytes : List ℕ) → length row ≤ n → count ≤ 16 → AreLed count lanes → AreRowShown row n negative lanes bytes
+row_shown : (row : List TextCell) (n count : ℕ) (negative : Bool) (lanes bytes : List ℕ) → length row ≤ n → count ≤ 16 → AreLed count lanes → AreRowShown row n negative lanes bytes
     → take (length row) bytes ≡ row_bytes (take count lanes) negative row
 row_shown row n count negative lanes bytes fits few led shown =
     let long : length (take (length row) bytes) ≡ length row = length-take-le (length row) bytes (omega (arith, shown.long)) in
@@ -139,7 +139,7 @@ row_shown row n count negative lanes bytes fits few led shown =
     ∙ one_cell (cell_in row i) count negative lanes few led (shown.small i (omega arith))
     ∙ sym (get_or-map (cell_byte (take count lanes) negative) row i (Same 0) 0 inside))
 
-zeros_shown : (row : List Cell) (n : ℕ) (negative : Bool) (lanes bytes : List ℕ) → length row ≤ n → AreRowShown row n negative lanes bytes → drop (length row) bytes ≡ replicate (n - length row) 0
+zeros_shown : (row : List TextCell) (n : ℕ) (negative : Bool) (lanes bytes : List ℕ) → length row ≤ n → AreRowShown row n negative lanes bytes → drop (length row) bytes ≡ replicate (n - length row) 0
 zeros_shown row n negative lanes bytes fits shown =
     let long : length (drop (length row) bytes) ≡ n - length row = length-drop (length row) bytes ∙ ap (λ k. k - length row) shown.long in
     ext_get_or 0 (drop (length row) bytes) (replicate (n - length row) 0) (long ∙ sym (length-replicate (n - length row) 0)) (λ i lt.
@@ -155,7 +155,7 @@ led_digits count lanes few led =
     all_digits (take count lanes) (λ i lt. omega (arith, get_or-take count lanes i 0 (omega arith), led.tens i (omega arith)))
 
 -- what makes the bytes of a row makes the texts of the item
-texts_made : (to : Item) (front n : ℕ) (row : List Cell) (is_made : Bool → List ℕ → List ℕ → Type 0) → digits to.picture.positions ≤ 16 → item_size to ≡ length row → length row ≤ n → IsRowOf to.picture to.blank front row
+texts_made : (to : Item) (front n : ℕ) (row : List TextCell) (is_made : Bool → List ℕ → List ℕ → Type 0) → digits to.picture.positions ≤ 16 → item_size to ≡ length row → length row ≤ n → IsRowOf to.picture to.blank front row
     → ((negative : Bool) (lanes bytes : List ℕ) → is_made negative lanes bytes → AreRowShown row n negative lanes bytes) → MakesTextsFor to front is_made
 texts_made to front n row is_made few size fits texts shown negative lanes bytes led told made =
     let count : ℕ = digits to.picture.positions in
@@ -164,12 +164,12 @@ texts_made to front n row is_made few size fits texts shown negative lanes bytes
     subst (λ xs. IsEdited to.picture to.blank negative (take count lanes) (scale to.picture.positions) xs) (sym here)
     (texts negative (take count lanes) (led_digits count lanes few led) (length-take-le count lanes (omega (arith, led.long))) told)
 
-pub text_made : (to : Item) (front : ℕ) (row : List Cell) (t : LaneText) → digits to.picture.positions ≤ 16 → item_size to ≤ 16 → item_size to ≡ length row → IsTextOf row 0 t → IsRowOf to.picture to.blank front row
+pub text_made : (to : Item) (front : ℕ) (row : List TextCell) (t : LaneText) → digits to.picture.positions ≤ 16 → item_size to ≤ 16 → item_size to ≡ length row → IsTextOf row 0 t → IsRowOf to.picture to.blank front row
     → IsTextFor to front t
 text_made to front row t few fits size is texts =
     texts_made to front 16 row (AreShown t) few size (omega arith) texts (λ negative lanes bytes shown. short_shown row t negative lanes bytes is shown)
 
-pub wide_text_made : (to : Item) (front : ℕ) (row : List Cell) (t : WideText) → digits to.picture.positions ≤ 16 → item_size to ≤ 32 → item_size to ≡ length row → IsWideTextOf row t
+pub wide_text_made : (to : Item) (front : ℕ) (row : List TextCell) (t : WideText) → digits to.picture.positions ≤ 16 → item_size to ≤ 32 → item_size to ≡ length row → IsWideTextOf row t
     → IsRowOf to.picture to.blank front row → IsWideTextFor to front t
 wide_text_made to front row t few fits size is texts = record {
   text = texts_made to front 32 row (AreWidelyShown t) few size (omega arith) texts (λ negative lanes bytes shown. wide_shown row t negative lanes bytes is shown);

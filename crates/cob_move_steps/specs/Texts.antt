@@ -7,9 +7,9 @@ use Rattle.cob_picture.specs.Positions.{shows_number}
 use Rattle.cob_copybook_tree.specs.declared.node.Item.{Item}
 use Rattle.cob_copybook_tree.specs.Resolving.{is_number}
 use Rattle.cob_copybook_tree.specs.Lengths.{item_size}
-use Rattle.cob_edit.specs.declared.cell.Cell.{Cell}
-use Rattle.cob_edit.specs.declared.cell.Cell.TheVariants.{Same, Signed, Taken}
-use Rattle.cob_edit.specs.declared.place.Place.{Place}
+use Rattle.cob_edit.specs.declared.cell.TextCell.{TextCell}
+use Rattle.cob_edit.specs.declared.cell.TextCell.TheVariants.{Same, Signed, Taken}
+use Rattle.cob_edit.specs.declared.place.EditedPlace.{EditedPlace}
 use Rattle.cob_edit.specs.Pictured.{IsEdited}
 use Rattle.cob_edit.specs.Places.{is_digit, has_byte}
 use Rattle.cob_codec_lanes.specs.Lanes.{AreTens}
@@ -38,37 +38,37 @@ pub record IsWideEditedItem (i : Item) : Type 0 where
   pub fits : item_size i ≤ 32
 
 -- The byte of each place of a digit, in order, where the first place has the byte of this number.
-abbrev pub digit_bytes_from : ℕ → List Place → List ℕ
+abbrev pub digit_bytes_from : ℕ → List EditedPlace → List ℕ
 digit_bytes_from at [] = []
 digit_bytes_from at (p ∷ ps) = (if is_digit p then at ∷ [] else []) ++ digit_bytes_from (if has_byte p then at + 1 else at) ps
 
 -- ---- texts
 
 -- the cell with this number of a row; behind the row stands the byte 0
-abbrev pub cell_in : List Cell → ℕ → Cell
+abbrev pub cell_in : List TextCell → ℕ → TextCell
 cell_in row i = slice_index_or row i (Same 0)
 
 -- The lane of the digit that a cell shows, or none: sixteen lanes hold no later digit.
-abbrev pub shown_lane : Cell → ℕ
+abbrev pub shown_lane : TextCell → ℕ
 shown_lane (Same byte) = 128
 shown_lane (Signed plus minus) = 128
 shown_lane (Taken number) = if nat_lt number 16 then number else 128
 
 -- What is added to that digit in the text of a number that is negative or not.
-abbrev pub added_to : Bool → Cell → ℕ
+abbrev pub added_to : Bool → TextCell → ℕ
 added_to negative (Same byte) = byte
 added_to negative (Signed plus minus) = if negative then minus else plus
 added_to negative (Taken number) = zero_byte
 
 -- Sixteen bytes of a text, from this one on, are made as the cells of the row say; behind the row they are 0.
-pub record IsTextOf (row : List Cell) (start : ℕ) (t : LaneText) : Type 0 where
+pub record IsTextOf (row : List TextCell) (start : ℕ) (t : LaneText) : Type 0 where
   pub lanes : (i : ℕ) → i < 16 → slice_index t.picks.lanes i ≡ shown_lane (cell_in row (start + i))
   pub plus : (i : ℕ) → i < 16 → slice_index t.plus i ≡ added_to false (cell_in row (start + i))
   pub minus : (i : ℕ) → i < 16 → slice_index t.minus i ≡ added_to true (cell_in row (start + i))
   pub small : (i : ℕ) (negative : Bool) → i < 16 → added_to negative (cell_in row (start + i)) < 256
 
 -- So are thirty-two bytes.
-pub record IsWideTextOf (row : List Cell) (t : WideText) : Type 0 where
+pub record IsWideTextOf (row : List TextCell) (t : WideText) : Type 0 where
   pub front : IsTextOf row 0 t.front
   pub back : IsTextOf row 16 t.back
 

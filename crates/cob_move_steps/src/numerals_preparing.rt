@@ -1,7 +1,6 @@
 //! Steps of numbers that are moved to characters, made ready.
 
 ghost use Rattle.std.specs.Prelude.{◌≡◌, ◌↔◌, ◌<◌, ℕ, true, slice_index, IfSome, IsSome, IsTrue};
-ghost use Rattle.cob_decimal.specs.Parts.{zeros_of};
 ghost use Rattle.cob_codec_lanes.specs.Lanes.{is_pick};
 ghost use Rattle.cob_move_steps.specs.Numerals.{HasFewNumerals, HaveNumerals, IsNumeralsStep, MakesNumerals, numeral_count, numeral_lane, numeral_zone};
 
@@ -10,24 +9,14 @@ use crate::numerals_step::NumeralsStep;
 use cob_codec_lanes::{LaneText, NO_LANE, Picks};
 use cob_copybook_tree::{Item, is_number_item};
 use cob_cp037::ZERO;
+use cob_decimal::zeros_of;
 use cob_move_receive::is_of_characters;
-
-/// How many zeros stand between the last digit and the point.
-fn zeros_of(scale: i8) -> usize
-    ensures { result ≡ zeros_of scale }
-{
-    if scale < 0 {
-        usize::from(scale.unsigned_abs())
-    } else {
-        0
-    }
-}
 
 /// How many characters the digits of an item's number are, with a zero for each P at the right.
 fn numeral_count(item: &Item) -> usize
     ensures { result ≡ numeral_count item.now }
 {
-    usize::from(item.picture.digits()) + zeros_of(item.picture.scale())
+    usize::from(item.picture.digits()) + usize::from(zeros_of(item.picture.scale()))
 }
 
 /// Whether an item is a number, and its digits are at most sixteen characters.

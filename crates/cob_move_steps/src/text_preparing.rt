@@ -17,11 +17,11 @@ use crate::wide_edit_preparing::{is_wide_edited_item, text_writer};
 use crate::wide_texts::wide_texts_for;
 use cob_codec_lanes::{DigitPlaces, KeptDigits};
 use cob_copybook_tree::Item;
-use cob_edit::{Place, places_of};
+use cob_edit::{EditedPlace, places_of};
 use std::alloc::{AllocError, Global};
 
 /// Where the digits of these places stand in a text.
-fn digits_of(places: &[Place]) -> DigitPlaces
+fn digits_of(places: &[EditedPlace]) -> DigitPlaces
     requires few { count_by is_digit places.now ≤ 16 }
     requires fits { bytes_of places.now ≤ 32 }
     ensures { ArePlacesAt (digit_bytes_from 0 places.now) result }

@@ -9,45 +9,45 @@ ghost use Rattle.cob_move_steps.specs.Texts.{AreTextsFor, IsEditedItem, IsTextFo
 use cob_codec_lanes::{LaneText, NO_LANE, Picks};
 use cob_copybook_tree::Item;
 use cob_cp037::ZERO;
-use cob_edit::{Cell, Places, places_of, row_of};
+use cob_edit::{Places, TextCell, places_of, row_of};
 use std::alloc::{AllocError, Global};
 
 /// The lane of the digit that a byte shows, or none.
-fn shown_lane(cell: Cell) -> u8
+fn shown_lane(cell: TextCell) -> u8
     ensures lane { result ≡ shown_lane cell }
     ensures valid { is_pick result ≡ true }
 {
     match cell {
-        Cell::Same(_) | Cell::Signed { .. } => NO_LANE,
-        Cell::Taken(number) => { if number < 16 { number } else { NO_LANE } }
+        TextCell::Same(_) | TextCell::Signed { .. } => NO_LANE,
+        TextCell::Taken(number) => { if number < 16 { number } else { NO_LANE } }
     }
 }
 
 /// What is added to that digit.
-fn added_to(negative: bool, cell: Cell) -> u8
+fn added_to(negative: bool, cell: TextCell) -> u8
     ensures value { result ≡ added_to negative cell }
     ensures small { result < 256 }
 {
     match cell {
-        Cell::Same(byte) => byte,
-        Cell::Signed { plus, minus } => { if negative { minus } else { plus } }
-        Cell::Taken(_) => ZERO,
+        TextCell::Same(byte) => byte,
+        TextCell::Signed { plus, minus } => { if negative { minus } else { plus } }
+        TextCell::Taken(_) => ZERO,
     }
 }
 
 /// The cell with this number of a row; behind the row stands the byte 0.
-fn cell_in(row: &[Cell], at: usize) -> Cell
+fn cell_in(row: &[TextCell], at: usize) -> TextCell
     ensures { result ≡ cell_in row.now at }
 {
     if at < row.len() {
         row[at]
     } else {
-        Cell::Same(0)
+        TextCell::Same(0)
     }
 }
 
 /// The lanes of the digits that sixteen bytes of a text show, from this one on.
-fn picks_of(row: &[Cell], start: usize) -> Picks
+fn picks_of(row: &[TextCell], start: usize) -> Picks
     requires { start ≤ 16 }
     ensures { (i : ℕ) → i < 16
         → slice_index result.lanes i ≡ shown_lane (cell_in row.now (start + i)) }
@@ -60,7 +60,7 @@ fn picks_of(row: &[Cell], start: usize) -> Picks
 }
 
 /// What is added to them in the text of a number that is negative or not.
-fn added_in(negative: bool, row: &[Cell], start: usize) -> [u8; 16]
+fn added_in(negative: bool, row: &[TextCell], start: usize) -> [u8; 16]
     requires { start ≤ 16 }
     ensures each { (i : ℕ) → i < 16
         → slice_index result i ≡ added_to negative (cell_in row.now (start + i)) }
@@ -74,7 +74,7 @@ fn added_in(negative: bool, row: &[Cell], start: usize) -> [u8; 16]
 }
 
 /// What makes sixteen bytes of a text, from this one on.
-pub(crate) fn text_of(row: &[Cell], start: usize) -> LaneText
+pub(crate) fn text_of(row: &[TextCell], start: usize) -> LaneText
     requires { start ≤ 16 }
     ensures { IsTextOf row.now start result }
 {

@@ -8,11 +8,11 @@ ghost use Rattle.cob_move_steps.specs.Texts.{AreWideTextsFor, IsWideEditedItem, 
 use crate::texts::text_of;
 use cob_codec_lanes::WideText;
 use cob_copybook_tree::Item;
-use cob_edit::{Cell, Places, places_of, row_of};
+use cob_edit::{Places, TextCell, places_of, row_of};
 use std::alloc::{AllocError, Global};
 
 /// What makes a text whose bytes are these, and zeros behind it.
-fn wide_text_of(row: &[Cell]) -> WideText
+fn wide_text_of(row: &[TextCell]) -> WideText
     ensures { IsWideTextOf row.now result }
 {
     WideText {

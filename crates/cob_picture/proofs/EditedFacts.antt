@@ -7,10 +7,10 @@ use Rattle.cob_picture.specs.declared.symbol.Symbol.{Symbol}
 use Rattle.cob_picture.specs.declared.symbol.Symbol.TheVariants.{A, X, Nine, S, V, P, Z, Star, Dollar, Plus, Minus}
 use Rattle.cob_picture.specs.declared.symbol.Run.{Run}
 use Rattle.cob_picture.specs.declared.numeric.NumericParts.{NumericParts}
-use Rattle.cob_picture.specs.declared.edited.Kind.{Kind}
-use Rattle.cob_picture.specs.declared.edited.Kind.TheVariants.{OfRun, OfPoint, OfNone}
-use Rattle.cob_picture.specs.declared.edited.Part.{Part}
-use Rattle.cob_picture.specs.declared.edited.Part.TheVariants.{Lead, Currency, Front, Whole, PointPart, Fraction, Trail}
+use Rattle.cob_picture.specs.declared.edited.SymbolKind.{SymbolKind}
+use Rattle.cob_picture.specs.declared.edited.SymbolKind.TheVariants.{OfRun, OfPoint, OfNone}
+use Rattle.cob_picture.specs.declared.edited.EditedPart.{EditedPart}
+use Rattle.cob_picture.specs.declared.edited.EditedPart.TheVariants.{Lead, Currency, Front, Whole, PointPart, Fraction, Trail}
 use Rattle.cob_picture.specs.declared.category.Category.{Category}
 use Rattle.cob_picture.specs.declared.category.Category.TheVariants.{Alphabetic, Numeric, Alphanumeric, AlphanumericEdited, NumericEdited}
 use Rattle.cob_picture.specs.Positions.{is, symbol_count, written_out, is_that}
@@ -41,7 +41,7 @@ run_symbol_not xs s = chosen_not (nat_le 2 (symbol_count Dollar xs)) (nat_le 2 (
 
 -- ---- what is not of a part
 
-times_none : (f : Part) (q : Option Symbol) (s : Symbol) (xs : List Symbol) → belongs f (symbol_kind q s) ≡ false → AreOf f q xs → symbol_count s xs ≡ 0
+times_none : (f : EditedPart) (q : Option Symbol) (s : Symbol) (xs : List Symbol) → belongs f (symbol_kind q s) ≡ false → AreOf f q xs → symbol_count s xs ≡ 0
 times_none f q s [] out all = refl
 times_none f q s (t ∷ xs) out all =
     let other : is s t ≡ false = is_other s t (λ e. let x : true ≡ false = sym all.0 ∙ ap (λ (u : Symbol). belongs f (symbol_kind q u)) e ∙ out in cc) in
@@ -57,13 +57,13 @@ times_edited s e =
     let t2 = e.currency ++ t3 in
     omega (arith, times-append s e.lead t2, times-append s e.currency t3, times-append s e.front t4, times-append s e.whole t5, times-append s e.point t6, times-append s e.fraction e.trail)
 
-kind_is : (q : Option Symbol) (s : Symbol) (k : Kind) → is_that q s ≡ false → settled_kind s ≡ k → symbol_kind q s ≡ k
+kind_is : (q : Option Symbol) (s : Symbol) (k : SymbolKind) → is_that q s ≡ false → settled_kind s ≡ k → symbol_kind q s ≡ k
 kind_is q s k out e = ap (λ (b : Bool). (if b then OfRun else settled_kind s)) out ∙ e
 
 -- a symbol of no kind stands nowhere
 no_kind : (q : Option Symbol) (s : Symbol) (e : Edited) → symbol_kind q s ≡ OfNone → HasKinds q e → symbol_count s (edited_symbols e) ≡ 0
 no_kind q s e none k =
-    let out : (f : Part) → belongs f OfNone ≡ false → belongs f (symbol_kind q s) ≡ false = λ f h. ap (belongs f) none ∙ h in
+    let out : (f : EditedPart) → belongs f OfNone ≡ false → belongs f (symbol_kind q s) ≡ false = λ f h. ap (belongs f) none ∙ h in
     omega (
       arith,
       times_edited s e,
@@ -87,7 +87,7 @@ times_le_length s (t ∷ xs) = at (is s t) refl (times_le_length s xs)
 -- a point stands once at most
 pub one_point : (q : Option Symbol) (s : Symbol) (e : Edited) → symbol_kind q s ≡ OfPoint → HasKinds q e → AreAllowed q (counts_in q e) → symbol_count s (edited_symbols e) ≤ 1
 one_point q s e is k n =
-    let out : (f : Part) → belongs f OfPoint ≡ false → belongs f (symbol_kind q s) ≡ false = λ f h. ap (belongs f) is ∙ h in
+    let out : (f : EditedPart) → belongs f OfPoint ≡ false → belongs f (symbol_kind q s) ≡ false = λ f h. ap (belongs f) is ∙ h in
     omega (
       arith,
       times_edited s e,

@@ -9,8 +9,8 @@ use Rattle.cob_picture.specs.declared.symbol.Symbol.{Symbol}
 use Rattle.cob_picture.specs.declared.symbol.Symbol.TheVariants.{A, X, Nine, S, V, P, B, Zero, Slash, Comma, Point, Z, Star, Dollar, Plus, Minus, Credit, Debit}
 use Rattle.cob_picture.specs.declared.symbol.Run.{Run}
 use Rattle.cob_picture.specs.declared.position.Position.{Position}
-use Rattle.cob_picture.specs.declared.position.Role.{Role}
-use Rattle.cob_picture.specs.declared.position.Role.TheVariants.{Digit, Character}
+use Rattle.cob_picture.specs.declared.position.PositionRole.{PositionRole}
+use Rattle.cob_picture.specs.declared.position.PositionRole.TheVariants.{Digit, Character}
 use Rattle.cob_picture.specs.declared.category.Category.{Category}
 use Rattle.cob_picture.specs.declared.category.Category.TheVariants.{Alphabetic, Numeric, Alphanumeric, AlphanumericEdited, NumericEdited}
 use Rattle.cob_picture.specs.Positions.{is, symbol_count, written_out, shows_number, is_edited, settled_role, floating, is_that, role_at, position_at, positions_from, positions}
@@ -75,7 +75,7 @@ are_plain AlphanumericEdited xs e o = (all_plain xs (omega (arith, o.each)), ome
 are_plain Numeric xs e o = absurd cc
 are_plain NumericEdited xs e o = absurd cc
 
-abbrev settled_nine : Bool → Role
+abbrev settled_nine : Bool → PositionRole
 settled_nine b = if b then Digit else Character
 
 settled_plain : (c : Category) (s : Symbol) → shows_number c ≡ false → is_plain s ≡ true → is_digit_place (settled_role c s) ≡ false

@@ -6,10 +6,10 @@ use Rattle.std.proofs.lemmas.List.{append-nil, take-append-drop, drop_more}
 use Rattle.std.proofs.lemmas.List.Concat.{flat_map-append}
 use Rattle.cob_picture.specs.declared.symbol.Symbol.{Symbol}
 use Rattle.cob_picture.specs.declared.symbol.Run.{Run}
-use Rattle.cob_picture.specs.declared.edited.Kind.{Kind}
-use Rattle.cob_picture.specs.declared.edited.Kind.TheVariants.{OfRun, OfInsertion, OfNine, OfPoint, OfSign, OfCurrency, OfCredit}
-use Rattle.cob_picture.specs.declared.edited.Part.{Part}
-use Rattle.cob_picture.specs.declared.edited.Part.TheVariants.{Lead, Currency, Front, Whole, PointPart, Fraction, Trail}
+use Rattle.cob_picture.specs.declared.edited.SymbolKind.{SymbolKind}
+use Rattle.cob_picture.specs.declared.edited.SymbolKind.TheVariants.{OfRun, OfInsertion, OfNine, OfPoint, OfSign, OfCurrency, OfCredit}
+use Rattle.cob_picture.specs.declared.edited.EditedPart.{EditedPart}
+use Rattle.cob_picture.specs.declared.edited.EditedPart.TheVariants.{Lead, Currency, Front, Whole, PointPart, Fraction, Trail}
 use Rattle.cob_picture.specs.declared.symbol.Symbol.TheVariants.{Nine, V}
 use Rattle.cob_picture.specs.declared.edited.EditedCounts.{EditedCounts}
 use Rattle.cob_picture.specs.Positions.{written_out, symbol_count}
@@ -20,115 +20,115 @@ use Rattle.cob_picture.specs.Parted.{IsSplit, edited_of, HaveFewRuns}
 
 -- ---- which kinds stand in one part and not in another
 
-lead_currency : (k : Kind) → belongs Currency k ≡ true → belongs Lead k ≡ false
+lead_currency : (k : SymbolKind) → belongs Currency k ≡ true → belongs Lead k ≡ false
 lead_currency OfCurrency h = refl
 lead_currency k h = absurd cc
 
-lead_front : (k : Kind) → belongs Front k ≡ true → belongs Lead k ≡ false
+lead_front : (k : SymbolKind) → belongs Front k ≡ true → belongs Lead k ≡ false
 lead_front OfRun h = refl
 lead_front OfInsertion h = refl
 lead_front k h = absurd cc
 
-lead_whole : (k : Kind) → belongs Whole k ≡ true → belongs Lead k ≡ false
+lead_whole : (k : SymbolKind) → belongs Whole k ≡ true → belongs Lead k ≡ false
 lead_whole OfNine h = refl
 lead_whole OfInsertion h = refl
 lead_whole k h = absurd cc
 
-lead_point : (k : Kind) → belongs PointPart k ≡ true → belongs Lead k ≡ false
+lead_point : (k : SymbolKind) → belongs PointPart k ≡ true → belongs Lead k ≡ false
 lead_point OfPoint h = refl
 lead_point k h = absurd cc
 
-lead_fraction : (k : Kind) → belongs Fraction k ≡ true → belongs Lead k ≡ false
+lead_fraction : (k : SymbolKind) → belongs Fraction k ≡ true → belongs Lead k ≡ false
 lead_fraction OfNine h = refl
 lead_fraction OfInsertion h = refl
 lead_fraction OfRun h = refl
 lead_fraction k h = absurd cc
 
-currency_front : (k : Kind) → belongs Front k ≡ true → belongs Currency k ≡ false
+currency_front : (k : SymbolKind) → belongs Front k ≡ true → belongs Currency k ≡ false
 currency_front OfRun h = refl
 currency_front OfInsertion h = refl
 currency_front k h = absurd cc
 
-currency_whole : (k : Kind) → belongs Whole k ≡ true → belongs Currency k ≡ false
+currency_whole : (k : SymbolKind) → belongs Whole k ≡ true → belongs Currency k ≡ false
 currency_whole OfNine h = refl
 currency_whole OfInsertion h = refl
 currency_whole k h = absurd cc
 
-currency_point : (k : Kind) → belongs PointPart k ≡ true → belongs Currency k ≡ false
+currency_point : (k : SymbolKind) → belongs PointPart k ≡ true → belongs Currency k ≡ false
 currency_point OfPoint h = refl
 currency_point k h = absurd cc
 
-currency_fraction : (k : Kind) → belongs Fraction k ≡ true → belongs Currency k ≡ false
+currency_fraction : (k : SymbolKind) → belongs Fraction k ≡ true → belongs Currency k ≡ false
 currency_fraction OfNine h = refl
 currency_fraction OfInsertion h = refl
 currency_fraction OfRun h = refl
 currency_fraction k h = absurd cc
 
-currency_trail : (k : Kind) → belongs Trail k ≡ true → belongs Currency k ≡ false
+currency_trail : (k : SymbolKind) → belongs Trail k ≡ true → belongs Currency k ≡ false
 currency_trail OfSign h = refl
 currency_trail OfCredit h = refl
 currency_trail k h = absurd cc
 
-front_point : (k : Kind) → belongs PointPart k ≡ true → belongs Front k ≡ false
+front_point : (k : SymbolKind) → belongs PointPart k ≡ true → belongs Front k ≡ false
 front_point OfPoint h = refl
 front_point k h = absurd cc
 
-front_trail : (k : Kind) → belongs Trail k ≡ true → belongs Front k ≡ false
+front_trail : (k : SymbolKind) → belongs Trail k ≡ true → belongs Front k ≡ false
 front_trail OfSign h = refl
 front_trail OfCredit h = refl
 front_trail k h = absurd cc
 
-whole_point : (k : Kind) → belongs PointPart k ≡ true → belongs Whole k ≡ false
+whole_point : (k : SymbolKind) → belongs PointPart k ≡ true → belongs Whole k ≡ false
 whole_point OfPoint h = refl
 whole_point k h = absurd cc
 
-whole_trail : (k : Kind) → belongs Trail k ≡ true → belongs Whole k ≡ false
+whole_trail : (k : SymbolKind) → belongs Trail k ≡ true → belongs Whole k ≡ false
 whole_trail OfSign h = refl
 whole_trail OfCredit h = refl
 whole_trail k h = absurd cc
 
-point_fraction : (k : Kind) → belongs Fraction k ≡ true → belongs PointPart k ≡ false
+point_fraction : (k : SymbolKind) → belongs Fraction k ≡ true → belongs PointPart k ≡ false
 point_fraction OfNine h = refl
 point_fraction OfInsertion h = refl
 point_fraction OfRun h = refl
 point_fraction k h = absurd cc
 
-point_trail : (k : Kind) → belongs Trail k ≡ true → belongs PointPart k ≡ false
+point_trail : (k : SymbolKind) → belongs Trail k ≡ true → belongs PointPart k ≡ false
 point_trail OfSign h = refl
 point_trail OfCredit h = refl
 point_trail k h = absurd cc
 
-fraction_trail : (k : Kind) → belongs Trail k ≡ true → belongs Fraction k ≡ false
+fraction_trail : (k : SymbolKind) → belongs Trail k ≡ true → belongs Fraction k ≡ false
 fraction_trail OfSign h = refl
 fraction_trail OfCredit h = refl
 fraction_trail k h = absurd cc
 
 -- ---- cuts
 
-abbrev pub AreNot : Part → Option Symbol → List Symbol → Type 0
+abbrev pub AreNot : EditedPart → Option Symbol → List Symbol → Type 0
 AreNot part q symbols = AllByRecursion (λ s. belongs part (symbol_kind q s) ≡ false) symbols
 
-not_of : (f g : Part) (q : Option Symbol) → ((k : Kind) → belongs g k ≡ true → belongs f k ≡ false) → (xs : List Symbol) → AreOf g q xs → AreNot f q xs
+not_of : (f g : EditedPart) (q : Option Symbol) → ((k : SymbolKind) → belongs g k ≡ true → belongs f k ≡ false) → (xs : List Symbol) → AreOf g q xs → AreNot f q xs
 not_of f g q apart [] all = tt
 not_of f g q apart (s ∷ xs) all = (apart (symbol_kind q s) all.0, not_of f g q apart xs all.1)
 
-stops_or : (f : Part) (q : Option Symbol) (a x : List Symbol) → AreNot f q a → (length a ≡ 0 → Stops f q x) → Stops f q (a ++ x)
+stops_or : (f : EditedPart) (q : Option Symbol) (a x : List Symbol) → AreNot f q a → (length a ≡ 0 → Stops f q x) → Stops f q (a ++ x)
 stops_or f q [] x all h = h refl
 stops_or f q (s ∷ a) x all h = all.0
 
-stops_then : (f : Part) (q : Option Symbol) (a x : List Symbol) → Stops f q a → (length a ≡ 0 → Stops f q x) → Stops f q (a ++ x)
+stops_then : (f : EditedPart) (q : Option Symbol) (a x : List Symbol) → Stops f q a → (length a ≡ 0 → Stops f q x) → Stops f q (a ++ x)
 stops_then f q [] x first h = h refl
 stops_then f q (s ∷ a) x first h = first
 
-stops_skip : (f : Part) (q : Option Symbol) (a x : List Symbol) → length a ≡ 0 → Stops f q x → Stops f q (a ++ x)
+stops_skip : (f : EditedPart) (q : Option Symbol) (a x : List Symbol) → length a ≡ 0 → Stops f q x → Stops f q (a ++ x)
 stops_skip f q [] x e h = h
 stops_skip f q (s ∷ a) x e h = absurd (omega arith)
 
-stops_all : (f : Part) (q : Option Symbol) (a : List Symbol) → AreNot f q a → Stops f q a
+stops_all : (f : EditedPart) (q : Option Symbol) (a : List Symbol) → AreNot f q a → Stops f q a
 stops_all f q [] all = tt
 stops_all f q (s ∷ a) all = all.0
 
-stops_front : (f : Part) (q : Option Symbol) (a x : List Symbol) → Stops f q (a ++ x) → Stops f q a
+stops_front : (f : EditedPart) (q : Option Symbol) (a x : List Symbol) → Stops f q (a ++ x) → Stops f q a
 stops_front f q [] x h = tt
 stops_front f q (s ∷ a) x h = h
 
@@ -144,7 +144,7 @@ is_not : (b : Bool) (n : ℕ) → (IsTrue b → 0 < n) → n ≡ 0 → b ≡ fal
 is_not true n h e = absurd (let lt : 0 < n = h refl in omega arith)
 is_not false n h e = refl
 
-pub same_span : (f : Part) (q : Option Symbol) (a x b y : List Symbol) → AreOf f q a → Stops f q x → AreOf f q b → Stops f q y → a ++ x ≡ b ++ y → (a ≡ b) × (x ≡ y)
+pub same_span : (f : EditedPart) (q : Option Symbol) (a x b y : List Symbol) → AreOf f q a → Stops f q x → AreOf f q b → Stops f q y → a ++ x ≡ b ++ y → (a ≡ b) × (x ≡ y)
 same_span f q [] x [] y pa nx pb ny e = (refl, e)
 same_span f q [] [] (t ∷ b) y pa nx pb ny e = absurd cc
 same_span f q [] (s ∷ x) (t ∷ b) y pa nx pb ny e =
@@ -279,15 +279,15 @@ same_counts a b c d e f g h j k l = λ i. record { signs = c i; currencies = d i
 pub cut_runs : (runs : List Run) (i : ℕ) → written_out runs ≡ written_out (take i runs) ++ written_out (drop i runs)
 cut_runs runs i = ap written_out (sym (take-append-drop i runs)) ∙ flat_map-append (λ (r : Run). replicate r.count r.symbol) (take i runs) (drop i runs)
 
-AreOf-append : (f : Part) (q : Option Symbol) (a b : List Symbol) → AreOf f q a → AreOf f q b → AreOf f q (a ++ b)
+AreOf-append : (f : EditedPart) (q : Option Symbol) (a b : List Symbol) → AreOf f q a → AreOf f q b → AreOf f q (a ++ b)
 AreOf-append f q [] b pa pb = pb
 AreOf-append f q (s ∷ a) b pa pb = (pa.0, AreOf-append f q a b pa.1 pb)
 
-AreOf-replicate : (f : Part) (q : Option Symbol) (n : ℕ) (s : Symbol) → belongs f (symbol_kind q s) ≡ true → AreOf f q (replicate n s)
+AreOf-replicate : (f : EditedPart) (q : Option Symbol) (n : ℕ) (s : Symbol) → belongs f (symbol_kind q s) ≡ true → AreOf f q (replicate n s)
 AreOf-replicate f q zero s e = tt
 AreOf-replicate f q (suc n) s e = (e, AreOf-replicate f q n s e)
 
-pub are_more : (f : Part) (q : Option Symbol) (runs : List Run) (i : ℕ) (d : Run) → i < length runs → belongs f (symbol_kind q (get_or runs i d).symbol) ≡ true → AreOf f q (written_out (take i runs)) → AreOf f q (written_out (take (i + 1) runs))
+pub are_more : (f : EditedPart) (q : Option Symbol) (runs : List Run) (i : ℕ) (d : Run) → i < length runs → belongs f (symbol_kind q (get_or runs i d).symbol) ≡ true → AreOf f q (written_out (take i runs)) → AreOf f q (written_out (take (i + 1) runs))
 are_more f q runs i d lt e all =
     let r = get_or runs i d in
     subst (AreOf f q) (sym (one_more runs i d lt)) (AreOf-append f q (written_out (take i runs)) (replicate r.count r.symbol) all (AreOf-replicate f q r.count r.symbol e))
@@ -297,11 +297,11 @@ positive_drop zero runs pos = pos
 positive_drop (suc i) [] pos = tt
 positive_drop (suc i) (r ∷ runs) pos = positive_drop i runs pos.1
 
-stops_first : (f : Part) (q : Option Symbol) (n : ℕ) (s : Symbol) (x : List Symbol) → 0 < n → belongs f (symbol_kind q s) ≡ false → Stops f q (replicate n s ++ x)
+stops_first : (f : EditedPart) (q : Option Symbol) (n : ℕ) (s : Symbol) (x : List Symbol) → 0 < n → belongs f (symbol_kind q s) ≡ false → Stops f q (replicate n s ++ x)
 stops_first f q zero s x lt e = absurd (omega arith)
 stops_first f q (suc n) s x lt e = e
 
-pub stops_at : (f : Part) (q : Option Symbol) (runs : List Run) (i : ℕ) (d : Run) → i < length runs → ArePositive runs → belongs f (symbol_kind q (get_or runs i d).symbol) ≡ false → Stops f q (written_out (drop i runs))
+pub stops_at : (f : EditedPart) (q : Option Symbol) (runs : List Run) (i : ℕ) (d : Run) → i < length runs → ArePositive runs → belongs f (symbol_kind q (get_or runs i d).symbol) ≡ false → Stops f q (written_out (drop i runs))
 stops_at f q runs i d lt pos e =
     let r = get_or runs i d in
     let cut : drop i runs ≡ r ∷ drop (i + 1) runs = drop_more runs i d lt in

@@ -6,10 +6,10 @@ use Rattle.cob_picture.specs.declared.symbol.Symbol.{Symbol}
 use Rattle.cob_picture.specs.declared.symbol.Symbol.TheVariants.{A, X, Nine, S, V, P, B, Zero, Slash, Comma, Point, Z, Star, Dollar, Plus, Minus, Credit, Debit}
 use Rattle.cob_picture.specs.declared.category.Category.TheVariants.{NumericEdited}
 use Rattle.cob_picture.specs.declared.position.Position.{Position}
-use Rattle.cob_picture.specs.declared.position.Role.TheVariants.{FirstFloating}
-use Rattle.cob_picture.specs.declared.edited.Kind.TheVariants.{OfRun, OfPoint, OfNone}
-use Rattle.cob_picture.specs.declared.edited.Part.{Part}
-use Rattle.cob_picture.specs.declared.edited.Part.TheVariants.{Lead, Currency, Front, Whole, PointPart, Fraction, Trail}
+use Rattle.cob_picture.specs.declared.position.PositionRole.TheVariants.{FirstFloating}
+use Rattle.cob_picture.specs.declared.edited.SymbolKind.TheVariants.{OfRun, OfPoint, OfNone}
+use Rattle.cob_picture.specs.declared.edited.EditedPart.{EditedPart}
+use Rattle.cob_picture.specs.declared.edited.EditedPart.TheVariants.{Lead, Currency, Front, Whole, PointPart, Fraction, Trail}
 use Rattle.cob_picture.specs.Positions.{symbol_count, is_that, floating, settled_role, role_at, position_at, positions_from, positions}
 use Rattle.cob_picture.specs.Counts.{is_decimal_point}
 use Rattle.cob_picture.specs.Edited.{run_symbol, is_floating_run, settled_kind, symbol_kind, belongs, AreOf, Edited, edited_symbols, HasKinds, counts_in, AreAllowed, IsNumericEdited}
@@ -44,7 +44,7 @@ floating_floats xs s = floats_floats (nat_le 2 (symbol_count Dollar xs)) (nat_le
 abbrev HaveKinds : Option Symbol → List Symbol → Type 0
 HaveKinds q xs = AllByRecursion (λ s. symbol_kind q s ≡ OfNone → ⊥) xs
 
-have_kinds : (f : Part) (q : Option Symbol) (xs : List Symbol) → belongs f OfNone ≡ false → AreOf f q xs → HaveKinds q xs
+have_kinds : (f : EditedPart) (q : Option Symbol) (xs : List Symbol) → belongs f OfNone ≡ false → AreOf f q xs → HaveKinds q xs
 have_kinds f q [] none all = tt
 have_kinds f q (s ∷ xs) none all = ((λ e. let x : true ≡ false = sym all.0 ∙ ap (belongs f) e ∙ none in cc), have_kinds f q xs none all.1)
 
@@ -236,7 +236,7 @@ point_kind q Debit h e = absurd cc
 abbrev NotPoint : Option Symbol → Symbol → Type 0
 NotPoint q s = symbol_kind q s ≡ OfPoint → ⊥
 
-no_points : (f : Part) (q : Option Symbol) (xs : List Symbol) → belongs f OfPoint ≡ false → AreOf f q xs → AllByRecursion (NotPoint q) xs
+no_points : (f : EditedPart) (q : Option Symbol) (xs : List Symbol) → belongs f OfPoint ≡ false → AreOf f q xs → AllByRecursion (NotPoint q) xs
 no_points f q [] none all = tt
 no_points f q (s ∷ xs) none all = ((λ e. let x : true ≡ false = sym all.0 ∙ ap (belongs f) e ∙ none in cc), no_points f q xs none all.1)
 

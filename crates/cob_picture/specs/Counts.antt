@@ -3,13 +3,13 @@ use Rattle.std.specs.Prelude.{ℕ, Bool, true, false, ◌||◌, List, [], ◌∷
 use Rattle.std.specs.List.{list_any, sum_by}
 use Rattle.cob_picture.specs.declared.symbol.Symbol.{Symbol}
 use Rattle.cob_picture.specs.declared.symbol.Symbol.TheVariants.{A, X, Nine, S, V, P, B, Zero, Slash, Comma, Point, Z, Star, Dollar, Plus, Minus, Credit, Debit}
-use Rattle.cob_picture.specs.declared.position.Role.{Role}
-use Rattle.cob_picture.specs.declared.position.Role.TheVariants.{Character, Insertion, DecimalPoint, Digit, Suppressed, Floating, FirstFloating, FixedSign, FixedCurrency, NoByte}
+use Rattle.cob_picture.specs.declared.position.PositionRole.{PositionRole}
+use Rattle.cob_picture.specs.declared.position.PositionRole.TheVariants.{Character, Insertion, DecimalPoint, Digit, Suppressed, Floating, FirstFloating, FixedSign, FixedCurrency, NoByte}
 use Rattle.cob_picture.specs.declared.position.Position.{Position}
-use Rattle.cob_picture.specs.Positions.{is}
+use Rattle.cob_picture.specs.Positions.{PlainPicture, is}
 
 -- a place that holds a digit of the number: a 9, a Z, an asterisk or a floating symbol but the first
-abbrev pub is_digit_place : Role → Bool
+abbrev pub is_digit_place : PositionRole → Bool
 is_digit_place Digit = true
 is_digit_place Suppressed = true
 is_digit_place Floating = true
@@ -20,6 +20,19 @@ is_digit_place DecimalPoint = false
 is_digit_place FixedSign = false
 is_digit_place FixedCurrency = false
 is_digit_place NoByte = false
+
+-- a place that holds any character
+abbrev pub is_character : PositionRole → Bool
+is_character Character = true
+is_character Insertion = false
+is_character DecimalPoint = false
+is_character Digit = false
+is_character Suppressed = false
+is_character Floating = false
+is_character FirstFloating = false
+is_character FixedSign = false
+is_character FixedCurrency = false
+is_character NoByte = false
 
 -- how many bytes a position of this symbol takes
 abbrev pub width : Symbol → ℕ
@@ -93,6 +106,10 @@ right_of_point ps = if point_leads (λ p. p.symbol) ps then ps else after_point 
 -- ten to the power of minus this.
 abbrev pub scale : List Position → ℤ
 scale ps = pos (decimal_places (right_of_point ps)) -ℤ pos (count_by is_scaling (left_of_point ps))
+
+-- how many digits of a picture's number stand before the point; below 0, how many places behind the point the first one stands
+abbrev pub digits_before : PlainPicture → ℤ
+digits_before p = pos (digits p.positions) -ℤ scale p.positions
 
 -- a symbol that shows the sign
 abbrev pub is_sign_symbol : Symbol → Bool

@@ -3,10 +3,10 @@ use Rattle.std.specs.Prelude.{◌≡◌, ◌+◌, ◌<◌, ◌≤◌, Bool, true
 use Rattle.std.specs.List.{AllByRecursion, list_any, filter}
 use Rattle.cob_picture.specs.declared.symbol.Symbol.{Symbol}
 use Rattle.cob_picture.specs.declared.symbol.Symbol.TheVariants.{A, X, Nine, S, V, P, B, Zero, Slash, Comma, Point, Z, Star, Dollar, Plus, Minus, Credit, Debit}
-use Rattle.cob_picture.specs.declared.edited.Kind.{Kind}
-use Rattle.cob_picture.specs.declared.edited.Kind.TheVariants.{OfRun, OfInsertion, OfNine, OfPoint, OfSign, OfCurrency, OfCredit, OfNone}
-use Rattle.cob_picture.specs.declared.edited.Part.{Part}
-use Rattle.cob_picture.specs.declared.edited.Part.TheVariants.{Lead, Currency, Front, Whole, PointPart, Fraction, Trail}
+use Rattle.cob_picture.specs.declared.edited.SymbolKind.{SymbolKind}
+use Rattle.cob_picture.specs.declared.edited.SymbolKind.TheVariants.{OfRun, OfInsertion, OfNine, OfPoint, OfSign, OfCurrency, OfCredit, OfNone}
+use Rattle.cob_picture.specs.declared.edited.EditedPart.{EditedPart}
+use Rattle.cob_picture.specs.declared.edited.EditedPart.TheVariants.{Lead, Currency, Front, Whole, PointPart, Fraction, Trail}
 use Rattle.cob_picture.specs.declared.edited.EditedCounts.{EditedCounts}
 use Rattle.cob_picture.specs.Positions.{is, symbol_count, is_that}
 use Rattle.cob_picture.specs.Runs.{is_mark}
@@ -30,7 +30,7 @@ abbrev pub is_floating_run : Option Symbol → Bool
 is_floating_run q = is_that q Dollar || is_sign_run q
 
 -- what a symbol outside the run is in a numeric edited picture
-abbrev pub settled_kind : Symbol → Kind
+abbrev pub settled_kind : Symbol → SymbolKind
 settled_kind Nine = OfNine
 settled_kind B = OfInsertion
 settled_kind Zero = OfInsertion
@@ -51,11 +51,11 @@ settled_kind Z = OfNone
 settled_kind Star = OfNone
 
 -- what a symbol is, where the run is of q
-abbrev pub symbol_kind : Option Symbol → Symbol → Kind
+abbrev pub symbol_kind : Option Symbol → Symbol → SymbolKind
 symbol_kind q s = if is_that q s then OfRun else settled_kind s
 
 -- which kinds stand in which part of the picture
-abbrev pub belongs : Part → Kind → Bool
+abbrev pub belongs : EditedPart → SymbolKind → Bool
 belongs Lead OfSign = true
 belongs Lead _ = false
 belongs Currency OfCurrency = true
@@ -77,11 +77,11 @@ belongs Trail OfCredit = true
 belongs Trail _ = false
 
 -- each symbol is of a kind that stands in this part
-abbrev pub AreOf : Part → Option Symbol → List Symbol → Type 0
+abbrev pub AreOf : EditedPart → Option Symbol → List Symbol → Type 0
 AreOf part q symbols = AllByRecursion (λ s. belongs part (symbol_kind q s) ≡ true) symbols
 
 -- no symbol of the part comes first
-abbrev pub Stops : Part → Option Symbol → List Symbol → Type 0
+abbrev pub Stops : EditedPart → Option Symbol → List Symbol → Type 0
 Stops part q [] = Unit {0}
 Stops part q (s ∷ symbols) = belongs part (symbol_kind q s) ≡ false
 

@@ -4,8 +4,8 @@ use Rattle.std.specs.List.{AllByRecursion}
 use Rattle.cob_picture.specs.declared.fault.PictureFault.{PictureFault}
 use Rattle.cob_picture.specs.declared.category.Category.TheVariants.{NumericEdited}
 use Rattle.cob_picture.specs.declared.position.Position.{Position}
-use Rattle.cob_picture.specs.declared.position.Role.{Role}
-use Rattle.cob_picture.specs.declared.position.Role.TheVariants.{Character, Insertion, DecimalPoint, Digit, Suppressed, Floating, FirstFloating, FixedSign, FixedCurrency, NoByte}
+use Rattle.cob_picture.specs.declared.position.PositionRole.{PositionRole}
+use Rattle.cob_picture.specs.declared.position.PositionRole.TheVariants.{Character, Insertion, DecimalPoint, Digit, Suppressed, Floating, FirstFloating, FixedSign, FixedCurrency, NoByte}
 use Rattle.cob_picture.specs.declared.symbol.Symbol.{Symbol}
 use Rattle.cob_picture.specs.Positions.{PlainPicture, is_that, positions}
 use Rattle.cob_picture.specs.Counts.{is_decimal_point, size}
@@ -25,7 +25,7 @@ abbrev pub TakesBytes : Type 0
 TakesBytes = (text : List ℕ) (p : PlainPicture) → IsPictureOf text p → 0 < size p.positions
 
 -- a place of the run
-abbrev pub is_run_role : Role → Bool
+abbrev pub is_run_role : PositionRole → Bool
 is_run_role Suppressed = true
 is_run_role Floating = true
 is_run_role FirstFloating = true

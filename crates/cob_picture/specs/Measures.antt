@@ -3,14 +3,14 @@ use Rattle.std.specs.Prelude.{◌≡◌, ℕ, ◌+◌, Bool, false, List, [], �
 use Rattle.cob_picture.specs.declared.symbol.Symbol.{Symbol}
 use Rattle.cob_picture.specs.declared.symbol.Run.{Run}
 use Rattle.cob_picture.specs.declared.position.Position.{Position}
-use Rattle.cob_picture.specs.declared.counts.Counts.{Counts}
+use Rattle.cob_picture.specs.declared.counts.PictureCounts.{PictureCounts}
 use Rattle.cob_picture.specs.declared.category.Category.{Category}
 use Rattle.cob_picture.specs.Positions.{is, positions}
 use Rattle.cob_picture.specs.Counts.{width, size, digits, decimal_places, is_scaling, left_of_point, right_of_point, scale, signed}
 use Rattle.cob_picture.specs.Pictures.{IsPicture}
 
 -- the counts over positions
-pub record AreCountsOver (ps : List Position) (m : Counts) : Type 0 where
+pub record AreCountsOver (ps : List Position) (m : PictureCounts) : Type 0 where
   pub kept : m.digits ≡ digits ps
   pub all : m.decimal_places ≡ decimal_places ps
   pub behind : m.fraction ≡ decimal_places (right_of_point ps)

@@ -4,8 +4,8 @@ use Rattle.std.specs.List.{flat_map}
 use Rattle.cob_picture.specs.declared.symbol.Symbol.{Symbol}
 use Rattle.cob_picture.specs.declared.symbol.Symbol.TheVariants.{A, X, Nine, S, V, P, B, Zero, Slash, Comma, Point, Z, Star, Dollar, Plus, Minus, Credit, Debit}
 use Rattle.cob_picture.specs.declared.symbol.Run.{Run}
-use Rattle.cob_picture.specs.declared.position.Role.{Role}
-use Rattle.cob_picture.specs.declared.position.Role.TheVariants.{Character, Insertion, DecimalPoint, Digit, Suppressed, Floating, FirstFloating, FixedSign, FixedCurrency, NoByte}
+use Rattle.cob_picture.specs.declared.position.PositionRole.{PositionRole}
+use Rattle.cob_picture.specs.declared.position.PositionRole.TheVariants.{Character, Insertion, DecimalPoint, Digit, Suppressed, Floating, FirstFloating, FixedSign, FixedCurrency, NoByte}
 use Rattle.cob_picture.specs.declared.position.Position.{Position}
 use Rattle.cob_picture.specs.declared.category.Category.{Category}
 use Rattle.cob_picture.specs.declared.category.Category.TheVariants.{Alphabetic, Numeric, Alphanumeric, AlphanumericEdited, NumericEdited}
@@ -41,7 +41,7 @@ is_edited Numeric = false
 is_edited Alphanumeric = false
 
 -- what a symbol that doesn't float is for
-abbrev pub settled_role : Category → Symbol → Role
+abbrev pub settled_role : Category → Symbol → PositionRole
 settled_role c A = Character
 settled_role c X = Character
 settled_role c Nine = if shows_number c then Digit else Character
@@ -74,7 +74,7 @@ is_that None s = false
 is_that (Some q) s = is q s
 
 -- what a position is for: of the floating symbol's places the first holds no digit
-abbrev pub role_at : Category → (floats seen : Bool) → Symbol → Role
+abbrev pub role_at : Category → (floats seen : Bool) → Symbol → PositionRole
 role_at c floats seen s = if floats then (if seen then Floating else FirstFloating) else settled_role c s
 
 -- the position of one symbol

@@ -8,7 +8,7 @@ ghost use Rattle.cob_picture.specs.declared.symbol.Symbol.{Symbol};
 ghost use Rattle.cob_picture.specs.declared.category.Category.{Category};
 
 use crate::category::{Category, count_of};
-use crate::position::Role;
+use crate::position::PositionRole;
 use crate::symbol::{Run, Symbol};
 
 /// How many bytes a position of the symbol takes.
@@ -24,19 +24,19 @@ pub fn width_of(symbol: Symbol) -> u32
 }
 
 /// What a symbol that does not float is for.
-pub fn settled_role(category: Category, symbol: Symbol) -> Role
+pub fn settled_role(category: Category, symbol: Symbol) -> PositionRole
     ensures { result ≡ settled_role category symbol }
 {
     match symbol {
-        Symbol::A | Symbol::X => Role::Character,
-        Symbol::Nine if category.shows_number() => Role::Digit,
-        Symbol::Nine => Role::Character,
-        Symbol::S | Symbol::V | Symbol::P => Role::NoByte,
-        Symbol::B | Symbol::Zero | Symbol::Slash | Symbol::Comma => Role::Insertion,
-        Symbol::Point => Role::DecimalPoint,
-        Symbol::Z | Symbol::Star => Role::Suppressed,
-        Symbol::Dollar => Role::FixedCurrency,
-        Symbol::Plus | Symbol::Minus | Symbol::Credit | Symbol::Debit => Role::FixedSign,
+        Symbol::A | Symbol::X => PositionRole::Character,
+        Symbol::Nine if category.shows_number() => PositionRole::Digit,
+        Symbol::Nine => PositionRole::Character,
+        Symbol::S | Symbol::V | Symbol::P => PositionRole::NoByte,
+        Symbol::B | Symbol::Zero | Symbol::Slash | Symbol::Comma => PositionRole::Insertion,
+        Symbol::Point => PositionRole::DecimalPoint,
+        Symbol::Z | Symbol::Star => PositionRole::Suppressed,
+        Symbol::Dollar => PositionRole::FixedCurrency,
+        Symbol::Plus | Symbol::Minus | Symbol::Credit | Symbol::Debit => PositionRole::FixedSign,
     }
 }
 
@@ -167,7 +167,7 @@ pub fn runs_before_point(runs: &[Run]) -> usize
 
 /// What is counted over a picture's positions.
 #[derive(Clone, Copy, Debug, PartialEq, Eq)]
-pub struct Counts {
+pub struct PictureCounts {
     /// How many digits are kept.
     pub digits: u32,
     /// How many digits there are, kept or not.
@@ -183,7 +183,7 @@ pub struct Counts {
 }
 
 /// Counts over the positions of a picture of the category.
-pub fn counted(runs: &[Run], category: Category) -> Counts
+pub fn counted(runs: &[Run], category: Category) -> PictureCounts
     requires short { length runs.now ≤ 50 }
     requires positive { ArePositive runs.now }
     ensures counts { AreCountsOver (positions category (written_out runs.now)) result }
@@ -197,7 +197,7 @@ pub fn counted(runs: &[Run], category: Category) -> Counts
     let behind = digits_of(fraction, category, floating, is_seen(whole, floating));
     let missing = count_of(whole, Symbol::P);
     let added = count_of(fraction, Symbol::P);
-    Counts {
+    PictureCounts {
         digits: before + behind,
         decimal_places: before + behind + missing + added,
         fraction: behind + added,

@@ -5,7 +5,7 @@ ghost use Rattle.cob_picture.specs.Runs.{ArePositive, runs_end_in_mark, is_mark}
 ghost use Rattle.cob_picture.specs.Edited.{run_symbol, is_sign_run, is_floating_run, settled_kind, symbol_kind, belongs, AreOf, Stops, counts_in, AreSingle, SuitsRun, AreAllowed, IsNumericEdited, unscaled, IsScaled, CurrencyLeads, IsOutsideProfile};
 ghost use Rattle.cob_picture.specs.Parted.{HasFewInParts, IsSplitOf, edited_in};
 ghost use Rattle.cob_picture.specs.declared.symbol.Symbol.TheVariants.{Nine};
-ghost use Rattle.cob_picture.specs.declared.edited.Part.TheVariants.{Lead};
+ghost use Rattle.cob_picture.specs.declared.edited.EditedPart.TheVariants.{Lead};
 
 use crate::category::{count_of, total};
 use crate::counts::{floating_of, is_seen, is_that};
@@ -14,7 +14,7 @@ use arrayvec::ArrayVec;
 
 /// What a symbol is in a numeric edited picture.
 #[derive(Clone, Copy, Debug, PartialEq, Eq)]
-pub enum Kind {
+pub enum SymbolKind {
     OfRun,
     OfInsertion,
     OfNine,
@@ -27,7 +27,7 @@ pub enum Kind {
 
 /// The parts of a numeric edited picture, in order.
 #[derive(Clone, Copy, Debug, PartialEq, Eq)]
-pub enum Part {
+pub enum EditedPart {
     Lead,
     Currency,
     Front,
@@ -103,55 +103,59 @@ pub fn is_floating_run(run: Option<Symbol>) -> bool
 }
 
 /// What a symbol outside the run is.
-pub fn settled_kind(symbol: Symbol) -> Kind
+pub fn settled_kind(symbol: Symbol) -> SymbolKind
     ensures { result ≡ settled_kind symbol }
 {
     match symbol {
-        Symbol::Nine => Kind::OfNine,
-        Symbol::B | Symbol::Zero | Symbol::Slash | Symbol::Comma => Kind::OfInsertion,
-        Symbol::V | Symbol::Point => Kind::OfPoint,
-        Symbol::Plus | Symbol::Minus => Kind::OfSign,
-        Symbol::Dollar => Kind::OfCurrency,
-        Symbol::Credit | Symbol::Debit => Kind::OfCredit,
-        Symbol::A | Symbol::X | Symbol::S | Symbol::P | Symbol::Z | Symbol::Star => Kind::OfNone,
+        Symbol::Nine => SymbolKind::OfNine,
+        Symbol::B | Symbol::Zero | Symbol::Slash | Symbol::Comma => SymbolKind::OfInsertion,
+        Symbol::V | Symbol::Point => SymbolKind::OfPoint,
+        Symbol::Plus | Symbol::Minus => SymbolKind::OfSign,
+        Symbol::Dollar => SymbolKind::OfCurrency,
+        Symbol::Credit | Symbol::Debit => SymbolKind::OfCredit,
+        Symbol::A | Symbol::X | Symbol::S | Symbol::P | Symbol::Z | Symbol::Star =>
+            SymbolKind::OfNone,
     }
 }
 
 /// What a symbol is, where the run is of this one.
-pub fn kind_of(run: Option<Symbol>, symbol: Symbol) -> Kind
+pub fn kind_of(run: Option<Symbol>, symbol: Symbol) -> SymbolKind
     ensures { result ≡ symbol_kind run symbol }
 {
     if is_that(run, symbol) {
-        Kind::OfRun
+        SymbolKind::OfRun
     } else {
         settled_kind(symbol)
     }
 }
 
 /// Whether the kind stands in this part of the picture.
-pub fn belongs(part: Part, kind: Kind) -> bool
+pub fn belongs(part: EditedPart, kind: SymbolKind) -> bool
     ensures { result ≡ belongs part kind }
 {
     match part {
-        Part::Lead => matches!(kind, Kind::OfSign),
-        Part::Currency => matches!(kind, Kind::OfCurrency),
-        Part::Front => matches!(kind, Kind::OfRun | Kind::OfInsertion),
-        Part::Whole => matches!(kind, Kind::OfNine | Kind::OfInsertion),
-        Part::PointPart => matches!(kind, Kind::OfPoint),
-        Part::Fraction => matches!(kind, Kind::OfNine | Kind::OfInsertion | Kind::OfRun),
-        Part::Trail => matches!(kind, Kind::OfSign | Kind::OfCredit),
+        EditedPart::Lead => matches!(kind, SymbolKind::OfSign),
+        EditedPart::Currency => matches!(kind, SymbolKind::OfCurrency),
+        EditedPart::Front => matches!(kind, SymbolKind::OfRun | SymbolKind::OfInsertion),
+        EditedPart::Whole => matches!(kind, SymbolKind::OfNine | SymbolKind::OfInsertion),
+        EditedPart::PointPart => matches!(kind, SymbolKind::OfPoint),
+        EditedPart::Fraction => matches!(
+            kind,
+            SymbolKind::OfNine | SymbolKind::OfInsertion | SymbolKind::OfRun
+        ),
+        EditedPart::Trail => matches!(kind, SymbolKind::OfSign | SymbolKind::OfCredit),
     }
 }
 
 /// Whether a run is of this part.
-pub fn is_of(run: Option<Symbol>, part: Part, symbol: Symbol) -> bool
+pub fn is_of(run: Option<Symbol>, part: EditedPart, symbol: Symbol) -> bool
     ensures { result ≡ belongs part (symbol_kind run symbol) }
 {
     belongs(part, kind_of(run, symbol))
 }
 
 /// The runs in front that are of this part, and those behind them.
-pub fn span(runs: &[Run], run: Option<Symbol>, part: Part) -> (&[Run], &[Run])
+pub fn span(runs: &[Run], run: Option<Symbol>, part: EditedPart) -> (&[Run], &[Run])
     requires short { length runs.now ≤ 50 }
     requires positive { ArePositive runs.now }
     ensures parts { written_out runs.now ≡ written_out result.0.now ++ written_out result.1.now }
@@ -176,13 +180,13 @@ pub fn parted(runs: &[Run], run: Option<Symbol>) -> Split<'_>
     requires positive { ArePositive runs.now }
     ensures { IsSplitOf run runs.now result }
 {
-    let (lead, rest) = span(runs, run, Part::Lead);
-    let (currency, rest) = span(rest, run, Part::Currency);
-    let (front, rest) = span(rest, run, Part::Front);
-    let (whole, rest) = span(rest, run, Part::Whole);
-    let (point, rest) = span(rest, run, Part::PointPart);
-    let (fraction, rest) = span(rest, run, Part::Fraction);
-    let (trail, rest) = span(rest, run, Part::Trail);
+    let (lead, rest) = span(runs, run, EditedPart::Lead);
+    let (currency, rest) = span(rest, run, EditedPart::Currency);
+    let (front, rest) = span(rest, run, EditedPart::Front);
+    let (whole, rest) = span(rest, run, EditedPart::Whole);
+    let (point, rest) = span(rest, run, EditedPart::PointPart);
+    let (fraction, rest) = span(rest, run, EditedPart::Fraction);
+    let (trail, rest) = span(rest, run, EditedPart::Trail);
     Split {
         lead,
         currency,
@@ -219,7 +223,8 @@ pub fn counts_in(split: &Split, run: Option<Symbol>) -> EditedCounts
 pub fn sign_trails(runs: &[Run], run: Option<Symbol>) -> bool
     ensures { result ≡ list_any (λ r. belongs Lead (symbol_kind run r.symbol)) runs.now }
 {
-    runs.iter().any(|one| is_of(run, Part::Lead, one.symbol))
+    runs.iter()
+        .any(|one| is_of(run, EditedPart::Lead, one.symbol))
 }
 
 /// Whether nothing stands twice that may stand once.

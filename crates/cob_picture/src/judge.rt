@@ -8,14 +8,14 @@ ghost use Rattle.cob_picture.specs.Pictures.{IsPicture, IsMisplaced};
 ghost use Rattle.cob_picture.specs.declared.category.Category.{Category};
 
 use crate::category::{Category, category_of};
-use crate::counts::{Counts, counted};
+use crate::counts::{PictureCounts, counted};
 use crate::edited::is_left_out;
 use crate::fault::PictureFault;
 use crate::symbol::Run;
 use cob_limits::{MAX_DIGITS, MAX_EDITED_SIZE, MAX_RECORD};
 
 /// Whether a picture of the category may show so many digits.
-pub fn digits_fit(category: Category, counts: Counts) -> bool
+pub fn digits_fit(category: Category, counts: PictureCounts) -> bool
     ensures some { IsTrue result → IsTrue (shows_number category) → 0 < counts.digits }
     ensures few { IsTrue result → counts.decimal_places ≤ most_digits }
     ensures not { IsFalse result → (IsTrue (shows_number category) × (counts.digits ≡ 0))
@@ -49,7 +49,7 @@ pub fn misplaced(runs: &[Run]) -> PictureFault
 }
 
 /// The category of the runs of a picture, and what is counted over its positions.
-pub fn category_and_counts(runs: &[Run]) -> Result<(Category, Counts), PictureFault>
+pub fn category_and_counts(runs: &[Run]) -> Result<(Category, PictureCounts), PictureFault>
     requires short { length runs.now ≤ 50 }
     requires positive { ArePositive runs.now }
     ensures found { IfOk result (λ r. IsPicture r.0 (written_out runs.now)

@@ -36,7 +36,7 @@ pub use category::Category;
 pub use fault::PictureFault;
 pub use laws::{breaks_no_rule, first_leads, one_picture, one_run, takes_bytes};
 pub use picture::Picture;
-pub use position::{Position, Role};
+pub use position::{Position, PositionRole};
 pub use symbol::{Run, Symbol};
 
 /// What a longer repeat counts as: no picture may have so many of any symbol.

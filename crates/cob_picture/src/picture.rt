@@ -2,7 +2,7 @@ ghost use Rattle.std.specs.Prelude.{◌≡◌, ℕ, ◌+◌, ◌<◌, ◌≤◌,
 ghost use Rattle.cob_limits.specs.Limits.{greatest_scale, longest_edited, longest_picture, longest_record, most_digits};
 ghost use Rattle.cob_picture.specs.Positions.{PlainPicture, written_out, positions, symbols_of, shows_number, is_edited};
 ghost use Rattle.cob_picture.specs.Runs.{ArePositive};
-ghost use Rattle.cob_picture.specs.Counts.{size, digits, scale, signed};
+ghost use Rattle.cob_picture.specs.Counts.{size, digits, digits_before, scale, signed};
 ghost use Rattle.cob_picture.specs.Pictures.{IsPictureOf, IsPicture, BreaksPictureRule};
 ghost use Rattle.cob_picture.specs.Measures.{IsKept};
 ghost use Rattle.cob_picture.specs.declared.category.Category.{Category};
@@ -100,6 +100,13 @@ impl Picture {
         ensures other { IsFalse (shows_number self.now.category) → result ≡ pos 0 }
     {
         self.scale
+    }
+
+    /// How many digits stand left of the decimal point; below 0, how many places right of it the first one stands.
+    pub fn digits_before(&self) -> i16
+        ensures { result ≡ digits_before self.now }
+    {
+        i16::from(self.digits()) - i16::from(self.scale())
     }
 
     /// Whether the item keeps a sign.

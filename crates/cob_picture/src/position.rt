@@ -1,7 +1,7 @@
 ghost use Rattle.std.specs.Prelude.{◌≡◌, ℕ, ◌+◌, ◌≤◌, ◌++◌, length, replicate};
 ghost use Rattle.cob_picture.specs.Positions.{position_at, positions_from, positions, written_out};
 ghost use Rattle.cob_picture.specs.Runs.{ArePositive};
-ghost use Rattle.cob_picture.specs.Counts.{is_digit_place};
+ghost use Rattle.cob_picture.specs.Counts.{is_character, is_digit_place};
 
 use crate::category::Category;
 use crate::counts::{floating_of, is_seen_by, is_that, settled_role};
@@ -10,7 +10,7 @@ use arrayvec::ArrayVec;
 
 /// What a position of a picture is for.
 #[derive(Clone, Copy, Debug, PartialEq, Eq)]
-pub enum Role {
+pub enum PositionRole {
     /// A place that holds any character: A, X, or the 9 of a picture that shows no number.
     Character,
     /// B, 0, the stroke or the comma: the same byte whatever the item holds.
@@ -33,12 +33,22 @@ pub enum Role {
     NoByte,
 }
 
-impl Role {
+impl PositionRole {
     /// Whether the place holds a digit of the number.
     pub fn is_digit_place(self) -> bool
         ensures { result ≡ is_digit_place self }
     {
-        matches!(self, Role::Digit | Role::Suppressed | Role::Floating)
+        matches!(
+            self,
+            PositionRole::Digit | PositionRole::Suppressed | PositionRole::Floating
+        )
+    }
+
+    /// Whether the place holds any character.
+    pub fn is_character(self) -> bool
+        ensures { result ≡ is_character self }
+    {
+        matches!(self, PositionRole::Character)
     }
 }
 
@@ -46,14 +56,14 @@ impl Role {
 #[derive(Clone, Copy, Debug, PartialEq, Eq)]
 pub struct Position {
     pub symbol: Symbol,
-    pub role: Role,
+    pub role: PositionRole,
 }
 
 impl Default for Position {
     fn default() -> Position {
         Position {
             symbol: Symbol::A,
-            role: Role::Character,
+            role: PositionRole::Character,
         }
     }
 }
@@ -70,9 +80,9 @@ pub(crate) fn position_at(
     let role = if !is_that(floating, symbol) {
         settled_role(category, symbol)
     } else if seen {
-        Role::Floating
+        PositionRole::Floating
     } else {
-        Role::FirstFloating
+        PositionRole::FirstFloating
     };
     Position { symbol, role }
 }

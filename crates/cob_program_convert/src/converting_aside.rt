@@ -10,7 +10,7 @@ ghost use Rattle.cob_program_convert.specs.Told.{most_of, told_run};
 use crate::told::{prepared_for, tell_converted, tell_uneven_input, told_counted_from};
 use cob_convert::{Converter, Status, Tally};
 use cob_program_ends::{
-    AsideEnds, Names, first_of, is_standard_output, open_aside_ends, telling_piece,
+    AsideEnds, OutputNames, first_of, is_standard_output, open_aside_ends, telling_piece,
 };
 use cob_program_faults::{CommandDone, CommandFault, part_name};
 use cob_program_line::ConvertLine;
@@ -59,7 +59,7 @@ fn rejections_of<'a, R>(rt: &'a R, line: &ConvertLine<'_>, how: How) -> Rejectio
 }
 
 /// The parts that stand in for both outputs, where some do.
-fn parts_of<'a>(line: &ConvertLine<'_>, parts: Names<'a>) -> Option<Names<'a>> {
+fn parts_of<'a>(line: &ConvertLine<'_>, parts: OutputNames<'a>) -> Option<OutputNames<'a>> {
     if line.atomic { Some(parts) } else { None }
 }
 
@@ -68,8 +68,8 @@ fn parts_of<'a>(line: &ConvertLine<'_>, parts: Names<'a>) -> Option<Names<'a>> {
 fn convert_into<R: AllocGlobal + Files + Input + Print + Eprint + Clock>(
     rt: &R,
     line: &ConvertLine<'_>,
-    names: Names<'_>,
-    parts: Names<'_>,
+    names: OutputNames<'_>,
+    parts: OutputNames<'_>,
     converter: &mut Converter,
 ) -> Result<CommandDone, CommandFault>
     requires { HasBlockSize line.now.forms.input }
@@ -107,7 +107,7 @@ fn convert_by<R: AllocGlobal + Files + Input + Print + Eprint + Clock>(
     requires { HasBlockSize line.now.forms.input }
     ensures { IfErr result (MayEndAside line.now.atomic) }
 {
-    let names = Names {
+    let names = OutputNames {
         output: line.output,
         rejects,
     };
@@ -116,7 +116,7 @@ fn convert_by<R: AllocGlobal + Files + Input + Print + Eprint + Clock>(
     }
     let output_part = part_name(rt.alloc(), line.output)?;
     let rejects_part = part_name(rt.alloc(), rejects)?;
-    let parts = Names {
+    let parts = OutputNames {
         output: &output_part,
         rejects: &rejects_part,
     };

@@ -5,16 +5,16 @@ use Rattle.cob_records.specs.declared.records.Form.{Form}
 use Rattle.cob_records_parts.specs.Choices.{is_unbounded, last_behind}
 use Rattle.cob_records_parts.specs.declared.incoming.Incoming.{Incoming}
 use Rattle.cob_records_parts.specs.declared.incoming.Incoming.TheVariants as incoming
-use Rattle.cob_records_parts.specs.declared.part.Part.{Part}
+use Rattle.cob_records_parts.specs.declared.part.StreamPart.{StreamPart}
 use Rattle.cob_program_ends.specs.Jumps.{JumpsIn}
-use Rattle.cob_program_ends.specs.declared.records.Wanted.{Wanted}
+use Rattle.cob_program_ends.specs.declared.records.WantedRecords.{WantedRecords}
 
 -- the part of the file that is wanted, before any record of it is jumped over
-abbrev pub part_before : Wanted → Part
+abbrev pub part_before : WantedRecords → StreamPart
 part_before wanted = record { from = wanted.from; bytes = wanted.bytes; skip = wanted.choice.skip }
 
 -- Of that part records are jumped over, as the size allows that the system tells, or none where it tells none, as of standard input.
-abbrev pub JumpsOver : Wanted → Part → Type 0
+abbrev pub JumpsOver : WantedRecords → StreamPart → Type 0
 JumpsOver wanted now = (size : Option ℕ) × (names_standard wanted.input.now ≡ true → size ≡ None)
     × JumpsIn wanted.form wanted.greatest size (part_before wanted) now
 
@@ -31,5 +31,5 @@ PassesOverStill skip (incoming.All source) = skip ≡ 0
 PassesOverStill skip (incoming.Some source) = source.walk.skip ≡ skip
 
 -- Of the records before the chosen ones some are jumped over, and all others are passed over.
-abbrev pub SkipsWanted : {R : Type 0} → Wanted → Incoming R → Type 0
-SkipsWanted wanted source = (part : Part) × JumpsOver wanted part × PassesOverStill part.skip source
+abbrev pub SkipsWanted : {R : Type 0} → WantedRecords → Incoming R → Type 0
+SkipsWanted wanted source = (part : StreamPart) × JumpsOver wanted part × PassesOverStill part.skip source

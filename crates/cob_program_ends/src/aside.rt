@@ -19,7 +19,7 @@ use std::rt::Files;
 
 /// The names of the output and of the file for rejected records, or of the parts that stand in for both until all is done.
 #[derive(Clone, Copy)]
-pub struct Names<'a> {
+pub struct OutputNames<'a> {
     pub output: &'a str,
     pub rejects: &'a str,
 }
@@ -62,7 +62,7 @@ fn judge_rejects<R: Files>(
     rt: &R,
     line: &ConvertLine<'_>,
     rejects: &str,
-    parts: Option<Names<'_>>,
+    parts: Option<OutputNames<'_>>,
 ) -> Result<(), CommandFault>
     ensures { IfErr result LosesOther }
 {
@@ -92,7 +92,7 @@ fn rejects_itself<'a, R: AllocGlobal + Files + Print>(
 fn rejects_part<'a, R: AllocGlobal + Files + Print>(
     rt: &'a R,
     rejects: &str,
-    parts: Names<'_>,
+    parts: OutputNames<'_>,
 ) -> Result<FileSink<R::File, Printer<'a, R>>, CommandFault>
     ensures { IfErr result LacksAside }
 {
@@ -122,7 +122,7 @@ pub fn open_aside_ends<'a, R: AllocGlobal + Files + Input + Print>(
     line: &ConvertLine<'_>,
     greatest: u16,
     rejects: &str,
-    parts: Option<Names<'_>>,
+    parts: Option<OutputNames<'_>>,
 ) -> Result<
     AsideEnds<Incoming<PartSource<R::File, R::Reader>>, FileSink<R::File, Printer<'a, R>>>,
     CommandFault,

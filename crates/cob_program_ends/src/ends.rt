@@ -6,7 +6,7 @@ ghost use Rattle.cob_program_faults.specs.declared.fault.FileName.TheVariants.{O
 ghost use Rattle.cob_program_ends.specs.Ends.{LacksEnds};
 
 use crate::inputs::judge_output;
-use crate::records::{Wanted, open_records};
+use crate::records::{WantedRecords, open_records};
 use cob_program_faults::{CommandFault, FileName, create_part, opened, telling};
 use cob_program_line::ConvertLine;
 use cob_records::{FileSink, Telling, create_sink};
@@ -62,7 +62,7 @@ pub fn choice_of(line: &ConvertLine<'_>) -> Choice
 }
 
 /// Which records a conversion reads, of at most this length.
-fn wanted_by<'a>(line: &ConvertLine<'a>, greatest: u16) -> Wanted<'a>
+fn wanted_by<'a>(line: &ConvertLine<'a>, greatest: u16) -> WantedRecords<'a>
     ensures form { result.form ≡ line.now.forms.input }
     ensures greatest { result.greatest ≡ greatest }
     ensures from { result.from ≡ line.now.from }
@@ -71,7 +71,7 @@ fn wanted_by<'a>(line: &ConvertLine<'a>, greatest: u16) -> Wanted<'a>
     ensures skip { result.choice.skip ≡ line.now.skip }
     ensures records { result.choice.records ≡ line.now.records }
 {
-    Wanted {
+    WantedRecords {
         input: line.input,
         form: line.forms.input,
         greatest,

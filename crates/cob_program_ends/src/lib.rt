@@ -47,9 +47,9 @@ mod inputs;
 mod records;
 mod stops;
 
-pub use aside::{AsideEnds, Names, open_aside_ends};
+pub use aside::{AsideEnds, OutputNames, open_aside_ends};
 pub use counted::{counted_from, counted_on, first_of};
 pub use ends::{Ends, open_ends, telling_piece};
 pub use inputs::{Inputs, is_standard_output};
-pub use records::{Wanted, open_records};
+pub use records::{WantedRecords, open_records};
 pub use stops::{not_chosen, with_cause};

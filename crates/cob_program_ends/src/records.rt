@@ -12,7 +12,7 @@ use crate::stops::not_chosen;
 use cob_program_faults::{CommandFault, FileName, opened};
 use cob_records::{DeviceFault, Form, RecordFault, Source, size_of};
 use cob_records_parts::{
-    Choice, ChoiceFault, Incoming, Part, PartSource, Stopped, choose, open_part,
+    Choice, ChoiceFault, Incoming, PartSource, Stopped, StreamPart, choose, open_part,
 };
 use std::fs;
 use std::io::Input;
@@ -21,7 +21,7 @@ use std::rt::Files;
 
 /// Which records of which file a command reads.
 #[derive(Clone, Copy, PartialEq, Eq)]
-pub struct Wanted<'a> {
+pub struct WantedRecords<'a> {
     /// The file; `-` is standard input.
     pub input: &'a str,
     /// How its records stand.
@@ -39,7 +39,7 @@ pub struct Wanted<'a> {
 }
 
 /// A part of a file, of whose records the first ones are jumped over where that is possible: they have one length, and the size of the file is known.
-fn jumped_in(form: Form, greatest: u16, size: Option<u64>, part: Part) -> Part
+fn jumped_in(form: Form, greatest: u16, size: Option<u64>, part: StreamPart) -> StreamPart
     requires { 0 < greatest }
     ensures jumps { JumpsIn form greatest size part result }
     ensures none { size ≡ None → result ≡ part }
@@ -51,11 +51,11 @@ fn jumped_in(form: Form, greatest: u16, size: Option<u64>, part: Part) -> Part
 }
 
 /// The part of the file that is read, behind the records that are jumped over. The file is asked for its size only where some are passed over.
-fn part_of<R: Files>(rt: &R, wanted: Wanted<'_>) -> Part
+fn part_of<R: Files>(rt: &R, wanted: WantedRecords<'_>) -> StreamPart
     requires { 0 < wanted.greatest }
     ensures { JumpsOver wanted.entry result }
 {
-    let Wanted {
+    let WantedRecords {
         from,
         bytes,
         choice: Choice { skip, .. },
@@ -70,7 +70,7 @@ fn part_of<R: Files>(rt: &R, wanted: Wanted<'_>) -> Part
         wanted.form,
         wanted.greatest,
         size,
-        Part { from, bytes, skip },
+        StreamPart { from, bytes, skip },
     )
 }
 
@@ -118,7 +118,7 @@ fn read_ahead<S: Source>(source: &mut S, first: u64, jumped: u64) -> Result<(), 
 /// read; want of memory.
 pub fn open_records<R: AllocGlobal + Files + Input>(
     rt: &R,
-    wanted: Wanted<'_>,
+    wanted: WantedRecords<'_>,
 ) -> Result<Incoming<PartSource<R::File, R::Reader>>, CommandFault>
     requires block { HasBlockSize wanted.form }
     requires low { 0 < wanted.greatest }

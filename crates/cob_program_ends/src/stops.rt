@@ -6,7 +6,7 @@ ghost use Rattle.cob_records_parts.specs.Gives.{IfStopped};
 ghost use Rattle.cob_program_ends.specs.Stops.{LacksRecords, cause_told, stop_told, unchosen};
 
 use crate::counted::counted_on;
-use cob_convert_stream::{Cause, RunFault, Side};
+use cob_convert_stream::{Cause, Reason, RunFault};
 use cob_program_faults::CommandFault;
 use cob_records::RecordFault;
 use cob_records_parts::{ChoiceFault, Stopped};
@@ -17,13 +17,8 @@ fn stopped_at(first: u64, jumped: u64, stop: Stopped) -> CommandFault
     ensures { result ≡ stop_told first jumped stop }
 {
     let number = stop.number.saturating_add(jumped);
-    CommandFault::Stopped(RunFault {
-        number: counted_on(first, number),
-        side: Side::In,
-        offset: 0,
-        cause: Cause::Record(stop.fault),
-        written: 0,
-    })
+    let why = Reason::of_frame(stop.fault);
+    CommandFault::Stopped(why.at(counted_on(first, number), 0))
 }
 
 /// What is told where none of the chosen records comes.

@@ -15,7 +15,7 @@ use cob_convert::{Converter, Status};
 use cob_program_faults::{CommandFault, FileName, fitting, opened, printed, tell_fault, text_of};
 use cob_program_line::ExplainLine;
 use cob_records_parts::open_part;
-use cob_report_explain::{Explanation, ReadAgain, Stopped, Teller, explain};
+use cob_report_explain::{Explanation, ReadAgain, StoppedRecord, Teller, explain};
 use std::io;
 use std::io::{Eprint, Input, Print};
 use std::rt::Files;
@@ -139,7 +139,7 @@ pub fn explain_record<R: AllocGlobal + Files + Input, T: Teller>(
 }
 
 /// Prints the fault line of a record and what is wrong in words, and answers how the command ends.
-fn tell_stopped<R: Eprint>(rt: &R, stopped: &Stopped) -> Status
+fn tell_stopped<R: Eprint>(rt: &R, stopped: &StoppedRecord) -> Status
     ensures { EndsAs (status_of (StoppedFault stopped.now.fault)) result }
 {
     let status = CommandFault::Stopped(stopped.fault).status();
@@ -163,7 +163,7 @@ fn tell_converts<R: Print>(rt: &R, moves: io::Result<()>) -> Status
 }
 
 /// Prints why a record stops, behind its single moves, which were printed or were not.
-fn tell_stops<R: Eprint>(rt: &R, moves: io::Result<()>, stopped: &Stopped) -> Status
+fn tell_stops<R: Eprint>(rt: &R, moves: io::Result<()>, stopped: &StoppedRecord) -> Status
     ensures ends { EndsAs (status_of (StoppedFault stopped.now.fault)) result }
     ensures unprinted { IfErr moves (λ error. result ≡ Device) }
 {

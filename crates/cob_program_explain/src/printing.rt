@@ -1,6 +1,6 @@
 //! Single moves, printed as they are carried out.
 
-use cob_report_explain::{Qualifying, SingleMove, SingleText, Teller};
+use cob_report_explain::{CarriedMove, Qualifying, SingleText, Teller};
 use std::io;
 use std::io::Print;
 
@@ -48,7 +48,7 @@ impl<'a, R: Print> MovePrinter<'a, R> {
 }
 
 impl<R: Print> Teller for MovePrinter<'_, R> {
-    fn tell(&mut self, line: u32, records: Qualifying<'_>, one: &SingleMove<'_>) {
+    fn tell(&mut self, line: u32, records: Qualifying<'_>, one: &CarriedMove<'_>) {
         self.begin();
         if self.printed.is_ok() {
             let text = SingleText { line, records, one };

@@ -7,7 +7,7 @@ use cob_convert::Status;
 use cob_convert_stream::RunFault;
 use cob_program_explain::{Silent, Stretch, explain_record_of};
 use cob_program_line::{ConvertLine, ExplainLine};
-use cob_report_explain::{Explanation, Stopped};
+use cob_report_explain::{Explanation, StoppedRecord};
 use std::io::Input;
 use std::os::unix::fs::FileTypeExt;
 use std::rt::Files;
@@ -36,7 +36,7 @@ fn explaining<'a>(line: &ConvertLine<'a>, number: u64) -> ExplainLine<'a>
 }
 
 /// What is told of a record that stops a run.
-fn stopped_in(explanation: Explanation) -> Option<Stopped> {
+fn stopped_in(explanation: Explanation) -> Option<StoppedRecord> {
     match explanation {
         Explanation::Stops(stopped) | Explanation::Refused(stopped) => Some(stopped),
         Explanation::Missing { .. } | Explanation::Converts => None,
@@ -52,8 +52,8 @@ fn is_alike(found: RunFault, number: u64, fault: RunFault) -> bool {
 }
 
 /// The words of a record that stops as a run did.
-fn words_alike(stopped: Stopped, number: u64, fault: RunFault) -> Option<String> {
-    let Stopped {
+fn words_alike(stopped: StoppedRecord, number: u64, fault: RunFault) -> Option<String> {
+    let StoppedRecord {
         fault: found,
         words,
     } = stopped;

@@ -60,7 +60,7 @@ pub use fault::{CommandFault, FileName};
 pub use identity::{FileIdentity, lead_to_one_file, loses};
 pub use lengths::{fitting, judge_lrecl, tell_uneven};
 pub use opening::opened;
-pub use outputs::{PlaceFault, create_part, folder_of, part_name, put_in_place};
+pub use outputs::{OutputFault, create_part, folder_of, part_name, put_in_place};
 pub use terminals::{asks_a_person, telling};
 pub use texts::{Texts, text_of};
 pub use whole_text::{TextFault, read_text, read_whole};

@@ -79,7 +79,7 @@ pub fn create_part<'a, R: AllocGlobal + Files + Print>(
 
 /// Why an output that is written whole did not come into its place. Its part has it.
 #[derive(Clone, Copy, PartialEq, Eq)]
-pub enum PlaceFault {
+pub enum OutputFault {
     /// The system could not bring the part to its device, or the folder with the part's new name.
     NotSynced,
     /// The system did not rename the part, so that the output is as it was before.
@@ -128,16 +128,16 @@ pub fn put_in_place<'a, R: AllocGlobal + Files + Print>(
     sink: FileSink<R::File, Printer<'a, R>>,
     part: &str,
     name: &str,
-) -> Result<(), PlaceFault> {
+) -> Result<(), OutputFault> {
     let writer = sink.into_inner();
     if sync(writer.get_ref()).is_err() {
-        return Err(PlaceFault::NotSynced);
+        return Err(OutputFault::NotSynced);
     }
     if fs::rename(rt, part, name).is_err() {
-        return Err(PlaceFault::NotRenamed);
+        return Err(OutputFault::NotRenamed);
     }
     match sync_folder(rt, folder_of(name)) {
         Ok(()) => Ok(()),
-        Err(_) => Err(PlaceFault::NotSynced),
+        Err(_) => Err(OutputFault::NotSynced),
     }
 }

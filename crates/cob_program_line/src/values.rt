@@ -253,13 +253,13 @@ pub(crate) fn record_of(options: &ArgMatches<'_>) -> Result<u64, LineFault>
 
 // A piece of the input: where it begins, how long it is where it has an end, and the number of its first record.
 #[derive(Clone, Copy)]
-pub(crate) struct Piece {
+pub(crate) struct PieceWords {
     pub(crate) from: u64,
     pub(crate) bytes: Option<u64>,
     pub(crate) first: u64,
 }
 
-pub(crate) fn piece_of(options: &ArgMatches<'_>) -> Result<Piece, LineFault>
+pub(crate) fn piece_of(options: &ArgMatches<'_>) -> Result<PieceWords, LineFault>
     requires named { AreNamed piece_options (look_of options.now) }
     requires before { HasListing (look_of options.now) }
     ensures named { IfOk result (λ piece. NamePiece (look_of options.now)
@@ -271,17 +271,17 @@ pub(crate) fn piece_of(options: &ArgMatches<'_>) -> Result<Piece, LineFault>
     let from = number(options, "from", 0, LineFault::Piece)?;
     let bytes = bound(options, "bytes", LineFault::Piece)?;
     let first = record_of(options)?;
-    Ok(Piece { from, bytes, first })
+    Ok(PieceWords { from, bytes, first })
 }
 
 // How many records are passed over, and how many behind them are taken, where it is not all.
 #[derive(Clone, Copy)]
-pub(crate) struct Choice {
+pub(crate) struct ChosenRecords {
     pub(crate) skip: u64,
     pub(crate) records: Option<u64>,
 }
 
-pub(crate) fn choice_of(options: &ArgMatches<'_>) -> Result<Choice, LineFault>
+pub(crate) fn choice_of(options: &ArgMatches<'_>) -> Result<ChosenRecords, LineFault>
     requires named { AreNamed choice_options (look_of options.now) }
     requires before { HasPiece (look_of options.now) }
     ensures named { IfOk result (λ choice. NameChoice (look_of options.now)
@@ -292,5 +292,5 @@ pub(crate) fn choice_of(options: &ArgMatches<'_>) -> Result<Choice, LineFault>
 {
     let skip = number(options, "skip", 0, LineFault::Number)?;
     let records = bound(options, "records", LineFault::Number)?;
-    Ok(Choice { skip, records })
+    Ok(ChosenRecords { skip, records })
 }

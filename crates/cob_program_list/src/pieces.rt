@@ -6,31 +6,19 @@ ghost use Rattle.cob_program_faults.specs.declared.fault.CommandFault.TheVariant
 ghost use Rattle.cob_program_faults.specs.Texts.{StopsListing};
 ghost use Rattle.cob_program_faults.specs.Ends.{EndsAmong};
 ghost use Rattle.cob_program_list.specs.Ends.{MayEndListing};
-ghost use Rattle.cob_program_list.specs.Listed.{uncut_at, uncut_fault};
+ghost use Rattle.cob_program_list.specs.Listed.{uncut_fault};
 
 use crate::copybook::read_record_book;
 use crate::ends::tell_listed;
 use cob_convert::Status;
-use cob_convert_stream::{Cause, RunFault, Side};
+use cob_convert_stream::Reason;
 use cob_program_faults::{CommandFault, FileName, opened};
 use cob_program_line::PiecesLine;
 use cob_records::{Form, open_source, size_of};
 use cob_records_parts::{MOST_RECORDS_CUT, Piece, PiecesFault, pieces_in, pieces_of_size};
+use cob_report_show::limit_reason;
 use std::io::{Eprint, Input, Print};
 use std::rt::Files;
-
-/// What stops the cutting of a file at the record of this number, as a conversion tells it.
-fn stopped_at(number: u64, cause: Cause) -> CommandFault
-    ensures { result ≡ uncut_at number cause }
-{
-    CommandFault::Stopped(RunFault {
-        number,
-        side: Side::In,
-        offset: 0,
-        cause,
-        written: 0,
-    })
-}
 
 /// What is told of a file that is not cut.
 fn uncut(fault: PiecesFault) -> CommandFault
@@ -39,8 +27,10 @@ fn uncut(fault: PiecesFault) -> CommandFault
     ensures stops { StopsListing result }
 {
     match fault {
-        PiecesFault::Frame { number, fault } => stopped_at(number, Cause::Record(fault)),
-        PiecesFault::Limit => stopped_at(MOST_RECORDS_CUT + 1, Cause::Limit),
+        PiecesFault::Frame { number, fault } => {
+            CommandFault::Stopped(Reason::of_frame(fault).at(number, 0))
+        }
+        PiecesFault::Limit => CommandFault::Stopped(limit_reason().at(MOST_RECORDS_CUT + 1, 0)),
         PiecesFault::Memory => CommandFault::Memory,
     }
 }

@@ -11,7 +11,7 @@ ghost use Rattle.cob_program_list.specs.Listed.{ListsFrom, ListsOver, Lists, lis
 use crate::copybook::{Listed, read_record_book};
 use cob_convert::Status;
 use cob_convert_stream::RunFault;
-use cob_program_ends::{Wanted, open_records, with_cause};
+use cob_program_ends::{WantedRecords, open_records, with_cause};
 use cob_program_faults::{CommandFault, printed, tell_fault, tell_uneven, telling};
 use cob_program_line::{Listing, ShowLine};
 use cob_records::{DeviceFault, Form, Progress, Sink, Source, Telling, WriteSink, create_sink};
@@ -165,7 +165,7 @@ fn choice_of(line: &ShowLine<'_>) -> Choice
 }
 
 /// Which records a listing reads, of at most this length.
-fn wanted_by<'a>(line: &ShowLine<'a>, greatest: u16) -> Wanted<'a>
+fn wanted_by<'a>(line: &ShowLine<'a>, greatest: u16) -> WantedRecords<'a>
     ensures form { result.form ≡ line.now.form }
     ensures greatest { result.greatest ≡ greatest }
     ensures from { result.from ≡ 0 }
@@ -174,7 +174,7 @@ fn wanted_by<'a>(line: &ShowLine<'a>, greatest: u16) -> Wanted<'a>
     ensures skip { result.choice.skip ≡ line.now.skip }
     ensures records { result.choice.records ≡ line.now.records }
 {
-    Wanted {
+    WantedRecords {
         input: line.input,
         form: line.form,
         greatest,

@@ -6,23 +6,23 @@ use std::alloc::{AllocError, Global};
 
 /// What is made of the definition of the command.
 #[derive(Clone, Copy)]
-enum Asked {
+enum Generated {
     Completion,
     Page,
 }
 
 /// What is asked for of a program with these commands.
-fn text_for(alloc: Global, program: &Command<'_>, asked: Asked) -> Result<String, AllocError> {
+fn text_for(alloc: Global, program: &Command<'_>, asked: Generated) -> Result<String, AllocError> {
     let mut text = String::new(alloc);
     match asked {
-        Asked::Completion => push_completion(alloc, &mut text, program)?,
-        Asked::Page => push_page(alloc, &mut text, program)?,
+        Generated::Completion => push_completion(alloc, &mut text, program)?,
+        Generated::Page => push_page(alloc, &mut text, program)?,
     }
     Ok(text)
 }
 
 /// What is asked for of the program.
-fn text_of(alloc: Global, asked: Asked) -> Result<String, AllocError> {
+fn text_of(alloc: Global, asked: Generated) -> Result<String, AllocError> {
     match program(alloc) {
         Ok(program) => text_for(alloc, &program, asked),
         Err(fault) => Err(fault),
@@ -35,7 +35,7 @@ fn text_of(alloc: Global, asked: Asked) -> Result<String, AllocError> {
 ///
 /// Want of memory.
 pub fn completion_of(alloc: Global) -> Result<String, AllocError> {
-    text_of(alloc, Asked::Completion)
+    text_of(alloc, Generated::Completion)
 }
 
 /// The program's manual page.
@@ -44,5 +44,5 @@ pub fn completion_of(alloc: Global) -> Result<String, AllocError> {
 ///
 /// Want of memory.
 pub fn page_of(alloc: Global) -> Result<String, AllocError> {
-    text_of(alloc, Asked::Page)
+    text_of(alloc, Generated::Page)
 }

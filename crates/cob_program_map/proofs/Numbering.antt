@@ -18,7 +18,7 @@ use Rattle.cob_records_parts.specs.declared.choice.Stopped.{Stopped}
 use Rattle.cob_records_parts.specs.declared.numbered.Numbered.{Numbered}
 use Rattle.cob_records_parts.specs.declared.numbered.Numbered.TheVariants as numbered
 use Rattle.cob_program_map.specs.Numbered.{FindsRecord, StopsWhole}
-use Rattle.cob_program_map.specs.declared.record.Found.TheVariants.{Fewer, Record}
+use Rattle.cob_program_map.specs.declared.record.FoundRecord.TheVariants.{Fewer, Record}
 use Rattle.cob_program_map.specs.declared.record.Lengths.{Lengths}
 
 -- what holds of the bytes of a source in other words

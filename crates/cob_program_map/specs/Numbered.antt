@@ -6,8 +6,10 @@ use Rattle.cob_convert_record.specs.Conversion.{Conversion, in_length}
 use Rattle.cob_convert_stream.specs.Reasons.{reason_of}
 use Rattle.cob_convert_stream.specs.declared.fault.RunFault.{RunFault}
 use Rattle.cob_records_parts.specs.Numbering.{AreOnly, HasNumber, HavePassed}
-use Rattle.cob_program_map.specs.declared.record.Found.{Found}
-use Rattle.cob_program_map.specs.declared.record.Found.TheVariants.{Fewer, Record}
+use Rattle.cob_records_parts.specs.declared.numbered.Numbered.{Numbered}
+use Rattle.cob_records_parts.specs.declared.numbered.Numbered.TheVariants as numbered
+use Rattle.cob_program_map.specs.declared.record.FoundRecord.{FoundRecord}
+use Rattle.cob_program_map.specs.declared.record.FoundRecord.TheVariants.{Fewer, Record}
 use Rattle.cob_program_map.specs.declared.record.Lengths.{Lengths}
 
 -- ---- what stands in the buffers
@@ -19,14 +21,14 @@ pub record StandConverted (conversion : Conversion) (input output : List ℕ) (l
   pub converted : IsConverted conversion (take lengths.input input, take lengths.output output)
 
 -- where a record is found, it stands so with what it becomes
-abbrev pub ShowsRecord : Conversion → List ℕ → List ℕ → Found → Type 0
+abbrev pub ShowsRecord : Conversion → List ℕ → List ℕ → FoundRecord → Type 0
 ShowsRecord conversion input output (Record lengths) = StandConverted conversion input output lengths
 ShowsRecord conversion input output (Fewer there) = ⊤
 
--- where there is none with this number, there are fewer
-abbrev pub HasFewer : ℕ → Found → Type 0
-HasFewer number (Record lengths) = ⊤
-HasFewer number (Fewer there) = there < number
+-- what is found, without what the record becomes
+abbrev pub numbered_of : FoundRecord → Numbered
+numbered_of (Record lengths) = numbered.Record lengths.input
+numbered_of (Fewer there) = numbered.Fewer there
 
 -- ---- which of the records that come it is
 
@@ -42,7 +44,7 @@ pub record StopsUpTo (conversion : Conversion) (number : ℕ) (fault : RunFault)
   pub frame : fault.number < number → ReadStops conversion (record { opened = opened; left = left; rest = rest }) (reason_of fault)
 
 -- What the answer says where the record with a number is looked for: it comes, and stands in the first buffer; only so many come; or one up to it stops.
-abbrev pub FindsRecord : Conversion → ℕ → List ℕ → Result Found RunFault → List ℕ → List ℕ → Type 0
+abbrev pub FindsRecord : Conversion → ℕ → List ℕ → Result FoundRecord RunFault → List ℕ → List ℕ → Type 0
 FindsRecord conversion number input (Ok (Record lengths)) bytes rest = HasNumber conversion.in_form (in_length conversion) number (take lengths.input input) bytes rest
 FindsRecord conversion number input (Ok (Fewer there)) bytes rest = AreOnly conversion.in_form (in_length conversion) there bytes rest
 FindsRecord conversion number input (Err fault) bytes rest = StopsUpTo conversion number fault bytes rest

@@ -30,7 +30,7 @@
 //! - what is shown is a record of the layout, and what stands beside it is what a conversion makes of it (`ShowsRecord` of specs/Numbered.antt, by
 //!   `IsConverted` of `cob_convert`; `IsShown` of specs/Showing.antt);
 //! - where the source tells its bytes, it is the one with this number; or there are only so many, fewer than this number; or one up to it stops a run, and
-//!   the fault says which, where and why (`FindsRecord`, `HasFewer`; `FindsShown`, `IsNotShown`);
+//!   the fault says which, where and why (`FindsRecord`, `AreFewer`; `FindsShown`, `IsNotShown`);
 //! - its places, and those of what it becomes, are those under its own counts where these are valid, and else those under the greatest counts
 //!   (`ArePlacesShown`).
 //!
@@ -38,7 +38,7 @@
 //!
 //! The clauses of `converted_record` and `shown_record`: the record that is shown is one of the layout, and what stands beside it is what it becomes
 //! (`ShowsRecord`, `IsShown`); where the source tells its bytes, it is the one with its number, or there are only so many, or one up to it stops a run,
-//! and the fault says which, where and why (`FindsRecord`, `HasFewer`; `FindsShown`, `IsNotShown`); the places of both are those under their own counts
+//! and the fault says which, where and why (`FindsRecord`, `AreFewer`; `FindsShown`, `IsNotShown`); the places of both are those under their own counts
 //! where these are valid, and else those under the greatest counts (`ArePlacesShown`); that the bytes that are marked as covered are those that receivers
 //! cover (`MarkCoveredBytes`, `IsByteCovered` of `cob_report_cover`), that what is said that a single move may lose is what it may lose (`AreAllLosses`
 //! of `cob_report_cover`), and that a move of bytes is said to lose their description exactly where it may lose it, by the first byte (`AreAllTold`, by
@@ -55,5 +55,5 @@ mod shown;
 
 pub use command::{do_map, print_map};
 pub use ends::Unmapped;
-pub use record::{Found, Lengths, converted_record};
+pub use record::{FoundRecord, Lengths, converted_record};
 pub use shown::{NotShown, Shown, shown_record};

@@ -23,7 +23,7 @@ use std::rt::Files;
 /// What stands on the page beside both records and their moves: the lines of the statements, the bytes of the output record that are covered, what single
 /// moves may lose, by which bytes they may lose their description, and the record that is shown, where one is.
 #[derive(Drop)]
-struct Marks {
+struct PageMarks {
     lines: Vec<u32>,
     covered: Vec<bool>,
     losses: Vec<Losses>,
@@ -31,7 +31,7 @@ struct Marks {
     shown: Option<Shown>,
 }
 
-impl Marks {
+impl PageMarks {
     /// The record that is shown, as it is drawn.
     fn converted(&self) -> Option<Converted<'_>> {
         match &self.shown {
@@ -47,8 +47,9 @@ fn marks_of(
     moves: &MovesBetween<'_>,
     lines: Vec<u32>,
     shown: Option<Shown>,
-) -> Result<Marks, AllocError>
-    ensures covered { IfOk result (λ marks. AreMarks (IsByteCovered moves.now) marks.covered.items) }
+) -> Result<PageMarks, AllocError>
+    ensures covered { IfOk result
+        (λ marks. AreMarks (IsByteCovered moves.now) marks.covered.items) }
     ensures losses { IfOk result (λ marks.
         AreAllLosses moves.now.layouts moves.now.statements.now marks.losses.items) }
     ensures descriptions { IfOk result (λ marks.
@@ -57,7 +58,7 @@ fn marks_of(
     let covered = bytes_covered(alloc, moves)?;
     let losses = losses_in(alloc, moves)?;
     let descriptions = descriptions_lost(alloc, moves)?;
-    Ok(Marks {
+    Ok(PageMarks {
         lines,
         covered,
         losses,
@@ -76,7 +77,11 @@ fn names_of<'a>(line: &MapLine<'a>) -> TextNames<'a> {
 }
 
 /// A mapping as it is drawn.
-fn mapping_of<'a>(moves: &MovesBetween<'a>, names: TextNames<'a>, marks: &'a Marks) -> Mapping<'a>
+fn mapping_of<'a>(
+    moves: &MovesBetween<'a>,
+    names: TextNames<'a>,
+    marks: &'a PageMarks,
+) -> Mapping<'a>
     requires covered { AreMarks (IsByteCovered moves.now) marks.now.covered.items }
     requires losses { AreAllLosses moves.now.layouts moves.now.statements.now
         marks.now.losses.items }
@@ -111,7 +116,7 @@ fn print_marked<R: AllocGlobal + Print>(
     rt: &R,
     line: &MapLine<'_>,
     moves: &MovesBetween<'_>,
-    marks: &Marks,
+    marks: &PageMarks,
 ) -> Result<(), Unmapped>
     requires covered { AreMarks (IsByteCovered moves.now) marks.now.covered.items }
     requires losses { AreAllLosses moves.now.layouts moves.now.statements.now

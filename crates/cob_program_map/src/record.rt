@@ -1,16 +1,17 @@
 //! A record of a file, and what it becomes.
 
 ghost use Rattle.std.specs.Prelude.{◌≡◌, ◌<◌, ◌≤◌, IfErr, IfOk, false, length, take};
-ghost use Rattle.cob_convert.specs.Run.{IsConverted, stop_reason};
+ghost use Rattle.cob_convert.specs.Run.{IsConverted};
 ghost use Rattle.cob_convert_record.specs.Conversion.{in_length, out_length};
 ghost use Rattle.cob_convert_record.specs.Rooms.{capacity_for};
 ghost use Rattle.cob_records.specs.Device.{Told};
 ghost use Rattle.cob_records.specs.Frame.{IsRecord, is_write_fault};
-ghost use Rattle.cob_convert_stream.specs.Reasons.{frame_reason, is_write_cause, reason_of as reason_told};
-ghost use Rattle.cob_program_map.specs.Numbered.{FindsRecord, HasFewer, ShowsRecord, StopsWhole};
+ghost use Rattle.cob_convert_stream.specs.Reasons.{frame_reason, is_write_cause, reason_of};
+ghost use Rattle.cob_records_parts.specs.Numbering.{AreFewer};
+ghost use Rattle.cob_program_map.specs.Numbered.{FindsRecord, ShowsRecord, StopsWhole, numbered_of};
 
-use cob_convert_record::{Conversion, Reason, Room, Side, Stop, StopCause};
-use cob_convert_stream::{Cause, RunFault, sized_are_storages};
+use cob_convert_record::{Conversion, Room, stop_reason};
+use cob_convert_stream::{Reason, RunFault, sized_are_storages};
 use cob_records::Source;
 use cob_records_parts::{Numbered, Stopped, find_record};
 
@@ -21,55 +22,19 @@ pub struct Lengths {
     pub output: usize,
 }
 
-/// Why a record is not shown: the fault of the run that stops there.
-fn fault_at(number: u64, why: Reason) -> RunFault
-    ensures reason { reason_told result ≡ why }
-    ensures number { result.number ≡ number }
-{
-    RunFault {
-        number,
-        side: why.side,
-        offset: why.offset,
-        cause: why.cause,
-        written: 0,
-    }
-}
-
-/// Why a record does not convert.
-fn reason_of(stop: Stop) -> Reason
-    ensures told { result ≡ stop_reason stop }
-    ensures kind { is_write_cause result.cause ≡ false }
-{
-    let cause = match stop.cause {
-        StopCause::Count => Cause::Count,
-        StopCause::NoValue => Cause::NoValue,
-        StopCause::Subscript => Cause::Subscript,
-    };
-    Reason {
-        side: stop.side,
-        offset: stop.offset,
-        cause,
-    }
-}
-
 /// Why no record is shown where the frame of one up to it can't be read.
 fn unread(stop: Stopped) -> RunFault
     requires { is_write_fault stop.fault ≡ false }
-    ensures reason { reason_told result ≡ frame_reason stop.fault }
+    ensures reason { reason_of result ≡ frame_reason stop.fault }
     ensures number { result.number ≡ stop.number }
     ensures kind { is_write_cause result.cause ≡ false }
 {
-    let why = Reason {
-        side: Side::In,
-        offset: 0,
-        cause: Cause::Record(stop.fault),
-    };
-    fault_at(stop.number, why)
+    Reason::of_frame(stop.fault).at(stop.number, 0)
 }
 
 /// What is found where a record with a number is looked for.
 #[derive(Clone, Copy, PartialEq, Eq)]
-pub enum Found {
+pub enum FoundRecord {
     /// The record, at the front of its buffer, and what it becomes, at the front of the other one.
     Record(Lengths),
     /// The input has only so many records.
@@ -100,11 +65,11 @@ fn convert_found(
     // What is one of the layout's records holds a record of it.
     sized_are_storages();
     if let Err(why) = conversion.judge(input, room) {
-        return Err(fault_at(number, why));
+        return Err(why.at(number, 0));
     }
     match conversion.convert(input, output, room) {
         Ok(made) => Ok(made),
-        Err(stop) => Err(fault_at(number, reason_of(stop))),
+        Err(stop) => Err(stop_reason(stop).at(number, 0)),
     }
 }
 
@@ -120,14 +85,14 @@ pub fn converted_record<S: Source>(
     output: &mut [u8],
     room: &mut Room,
     source: &mut S,
-) -> Result<Found, RunFault>
+) -> Result<FoundRecord, RunFault>
     requires number { 0 < number }
     requires input { length input.old ≡ in_length conversion.now }
     requires output { length output.old ≡ out_length conversion.now }
     requires room { room.old ≡ capacity_for conversion.now.records }
     // The record stands in the one buffer, and what it becomes in the other.
     ensures shows { IfOk result (ShowsRecord conversion.now input.new output.new) }
-    ensures fewer { IfOk result (HasFewer number) }
+    ensures fewer { IfOk result (λ found. AreFewer number (numbered_of found)) }
     // Where the source tells its bytes: it is the one with this number, or there are only so many, or one up to it stops.
     ensures finds { Told (S.coming source.old) (S.coming source.new)
         (FindsRecord conversion.now number input.new result) }
@@ -136,11 +101,11 @@ pub fn converted_record<S: Source>(
     let (form, greatest) = (conversion.in_form(), conversion.in_length());
     let count = match find_record(source, form, greatest, number, input) {
         Ok(Numbered::Record(count)) => count,
-        Ok(Numbered::Fewer(there)) => return Ok(Found::Fewer(there)),
+        Ok(Numbered::Fewer(there)) => return Ok(FoundRecord::Fewer(there)),
         Err(stop) => return Err(unread(stop)),
     };
     match convert_found(conversion, number, &input[..count], output, room) {
-        Ok(made) => Ok(Found::Record(Lengths {
+        Ok(made) => Ok(FoundRecord::Record(Lengths {
             input: count,
             output: made,
         })),

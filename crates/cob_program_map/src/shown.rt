@@ -7,7 +7,7 @@ ghost use Rattle.cob_convert_record.specs.Rooms.{capacity_for};
 ghost use Rattle.cob_records.specs.Device.{Told};
 ghost use Rattle.cob_program_map.specs.Showing.{ArePlacesShown, FindsShown, FindsToShow, IsNotShown, IsShown};
 
-use crate::record::{Found, converted_record};
+use crate::record::{FoundRecord, converted_record};
 use cob_convert_record::{Conversion, Room};
 use cob_convert_stream::RunFault;
 use cob_layout::{Counts, Layout};
@@ -103,18 +103,19 @@ fn read_into<S: Source>(
     requires input { length input.old.items ≡ in_length conversion.now }
     requires output { length output.old.items ≡ out_length conversion.now }
     requires room { room.old ≡ capacity_for conversion.now.records }
-    ensures converts { OnOk result (IsConverted conversion.now (input.new.items, output.new.items)) }
+    ensures converts { OnOk result
+        (IsConverted conversion.now (input.new.items, output.new.items)) }
     ensures why { IfErr result (IsNotShown number) }
     ensures finds { Told (S.coming source.old) (S.coming source.new)
         (FindsToShow conversion.now number input.new.items result) }
 {
     match converted_record(conversion, number, input, output, room, source) {
-        Ok(Found::Record(lengths)) => {
+        Ok(FoundRecord::Record(lengths)) => {
             input.truncate(lengths.input);
             output.truncate(lengths.output);
             Ok(())
         }
-        Ok(Found::Fewer(there)) => Err(NotShown::Fewer(there)),
+        Ok(FoundRecord::Fewer(there)) => Err(NotShown::Fewer(there)),
         Err(fault) => Err(NotShown::Stops(fault)),
     }
 }

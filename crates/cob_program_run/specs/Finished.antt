@@ -5,8 +5,8 @@ use Rattle.cob_convert_stream.specs.declared.fault.RunFault.{RunFault}
 use Rattle.cob_convert.specs.declared.aside.AsideFault.{AsideFault}
 use Rattle.cob_convert.specs.declared.aside.AsideFault.TheVariants as aside
 use Rattle.cob_convert.specs.declared.aside.Tally.{Tally}
-use Rattle.cob_program_faults.specs.declared.outputs.PlaceFault.{PlaceFault}
-use Rattle.cob_program_faults.specs.declared.outputs.PlaceFault.TheVariants as place
+use Rattle.cob_program_faults.specs.declared.outputs.OutputFault.{OutputFault}
+use Rattle.cob_program_faults.specs.declared.outputs.OutputFault.TheVariants as place
 use Rattle.cob_records.specs.Progress.{kept_count}
 use Rattle.cob_records.specs.declared.device.DeviceFault.{DeviceFault}
 use Rattle.cob_program_faults.specs.declared.fault.CommandFault.{CommandFault}
@@ -65,7 +65,7 @@ finished_run answer (Err failed) = Err (unflushed_fault answer)
 
 -- What so many records that were handed over come to, behind what was done to put the output in its place: a part that is not on its device lacks
 -- its last record, as an output that was not handed over does.
-abbrev pub placed_output : ℕ → Result ⊤ PlaceFault → Result ℕ CommandFault
+abbrev pub placed_output : ℕ → Result ⊤ OutputFault → Result ℕ CommandFault
 placed_output done (Ok placed) = Ok done
 placed_output done (Err place.NotSynced) = Err (unflushed_fault (Ok done))
 placed_output done (Err place.NotRenamed) = Err fault.NotRenamed

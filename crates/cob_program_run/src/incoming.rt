@@ -4,14 +4,14 @@ ghost use Rattle.cob_records.specs.Forms.{HasBlockSize};
 ghost use Rattle.cob_records_parts.specs.Rests.{rest_inside};
 ghost use Rattle.cob_program_run.specs.Ran.{AnswersFrom, AnswersOver, AnswersOverApart, AnswersOverChosen};
 
-use crate::run::Run;
+use crate::run::CommandRun;
 use cob_records::{Form, Progress, Source, Telling};
 use cob_records_parts::{Chosen, Incoming};
 use std::io::Eprint;
 use std::rt::Clock;
 
 /// The answer of a run over a source, which is let go behind it. It tells on standard error how far it is where that is asked for.
-fn run_over_source<T: Eprint + Clock, S: Source + Drop, R: Run>(
+fn run_over_source<T: Eprint + Clock, S: Source + Drop, R: CommandRun>(
     rt: &T,
     form: Form,
     telling: Option<Telling>,
@@ -35,7 +35,7 @@ fn run_over_source<T: Eprint + Clock, S: Source + Drop, R: Run>(
 }
 
 /// The answer of a run over chosen records that are given apart. Where one of these can't be read, that is why it stops.
-fn run_over_apart<T: Eprint + Clock, S: Source + Drop, R: Run>(
+fn run_over_apart<T: Eprint + Clock, S: Source + Drop, R: CommandRun>(
     rt: &T,
     form: Form,
     telling: Option<Telling>,
@@ -52,7 +52,7 @@ fn run_over_apart<T: Eprint + Clock, S: Source + Drop, R: Run>(
 }
 
 /// The answer of a run over chosen records: over what is left of their source, or its first bytes, where they are just that.
-fn run_over_chosen<T: Eprint + Clock, S: Source + Drop, R: Run>(
+fn run_over_chosen<T: Eprint + Clock, S: Source + Drop, R: CommandRun>(
     rt: &T,
     form: Form,
     telling: Option<Telling>,
@@ -70,7 +70,7 @@ fn run_over_chosen<T: Eprint + Clock, S: Source + Drop, R: Run>(
 }
 
 /// The answer of a run over all records that come, or over those that are chosen.
-pub(crate) fn run_over_incoming<T: Eprint + Clock, S: Source + Drop, R: Run>(
+pub(crate) fn run_over_incoming<T: Eprint + Clock, S: Source + Drop, R: CommandRun>(
     rt: &T,
     form: Form,
     telling: Option<Telling>,

@@ -1,8 +1,8 @@
 //! Two outputs that come into their places together.
 
 use crate::running_aside::PlacesFault;
-use cob_program_ends::Names;
-use cob_program_faults::{PlaceFault, put_in_place};
+use cob_program_ends::OutputNames;
+use cob_program_faults::{OutputFault, put_in_place};
 use cob_records::{FileSink, Opened, WriteSink};
 use std::fs::OpenFile;
 use std::io::{Print, Printer, Write};
@@ -23,12 +23,12 @@ fn is_synced<F: OpenFile, S>(opened: &Opened<F, S>) -> bool {
 /// Where the system could not.
 fn synced<F: OpenFile + Write + Drop, S: Write + Drop>(
     sink: FileSink<F, S>,
-) -> Result<FileSink<F, S>, PlaceFault> {
+) -> Result<FileSink<F, S>, OutputFault> {
     let writer = sink.into_inner();
     if is_synced(writer.get_ref()) {
         Ok(WriteSink::new(writer))
     } else {
-        Err(PlaceFault::NotSynced)
+        Err(OutputFault::NotSynced)
     }
 }
 
@@ -37,8 +37,8 @@ fn put_rejects_first<'a, R: AllocGlobal + Files + Print>(
     rt: &'a R,
     sink: FileSink<R::File, Printer<'a, R>>,
     aside: FileSink<R::File, Printer<'a, R>>,
-    parts: Names<'_>,
-    names: Names<'_>,
+    parts: OutputNames<'_>,
+    names: OutputNames<'_>,
 ) -> Result<(), PlacesFault> {
     if let Err(fault) = put_in_place(rt, aside, parts.rejects, names.rejects) {
         return Err(PlacesFault::Rejects(fault));
@@ -59,8 +59,8 @@ pub(crate) fn put_both_in_place<'a, R: AllocGlobal + Files + Print>(
     rt: &'a R,
     sink: FileSink<R::File, Printer<'a, R>>,
     aside: FileSink<R::File, Printer<'a, R>>,
-    parts: Names<'_>,
-    names: Names<'_>,
+    parts: OutputNames<'_>,
+    names: OutputNames<'_>,
 ) -> Result<(), PlacesFault> {
     match synced(sink) {
         Ok(sink) => put_rejects_first(rt, sink, aside, parts, names),

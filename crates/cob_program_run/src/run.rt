@@ -11,7 +11,7 @@ use cob_records::{Sink, Source};
 use cob_records_parts::Stopped;
 
 /// A run of a converter, but for the source of its records: what takes what these become, and what is done with one that does not convert.
-pub(crate) trait Run {
+pub(crate) trait CommandRun {
     /// What it comes to at the end of the records.
     type Done;
     /// Why it stops.
@@ -53,7 +53,7 @@ pub(crate) struct Stopping<'a, K> {
     pub sink: &'a mut K,
 }
 
-impl<K: Sink> Run for Stopping<'_, K> {
+impl<K: Sink> CommandRun for Stopping<'_, K> {
     ghost use Rattle.std.specs.Prelude.{◌≡◌};
     ghost use Rattle.cob_records.specs.Device.{counted};
     ghost use Rattle.cob_convert.specs.Run.{Ran, is_write_stop};
@@ -94,7 +94,7 @@ pub(crate) struct SettingAside<'a, K, A, N> {
     pub most: u64,
 }
 
-impl<K: Sink, A: Sink, N: Notes> Run for SettingAside<'_, K, A, N> {
+impl<K: Sink, A: Sink, N: Notes> CommandRun for SettingAside<'_, K, A, N> {
     ghost use Rattle.std.specs.Prelude.{◌≡◌};
     ghost use Rattle.cob_records.specs.Device.{counted};
     ghost use Rattle.cob_convert.specs.Aside.{CountsUnlessSink, RanAside, is_aside_fault, is_sink_fault};

@@ -12,7 +12,7 @@ use crate::incoming::run_over_incoming;
 use crate::lacking::unflushed;
 use crate::run::Stopping;
 use cob_convert::{Converter, RunFault};
-use cob_program_faults::{CommandFault, PlaceFault};
+use cob_program_faults::{CommandFault, OutputFault};
 use cob_records::{DeviceFault, Form, Source, Telling, WriteSink};
 use cob_records_parts::Incoming;
 use std::io::{BufWriter, Eprint, Write};
@@ -71,13 +71,13 @@ pub fn run_to_end<T: Eprint + Clock, S: Source + Drop, W: Write + Drop>(
 /// # Errors
 ///
 /// An output that is not on its device, or was not renamed.
-pub fn placed(done: u64, place: Result<(), PlaceFault>) -> Result<u64, CommandFault>
+pub fn placed(done: u64, place: Result<(), OutputFault>) -> Result<u64, CommandFault>
     ensures placed { result ≡ placed_output done place }
     ensures lacks { IfErr result (LacksOutput Bool.true) }
 {
     match place {
         Ok(()) => Ok(done),
-        Err(PlaceFault::NotSynced) => Err(unflushed(Ok(done))),
-        Err(PlaceFault::NotRenamed) => Err(CommandFault::NotRenamed),
+        Err(OutputFault::NotSynced) => Err(unflushed(Ok(done))),
+        Err(OutputFault::NotRenamed) => Err(CommandFault::NotRenamed),
     }
 }

@@ -15,8 +15,8 @@ use crate::places::put_both_in_place;
 use crate::rejections::Rejections;
 use crate::run::SettingAside;
 use cob_convert::{AsideFault, Converter, Notes, Tally};
-use cob_program_ends::Names;
-use cob_program_faults::{CommandFault, PlaceFault};
+use cob_program_ends::OutputNames;
+use cob_program_faults::{CommandFault, OutputFault};
 use cob_records::{DeviceFault, FileSink, Form, Sink, Source, Telling, WriteSink};
 use cob_records_parts::Incoming;
 use std::io::{BufWriter, Eprint, Print, Printer, Write};
@@ -54,8 +54,8 @@ impl AsideEnding {
 /// Which of the two outputs did not come into its place, and why. Its part has it.
 #[derive(Clone, Copy, PartialEq, Eq)]
 pub enum PlacesFault {
-    Output(PlaceFault),
-    Rejects(PlaceFault),
+    Output(OutputFault),
+    Rejects(OutputFault),
 }
 
 /// What so many records come to behind what was done to put them in their places.
@@ -74,10 +74,10 @@ pub fn placed(
     let answer = Ok(tally);
     match place {
         Ok(()) => Ok(tally),
-        Err(PlacesFault::Output(PlaceFault::NotSynced)) => Err(lacking_output(answer, marks)),
-        Err(PlacesFault::Output(PlaceFault::NotRenamed)) => Err(CommandFault::NotRenamed),
-        Err(PlacesFault::Rejects(PlaceFault::NotSynced)) => Err(lacking_rejects(answer, marks)),
-        Err(PlacesFault::Rejects(PlaceFault::NotRenamed)) => Err(CommandFault::NotRenamedAside),
+        Err(PlacesFault::Output(OutputFault::NotSynced)) => Err(lacking_output(answer, marks)),
+        Err(PlacesFault::Output(OutputFault::NotRenamed)) => Err(CommandFault::NotRenamed),
+        Err(PlacesFault::Rejects(OutputFault::NotSynced)) => Err(lacking_rejects(answer, marks)),
+        Err(PlacesFault::Rejects(OutputFault::NotRenamed)) => Err(CommandFault::NotRenamedAside),
     }
 }
 
@@ -92,8 +92,8 @@ pub fn placed_run<'a, R: AllocGlobal + Files + Print>(
     ending: AsideEnding,
     sink: FileSink<R::File, Printer<'a, R>>,
     aside: FileSink<R::File, Printer<'a, R>>,
-    parts: Names<'_>,
-    names: Names<'_>,
+    parts: OutputNames<'_>,
+    names: OutputNames<'_>,
 ) -> Result<Tally, CommandFault>
     ensures told { PlacesRun atomic ending result }
     ensures lacks { IfErr result (LacksOutputs atomic) }

@@ -32,7 +32,7 @@
 //! A runtime round another one whose files and standard streams are never written past the limit on the size of a file.
 //!
 //! Under such a limit (`ulimit -f`) the system ends a program by a signal, SIGXFSZ, where it would write a byte behind the limit, and the program says
-//! nothing. [`Limited`] asks the system for the limit once, and its files take as many bytes of a write as there is room for. Where there is none,
+//! nothing. [`LimitedRuntime`] asks the system for the limit once, and its files take as many bytes of a write as there is room for. Where there is none,
 //! the write fails with the error that the system has for it, `File too large`. So a command that runs over it ends as on a full device.
 //!
 //! What is promised:
@@ -78,7 +78,7 @@ pub use extent::{Extent, too_large};
 pub use file::NotedFile;
 pub use last::{FileError, LastError, NamedFile, noted};
 pub use limit::size_limit;
-pub use limited::Limited;
+pub use limited::LimitedRuntime;
 pub use limited_file::LimitedFile;
 pub use runtime::Noted;
 pub use stand_ins::{StandIns, take_closed};

@@ -22,16 +22,16 @@ const ERROR: &str = "/dev/stderr";
 
 /// A runtime whose calls are those of the one inside, as long as no file would become larger than the limit that the system has for it.
 #[derive(Clone, Copy)]
-pub struct Limited<'a, R> {
+pub struct LimitedRuntime<'a, R> {
     rt: &'a R,
     /// The most bytes that a file may have, where there is a limit.
     limit: Option<u64>,
 }
 
-impl<'a, R: Files> Limited<'a, R> {
+impl<'a, R: Files> LimitedRuntime<'a, R> {
     /// A runtime round this one, with the limit that the system tells. It opens a file to learn of it.
-    pub fn new(rt: &'a R) -> Limited<'a, R> {
-        Limited {
+    pub fn new(rt: &'a R) -> LimitedRuntime<'a, R> {
+        LimitedRuntime {
             rt,
             limit: limit_of_process(rt),
         }
@@ -43,7 +43,7 @@ impl<'a, R: Files> Limited<'a, R> {
     }
 }
 
-impl<R: Alloc> Alloc for Limited<'_, R> {
+impl<R: Alloc> Alloc for LimitedRuntime<'_, R> {
     type A = R::A;
 
     fn alloc(&self) -> R::A {
@@ -52,7 +52,7 @@ impl<R: Alloc> Alloc for Limited<'_, R> {
 }
 
 /// A value that does not fit is refused as a whole, and of bytes those are taken that fit.
-impl<R: Files + Print> Print for Limited<'_, R> {
+impl<R: Files + Print> Print for LimitedRuntime<'_, R> {
     fn print<D: Display + Drop>(&self, value: D) -> io::Result<()> {
         fits(self.extent_behind(OUTPUT), &value, 0)?;
         self.rt.print(value)
@@ -80,7 +80,7 @@ impl<R: Files + Print> Print for Limited<'_, R> {
 }
 
 /// A value that does not fit is refused as a whole.
-impl<R: Files + Eprint> Eprint for Limited<'_, R> {
+impl<R: Files + Eprint> Eprint for LimitedRuntime<'_, R> {
     fn eprint<D: Display + Drop>(&self, value: D) -> io::Result<()> {
         fits(self.extent_behind(ERROR), &value, 0)?;
         self.rt.eprint(value)
@@ -92,7 +92,7 @@ impl<R: Files + Eprint> Eprint for Limited<'_, R> {
     }
 }
 
-impl<R: Clock> Clock for Limited<'_, R> {
+impl<R: Clock> Clock for LimitedRuntime<'_, R> {
     fn monotonic(&self) -> io::Result<Duration> {
         self.rt.monotonic()
     }
@@ -102,7 +102,7 @@ impl<R: Clock> Clock for Limited<'_, R> {
     }
 }
 
-impl<R: Input> Input for Limited<'_, R> {
+impl<R: Input> Input for LimitedRuntime<'_, R> {
     type Reader = R::Reader;
 
     fn read_line<A: Allocator + Clone>(&self, buf: &mut String<A>) -> io::Result<usize> {
@@ -118,7 +118,7 @@ impl<R: Input> Input for Limited<'_, R> {
     }
 }
 
-impl<R: Files> Files for Limited<'_, R> {
+impl<R: Files> Files for LimitedRuntime<'_, R> {
     type File = LimitedFile<R::File>;
 
     type Dir = R::Dir;

@@ -132,7 +132,8 @@ impl<F: Write> Write for LimitedFile<F> {
         ensures within { IfOk result (λ bytes. bytes ≤ length
             (front_within self.old.extent buf.now)) }
         ensures extent { self.new.extent ≡ extent_after result self.old.extent }
-        ensures full { IsAtItsLimit self.old.extent → 0 < length buf.now → IsErrAnd result IsTooLarge }
+        ensures full { IsAtItsLimit self.old.extent → 0 < length buf.now
+            → IsErrAnd result IsTooLarge }
     {
         match front_within(self.extent, buf) {
             Ok(front) => {

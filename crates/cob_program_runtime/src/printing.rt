@@ -16,7 +16,7 @@ struct Counter {
 }
 
 impl Write for Counter {
-    ghost write_str_gives = { λ before text behind. behind.bytes ≡ counted (before.bytes + length text) };
+    ghost write_str_gives = { λ before text behind. behind.bytes ≡ saturated (before.bytes + length text) };
 
     fn write_str(&mut self, text: &str) -> fmt::Result {
         self.bytes = self.bytes.saturating_add(text.len() as u64);

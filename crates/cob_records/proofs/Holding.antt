@@ -5,8 +5,8 @@ use Rattle.std.proofs.lemmas.Bool.Decides.{nat_tests}
 use Rattle.std.proofs.Math.ListN.{length-append}
 use Rattle.cob_records.specs.declared.records.Form.{Form}
 use Rattle.cob_records.specs.declared.records.Form.TheVariants.{Fixed, Variable, Blocked}
-use Rattle.cob_records.specs.declared.place.Place.{Place}
-use Rattle.cob_records.specs.declared.place.Place.TheVariants as place
+use Rattle.cob_records.specs.declared.place.StreamPlace.{StreamPlace}
+use Rattle.cob_records.specs.declared.place.StreamPlace.TheVariants as place
 use Rattle.cob_limits.specs.Limits.{longest_record}
 use Rattle.cob_records.specs.BlockReads.{Leads}
 use Rattle.cob_records.specs.Forms.{HasBlockSize}
@@ -94,7 +94,7 @@ record_cut (Blocked top) greatest left n after rest block fits low (room, size, 
     (cut_front lead (descriptor size ++ part) (framed Variable body ++ more) (both ∙ ap (λ xs. xs ++ (framed Variable body ++ more)) (sym one)))
 
 -- behind the last whole frame none stands
-pub no_more : (form : Form) (greatest left : ℕ) (at : Place) (rest : List ℕ) → HasBlockSize form → greatest ≤ longest_record → is_place at ≡ true
+pub no_more : (form : Form) (greatest left : ℕ) (at : StreamPlace) (rest : List ℕ) → HasBlockSize form → greatest ≤ longest_record → is_place at ≡ true
     → IsAt form greatest left at rest → BeginsWithFrame form greatest left rest → ⊥
 no_more form greatest left (place.Block head seen) rest block fits within (none, blocked, is) begins =
     let (size, few) = block_place head seen within in block_cut form greatest left seen head rest none blocked size few is begins

@@ -6,8 +6,8 @@ use Rattle.std.proofs.lemmas.Grind.{common_steps}
 use Rattle.std.proofs.lemmas.List.Elements.{All-append}
 use Rattle.cob_records.specs.declared.records.Form.{Form}
 use Rattle.cob_records.specs.declared.records.Form.TheVariants.{Fixed, Variable, Blocked}
-use Rattle.cob_records.specs.declared.place.Place.{Place}
-use Rattle.cob_records.specs.declared.place.Place.TheVariants as place
+use Rattle.cob_records.specs.declared.place.StreamPlace.{StreamPlace}
+use Rattle.cob_records.specs.declared.place.StreamPlace.TheVariants as place
 use Rattle.cob_records.specs.Device.{greatest_count}
 use Rattle.cob_records.specs.Forms.{Come, ComesFirst}
 use Rattle.cob_records.specs.Frame.{IsRecord, descriptor, framed}
@@ -93,7 +93,7 @@ kept_more : (count more now old size : ℕ) → now ≡ kept_count old → size 
 kept_more count more now old size h e = omega (arith, h, e)
 
 -- bytes that end no record
-pub counts_more : (form : Form) (greatest : ℕ) (at next : Place) (records count more : ℕ) (bytes part : List ℕ) → Counts form greatest at records count bytes
+pub counts_more : (form : Form) (greatest : ℕ) (at next : StreamPlace) (records count more : ℕ) (bytes part : List ℕ) → Counts form greatest at records count bytes
     → ((left : ℕ) (rest : List ℕ) → IsAt form greatest left at rest → IsAt form greatest left next (rest ++ part))
     → more ≡ min (count + length part) greatest_count → Counts form greatest next records more (bytes ++ part)
 counts_more form greatest at next records count more bytes part h step e = record {
@@ -108,7 +108,7 @@ counts_more form greatest at next records count more bytes part h step e = recor
 }
 
 -- bytes that end a record
-pub counts_record : (form : Form) (greatest rest after : ℕ) (next : Place) (records done count more : ℕ) (bytes part : List ℕ)
+pub counts_record : (form : Form) (greatest rest after : ℕ) (next : StreamPlace) (records done count more : ℕ) (bytes part : List ℕ)
     → Counts form greatest (place.Record rest after) records count bytes → length part ≡ rest → IsAt form greatest after next []
     → done ≡ min (records + 1) greatest_count → more ≡ min (count + length part) greatest_count → Counts form greatest next done more (bytes ++ part)
 counts_record form greatest rest after next records done count more bytes part h len first one e =
@@ -128,12 +128,12 @@ pub lost_more : (form : Form) (greatest left : ℕ) (rest part : List ℕ) → I
 lost_more form greatest left rest part lost more begins = lost (part ++ more) (subst (BeginsWithFrame form greatest left) (append_assoc rest part more) begins)
 
 -- the place in a record behind a part of it, or where no frame is looked for
-pub record_step : (form : Form) (greatest rest after count : ℕ) (at : Place) (part : List ℕ) → at ≡ place.Record rest after → length part ≡ count → count < rest
+pub record_step : (form : Form) (greatest rest after count : ℕ) (at : StreamPlace) (part : List ℕ) → at ≡ place.Record rest after → length part ≡ count → count < rest
     → (left : ℕ) (bytes : List ℕ) → IsAt form greatest left at bytes → IsAt form greatest left (place.Record (rest - count) after) (bytes ++ part)
 record_step form greatest rest after count at part is len less left bytes h =
     record_more form greatest left rest after count bytes part (subst (λ p. IsAt form greatest left p bytes) is h) len less
 
-pub lost_step : (form : Form) (greatest : ℕ) (at : Place) (part : List ℕ) → at ≡ place.Lost → (left : ℕ) (rest : List ℕ) → IsAt form greatest left at rest
+pub lost_step : (form : Form) (greatest : ℕ) (at : StreamPlace) (part : List ℕ) → at ≡ place.Lost → (left : ℕ) (rest : List ℕ) → IsAt form greatest left at rest
     → IsAt form greatest left place.Lost (rest ++ part)
 lost_step form greatest at part is left rest h = lost_more form greatest left rest part (subst (λ p. IsAt form greatest left p rest) is h)
 
@@ -141,7 +141,7 @@ pub whole_take : (count : ℕ) (xs : List ℕ) → count ≡ length xs → lengt
 whole_take count xs e = grind (arith, common_steps)
 
 -- what has passed behind one more piece of a slice
-pub counts_take : (form : Form) (greatest : ℕ) (at : Place) (records count i n : ℕ) (bytes piece : List ℕ)
+pub counts_take : (form : Form) (greatest : ℕ) (at : StreamPlace) (records count i n : ℕ) (bytes piece : List ℕ)
     → Counts form greatest at records count ((bytes ++ take i piece) ++ take n (take (length piece - i) (drop i piece)))
     → Counts form greatest at records count (bytes ++ take (i + n) piece)
 counts_take form greatest at records count i n bytes piece h =

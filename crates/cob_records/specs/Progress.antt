@@ -2,11 +2,11 @@
 use Rattle.std.specs.Prelude.{◌≡◌, ℕ, [], ◌+◌, ◌-◌, ◌*◌, ◌/◌, ◌<◌, ◌≤◌, ◌&&◌, ◌||◌, nat_lt, nat_le, Bool, false, if◌then◌else◌, All, List, ◌++◌, length, take, min, Option, Some, None}
 use Rattle.cob_records.specs.declared.records.Form.{Form}
 use Rattle.cob_records.specs.declared.records.Form.TheVariants.{Fixed, Variable, Blocked}
-use Rattle.cob_records.specs.declared.place.Place.{Place}
-use Rattle.cob_records.specs.declared.place.Place.TheVariants as place
+use Rattle.cob_records.specs.declared.place.StreamPlace.{StreamPlace}
+use Rattle.cob_records.specs.declared.place.StreamPlace.TheVariants as place
 use Rattle.cob_records.specs.declared.passed.Passed.{Passed}
 use Rattle.cob_records.specs.declared.progress.Progress.{Progress}
-use Rattle.cob_records.specs.declared.report.Ahead.{Ahead}
+use Rattle.cob_records.specs.declared.report.Forecast.{Forecast}
 use Rattle.cob_records.specs.declared.report.Report.{Report}
 use Rattle.cob_records.specs.Device.{greatest_count}
 use Rattle.cob_records.specs.BlockReads.{Leads}
@@ -64,7 +64,7 @@ abbrev pub IsLost : Form → (greatest left : ℕ) → List ℕ → Type 0
 IsLost form greatest left bytes = (more : List ℕ) → BeginsWithFrame form greatest left (bytes ++ more) → ⊥
 
 -- where in a stream of frames the next byte stands, behind the last whole frame, where the open block held so many bytes, and these bytes
-abbrev pub IsAt : Form → (greatest left : ℕ) → Place → List ℕ → Type 0
+abbrev pub IsAt : Form → (greatest left : ℕ) → StreamPlace → List ℕ → Type 0
 IsAt form greatest left (place.Block head seen) bytes = (left ≡ 0) × (is_unblocked form ≡ false) × (bytes ≡ take seen head)
 IsAt form greatest left (place.Descriptor head seen room) bytes = (lead : List ℕ) × IsBefore form left room lead × (bytes ≡ lead ++ take seen head)
 IsAt form greatest left (place.Record rest after) bytes = IsBegun form greatest left rest after bytes
@@ -72,7 +72,7 @@ IsAt form greatest left place.Lost bytes = IsLost form greatest left bytes
 
 -- These bytes have passed of a stream, and are counted: the records whose frames stand at their front, so many of which there are; what the
 -- open block holds behind them, and the place in the frame there; and all bytes.
-pub record Counts (form : Form) (greatest : ℕ) (at : Place) (records count : ℕ) (bytes : List ℕ) : Type 0 where
+pub record Counts (form : Form) (greatest : ℕ) (at : StreamPlace) (records count : ℕ) (bytes : List ℕ) : Type 0 where
   pub bodies : List (List ℕ)
   pub left : ℕ
   pub rest : List ℕ
@@ -96,7 +96,7 @@ PassesRecord left room before now = (bytes part : List ℕ) → HasPassed bytes 
     → before.place ≡ place.Record left room → HasPassed (bytes ++ part) now
 
 -- this part leads from where the next byte stands to this place
-abbrev pub LeadsTo : Passed → Place → List ℕ → Type 0
+abbrev pub LeadsTo : Passed → StreamPlace → List ℕ → Type 0
 LeadsTo passed at part = (left : ℕ) (rest : List ℕ) → IsAt passed.form passed.greatest left passed.place rest
     → IsAt passed.form passed.greatest left at (rest ++ part)
 
@@ -109,7 +109,7 @@ abbrev pub seconds_left : ℕ → ℕ → ℕ → ℕ
 seconds_left elapsed bytes size = elapsed * (size - bytes) / bytes
 
 -- what is ahead of a stream, where its size is known, it is not empty, and a byte has passed
-abbrev pub ahead_of : Option ℕ → ℕ → ℕ → Option Ahead
+abbrev pub ahead_of : Option ℕ → ℕ → ℕ → Option Forecast
 ahead_of None elapsed bytes = None
 ahead_of (Some size) elapsed bytes =
     if nat_lt 0 size && nat_lt 0 bytes then Some (record { percent = percent_of bytes size; seconds = seconds_left elapsed bytes size }) else None

@@ -78,8 +78,8 @@ pub type FileSource<F, S> = ReadSource<BufReader<Opened<F, S>>>;
 /// that it took; a last flush that fails is a failed write of the last record that was put.
 pub type FileSink<F, S> = WriteSink<BufWriter<Opened<F, S>>>;
 
-// Whether the name is that of a standard stream.
-fn is_dash(name: &str) -> bool
+/// Whether the name is that of a standard stream: `-`.
+pub fn names_standard(name: &str) -> bool
     ensures { result ≡ names_standard name.now }
 {
     matches!(name.as_bytes(), [b'-'])
@@ -90,7 +90,7 @@ fn is_dash(name: &str) -> bool
 pub fn size_of<R: Files>(rt: &R, name: &str) -> Option<u64>
     ensures { names_standard name.now ≡ true → result ≡ None }
 {
-    if is_dash(name) {
+    if names_standard(name) {
         return None;
     }
     match fs::metadata(rt, name) {
@@ -114,7 +114,7 @@ pub fn open_source<R: AllocGlobal + Files + Input>(
     ensures which { IfOk result (λ source.
         is_standard (reader_inner (source_reader source)) ≡ names_standard name.now) }
 {
-    let opened = if is_dash(name) {
+    let opened = if names_standard(name) {
         Opened::Standard(rt.reader())
     } else {
         match File::open(rt, name) {
@@ -150,7 +150,7 @@ pub fn create_sink<'a, R: AllocGlobal + Files + Print>(
     let Ok(mut writer) = BufWriter::with_capacity(rt.alloc(), BUFFER, stream) else {
         return Err(OpenFault::Memory);
     };
-    if !is_dash(name) {
+    if !names_standard(name) {
         match File::create(rt, name) {
             Ok(file) => *writer.get_mut() = Opened::Named(file),
             Err(_) => return Err(OpenFault::NotOpened),

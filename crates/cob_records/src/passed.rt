@@ -3,7 +3,7 @@ ghost use Rattle.cob_limits.specs.Limits.{longest_block, longest_record};
 ghost use Rattle.cob_records.specs.Forms.{HasBlockSize};
 ghost use Rattle.cob_records.specs.Place.{is_place};
 
-use crate::place::{Place, behind, behind_block, start};
+use crate::place::{StreamPlace, behind, behind_block, start};
 use crate::records::Form;
 use crate::report::{Report, what_is_ahead};
 
@@ -12,7 +12,7 @@ use crate::report::{Report, what_is_ahead};
 pub(crate) struct Passed {
     form: Form,
     greatest: u16,
-    place: Place,
+    place: StreamPlace,
     records: u64,
     bytes: u64,
     ghost block: { HasBlockSize form },
@@ -43,7 +43,7 @@ impl Passed {
     }
 
     // So many bytes pass, and the next one stands at this place. The answer is how many there are.
-    fn move_to(&mut self, place: Place, count: usize) -> usize
+    fn move_to(&mut self, place: StreamPlace, count: usize) -> usize
         requires { is_place place ≡ true }
         ensures count { result ≡ count }
         ensures passed { (bytes part : List ℕ) → HasPassed bytes self.old → length part ≡ count
@@ -81,23 +81,23 @@ impl Passed {
         ensures greatest { self.new.greatest ≡ self.old.greatest }
     {
         match self.place {
-            Place::Block { head, seen } => {
+            StreamPlace::Block { head, seen } => {
                 let place = behind_block(self.form, head, seen, piece[0], self.greatest);
                 self.move_to(place, 1)
             }
-            Place::Descriptor { head, seen, room } => {
+            StreamPlace::Descriptor { head, seen, room } => {
                 let place = behind(self.form, head, seen, room, piece[0], self.greatest);
                 self.move_to(place, 1)
             }
-            Place::Record { left, room } if piece.len() < left => {
-                let place = Place::Record {
+            StreamPlace::Record { left, room } if piece.len() < left => {
+                let place = StreamPlace::Record {
                     left: left - piece.len(),
                     room,
                 };
                 self.move_to(place, piece.len())
             }
-            Place::Record { left, room } => self.end_record(left, room),
-            Place::Lost => self.move_to(Place::Lost, piece.len()),
+            StreamPlace::Record { left, room } => self.end_record(left, room),
+            StreamPlace::Lost => self.move_to(StreamPlace::Lost, piece.len()),
         }
     }
 

@@ -3,14 +3,14 @@ ghost use Rattle.cob_limits.specs.Limits.{longest_block, longest_record};
 ghost use Rattle.cob_records.specs.Forms.{HasBlockSize};
 ghost use Rattle.cob_records.specs.Place.{is_place};
 ghost use Rattle.cob_records.specs.Progress.{IsAt, IsPast, IsWithin};
-ghost use Rattle.cob_records.specs.declared.place.Place.TheVariants.{Block, Descriptor};
+ghost use Rattle.cob_records.specs.declared.place.StreamPlace.TheVariants.{Block, Descriptor};
 
 use crate::blocked::described_block;
 use crate::records::{DESCRIPTOR, Form, described};
 
 /// Where in a stream of frames the next byte stands.
 #[derive(Clone, Copy)]
-pub(crate) enum Place {
+pub(crate) enum StreamPlace {
     /// In a block descriptor word, behind so many bytes of it.
     Block {
         head: [u8; DESCRIPTOR],
@@ -33,28 +33,28 @@ pub(crate) enum Place {
 }
 
 /// The place before the first byte of a frame, where the open block holds so many bytes.
-pub(crate) fn start(form: Form, greatest: u16, room: usize) -> Place
+pub(crate) fn start(form: Form, greatest: u16, room: usize) -> StreamPlace
     requires greatest { 0 < greatest }
     requires room { room ≤ longest_block }
     ensures place { is_place result ≡ true }
     ensures at { IsAt form greatest room result [] }
 {
     match form {
-        Form::Fixed => Place::Record {
+        Form::Fixed => StreamPlace::Record {
             left: usize::from(greatest),
             room,
         },
-        Form::Variable => Place::Descriptor {
+        Form::Variable => StreamPlace::Descriptor {
             head: [0; DESCRIPTOR],
             seen: 0,
             room,
         },
-        Form::Blocked(_) if room == 0 => Place::Block {
+        Form::Blocked(_) if room == 0 => StreamPlace::Block {
             head: [0; DESCRIPTOR],
             seen: 0,
         },
-        Form::Blocked(_) if room < DESCRIPTOR => Place::Lost,
-        Form::Blocked(_) => Place::Descriptor {
+        Form::Blocked(_) if room < DESCRIPTOR => StreamPlace::Lost,
+        Form::Blocked(_) => StreamPlace::Descriptor {
             head: [0; DESCRIPTOR],
             seen: 0,
             room,
@@ -69,7 +69,7 @@ pub(crate) fn behind_block(
     seen: usize,
     byte: u8,
     greatest: u16,
-) -> Place
+) -> StreamPlace
     requires form { HasBlockSize form }
     requires seen { seen < 4 }
     requires head { length head ≡ 4 }
@@ -79,22 +79,22 @@ pub(crate) fn behind_block(
         → IsAt form greatest left result (bytes ++ byte ∷ []) }
 {
     let Form::Blocked(most) = form else {
-        return Place::Lost;
+        return StreamPlace::Lost;
     };
     head[seen] = byte;
     if seen + 1 < DESCRIPTOR {
-        return Place::Block {
+        return StreamPlace::Block {
             head,
             seen: seen + 1,
         };
     }
     match described_block(&head, usize::from(most)) {
-        Ok(room) => Place::Descriptor {
+        Ok(room) => StreamPlace::Descriptor {
             head: [0; DESCRIPTOR],
             seen: 0,
             room,
         },
-        Err(_) => Place::Lost,
+        Err(_) => StreamPlace::Lost,
     }
 }
 
@@ -121,7 +121,7 @@ pub(crate) fn behind(
     room: usize,
     byte: u8,
     greatest: u16,
-) -> Place
+) -> StreamPlace
     requires form { HasBlockSize form }
     requires seen { seen < 4 }
     requires head { length head ≡ 4 }
@@ -134,17 +134,17 @@ pub(crate) fn behind(
 {
     head[seen] = byte;
     if seen + 1 < DESCRIPTOR {
-        return Place::Descriptor {
+        return StreamPlace::Descriptor {
             head,
             seen: seen + 1,
             room,
         };
     }
     let Ok(left) = described(&head, usize::from(greatest)) else {
-        return Place::Lost;
+        return StreamPlace::Lost;
     };
     match room_behind(form, room, left) {
-        Some(room) => Place::Record { left, room },
-        None => Place::Lost,
+        Some(room) => StreamPlace::Record { left, room },
+        None => StreamPlace::Lost,
     }
 }

@@ -8,12 +8,12 @@ use std::fmt;
 pub(crate) struct Report {
     pub(crate) records: u64,
     pub(crate) bytes: u64,
-    pub(crate) ahead: Option<Ahead>,
+    pub(crate) ahead: Option<Forecast>,
 }
 
 /// How many percent of a stream have passed, and how many seconds the rest takes where it passes as fast.
 #[derive(Clone, Copy)]
-pub(crate) struct Ahead {
+pub(crate) struct Forecast {
     percent: u64,
     seconds: u128,
 }
@@ -36,11 +36,11 @@ fn seconds(elapsed: u64, bytes: u64, size: u64) -> u128
 
 /// What is ahead behind so many bytes, where the stream has this size and so many seconds have gone by. Before the first byte, and
 /// of a stream whose size is not known, nothing is.
-pub(crate) fn what_is_ahead(size: Option<u64>, elapsed: u64, bytes: u64) -> Option<Ahead>
+pub(crate) fn what_is_ahead(size: Option<u64>, elapsed: u64, bytes: u64) -> Option<Forecast>
     ensures { result ≡ ahead_of size elapsed bytes }
 {
     match size {
-        Some(size) if size > 0 && bytes > 0 => Some(Ahead {
+        Some(size) if size > 0 && bytes > 0 => Some(Forecast {
             percent: percent(bytes, size),
             seconds: seconds(elapsed, bytes, size),
         }),
@@ -52,7 +52,7 @@ impl fmt::Display for Report {
     fn fmt<W: fmt::Write>(&self, f: &mut fmt::Formatter<W>) -> fmt::Result {
         write!(f, "{} records, {} bytes", self.records, self.bytes)?;
         match self.ahead {
-            Some(Ahead { percent, seconds }) => write!(f, ", {percent} %, {seconds} s left"),
+            Some(Forecast { percent, seconds }) => write!(f, ", {percent} %, {seconds} s left"),
             None => Ok(()),
         }
     }

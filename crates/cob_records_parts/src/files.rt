@@ -6,7 +6,7 @@ ghost use Rattle.std.specs.Io.Take.{take_inner, take_limit};
 ghost use Rattle.cob_records.specs.Files.{is_standard, names_standard};
 ghost use Rattle.cob_records.specs.Streams.{source_failures, source_reader};
 
-use cob_records::{OpenFault, Opened, ReadSource};
+use cob_records::{OpenFault, Opened, ReadSource, names_standard};
 use std::fs::File;
 use std::io::{BufReader, Input, Read, Seek, SeekFrom, Take};
 use std::rt::Files;
@@ -16,13 +16,6 @@ const BUFFER: usize = 65_536;
 
 /// A source over a part of a file, or over standard input, which reads ahead into a buffer.
 pub type PartSource<F, S> = ReadSource<BufReader<Take<Opened<F, S>>>>;
-
-/// Whether the name is that of standard input.
-fn is_dash(name: &str) -> bool
-    ensures { result ≡ names_standard name.now }
-{
-    matches!(name.as_bytes(), [b'-'])
-}
 
 /// A file that was moved to an offset; or none, where the system does not move to it.
 fn moved_to<F: Seek + Drop>(mut file: F, offset: u64) -> Option<F>
@@ -45,7 +38,7 @@ fn opened_at<R: Files + Input>(
     ensures which { IfSome result (λ opened. is_standard opened ≡ names_standard name.now) }
     ensures whole { IfSome result (λ _. names_standard name.now ≡ true → is_all ≡ true) }
 {
-    if is_dash(name) {
+    if names_standard(name) {
         if !is_all {
             return None;
         }

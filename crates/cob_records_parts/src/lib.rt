@@ -49,7 +49,7 @@
 //! The clauses `cut`, `uncut`, `few`, `cause` of `pieces_in`, and `cut`, `few` of `pieces_of_size`; of `open_part`: how many bytes its end reads (`all`,
 //! `part`), that nothing is in its buffer (`empty`), over what it is (`which`, `whole`). Inside the crate: a seek that fails opens nothing (`moved_to`),
 //! said of files that tell where they are. That the pieces are of nearly equal size, only rows show. Of `Chosen`, a source that gives the chosen records
-//! of another: the clauses of `new`, of its `read` and of `stopped`; of `choose`, of `Part::jumped` and of `Chosen::into_rest`; those of `Rest`, a source
+//! of another: the clauses of `new`, of its `read` and of `stopped`; of `choose`, of `StreamPart::jumped` and of `Chosen::into_rest`; those of `Rest`, a source
 //! that gives what is left of another, or its first bytes, and tells them; the laws `rest_is_behind` and `given_are_chosen`. Of `find_record`: the record
 //! with a number comes, or there are fewer, or a frame up to its own can't be read (`FindsNumbered`, specs/Numbering.antt). The words: what a `Chosen`
 //! tells to come (`chosen_coming`, specs/Comings.antt; `given_of`, specs/StillGiven.antt; `first_frame_in`, specs/Firsts.antt), which records have come
@@ -85,7 +85,7 @@ pub use fixed::pieces_of_size;
 pub use incoming::{Incoming, choose};
 pub use laws::{given_are_chosen, rest_is_behind};
 pub use numbered::{Numbered, find_record};
-pub use part::Part;
+pub use part::StreamPart;
 pub use piece::{Piece, PiecesFault};
 pub use rest::Rest;
 pub use stream::{MOST_RECORDS_CUT, pieces_in};

@@ -7,7 +7,7 @@ use crate::whole::whole_records;
 
 /// A part of a file of records.
 #[derive(Clone, Copy, PartialEq, Eq)]
-pub struct Part {
+pub struct StreamPart {
     /// How many bytes of the file stand before it.
     pub from: u64,
     /// How many bytes it has at most, where it isn't all that are left.
@@ -26,7 +26,7 @@ pub(crate) fn less_by(count: u64, bytes: Option<u64>) -> Option<u64>
     }
 }
 
-impl Part {
+impl StreamPart {
     /// How many bytes it has of a file of so many.
     fn size_in(self, size: u64) -> u64
         ensures size { (file : List ℕ) → length file ≡ size
@@ -42,12 +42,12 @@ impl Part {
 
     /// The part behind the first whole records of this one, as many of them as are passed over, in a file of so many bytes whose records have one
     /// length. What is still passed over is not there.
-    pub fn jumped(self, size: u64, greatest: u16) -> Part
+    pub fn jumped(self, size: u64, greatest: u16) -> StreamPart
         requires { 0 < greatest }
         ensures { (file : List ℕ) → length file ≡ size → IsBehindWhole greatest self result file }
     {
         let whole = whole_records(self.skip, self.size_in(size), greatest);
-        Part {
+        StreamPart {
             from: self.from + whole.bytes,
             bytes: less_by(whole.bytes, self.bytes),
             skip: self.skip - whole.records,

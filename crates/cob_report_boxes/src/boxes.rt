@@ -1,7 +1,6 @@
 //! The boxes of a record.
 
 use crate::entries::{EntryText, KindText, TitleText};
-use crate::occurrences::spot_of;
 use crate::records::{Drawn, STRIP, tables_with, told_length};
 use crate::values::write_values;
 use arrayvec::ArrayVec;
@@ -120,7 +119,7 @@ fn write_item<W: fmt::Write>(
     item: &Item,
     tables: &[usize],
 ) -> fmt::Result {
-    let spot = spot_of(drawn.layout.greatest_spots(), number);
+    let spot = Spot::of(drawn.layout.greatest_spots(), number);
     write_ruler(f, covered_in(drawn.covered, spot), spot)?;
     match drawn.contents {
         Some(contents) => write_values(f, contents, number, item, tables),
@@ -254,7 +253,7 @@ fn write_front<W: fmt::Write>(
             layout: drawn.layout,
             entry,
         },
-        spot: spot_of(drawn.layout.greatest_spots(), entry.number),
+        spot: Spot::of(drawn.layout.greatest_spots(), entry.number),
     };
     write_place(f, drawn, placed, depth)?;
     write_words(f, drawn, placed, tables)

@@ -41,6 +41,5 @@ mod values;
 pub use boxes::write_boxes;
 pub use constants::EscapedConstant;
 pub use entries::{EntryText, KindText, TitleText};
-pub use occurrences::spot_of;
-pub use records::{Contents, Drawn, draw, told_length};
+pub use records::{Drawn, GivenRecord, draw, told_length};
 pub use texts::{Characters, HexDigits, ShownBytes};

@@ -1,6 +1,6 @@
 //! The records of a mapping, and where their boxes stand.
 
-use crate::occurrences::{Tables, occurrences_in, spot_of};
+use crate::occurrences::{EntryTables, occurrences_in};
 use crate::values::value_lines;
 use cob_layout::{Kind, Layout, Node, Spot, is_table};
 use cob_report_html::{rows_of, tops_of};
@@ -26,7 +26,7 @@ pub const MOST_SHOWN: u32 = 8;
 pub struct Drawn<'a> {
     pub layout: &'a Layout,
     /// Where its entries stand in the record that is given, and its bytes, where one is.
-    pub contents: Option<Contents<'a>>,
+    pub contents: Option<GivenRecord<'a>>,
     /// Of each byte, whether a receiver covers it; of a byte behind these it isn't said.
     pub covered: &'a [bool],
     /// Of each entry, by its number, whether its box has a mark at its edge: it receives a move of bytes that may lose their description.
@@ -39,14 +39,14 @@ pub struct Drawn<'a> {
 
 /// A record that is given: where its entries stand, by their numbers, and its bytes.
 #[derive(Clone, Copy)]
-pub struct Contents<'a> {
+pub struct GivenRecord<'a> {
     pub spots: &'a [Spot],
     pub bytes: &'a [u8],
 }
 
 /// These tables, and the entry itself where it is one.
-pub fn tables_with(over: &[usize], entry: &Node) -> Tables {
-    let mut tables = Tables::new();
+pub fn tables_with(over: &[usize], entry: &Node) -> EntryTables {
+    let mut tables = EntryTables::new();
     for table in over {
         let _ = tables.try_push(*table);
     }
@@ -57,12 +57,12 @@ pub fn tables_with(over: &[usize], entry: &Node) -> Tables {
 }
 
 /// How high the lines of an item's values are.
-fn values_height(contents: Option<Contents<'_>>, entry: &Node, tables: &[usize]) -> u32 {
+fn values_height(contents: Option<GivenRecord<'_>>, entry: &Node, tables: &[usize]) -> u32 {
     let (Some(contents), Kind::Item(item)) = (contents, &entry.kind) else {
         return 0;
     };
     let occurrences = occurrences_in(contents.spots, tables);
-    let spot = spot_of(contents.spots, entry.number);
+    let spot = Spot::of(contents.spots, entry.number);
     let shown = occurrences
         .min(MOST_SHOWN)
         .saturating_mul(value_lines(item, spot.length));
@@ -84,13 +84,13 @@ fn height_of(entry: &Node, spot: Spot, values: u32) -> u32 {
 /// Adds the heights of an entry and of those beneath it, in their order. The entry stands in these tables.
 fn push_heights(
     layout: &Layout,
-    contents: Option<Contents<'_>>,
+    contents: Option<GivenRecord<'_>>,
     entry: &Node,
     over: &[usize],
     heights: &mut Vec<u32>,
 ) -> Result<(), AllocError> {
     let tables = tables_with(over, entry);
-    let spot = spot_of(layout.greatest_spots(), entry.number);
+    let spot = Spot::of(layout.greatest_spots(), entry.number);
     let values = values_height(contents, entry, tables.as_slice());
     heights.push(height_of(entry, spot, values))?;
     for child in entry.children.iter() {
@@ -107,7 +107,7 @@ fn push_heights(
 pub fn draw<'a>(
     alloc: Global,
     layout: &'a Layout,
-    contents: Option<Contents<'a>>,
+    contents: Option<GivenRecord<'a>>,
     covered: &'a [bool],
     edged: Vec<bool>,
 ) -> Result<Drawn<'a>, AllocError> {

@@ -1,7 +1,7 @@
 //! The values of items, in their boxes.
 
-use crate::occurrences::{Occurrence, occurrence_at, occurrences_in, spot_of};
-use crate::records::{Contents, MOST_SHOWN};
+use crate::occurrences::{ItemOccurrence, occurrence_at, occurrences_in};
+use crate::records::{GivenRecord, MOST_SHOWN};
 use crate::texts::{Characters, HexDigits, ShownBytes};
 use arrayvec::ArrayVec;
 use cob_layout::{Item, Spot, is_number_item};
@@ -36,7 +36,7 @@ fn write_digits<W: fmt::Write>(f: &mut fmt::Formatter<W>, bytes: &[u8]) -> fmt::
 /// Writes the number of an occurrence, or that its bytes represent none, and their digits.
 fn write_number<W: fmt::Write>(
     f: &mut fmt::Formatter<W>,
-    occurrence: &Occurrence,
+    occurrence: &ItemOccurrence,
     item: &Item,
     bytes: &[u8],
 ) -> fmt::Result {
@@ -57,7 +57,7 @@ fn write_number<W: fmt::Write>(
 /// Writes the characters of an occurrence, and the digits of its bytes.
 fn write_characters<W: fmt::Write>(
     f: &mut fmt::Formatter<W>,
-    occurrence: &Occurrence,
+    occurrence: &ItemOccurrence,
     bytes: &[u8],
 ) -> fmt::Result {
     for piece in bytes.chunks(LINE_BYTES) {
@@ -69,7 +69,7 @@ fn write_characters<W: fmt::Write>(
 }
 
 /// The bytes of an element that has these and begins so many behind the first one.
-fn bytes_at<'a>(contents: Contents<'a>, spot: Spot, behind: u32) -> &'a [u8] {
+fn bytes_at<'a>(contents: GivenRecord<'a>, spot: Spot, behind: u32) -> &'a [u8] {
     let start = spot.offset.saturating_add(behind);
     let end = start.saturating_add(spot.length);
     match contents.bytes.get(start as usize..end as usize) {
@@ -81,13 +81,13 @@ fn bytes_at<'a>(contents: Contents<'a>, spot: Spot, behind: u32) -> &'a [u8] {
 /// Writes the values of an item that stands in these tables: those of its first occurrences, and how many more there are.
 pub fn write_values<W: fmt::Write>(
     f: &mut fmt::Formatter<W>,
-    contents: Contents<'_>,
+    contents: GivenRecord<'_>,
     number: usize,
     item: &Item,
     tables: &[usize],
 ) -> fmt::Result {
     let count = occurrences_in(contents.spots, tables);
-    let spot = spot_of(contents.spots, number);
+    let spot = Spot::of(contents.spots, number);
     for earlier in 0..count.min(MOST_SHOWN) {
         let occurrence = occurrence_at(contents.spots, tables, earlier);
         let bytes = bytes_at(contents, spot, occurrence.behind);

@@ -13,7 +13,8 @@ use Rattle.cob_move_data.specs.Singles.{plain_element, plain_sent}
 use Rattle.cob_move_data.specs.declared.single.Element.{Element}
 use Rattle.cob_move_data.specs.declared.single.Sent.{Sent}
 use Rattle.cob_move_data.specs.declared.single.Sent.TheVariants as code
-use Rattle.cob_report_cover.specs.Gathered.{Gathers, HasPlace, HasPlaceWhere, IsPassed, Joins, input_occurrence}
+use Rattle.cob_back_losses.specs.Moved.{StandsAt}
+use Rattle.cob_report_cover.specs.Gathered.{Gathers, HasPlaceWhere, IsPassed, Joins, input_occurrence}
 
 some_front : {A : Type 0} (P : A → Type 0) (xs ys : List A) → SomeOf P xs → SomeOf P (xs ++ ys)
 some_front P [] ys h = absurd h
@@ -49,14 +50,14 @@ same_parts o n a b h =
     ap (λ (m : ℕ). place_at m n) first ∙ ap (λ (m : ℕ). place_at a m) second
 
 -- an occurrence stands at one place
-pub one_place : (tree : Forest Resolved) (x : Occurrence) (p q : Place) → HasPlace tree x p → HasPlace tree x q → p ≡ q
+pub one_place : (tree : Forest Resolved) (x : Occurrence) (p q : Place) → StandsAt tree x p → StandsAt tree x q → p ≡ q
 one_place tree x p q a b =
     same_parts p.offset p.length q.offset q.length (same_some (found_at p.offset p.length true) (found_at q.offset q.length true) (sym a.place ∙ b.place))
 
 -- ---- places that come
 
 -- the place of an occurrence came
-pub joins_one : (tree : Forest Resolved) (old : List Place) (x : Occurrence) (p : Place) → HasPlace tree x p → Joins tree old (old ++ p ∷ []) (x ∷ [])
+pub joins_one : (tree : Forest Resolved) (old : List Place) (x : Occurrence) (p : Place) → StandsAt tree x p → Joins tree old (old ++ p ∷ []) (x ∷ [])
 joins_one tree old x p stands before gathers test = (
   λ h. elim (some_split (IsPassed test) old (p ∷ []) h) [
     | inl there ↦ some_front (HasPlaceWhere tree (IsPassed test)) before (x ∷ []) ((gathers test).0 there)
@@ -71,7 +72,7 @@ joins_one tree old x p stands before gathers test = (
 )
 
 -- an occurrence that stands nowhere came
-pub joins_nowhere : (tree : Forest Resolved) (old : List Place) (x : Occurrence) → ((p : Place) → HasPlace tree x p → ⊥) → Joins tree old old (x ∷ [])
+pub joins_nowhere : (tree : Forest Resolved) (old : List Place) (x : Occurrence) → ((p : Place) → StandsAt tree x p → ⊥) → Joins tree old old (x ∷ [])
 joins_nowhere tree old x none before gathers test = (
   λ h. some_front (HasPlaceWhere tree (IsPassed test)) before (x ∷ []) ((gathers test).0 h),
   λ h. elim (some_split (HasPlaceWhere tree (IsPassed test)) before (x ∷ []) h) [

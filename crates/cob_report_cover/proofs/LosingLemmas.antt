@@ -8,15 +8,17 @@ use Rattle.cob_layout.specs.Counting.{greatest_counts}
 use Rattle.cob_layout_places.proofs.SpotLemmas.{length_spots}
 use Rattle.cob_layout_places.specs.Lengths.{times}
 use Rattle.cob_layout_places.specs.declared.spots.Spot.{Spot}
-use Rattle.cob_back_moves.specs.declared.single.Layouts.{Layouts}
+use Rattle.cob_back_moves.specs.Tested.{layout_records}
+use Rattle.cob_back_moves.specs.declared.single.BothLayouts.{BothLayouts}
 use Rattle.cob_move_data.specs.declared.operands.Side.{Side}
+use Rattle.cob_move_data.specs.Moves.{record_of}
 use Rattle.cob_move_data.specs.Singles.{PlainSingle, plain_sent}
 use Rattle.cob_move_data.specs.declared.single.Element.{Element}
 use Rattle.cob_move_data.specs.declared.single.Sent.{Sent}
 use Rattle.cob_move_data.specs.declared.single.Sent.TheVariants as code
 use Rattle.cob_move_receive.specs.Table.{Entry, SenderKind}
 use Rattle.cob_back_losses.specs.declared.losses.Losses.{Losses}
-use Rattle.cob_report_cover.specs.Losing.{AreLossesFrom, AreLossesOf, AreLossesOfEach, AreLossesOfEntry, AreLossesTo, HasNoEntry, StandsAs, TellsLosses, greatest_spots, tree_of_side}
+use Rattle.cob_report_cover.specs.Losing.{AreLossesFrom, AreLossesOf, AreLossesOfEach, AreLossesOfEntry, AreLossesTo, HasNoEntry, StandsAs, TellsLosses, greatest_spots}
 
 -- ---- entries by their numbers
 
@@ -61,14 +63,14 @@ told_from input from output to kind n losses stands told other bytes others =
     (subst (λ (m : ℕ). AreLossesTo (Entry kind) m output to losses) (one_length input from kind other n bytes stands others) told)
 
 -- what is told of what is sent, which is an entry
-pub of_entry : (layouts : Layouts) (from : Sent) (side : Side) (x : Element) (to : ℕ) (losses : Losses) → from ≡ code.Entry side x
-    → AreLossesOfEntry (tree_of_side layouts side) x.number layouts.output.now to losses → AreLossesFrom layouts (plain_sent from) to losses
+pub of_entry : (layouts : BothLayouts) (from : Sent) (side : Side) (x : Element) (to : ℕ) (losses : Losses) → from ≡ code.Entry side x
+    → AreLossesOfEntry (record_of (layout_records layouts) side) x.number layouts.output.now to losses → AreLossesFrom layouts (plain_sent from) to losses
 of_entry layouts from side x to losses is told = subst (λ (s : Sent). AreLossesFrom layouts (plain_sent s) to losses) (sym is) told
 
 -- ---- all of them
 
 -- whatever is said of the rest, with what is said of the next one
-pub each_more : (layouts : Layouts) (all now later : List PlainSingle) (s : PlainSingle) (one : Losses) (items pushed : List Losses) → now ≡ s ∷ later
+pub each_more : (layouts : BothLayouts) (all now later : List PlainSingle) (s : PlainSingle) (one : Losses) (items pushed : List Losses) → now ≡ s ∷ later
     → AreLossesOf layouts s one → pushed ≡ items ++ one ∷ [] → ((rest : List Losses) → AreLossesOfEach layouts now rest → AreLossesOfEach layouts all (items ++ rest))
     → (rest : List Losses) → AreLossesOfEach layouts later rest → AreLossesOfEach layouts all (pushed ++ rest)
 each_more layouts all now later s one items pushed is said push so_far rest each =
@@ -76,7 +78,7 @@ each_more layouts all now later s one items pushed is said push so_far rest each
     (so_far (one ∷ rest) (subst (λ (ss : List PlainSingle). AreLossesOfEach layouts ss (one ∷ rest)) (sym is) (one, rest, refl, said, each)))
 
 -- nothing is left
-pub each_done : (layouts : Layouts) (all now : List PlainSingle) (items : List Losses) → now ≡ []
+pub each_done : (layouts : BothLayouts) (all now : List PlainSingle) (items : List Losses) → now ≡ []
     → ((rest : List Losses) → AreLossesOfEach layouts now rest → AreLossesOfEach layouts all (items ++ rest)) → AreLossesOfEach layouts all items
 each_done layouts all now items is so_far =
     subst (AreLossesOfEach layouts all) (append-nil items) (so_far [] (subst (λ (ss : List PlainSingle). AreLossesOfEach layouts ss []) (sym is) refl))

@@ -1,35 +1,21 @@
 -- Places of the occurrences that moves send and receive.
-use Rattle.std.specs.Prelude.{◌≡◌, Bool, true, List, [], ◌∷◌, ◌++◌, Option, Some, None, Result, Ok, Err, map}
+use Rattle.std.specs.Prelude.{◌≡◌, Bool, true, List, [], ◌∷◌, ◌++◌, map}
 use Rattle.std.specs.List.{flat_map}
 use Rattle.cob_copybook_tree.specs.Forests.{Forest}
 use Rattle.cob_copybook_tree.specs.Nodes.{Resolved}
 use Rattle.cob_layout_places.specs.Cover.{Occurrence}
-use Rattle.cob_layout_places.specs.Lengths.{times}
 use Rattle.cob_move_data.specs.Moves.{Entry, Literal, Move, Sender}
-use Rattle.cob_layout_places.specs.Places.{place_of}
-use Rattle.cob_layout_places.specs.References.{Refers}
 use Rattle.cob_move_data.specs.declared.operands.Side.TheVariants.{In, Out}
-use Rattle.cob_layout.specs.Counting.{greatest_counts}
 use Rattle.cob_layout.specs.declared.fields.Place.{Place}
-use Rattle.cob_layout.specs.declared.layout.PlaceFault.{PlaceFault}
 use Rattle.cob_move_apply.specs.Some.{SomeOf}
 use Rattle.cob_move_data.specs.Singles.{PlainSent, occurrence_of}
 use Rattle.cob_move_data.specs.Singles as sent
-
--- The occurrence stands at this place of the record where each table has its greatest number of elements.
-pub record HasPlace (tree : Forest Resolved) (x : Occurrence) (p : Place) : Type 0 where
-  pub refers : Refers x.number x.subscripts tree
-  pub place : place_of (times (greatest_counts tree)) x.number tree 0 0 x.subscripts ≡ Some record { offset = p.offset; length = p.length; within = true }
-
--- the place that an answer has, if it has one
-abbrev pub answered : Result Place PlaceFault → Option Place
-answered (Ok p) = Some p
-answered (Err e) = None
+use Rattle.cob_back_losses.specs.Moved.{StandsAt}
 
 -- it stands at a place of which this holds
 pub record HasPlaceWhere (tree : Forest Resolved) (Q : Place → Type 0) (x : Occurrence) : Type 0 where
   pub place : Place
-  pub stands : HasPlace tree x place
+  pub stands : StandsAt tree x place
   pub so : Q place
 
 -- a place passes a test

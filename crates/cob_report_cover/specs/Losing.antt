@@ -8,23 +8,18 @@ use Rattle.cob_layout.specs.Counting.{greatest_counts}
 use Rattle.cob_layout_places.specs.Counts.{kind_in}
 use Rattle.cob_layout_places.specs.Lengths.{times}
 use Rattle.cob_layout_places.specs.Spots.{spots_of}
-use Rattle.cob_move_data.specs.declared.operands.Side.{Side}
-use Rattle.cob_move_data.specs.declared.operands.Side.TheVariants.{In, Out}
 use Rattle.cob_move_data.specs.declared.operands.StatementMoves.{StatementMoves}
 use Rattle.cob_layout_places.specs.declared.spots.Spot.{Spot}
+use Rattle.cob_move_data.specs.Moves.{record_of}
 use Rattle.cob_move_data.specs.Singles.{PlainSent, PlainSingle, singles_of}
 use Rattle.cob_move_data.specs.Singles as sent
-use Rattle.cob_back_moves.specs.declared.single.Layouts.{Layouts}
+use Rattle.cob_back_moves.specs.Tested.{layout_records}
+use Rattle.cob_back_moves.specs.declared.single.BothLayouts.{BothLayouts}
 use Rattle.cob_move_receive.specs.Table.{Entry, Literal, SenderKind}
 use Rattle.cob_back_losses.specs.Losses.{LosesBefore, LosesBehind, LosesCharacters, LosesSign}
 use Rattle.cob_back_losses.specs.declared.losses.Losses.{Losses}
 
 -- ---- one single move
-
--- the record of a side
-abbrev pub tree_of_side : Layouts → Side → Forest Resolved
-tree_of_side layouts In = layouts.input.now
-tree_of_side layouts Out = layouts.output.now
 
 -- where the first elements of a record's entries stand where each table has its greatest number of elements
 abbrev pub greatest_spots : Forest Resolved → List Spot
@@ -58,21 +53,21 @@ AreLossesOfEntry input from output to losses =
     (kind : Kind) (bytes : ℕ) → StandsAs input from kind bytes → AreLossesTo (Entry kind) bytes output to losses
 
 -- They are said of the move of what is sent to the entry with this number of the output record. How many characters a constant has stands in its text.
-abbrev pub AreLossesFrom : Layouts → PlainSent → ℕ → Losses → Type 0
-AreLossesFrom layouts (sent.Entry side x) to losses = AreLossesOfEntry (tree_of_side layouts side) x.number layouts.output.now to losses
+abbrev pub AreLossesFrom : BothLayouts → PlainSent → ℕ → Losses → Type 0
+AreLossesFrom layouts (sent.Entry side x) to losses = AreLossesOfEntry (record_of (layout_records layouts) side) x.number layouts.output.now to losses
 AreLossesFrom layouts (sent.Literal c) to losses = AreLossesTo (Literal c) 0 layouts.output.now to losses
 
 -- they are said of a single move
-abbrev pub AreLossesOf : Layouts → PlainSingle → Losses → Type 0
+abbrev pub AreLossesOf : BothLayouts → PlainSingle → Losses → Type 0
 AreLossesOf layouts s losses = AreLossesFrom layouts s.sent s.receiver.number losses
 
 -- ---- all of them
 
 -- of each of these single moves there is one that is so, in their order
-abbrev pub AreLossesOfEach : Layouts → List PlainSingle → List Losses → Type 0
+abbrev pub AreLossesOfEach : BothLayouts → List PlainSingle → List Losses → Type 0
 AreLossesOfEach layouts [] all = all ≡ []
 AreLossesOfEach layouts (s ∷ later) all = (one : Losses) × (rest : List Losses) × (all ≡ one ∷ rest) × AreLossesOf layouts s one × AreLossesOfEach layouts later rest
 
 -- what is said of the single moves of statements, in their order
-abbrev pub AreAllLosses : Layouts → List StatementMoves → List Losses → Type 0
+abbrev pub AreAllLosses : BothLayouts → List StatementMoves → List Losses → Type 0
 AreAllLosses layouts statements all = AreLossesOfEach layouts (singles_of statements) all

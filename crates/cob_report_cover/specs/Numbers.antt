@@ -1,18 +1,14 @@
 -- Moves that may find no number.
 use Rattle.std.specs.Prelude.{Bool, false, not, IsTrue}
-use Rattle.cob_picture.specs.Positions.{shows_number as category_shows}
+use Rattle.cob_picture.specs.Positions.{shows_number}
 use Rattle.cob_copybook_tree.specs.declared.node.Kind.{Kind}
 use Rattle.cob_copybook_tree.specs.declared.node.Kind.TheVariants.{Group, Item as ItemKind}
-
--- an entry is an item that shows a number
-abbrev pub kind_shows_number : Kind → Bool
-kind_shows_number Group = false
-kind_shows_number (ItemKind i) = category_shows i.picture.category
+use Rattle.cob_copybook_tree.specs.Nodes.{kind_shows_number}
 
 -- an entry is an item of characters
 abbrev pub has_characters : Kind → Bool
 has_characters Group = false
-has_characters (ItemKind i) = not (category_shows i.picture.category)
+has_characters (ItemKind i) = not (shows_number i.picture.category)
 
 -- characters are moved to a number: they may be no digits
 abbrev pub MayHaveNoNumber : Kind → Kind → Type 0

@@ -1,20 +1,19 @@
 //! The single moves of bytes that may lose their description, as they are told.
 
-use crate::elements::{layout_of, write_element, write_sent};
-use crate::gathered::place_of;
+use crate::elements::{write_element, write_sent};
 use crate::occurrences::occurrence_with;
-use cob_back_losses::{Gets, Unkept};
-use cob_back_moves::Layouts;
+use cob_back_losses::{Gets, Unkept, place_of};
+use cob_back_moves::BothLayouts;
 use cob_copybook_tree::Value;
 use cob_move_data::Sent;
 use cob_report_lossless::LinedSingle;
-use cob_report_words::{ConstantText, DescribedText, GotText, Named};
+use cob_report_words::{ConstantText, DescribedText, GotText, NamedOccurrence};
 use std::fmt;
 
 /// A single move of bytes that may lose their description, and the first byte that does not keep it.
 #[derive(Clone, Copy)]
 pub(crate) struct Undescribed<'a> {
-    pub(crate) layouts: Layouts<'a>,
+    pub(crate) layouts: BothLayouts<'a>,
     pub(crate) single: LinedSingle<'a>,
     pub(crate) unkept: Unkept,
 }
@@ -50,7 +49,7 @@ impl Undescribed<'_> {
     fn write_gets<W: fmt::Write>(&self, f: &mut fmt::Formatter<W>) -> fmt::Result {
         match (self.unkept.gets, self.single.sent) {
             (Gets::Item(number), Sent::Entry { side, .. }) => {
-                let named = Named::new(layout_of(&self.layouts, side).root(), number, &[]);
+                let named = NamedOccurrence::new(self.layouts.of(side).root(), number, &[]);
                 write!(f, "{}", GotText { sent: Some(&named) })
             }
             (Gets::Character, Sent::Constant(value)) => write_characters_of(f, value),

@@ -1,24 +1,12 @@
 //! What single moves send and receive, in words.
 
-use cob_back_moves::Layouts;
+use cob_back_moves::BothLayouts;
 use cob_copybook_tree::Value;
 use cob_layout::Layout;
-use cob_move_data::{Element, Sent, Side};
-use cob_report_words::{ConstantText, DescribedText, Named, PictureText};
+use cob_move_data::{Element, Sent};
+use cob_report_lossless::named_in;
+use cob_report_words::{ConstantText, DescribedText, PictureText};
 use std::fmt;
-
-/// The layout of a side's record.
-pub(crate) fn layout_of<'a>(layouts: &Layouts<'a>, side: Side) -> &'a Layout {
-    match side {
-        Side::In => layouts.input,
-        Side::Out => layouts.output,
-    }
-}
-
-/// An occurrence by its name.
-fn named_in<'a>(layout: &'a Layout, element: Element<'_>) -> Named<'a> {
-    Named::new(layout.root(), element.number, element.subscripts)
-}
 
 /// Writes an occurrence with its picture, where it has one, and what stands behind that.
 pub(crate) fn write_pictured<W: fmt::Write>(
@@ -61,13 +49,13 @@ fn write_constant<W: fmt::Write>(f: &mut fmt::Formatter<W>, value: &Value) -> fm
 /// Writes what is sent with what it is, and a comma behind it where that has one.
 pub(crate) fn write_sent<W: fmt::Write>(
     f: &mut fmt::Formatter<W>,
-    layouts: &Layouts<'_>,
+    layouts: &BothLayouts<'_>,
     sent: Sent<'_>,
 ) -> fmt::Result {
     match sent {
         Sent::Constant(value) => write_constant(f, value),
         Sent::Entry { side, entry } => {
-            write_element(f, layout_of(layouts, side), entry)?;
+            write_element(f, layouts.of(side), entry)?;
             write!(f, ",")
         }
     }

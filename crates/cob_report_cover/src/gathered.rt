@@ -1,49 +1,16 @@
 //! The places of the occurrences that moves send and receive.
 
-ghost use Rattle.std.specs.Prelude.{◌≡◌, ◌++◌, [], ◌∷◌, map, OnOk, IfOk, IfNone, IfSome};
+ghost use Rattle.std.specs.Prelude.{◌≡◌, ◌++◌, [], ◌∷◌, map, OnOk, IfOk};
 ghost use Rattle.std.specs.List.{flat_map};
-ghost use Rattle.cob_layout.specs.declared.fields.Place.{Place as SeenPlace};
-ghost use Rattle.cob_layout_places.specs.References.{Refers};
 ghost use Rattle.cob_back_moves.specs.Brought.{moves_between};
-ghost use Rattle.cob_move_data.specs.Singles.{occurrence, occurrence_by, plain_element, plain_sent, senders_of, singles_of};
-ghost use Rattle.cob_report_cover.specs.Gathered.{Gathers, HasPlace, Joins, answered, input_occurrence, received_in, sent_in};
+ghost use Rattle.cob_move_data.specs.Singles.{plain_element, plain_sent, senders_of, singles_of};
+ghost use Rattle.cob_report_cover.specs.Gathered.{Gathers, Joins, input_occurrence, received_in, sent_in};
 
+use cob_back_losses::place_of;
 use cob_back_moves::MovesBetween;
-use cob_layout::{Layout, Place, PlaceFault, Ref};
+use cob_layout::{Layout, Place};
 use cob_move_data::{Element, Senders, Sent, Side, Singles, StatementMoves};
 use std::alloc::{AllocError, Global};
-
-/// The place that an answer has, if it has one.
-fn answered(answer: Result<Place, PlaceFault>) -> Option<Place>
-    ensures { result ≡ answered answer }
-{
-    match answer {
-        Ok(place) => Some(place),
-        Err(_) => None,
-    }
-}
-
-/// Where a reference stands in a record in which each table has its greatest number of elements.
-fn greatest_place(layout: &Layout, reference: &Ref) -> Option<Place>
-    requires { Refers reference.now.node reference.now.subscripts.items layout.now }
-    ensures some { IfSome result (λ p. HasPlace layout.now (occurrence_by reference.now) p) }
-    ensures none { IfNone result ((p : SeenPlace)
-        → HasPlace layout.now (occurrence_by reference.now) p → ⊥) }
-{
-    answered(layout.place_in(reference, layout.greatest_counts()))
-}
-
-/// Where an occurrence stands in a record in which each table has its greatest number of elements.
-pub(crate) fn place_of(layout: &Layout, number: usize, subscripts: &[u32]) -> Option<Place>
-    ensures some { IfSome result (λ p. HasPlace layout.now (occurrence number subscripts.now) p) }
-    ensures none { IfNone result ((p : SeenPlace)
-        → HasPlace layout.now (occurrence number subscripts.now) p → ⊥) }
-{
-    match layout.reference(number, subscripts) {
-        Some(reference) => greatest_place(layout, &reference),
-        None => None,
-    }
-}
 
 /// Puts a place behind others.
 fn push_place(places: &mut Vec<Place>, place: Place) -> Result<(), AllocError>

@@ -1,12 +1,14 @@
 //! What single moves may lose.
 
-ghost use Rattle.std.specs.Prelude.{◌≡◌, IfNone, IfOk, IfSome};
+ghost use Rattle.std.specs.Prelude.{IfNone, IfOk, IfSome};
+ghost use Rattle.cob_move_data.specs.Moves.{record_of};
 ghost use Rattle.cob_move_data.specs.Singles.{plain_single};
+ghost use Rattle.cob_back_moves.specs.Tested.{layout_records};
 ghost use Rattle.cob_move_receive.specs.Table.{sender_kind};
-ghost use Rattle.cob_report_cover.specs.Losing.{AreAllLosses, AreLossesOf, AreLossesOfEntry, AreLossesTo, HasNoEntry, StandsAs, tree_of_side};
+ghost use Rattle.cob_report_cover.specs.Losing.{AreAllLosses, AreLossesOf, AreLossesOfEntry, AreLossesTo, HasNoEntry, StandsAs};
 
 use cob_back_losses::{Losses, losses_of};
-use cob_back_moves::{Layouts, MovesBetween};
+use cob_back_moves::{BothLayouts, MovesBetween};
 use cob_copybook_tree::Kind;
 use cob_layout::Layout;
 use cob_move_data::{Sent, Side, SingleMove, Singles};
@@ -34,16 +36,6 @@ fn entry_at(layout: &Layout, number: usize) -> Option<Measured<'_>>
     }
 }
 
-/// The layout of a side's record.
-fn layout_of<'a>(layouts: &Layouts<'a>, side: Side) -> &'a Layout
-    ensures { result.now ≡ tree_of_side layouts.now side }
-{
-    match side {
-        Side::In => layouts.input,
-        Side::Out => layouts.output,
-    }
-}
-
 /// Nothing that may be lost.
 fn no_losses() -> Losses {
     Losses {
@@ -65,11 +57,11 @@ fn losses_to(from: &SenderKind<'_>, bytes: u32, output: &Layout, number: usize) 
 }
 
 /// What the move of an entry of this side may lose to one of the output record, both by their numbers; nothing where there is no such entry.
-fn entry_losses(layouts: &Layouts<'_>, side: Side, from: usize, to: usize) -> Losses
-    ensures { AreLossesOfEntry (tree_of_side layouts.now side) from
+fn entry_losses(layouts: &BothLayouts<'_>, side: Side, from: usize, to: usize) -> Losses
+    ensures { AreLossesOfEntry (record_of (layout_records layouts.now) side) from
         layouts.now.output.now to result }
 {
-    match entry_at(layout_of(layouts, side), from) {
+    match entry_at(layouts.of(side), from) {
         Some(sender) => losses_to(
             &SenderKind::Entry(sender.kind),
             sender.bytes,
@@ -81,7 +73,7 @@ fn entry_losses(layouts: &Layouts<'_>, side: Side, from: usize, to: usize) -> Lo
 }
 
 /// What a single move may lose.
-fn single_losses(layouts: &Layouts<'_>, single: &SingleMove<'_>) -> Losses
+fn single_losses(layouts: &BothLayouts<'_>, single: &SingleMove<'_>) -> Losses
     ensures { AreLossesOf layouts.now (plain_single single.now) result }
 {
     let to = single.receiver.number;

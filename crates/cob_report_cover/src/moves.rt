@@ -1,8 +1,8 @@
 //! The single moves that may lose digits, characters or a sign, as they are told.
 
-use crate::elements::{layout_of, write_pictured};
+use crate::elements::write_pictured;
 use cob_back_losses::Losses;
-use cob_back_moves::Layouts;
+use cob_back_moves::BothLayouts;
 use cob_move_data::Sent;
 use cob_report_lossless::LinedSingle;
 use std::fmt;
@@ -10,7 +10,7 @@ use std::fmt;
 /// A single move that may lose something.
 #[derive(Clone, Copy)]
 pub(crate) struct Losing<'a> {
-    pub(crate) layouts: Layouts<'a>,
+    pub(crate) layouts: BothLayouts<'a>,
     pub(crate) single: LinedSingle<'a>,
     pub(crate) losses: Losses,
 }
@@ -26,7 +26,7 @@ impl fmt::Display for Losing<'_> {
         match sent {
             Sent::Constant(_) => write!(f, "a literal")?,
             Sent::Entry { side, entry } => {
-                write_pictured(f, layout_of(&self.layouts, *side), *entry, ",")?;
+                write_pictured(f, self.layouts.of(*side), *entry, ",")?;
             }
         }
         write!(f, " to ")?;

@@ -2,10 +2,10 @@
 
 ghost use Rattle.std.specs.Prelude.{◌≡◌};
 ghost use Rattle.std.specs.Bool.{Decides};
-ghost use Rattle.cob_report_cover.specs.Numbers.{MayHaveNoNumber, has_characters, kind_shows_number};
+ghost use Rattle.cob_report_cover.specs.Numbers.{MayHaveNoNumber, has_characters};
 
-use crate::elements::{layout_of, write_element, write_sent};
-use cob_back_moves::Layouts;
+use crate::elements::{write_element, write_sent};
+use cob_back_moves::BothLayouts;
 use cob_copybook_tree::Kind;
 use cob_move_data::Sent;
 use cob_report_lossless::LinedSingle;
@@ -15,18 +15,8 @@ use std::fmt;
 /// A single move of characters to a number.
 #[derive(Clone, Copy)]
 pub(crate) struct Numberless<'a> {
-    layouts: Layouts<'a>,
+    layouts: BothLayouts<'a>,
     single: LinedSingle<'a>,
-}
-
-/// Whether an entry of this kind is an item that shows a number.
-fn shows_number(kind: &Kind) -> bool
-    ensures { result ≡ kind_shows_number kind.now }
-{
-    match kind {
-        Kind::Group => false,
-        Kind::Item(item) => item.picture.category().shows_number(),
-    }
 }
 
 /// Whether an entry of this kind is an item of characters.
@@ -43,18 +33,18 @@ fn has_characters(kind: &Kind) -> bool
 fn may_have_no_number(from: &Kind, to: &Kind) -> bool
     ensures { Decides result (MayHaveNoNumber from.now to.now) }
 {
-    has_characters(from) && shows_number(to)
+    has_characters(from) && to.shows_number()
 }
 
 /// What is told of a single move that may have no number.
 pub(crate) fn told_numberless<'a>(
-    layouts: &Layouts<'a>,
+    layouts: &BothLayouts<'a>,
     single: &LinedSingle<'a>,
 ) -> Option<Numberless<'a>> {
     let Sent::Entry { side, entry } = single.sent else {
         return None;
     };
-    let from = entry_of(layout_of(layouts, side).root(), entry.number)?;
+    let from = entry_of(layouts.of(side).root(), entry.number)?;
     let to = entry_of(layouts.output.root(), single.receiver.number)?;
     if !may_have_no_number(&from.kind, &to.kind) {
         return None;

@@ -1,26 +1,26 @@
 //! The occurrences of items.
 
-use crate::gathered::place_of;
 use arrayvec::ArrayVec;
+use cob_back_losses::place_of;
 use cob_copybook_tree::Node;
 use cob_layout::{Layout, Place, is_table};
 use cob_layout_steady::is_steady;
 use cob_limits::MAX_RECORD;
-use cob_report_words::{Named, Subscripts, advance, first_subscripts, tables_over};
+use cob_report_words::{NamedOccurrence, Subscripts, advance, first_subscripts, tables_over};
 use std::alloc::{AllocError, Global};
 
 /// An occurrence of an item: its subscripts, and where it stands.
 #[derive(Drop)]
-pub(crate) struct Occurrence {
+pub(crate) struct PlacedOccurrence {
     number: usize,
     subscripts: Subscripts,
     pub(crate) place: Place,
 }
 
-impl Occurrence {
+impl PlacedOccurrence {
     /// The occurrence by its name.
-    pub(crate) fn named<'a>(&self, layout: &'a Layout) -> Named<'a> {
-        Named::new(layout.root(), self.number, self.subscripts.as_slice())
+    pub(crate) fn named<'a>(&self, layout: &'a Layout) -> NamedOccurrence<'a> {
+        NamedOccurrence::new(layout.root(), self.number, self.subscripts.as_slice())
     }
 
     /// Whether it begins at the same byte of each record.
@@ -37,11 +37,15 @@ impl Occurrence {
 }
 
 /// The occurrence of an item of a record under these subscripts, where it stands in the record.
-fn found_occurrence(layout: &Layout, number: usize, subscripts: &[u32]) -> Option<Occurrence> {
+fn found_occurrence(
+    layout: &Layout,
+    number: usize,
+    subscripts: &[u32],
+) -> Option<PlacedOccurrence> {
     let place = place_of(layout, number, subscripts)?;
     let mut own = ArrayVec::new();
     own.try_extend_from_slice(subscripts).ok()?;
-    Some(Occurrence {
+    Some(PlacedOccurrence {
         number,
         subscripts: own,
         place,
@@ -57,7 +61,7 @@ pub(crate) fn occurrences_of(
     alloc: Global,
     layout: &Layout,
     item: &Node,
-) -> Result<Vec<Occurrence>, AllocError> {
+) -> Result<Vec<PlacedOccurrence>, AllocError> {
     let mut occurrences = Vec::new(alloc);
     let tables: Subscripts = tables_over(layout.root(), item.number);
     let mut subscripts = first_subscripts(tables.as_slice());
@@ -123,11 +127,11 @@ fn push_subscripts(
 }
 
 /// The occurrence of an item of a record that has a byte.
-pub(crate) fn occurrence_with(layout: &Layout, number: usize, byte: u32) -> Occurrence {
+pub(crate) fn occurrence_with(layout: &Layout, number: usize, byte: u32) -> PlacedOccurrence {
     let mut subscripts = ArrayVec::new();
     let further = push_subscripts(layout, layout.root(), number, byte, 0, &mut subscripts);
     let first = first_place(layout, number);
-    Occurrence {
+    PlacedOccurrence {
         number,
         subscripts,
         place: Place {

@@ -24,7 +24,8 @@ fn raise(reaches: &mut [u32], place: Place)
 /// So many reaches of nothing.
 fn no_reaches(alloc: Global, count: u16) -> Result<Vec<u32>, AllocError>
     ensures long { IfOk result (λ reaches. length reaches.items ≡ count) }
-    ensures none { IfOk result (λ reaches. (o n : ℕ) → nat_lt n (get_or reaches.items o 0) ≡ false) }
+    ensures none { IfOk result
+        (λ reaches. (o n : ℕ) → nat_lt n (get_or reaches.items o 0) ≡ false) }
 {
     let mut reaches = Vec::new(alloc);
     for _ in 0..count {

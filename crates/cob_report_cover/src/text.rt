@@ -2,12 +2,12 @@
 
 use crate::items::{marks_at, push_items, run_end};
 use crate::marks::{bytes_covered, bytes_taken};
-use crate::occurrences::{Occurrence, occurrences_of};
+use crate::occurrences::{PlacedOccurrence, occurrences_of};
 use crate::open_moves::push_open_moves;
 use cob_copybook_tree::Node;
 use cob_layout::{Layout, Place};
 use cob_report_lossless::LinedMoves;
-use cob_report_words::Named;
+use cob_report_words::NamedOccurrence;
 use std::alloc::{AllocError, Global};
 use std::fmt;
 
@@ -51,7 +51,7 @@ impl Marked<'_> {
     }
 
     /// What is said of an occurrence that stands behind a table that varies; nothing of others.
-    fn tail(&self, occurrence: &Occurrence) -> &'static str {
+    fn tail(&self, occurrence: &PlacedOccurrence) -> &'static str {
         if self.shifted.is_empty() || occurrence.is_steady(self.layout) {
             ""
         } else {
@@ -67,7 +67,7 @@ impl Marked<'_> {
 
 /// Bytes of an occurrence, from an offset of the record on.
 #[derive(Clone, Copy)]
-struct Run {
+struct ByteRun {
     offset: usize,
     count: usize,
 }
@@ -76,8 +76,8 @@ struct Run {
 fn push_bytes(
     alloc: Global,
     record: &Marked<'_>,
-    occurrence: &Occurrence,
-    run: Run,
+    occurrence: &PlacedOccurrence,
+    run: ByteRun,
     text: &mut String,
 ) -> Result<(), AllocError> {
     let words = record.words;
@@ -93,8 +93,8 @@ fn push_bytes(
 /// The first and the last of several occurrences of which no byte is marked.
 #[derive(Clone, Copy)]
 struct WhollyOpen<'a> {
-    first: &'a Occurrence,
-    last: &'a Occurrence,
+    first: &'a PlacedOccurrence,
+    last: &'a PlacedOccurrence,
 }
 
 /// Adds a line that tells the bytes of all elements of an item.
@@ -107,7 +107,7 @@ fn push_elements(
     text: &mut String,
 ) -> Result<(), AllocError> {
     let words = record.words;
-    let named = Named::new(record.layout.root(), item.number, &[]);
+    let named = NamedOccurrence::new(record.layout.root(), item.number, &[]);
     let Place { offset, length } = open.first.place;
     let bytes = Bytes {
         count: length as usize,
@@ -122,7 +122,10 @@ fn push_elements(
 }
 
 /// Several occurrences, where no byte of them is marked.
-fn wholly_open<'a>(record: &Marked<'_>, occurrences: &'a [Occurrence]) -> Option<WhollyOpen<'a>> {
+fn wholly_open<'a>(
+    record: &Marked<'_>,
+    occurrences: &'a [PlacedOccurrence],
+) -> Option<WhollyOpen<'a>> {
     let (first, others) = occurrences.split_first()?;
     let last = others.last()?;
     for occurrence in occurrences {
@@ -137,7 +140,7 @@ fn wholly_open<'a>(record: &Marked<'_>, occurrences: &'a [Occurrence]) -> Option
 fn push_runs(
     alloc: Global,
     record: &Marked<'_>,
-    occurrence: &Occurrence,
+    occurrence: &PlacedOccurrence,
     text: &mut String,
 ) -> Result<(), AllocError> {
     let marks = record.at(occurrence.place);
@@ -149,7 +152,7 @@ fn push_runs(
             break;
         }
         from = run_end(marks, start, false);
-        let run = Run {
+        let run = ByteRun {
             offset: front.saturating_add(start),
             count: from - start,
         };
@@ -163,7 +166,7 @@ fn push_open_item(
     alloc: Global,
     record: &Marked<'_>,
     item: &Node,
-    occurrences: &[Occurrence],
+    occurrences: &[PlacedOccurrence],
     text: &mut String,
 ) -> Result<(), AllocError> {
     if let Some(open) = wholly_open(record, occurrences) {
@@ -180,7 +183,7 @@ fn push_untaken_item(
     alloc: Global,
     record: &Marked<'_>,
     item: &Node,
-    occurrences: &[Occurrence],
+    occurrences: &[PlacedOccurrence],
     text: &mut String,
 ) -> Result<(), AllocError> {
     if let Some(open) = wholly_open(record, occurrences) {
@@ -189,7 +192,7 @@ fn push_untaken_item(
     for occurrence in occurrences {
         let Place { offset, length } = occurrence.place;
         if record.is_open(occurrence.place) {
-            let run = Run {
+            let run = ByteRun {
                 offset: offset as usize,
                 count: length as usize,
             };
@@ -200,7 +203,7 @@ fn push_untaken_item(
 }
 
 /// How many bytes of these occurrences are not marked.
-fn open_in(record: &Marked<'_>, occurrences: &[Occurrence]) -> usize {
+fn open_in(record: &Marked<'_>, occurrences: &[PlacedOccurrence]) -> usize {
     let mut count: usize = 0;
     for occurrence in occurrences {
         count = count.saturating_add(record.open_bytes(occurrence.place));

@@ -2,7 +2,7 @@
 
 use crate::instead::{SEVERAL, UNNAMED};
 use crate::pairs::{Records, is_own_group, is_own_item, paired};
-use crate::progress::Progress;
+use crate::progress::DraftProgress;
 use cob_layout::Layout;
 use cob_report_partners::{BothRecords, DraftBearer, Partner, partner_of};
 use std::alloc::{AllocError, Global};
@@ -36,7 +36,7 @@ pub struct Draft {
     pub lacking: Option<Lacking>,
 }
 
-impl Progress {
+impl DraftProgress {
     /// Adds what there is of an item of the output record.
     fn push_item(&mut self, records: &Records<'_>, to: &DraftBearer<'_>) -> Result<(), AllocError> {
         match partner_of(self.alloc, &records.both, to)? {
@@ -67,7 +67,7 @@ impl Progress {
 }
 
 /// What a draft lacks.
-fn lacking_in(progress: &Progress) -> Option<Lacking> {
+fn lacking_in(progress: &DraftProgress) -> Option<Lacking> {
     if progress.lines.is_cut {
         return Some(Lacking::Lines);
     }
@@ -90,7 +90,7 @@ pub fn draft_of(alloc: Global, input: &Layout, output: &Layout) -> Result<Draft,
         output,
     };
     let (inputs, outputs) = (records.both.inputs().len(), records.both.outputs().len());
-    let mut progress = Progress::new(alloc, inputs, outputs)?;
+    let mut progress = DraftProgress::new(alloc, inputs, outputs)?;
     progress.push_statements(&records)?;
     progress.push_unfilled(&records)?;
     progress.push_untaken(records.both.inputs())?;

@@ -7,7 +7,7 @@ use std::fmt;
 
 /// What an item holds.
 #[derive(Clone, Copy)]
-pub(crate) enum Held<'a> {
+pub(crate) enum ItemContent<'a> {
     /// Its VALUE.
     Own(&'a Value),
     /// Its part of a group's VALUE.
@@ -19,20 +19,20 @@ pub(crate) enum Held<'a> {
 }
 
 /// What an entry holds beneath a group without a VALUE.
-fn own_held(entry: &Node) -> Held<'_> {
+fn own_held(entry: &Node) -> ItemContent<'_> {
     match &entry.value {
-        Some(value) => Held::Own(value),
+        Some(value) => ItemContent::Own(value),
         None => match &entry.kind {
-            Kind::Item(item) if item.picture.category().shows_number() => Held::Zeros,
-            _ => Held::Spaces,
+            Kind::Item(item) if item.picture.category().shows_number() => ItemContent::Zeros,
+            _ => ItemContent::Spaces,
         },
     }
 }
 
 /// What an entry holds, where this is the VALUE of a group above it.
-fn held_beneath<'a>(entry: &'a Node, above: Option<&'a Value>) -> Held<'a> {
+fn held_beneath<'a>(entry: &'a Node, above: Option<&'a Value>) -> ItemContent<'a> {
     match above {
-        Some(value) => Held::Part(value),
+        Some(value) => ItemContent::Part(value),
         None => own_held(entry),
     }
 }
@@ -49,7 +49,7 @@ fn value_beneath<'a>(entry: &'a Node, above: Option<&'a Value>) -> Option<&'a Va
 fn push_held<'a>(
     entry: &'a Node,
     above: Option<&'a Value>,
-    held: &mut Vec<Held<'a>>,
+    held: &mut Vec<ItemContent<'a>>,
 ) -> Result<(), AllocError> {
     held.push(held_beneath(entry, above))?;
     let value = value_beneath(entry, above);
@@ -64,28 +64,30 @@ fn push_held<'a>(
 /// # Errors
 ///
 /// Where no memory is left.
-pub(crate) fn held_in(alloc: Global, root: &Node) -> Result<Vec<Held<'_>>, AllocError> {
+pub(crate) fn held_in(alloc: Global, root: &Node) -> Result<Vec<ItemContent<'_>>, AllocError> {
     let mut held = Vec::new(alloc);
     push_held(root, None, &mut held)?;
     Ok(held)
 }
 
 /// What the entry with this number holds, of what each entry of a record holds.
-pub(crate) fn held_at<'a>(held: &[Held<'a>], number: usize) -> Held<'a> {
+pub(crate) fn held_at<'a>(held: &[ItemContent<'a>], number: usize) -> ItemContent<'a> {
     match held.get(number) {
         Some(held) => *held,
-        None => Held::Spaces,
+        None => ItemContent::Spaces,
     }
 }
 
-impl fmt::Display for Held<'_> {
+impl fmt::Display for ItemContent<'_> {
     fn fmt<W: fmt::Write>(&self, f: &mut fmt::Formatter<W>) -> fmt::Result {
         match self {
-            Held::Own(value) => write!(f, "{}", ConstantText { value: *value }),
-            Held::Part(value) => { write!(f, "its part of {}", ConstantText { value: *value }) }
-            Held::Zeros => write!(f, "zeros"),
-            Held::Spaces => write!(f, "spaces"),
-            Held::Shifted => {
+            ItemContent::Own(value) => write!(f, "{}", ConstantText { value: *value }),
+            ItemContent::Part(value) => {
+                write!(f, "its part of {}", ConstantText { value: *value })
+            }
+            ItemContent::Zeros => write!(f, "zeros"),
+            ItemContent::Spaces => write!(f, "spaces"),
+            ItemContent::Shifted => {
                 write!(
                     f,
                     "what the greatest counts put there, behind a table that varies"

@@ -1,11 +1,12 @@
 //! What may be moved in the place of a move of bytes that may not stand: items alone.
 
 use crate::pairs::{
-    Pair, Records, has_namesake, is_item, is_own_group, is_own_item, kind_of, number_of, paired,
+    PartnerPair, Records, has_namesake, is_item, is_own_group, is_own_item, kind_of, number_of,
+    paired,
 };
-use crate::progress::{Progress, is_of_bytes};
+use crate::progress::{DraftProgress, is_of_bytes};
 use crate::shares::Share;
-use crate::words::Reference;
+use crate::words::NamedReference;
 use cob_copybook_tree::Kind;
 use cob_report_partners::{DraftBearer, Partner, only_item_beneath, partner_of, partner_within};
 use std::alloc::AllocError;
@@ -55,12 +56,12 @@ fn missing_words(records: &Records<'_>, to: &DraftBearer<'_>) -> &'static str {
     }
 }
 
-impl Progress {
+impl DraftProgress {
     /// Adds what there is of an item of the output record and its partner.
     pub(crate) fn push_item_from(
         &mut self,
         records: &Records<'_>,
-        pair: &Pair<'_, '_>,
+        pair: &PartnerPair<'_, '_>,
     ) -> Result<(), AllocError> {
         match self.push_pair(records, pair)? {
             Some(objection) if is_of_bytes(pair, objection) => self.push_only(records, pair),
@@ -69,7 +70,11 @@ impl Progress {
     }
 
     /// Adds what there is, in the place of a group's move to an item, of the only item of the group that may take it.
-    fn push_only(&mut self, records: &Records<'_>, group: &Pair<'_, '_>) -> Result<(), AllocError> {
+    fn push_only(
+        &mut self,
+        records: &Records<'_>,
+        group: &PartnerPair<'_, '_>,
+    ) -> Result<(), AllocError> {
         let (sending, to) = (group.from, group.to);
         if let Partner::One(from) = only_item_beneath(&records.both, &sending.entry, to) {
             if let Some(pair) = paired(&records.both, from, to) {
@@ -110,7 +115,7 @@ impl Progress {
     fn push_items(
         &mut self,
         records: &Records<'_>,
-        group: &Pair<'_, '_>,
+        group: &PartnerPair<'_, '_>,
     ) -> Result<(), AllocError> {
         let outputs = records.both.outputs();
         if !has_items(outputs, group.to) {
@@ -140,7 +145,7 @@ impl Progress {
     fn push_item_of(
         &mut self,
         records: &Records<'_>,
-        group: &Pair<'_, '_>,
+        group: &PartnerPair<'_, '_>,
         to: &DraftBearer<'_>,
     ) -> Result<Option<&'static str>, AllocError> {
         let sending = group.from;
@@ -184,7 +189,7 @@ impl Progress {
             if self.received.of(item.number) == Share::All {
                 continue;
             }
-            let (name, why) = (Reference::whole(to), item.why);
+            let (name, why) = (NamedReference::whole(to), item.why);
             let words = format!(in self.alloc; "{name}: {why}")?;
             self.lines.push_listed(&words)?;
         }

@@ -19,14 +19,14 @@ const REMARK: usize = 8;
 
 /// Whether a line is a comment.
 #[derive(Clone, Copy, PartialEq, Eq)]
-pub(crate) enum Mark {
+pub(crate) enum DraftLineKind {
     Statement,
     Comment,
 }
 
 /// The text of a paragraph, which grows line by line, and never longer than a text may be.
 #[derive(Drop)]
-pub(crate) struct Lines {
+pub(crate) struct DraftLines {
     pub(crate) text: String,
     /// Whether a line was left out for which the text has no room.
     pub(crate) is_cut: bool,
@@ -78,20 +78,20 @@ fn push_spaces(text: &mut String, count: usize) -> Result<(), AllocError> {
 }
 
 /// Adds what stands before the words of a line.
-fn push_margin(text: &mut String, mark: Mark, indent: usize) -> Result<(), AllocError> {
+fn push_margin(text: &mut String, mark: DraftLineKind, indent: usize) -> Result<(), AllocError> {
     match mark {
-        Mark::Statement => push_spaces(text, indent),
-        Mark::Comment => {
+        DraftLineKind::Statement => push_spaces(text, indent),
+        DraftLineKind::Comment => {
             text.push_str("      *")?;
             push_spaces(text, indent.saturating_sub(7))
         }
     }
 }
 
-impl Lines {
+impl DraftLines {
     /// No line.
-    pub(crate) fn new(text: String) -> Lines {
-        Lines {
+    pub(crate) fn new(text: String) -> DraftLines {
+        DraftLines {
             text,
             is_cut: false,
         }
@@ -111,7 +111,7 @@ impl Lines {
     /// Adds words on as many lines as they need.
     fn push_words(
         &mut self,
-        mark: Mark,
+        mark: DraftLineKind,
         first: usize,
         further: usize,
         words: &[u8],
@@ -138,7 +138,7 @@ impl Lines {
     /// Adds a statement, or one that stands as a comment: what it sends, and what receives.
     pub(crate) fn push_statement(
         &mut self,
-        mark: Mark,
+        mark: DraftLineKind,
         sends: &str,
         receives: &str,
         whole: &str,
@@ -158,7 +158,7 @@ impl Lines {
         if !self.has_room(words.len()) {
             return Ok(());
         }
-        self.push_words(Mark::Comment, REMARK, REMARK + 4, words.as_bytes())
+        self.push_words(DraftLineKind::Comment, REMARK, REMARK + 4, words.as_bytes())
     }
 
     /// Adds an entry of a list, as a comment.
@@ -166,6 +166,6 @@ impl Lines {
         if !self.has_room(words.len()) {
             return Ok(());
         }
-        self.push_words(Mark::Comment, AREA_B, FURTHER, words.as_bytes())
+        self.push_words(DraftLineKind::Comment, AREA_B, FURTHER, words.as_bytes())
     }
 }

@@ -1,10 +1,10 @@
 //! The lists of what a draft does not move.
 
-use crate::held::{Held, held_at, held_in};
+use crate::held::{ItemContent, held_at, held_in};
 use crate::pairs::{Records, is_own_item, number_of};
-use crate::progress::Progress;
+use crate::progress::DraftProgress;
 use crate::shares::Share;
-use crate::words::Reference;
+use crate::words::NamedReference;
 use cob_layout::Layout;
 use cob_layout_steady::is_steady;
 use cob_report_partners::DraftBearer;
@@ -49,15 +49,19 @@ fn stays(layout: &Layout, item: &DraftBearer<'_>) -> bool {
 }
 
 /// What an item holds, of which this would be held where it stands under the greatest counts.
-fn held_there<'a>(layout: &Layout, item: &DraftBearer<'_>, own: Held<'a>) -> Held<'a> {
+fn held_there<'a>(
+    layout: &Layout,
+    item: &DraftBearer<'_>,
+    own: ItemContent<'a>,
+) -> ItemContent<'a> {
     if stays(layout, item) {
         own
     } else {
-        Held::Shifted
+        ItemContent::Shifted
     }
 }
 
-impl Progress {
+impl DraftProgress {
     /// Adds the items of the output record to which not all is moved, and what they hold.
     pub(crate) fn push_unfilled(&mut self, records: &Records<'_>) -> Result<(), AllocError> {
         let held = held_in(self.alloc, records.output.root())?;
@@ -72,7 +76,7 @@ impl Progress {
                     .push_remark("Nothing fills these items, which hold:")?;
                 is_first = false;
             }
-            let name = Reference::whole(to);
+            let name = NamedReference::whole(to);
             let past = past_words(share, "input");
             let own = held_at(&held, number_of(to));
             let held = held_there(records.output, to, own);
@@ -94,7 +98,7 @@ impl Progress {
                 self.lines.push_remark("Nothing takes these items:")?;
                 is_first = false;
             }
-            let name = Reference::whole(from);
+            let name = NamedReference::whole(from);
             let past = past_words(share, "output");
             let words = format!(in self.alloc; "{name}{past}")?;
             self.lines.push_listed(&words)?;

@@ -1,6 +1,6 @@
 //! Entries of the two records, and pairs of them.
 
-use crate::words::Reference;
+use crate::words::NamedReference;
 use cob_copybook_tree::Kind;
 use cob_layout::Layout;
 use cob_report_partners::{BothRecords, DraftBearer, qualifiers_needed};
@@ -15,17 +15,17 @@ pub(crate) struct Records<'a> {
 
 /// An entry, its partner, and with how many qualifiers each is named.
 #[derive(Clone, Copy)]
-pub(crate) struct Pair<'s, 'a> {
+pub(crate) struct PartnerPair<'s, 'a> {
     pub(crate) from: &'s DraftBearer<'a>,
     pub(crate) to: &'s DraftBearer<'a>,
     from_qualifiers: usize,
     to_qualifiers: usize,
 }
 
-impl<'s, 'a> Pair<'s, 'a> {
+impl<'s, 'a> PartnerPair<'s, 'a> {
     /// The sender of the statement for the elements with these subscripts.
-    pub(crate) fn sender(&self, subscripts: &'s [u32]) -> Reference<'s, 'a> {
-        Reference {
+    pub(crate) fn sender(&self, subscripts: &'s [u32]) -> NamedReference<'s, 'a> {
+        NamedReference {
             bearer: self.from,
             qualifiers: self.from_qualifiers,
             subscripts,
@@ -33,8 +33,8 @@ impl<'s, 'a> Pair<'s, 'a> {
     }
 
     /// The receiver of that statement.
-    pub(crate) fn receiver(&self, subscripts: &'s [u32]) -> Reference<'s, 'a> {
-        Reference {
+    pub(crate) fn receiver(&self, subscripts: &'s [u32]) -> NamedReference<'s, 'a> {
+        NamedReference {
             bearer: self.to,
             qualifiers: self.to_qualifiers,
             subscripts,
@@ -47,10 +47,10 @@ pub(crate) fn paired<'s, 'a>(
     records: &BothRecords<'_>,
     from: &'s DraftBearer<'a>,
     to: &'s DraftBearer<'a>,
-) -> Option<Pair<'s, 'a>> {
+) -> Option<PartnerPair<'s, 'a>> {
     let from_qualifiers = qualifiers_needed(records, from.name?, from.above.as_slice())?;
     let to_qualifiers = qualifiers_needed(records, to.name?, to.above.as_slice())?;
-    Some(Pair {
+    Some(PartnerPair {
         from,
         to,
         from_qualifiers,

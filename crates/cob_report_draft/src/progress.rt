@@ -1,21 +1,21 @@
 //! The statements of a draft.
 
-use crate::lines::{Lines, Mark};
-use crate::pairs::{Pair, Records, is_item, number_of};
-use crate::reasons::Reason;
+use crate::lines::{DraftLineKind, DraftLines};
+use crate::pairs::{PartnerPair, Records, is_item, number_of};
+use crate::reasons::ObjectionReason;
 use crate::shares::{Shares, share_of};
-use crate::words::Reference;
+use crate::words::NamedReference;
 use arrayvec::ArrayVec;
 use cob_limits::MAX_RECORD;
-use cob_report_partners::{DraftBearer, Objection, Tables, objection_to};
+use cob_report_partners::{DraftBearer, GreatestNumbers, Objection, objection_to};
 use cob_report_words::{advance, first_subscripts};
 use std::alloc::{AllocError, Global};
 
 /// What a draft has come to.
 #[derive(Drop)]
-pub(crate) struct Progress {
+pub(crate) struct DraftProgress {
     pub(crate) alloc: Global,
-    pub(crate) lines: Lines,
+    pub(crate) lines: DraftLines,
     pub(crate) statements: u64,
     /// What is moved of each entry of the input record.
     pub(crate) sent: Shares,
@@ -24,7 +24,7 @@ pub(crate) struct Progress {
 }
 
 /// The elements that two entries in as many tables both have.
-fn shared_tables(from: &[u32], to: &[u32]) -> Tables {
+fn shared_tables(from: &[u32], to: &[u32]) -> GreatestNumbers {
     let mut tables = ArrayVec::new();
     for (one, other) in from.iter().zip(to.iter()) {
         let _ = tables.try_push((*one).min(*other));
@@ -32,18 +32,18 @@ fn shared_tables(from: &[u32], to: &[u32]) -> Tables {
     tables
 }
 
-impl Progress {
+impl DraftProgress {
     /// Nothing yet, of records of so many entries.
     pub(crate) fn new(
         alloc: Global,
         inputs: usize,
         outputs: usize,
-    ) -> Result<Progress, AllocError> {
+    ) -> Result<DraftProgress, AllocError> {
         let sent = Shares::nothing(alloc, inputs)?;
         let received = Shares::nothing(alloc, outputs)?;
-        Ok(Progress {
+        Ok(DraftProgress {
             alloc,
-            lines: Lines::new(String::new(alloc)),
+            lines: DraftLines::new(String::new(alloc)),
             statements: 0,
             sent,
             received,
@@ -53,8 +53,8 @@ impl Progress {
     /// Adds the statement of one element, or a comment in its form.
     fn push_move(
         &mut self,
-        mark: Mark,
-        pair: &Pair<'_, '_>,
+        mark: DraftLineKind,
+        pair: &PartnerPair<'_, '_>,
         subscripts: &[u32],
     ) -> Result<(), AllocError> {
         let from = pair.sender(subscripts);
@@ -67,7 +67,7 @@ impl Progress {
 
     /// Notes what is moved where the elements of a pair are moved that both entries have: of the entries with those beneath them, and of what the sender
     /// redefines.
-    fn note_moves(&mut self, pair: &Pair<'_, '_>, tables: &[u32]) {
+    fn note_moves(&mut self, pair: &PartnerPair<'_, '_>, tables: &[u32]) {
         let (sending, receiving) = (pair.from, pair.to);
         let sent = share_of(sending.entry.tables.as_slice(), tables);
         self.sent.note(number_of(sending), sending.entry.last, sent);
@@ -80,7 +80,7 @@ impl Progress {
     }
 
     /// Adds the statements of all elements that both entries have.
-    fn push_moves(&mut self, pair: &Pair<'_, '_>) -> Result<(), AllocError> {
+    fn push_moves(&mut self, pair: &PartnerPair<'_, '_>) -> Result<(), AllocError> {
         let (sending, receiving) = (pair.from, pair.to);
         let tables = shared_tables(
             sending.entry.tables.as_slice(),
@@ -88,7 +88,7 @@ impl Progress {
         );
         let mut subscripts = first_subscripts(tables.as_slice());
         for _ in 0..MAX_RECORD {
-            self.push_move(Mark::Statement, pair, subscripts.as_slice())?;
+            self.push_move(DraftLineKind::Statement, pair, subscripts.as_slice())?;
             self.statements = self.statements.saturating_add(1);
             if !advance(subscripts.as_mut_slice(), tables.as_slice()) {
                 break;
@@ -99,24 +99,24 @@ impl Progress {
     }
 
     /// Adds a statement that may not stand, as a comment, and why; of tables that of the first element.
-    fn push_objection(&mut self, reason: &Reason<'_, '_>) -> Result<(), AllocError> {
+    fn push_objection(&mut self, reason: &ObjectionReason<'_, '_>) -> Result<(), AllocError> {
         let words = format!(in self.alloc; "{reason}")?;
         self.lines.push_remark(&words)?;
         let receiving = reason.pair.to;
         let first = first_subscripts(receiving.entry.tables.as_slice());
-        self.push_move(Mark::Comment, &reason.pair, first.as_slice())
+        self.push_move(DraftLineKind::Comment, &reason.pair, first.as_slice())
     }
 
     /// Adds the statements of a pair, or a comment where something is against them, and answers what that is.
     pub(crate) fn push_pair(
         &mut self,
         records: &Records<'_>,
-        pair: &Pair<'_, '_>,
+        pair: &PartnerPair<'_, '_>,
     ) -> Result<Option<Objection>, AllocError> {
         let (sending, receiving) = (pair.from, pair.to);
         match objection_to(self.alloc, &sending.entry, &receiving.entry)? {
             Some(objection) => {
-                self.push_objection(&Reason {
+                self.push_objection(&ObjectionReason {
                     records,
                     pair: *pair,
                     objection,
@@ -136,14 +136,14 @@ impl Progress {
         to: &DraftBearer<'_>,
         words: &str,
     ) -> Result<(), AllocError> {
-        let name = Reference::whole(to);
+        let name = NamedReference::whole(to);
         let remark = format!(in self.alloc; "{name}: {words}")?;
         self.lines.push_remark(&remark)
     }
 }
 
 /// Whether a move that is objected to copies bytes, and would lose something of them: then items alone may be moved in its place.
-pub(crate) fn is_of_bytes(pair: &Pair<'_, '_>, objection: Objection) -> bool {
+pub(crate) fn is_of_bytes(pair: &PartnerPair<'_, '_>, objection: Objection) -> bool {
     (!is_item(pair.from) || !is_item(pair.to))
         && matches!(objection, Objection::Loses(_) | Objection::Description(_))
 }

@@ -1,17 +1,17 @@
 //! What is against the move of an entry to its partner, in words.
 
-use crate::pairs::{Pair, Records, kind_of};
+use crate::pairs::{PartnerPair, Records, kind_of};
 use cob_back_losses::{Gets, Losses, Unkept};
 use cob_copybook_tree::{Item, Kind};
 use cob_report_partners::Objection;
-use cob_report_words::{DescribedText, GotText, Named, PictureText};
+use cob_report_words::{DescribedText, GotText, NamedOccurrence, PictureText};
 use std::fmt;
 
 /// What is against a move.
 #[derive(Clone, Copy)]
-pub(crate) struct Reason<'s, 'a> {
+pub(crate) struct ObjectionReason<'s, 'a> {
     pub(crate) records: &'s Records<'a>,
-    pub(crate) pair: Pair<'s, 'a>,
+    pub(crate) pair: PartnerPair<'s, 'a>,
     pub(crate) objection: Objection,
 }
 
@@ -31,19 +31,19 @@ fn write_losses<W: fmt::Write>(
     write!(f, "PIC {from} to PIC {to} may lose {losses}:")
 }
 
-impl Reason<'_, '_> {
+impl ObjectionReason<'_, '_> {
     /// Writes which item does not keep its description, and what it gets.
     fn write_description<W: fmt::Write>(
         &self,
         f: &mut fmt::Formatter<W>,
         unkept: Unkept,
     ) -> fmt::Result {
-        let named = Named::new(self.records.output.root(), unkept.item, &[]);
+        let named = NamedOccurrence::new(self.records.output.root(), unkept.item, &[]);
         let described = DescribedText { named: &named };
         write!(f, "It moves bytes, and {described}, gets ")?;
         match unkept.gets {
             Gets::Item(number) => {
-                let sent = Named::new(self.records.input.root(), number, &[]);
+                let sent = NamedOccurrence::new(self.records.input.root(), number, &[]);
                 write!(f, "{}:", GotText { sent: Some(&sent) })
             }
             Gets::Space | Gets::Character => write!(f, "{}:", GotText { sent: None }),
@@ -51,7 +51,7 @@ impl Reason<'_, '_> {
     }
 }
 
-impl fmt::Display for Reason<'_, '_> {
+impl fmt::Display for ObjectionReason<'_, '_> {
     fn fmt<W: fmt::Write>(&self, f: &mut fmt::Formatter<W>) -> fmt::Result {
         let kinds = (kind_of(self.pair.from), kind_of(self.pair.to));
         match (self.objection, kinds) {

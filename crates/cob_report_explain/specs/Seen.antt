@@ -2,8 +2,8 @@
 use Rattle.std.specs.Prelude.{◌≡◌, ℕ, List, [], ◌∷◌, map, Option, Result}
 use Rattle.cob_copybook_tree.specs.Forests.{Forest}
 use Rattle.cob_copybook_tree.specs.Nodes.{Resolved}
-use Rattle.cob_move_apply.specs.Applied.{Content}
-use Rattle.cob_move_receive.specs.Sent.{sent}
+use Rattle.cob_move_apply.specs.Placed.{content_of}
+use Rattle.cob_move_apply.specs.declared.receivers.Given.{Given}
 use Rattle.cob_layout_places.specs.declared.reference.Ref.{Ref}
 use Rattle.cob_move_data.specs.declared.operands.NumberedPair.{NumberedPair}
 use Rattle.cob_move_data.specs.declared.operands.PairMoves.{PairMoves}
@@ -13,21 +13,16 @@ use Rattle.cob_move_data.specs.Moves.{Entry, Move, Records, Sender, moves_by, nu
 use Rattle.cob_report_explain.specs.Each.{AreOfMove, AreOfMoves, AreSentBy, AreSingles, EachEnding, IsSingleTo, LacksFor, NumberedMove, Sees, Single, append_singles, each_ending, numbered_moves, numbered_of_pair, numbered_of_pairs, numbered_of_statement, single_stop}
 use Rattle.cob_report_explain.specs.declared.single.AskedStop.{AskedStop}
 use Rattle.cob_report_explain.specs.declared.single.MoveStop.{MoveStop}
-use Rattle.cob_report_explain.specs.declared.single.Given.{Given}
 use Rattle.cob_report_explain.specs.declared.single.MoveParts.{MoveParts}
-use Rattle.cob_report_explain.specs.declared.single.SingleMove.{SingleMove}
+use Rattle.cob_report_explain.specs.declared.single.CarriedMove.{CarriedMove}
 use Rattle.cob_report_explain.specs.declared.room.RecordLayouts.{RecordLayouts}
 
--- what the code's value gives
-abbrev pub given_content : Given → Content
-given_content g = record { sent = sent g.sent; side = g.side; offset = g.offset }
-
 -- a single move that is handed out
-abbrev pub handed_single : SingleMove → Single
+abbrev pub handed_single : CarriedMove → Single
 handed_single one = record {
   number = one.number;
   sender = one.sender.now;
-  content = given_content one.given;
+  content = content_of one.given;
   receiver = one.receiver.now;
   place = one.place;
   storage = one.storage.now;
@@ -44,17 +39,17 @@ records_of_layouts l = record { input = l.input.now; output = l.output.now }
 -- A receiver of a move gets what its sender gives: that single move is handed out, and the storage is what it leaves.
 abbrev pub HandsOut : Forest Resolved → MoveParts → ℕ → Given → Ref → (before after : List ℕ) → (old new : Option (List Single)) → Type 0
 HandsOut tree m k given q before after old new =
-    (one : Single) × IsSingleTo tree (move_of m) k (given_content given) q before one × (one.storage ≡ after) × (new ≡ append_singles old (one ∷ []))
+    (one : Single) × IsSingleTo tree (move_of m) k (content_of given) q before one × (one.storage ≡ after) × (new ≡ append_singles old (one ∷ []))
 
 -- it doesn't get it, and the single move stops there
 abbrev pub StopsAtReceiver : Forest Resolved → MoveParts → ℕ → Given → Ref → List ℕ → MoveStop → Type 0
 StopsAtReceiver tree m k given q before stop =
-    (lack : AskedStop) × LacksFor tree (given_content given) q before lack × (stop ≡ single_stop (move_of m) k lack)
+    (lack : AskedStop) × LacksFor tree (content_of given) q before lack × (stop ≡ single_stop (move_of m) k lack)
 
 -- what was seen grew by the single moves of a move that gives this
 abbrev pub SeesSingles : Forest Resolved → MoveParts → Given → List ℕ → EachEnding → (old new : Option (List Single)) → Type 0
 SeesSingles tree m given before end old new =
-    Sees old new (λ ones. AreSingles tree (move_of m) (given_content given) 0 m.receivers.now before ones end)
+    Sees old new (λ ones. AreSingles tree (move_of m) (content_of given) 0 m.receivers.now before ones end)
 
 -- the sender that is an entry of the input record
 abbrev pub input_sender : RecordLayouts → Ref → Sender

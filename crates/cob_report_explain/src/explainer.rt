@@ -14,7 +14,7 @@ use crate::moves::{Teller, Watching};
 use crate::reading::{Refused, input_record};
 use crate::stops::{Scene, count_words, move_words};
 use crate::walk::{RecordStop, WalkRoom, walk_record};
-use cob_convert_record::{Cause, Conversion, Room, Side, Stop, StopCause};
+use cob_convert_record::{Cause, Conversion, Room, Side, stop_reason};
 use cob_convert_stream::RunFault;
 use cob_copybook::{Book, Role};
 use cob_layout::Layout;
@@ -27,7 +27,7 @@ use std::alloc::{AllocError, Global};
 
 /// What is told of a record that stops a run: its fault, and what is wrong in words, where there are some.
 #[derive(Drop)]
-pub struct Stopped {
+pub struct StoppedRecord {
     pub fault: RunFault,
     pub words: String,
 }
@@ -40,9 +40,9 @@ pub enum Explanation {
     /// It converts: all of its single moves were told.
     Converts,
     /// Its single moves were told up to the one where it stops, or all where a count stops it behind them.
-    Stops(Stopped),
+    Stops(StoppedRecord),
     /// It is none of the layout, or a frame up to its own can't be read: no single move was told.
-    Refused(Stopped),
+    Refused(StoppedRecord),
 }
 
 /// The texts of a conversion that are read again: the copybook of the output record, and the paragraph.
@@ -50,24 +50,6 @@ pub enum Explanation {
 pub struct ReadAgain<'a> {
     pub out_book: &'a [u8],
     pub moves: &'a [u8],
-}
-
-/// The fault of the record with this number, which stops so, as a run tells it.
-fn fault_of(number: u64, stop: Stop) -> RunFault
-    ensures { is_write_cause result.cause ≡ false }
-{
-    let cause = match stop.cause {
-        StopCause::NoValue => Cause::NoValue,
-        StopCause::Count => Cause::Count,
-        StopCause::Subscript => Cause::Subscript,
-    };
-    RunFault {
-        number,
-        side: stop.side,
-        offset: stop.offset,
-        cause,
-        written: 0,
-    }
 }
 
 /// Begins an output record of a conversion, whose copybook this text is: its storage holds its initial values.
@@ -140,12 +122,12 @@ fn stopped_at(
     scene: &Scene<'_>,
     number: u64,
     stop: RecordStop,
-) -> Result<Stopped, AllocError>
+) -> Result<StoppedRecord, AllocError>
     ensures { IfOk result (λ stopped. is_write_cause stopped.fault.cause ≡ false) }
 {
     let words = stop_words(alloc, scene, &stop)?;
-    let fault = fault_of(number, stop.plain());
-    Ok(Stopped { fault, words })
+    let fault = stop_reason(stop.plain()).at(number, 0);
+    Ok(StoppedRecord { fault, words })
 }
 
 /// Explains a record of the layout. The output holds the storage before the first move.
@@ -215,14 +197,8 @@ fn refused_at(
     ensures { IfOk result IsExplanation }
 {
     let words = refusal_words(alloc, conversion, refused, bytes)?;
-    Ok(Explanation::Refused(Stopped {
-        fault: RunFault {
-            number: refused.number,
-            side: refused.why.side,
-            offset: refused.why.offset,
-            cause: refused.why.cause,
-            written: 0,
-        },
+    Ok(Explanation::Refused(StoppedRecord {
+        fault: refused.why.at(refused.number, 0),
         words,
     }))
 }

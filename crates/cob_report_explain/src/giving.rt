@@ -7,20 +7,19 @@ ghost use Rattle.cob_layout.specs.Storage.{greatest_length};
 ghost use Rattle.cob_layout.specs.Standing.{IsRoomFor};
 ghost use Rattle.cob_move_data.specs.Moves.{IsOperand, operand_in};
 ghost use Rattle.cob_move_receive.specs.Sent.{HasAllBytes, sent};
+ghost use Rattle.cob_move_apply.specs.Placed.{content_of};
 ghost use Rattle.cob_report_explain.specs.Each.{GetsAt, LacksFor, asked_stop, each_ending, single_stop};
 ghost use Rattle.cob_move_apply.specs.Located.{stop_at};
 ghost use Rattle.cob_move_apply.specs.declared.stop.StopCause.TheVariants.{NoValue};
-ghost use Rattle.cob_report_explain.specs.Seen.{HandsOut, SeesSingles, StopsAtReceiver, given_content};
+ghost use Rattle.cob_report_explain.specs.Seen.{HandsOut, SeesSingles, StopsAtReceiver};
 ghost use Rattle.cob_report_explain.specs.declared.single.Asked.TheVariants as asked;
 ghost use Rattle.cob_report_explain.specs.declared.single.AskedStop.{AskedStop as Lack};
 
-use crate::places::{Stored, entry_kind, locate};
-use crate::single::{
-    Asked, AskedStop, Given, MoveParts, MoveStop, SingleMove, SingleNumber, stop_of,
-};
+use crate::places::{SideStorage, locate};
+use crate::single::{Asked, AskedStop, CarriedMove, MoveParts, MoveStop, SingleNumber, stop_of};
 use crate::watcher::Watcher;
 use cob_layout::{Counts, Layout, Place, Ref};
-use cob_move_apply::{Stop, StopCause};
+use cob_move_apply::{Given, Stop, StopCause, entry_kind};
 use cob_move_data::Side;
 use cob_move_receive::receive;
 
@@ -56,13 +55,13 @@ fn receive_one(
     requires output { length output.old ≡ greatest_length layout.now }
     requires room { IsRoomFor layout.now counts.old }
     ensures gets { IfOk result
-        (λ p. GetsAt layout.now (given_content given.now) entry.now output.old p output.new) }
+        (λ p. GetsAt layout.now (content_of given.now) entry.now output.old p output.new) }
     ensures lacks { IfErr result
-        (LacksFor layout.now (given_content given.now) entry.now output.old) }
+        (LacksFor layout.now (content_of given.now) entry.now output.old) }
     ensures same { OnErr result (output.new ≡ output.old) }
     ensures room { IsRoomFor layout.now counts.new }
 {
-    let stored = Stored {
+    let stored = SideStorage {
         side: Side::Out,
         layout,
         bytes: &*output,
@@ -109,16 +108,17 @@ fn give_one<W: Watcher>(
     requires operand { IsOperand layout.now (operand_in layout.now entry.now) }
     requires output { length output.old ≡ greatest_length layout.now }
     requires room { IsRoomFor layout.now counts.old }
-    ensures gives { OnOk result (HandsOut layout.now parts.now index given.now entry.now output.old output.new
-        (W.seen watcher.old) (W.seen watcher.new)) }
-    ensures stops { IfErr result (StopsAtReceiver layout.now parts.now index given.now entry.now output.old) }
+    ensures gives { OnOk result (HandsOut layout.now parts.now index given.now entry.now
+        output.old output.new (W.seen watcher.old) (W.seen watcher.new)) }
+    ensures stops { IfErr result
+        (StopsAtReceiver layout.now parts.now index given.now entry.now output.old) }
     ensures same { OnErr result (output.new ≡ output.old) }
     ensures unseen { OnErr result (W.seen watcher.new ≡ W.seen watcher.old) }
     ensures room { IsRoomFor layout.now counts.new }
 {
     match receive_one(layout, given, entry, output, counts) {
         Ok(place) => {
-            watcher.see(&SingleMove {
+            watcher.see(&CarriedMove {
                 number: SingleNumber {
                     statement: parts.statement,
                     pair: parts.pair,
@@ -155,8 +155,8 @@ pub(crate) fn give_all<W: Watcher>(
         (map (operand_in layout.now) parts.now.receivers.now) }
     requires output { length output.old ≡ greatest_length layout.now }
     requires room { IsRoomFor layout.now counts.old }
-    ensures seen { SeesSingles layout.now parts.now given.now output.old (each_ending result output.new)
-        (W.seen watcher.old) (W.seen watcher.new) }
+    ensures seen { SeesSingles layout.now parts.now given.now output.old
+        (each_ending result output.new) (W.seen watcher.old) (W.seen watcher.new) }
     ensures room { IsRoomFor layout.now counts.new }
 {
     for (index, entry) in parts.receivers.iter().enumerate() {

@@ -6,7 +6,7 @@
 //!
 //! `cob_move_apply` carries out the moves of a paragraph as fast as it can, several at once, and answers the storage or the stop alone. [`each`] does
 //! the same slowly, for who asks what happened: it hands each single move to a [`Watcher`] as soon as it is done, with its statement, its sender with
-//! what that gave and where it lies, its receiver with its place, and the storage behind it ([`SingleMove`]).
+//! what that gave and where it lies, its receiver with its place, and the storage behind it ([`CarriedMove`]).
 //!
 //! What is promised of [`each`]:
 //!
@@ -71,11 +71,12 @@ mod walk;
 mod walking;
 mod watcher;
 
+pub use cob_move_apply::Given;
 pub use cob_report_faults::Qualifying;
-pub use explainer::{Explanation, ReadAgain, Stopped, explain};
+pub use explainer::{Explanation, ReadAgain, StoppedRecord, explain};
 pub use moves::{Silent, SingleText, Teller, Watching};
 pub use room::{EachRoom, RecordLayouts};
-pub use single::{Asked, Given, MoveStop, SingleMove, SingleNumber};
+pub use single::{Asked, CarriedMove, MoveStop, SingleNumber};
 pub use stops::{Scene, count_words, move_words};
 pub use walk::{RecordStop, WalkRoom, walk_record};
 pub use walking::each;

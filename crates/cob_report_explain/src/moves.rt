@@ -2,7 +2,7 @@
 
 ghost use Rattle.std.specs.Prelude.{None};
 
-use crate::single::SingleMove;
+use crate::single::CarriedMove;
 use crate::values::HeldText;
 use crate::watcher::Watcher;
 use cob_layout::Place;
@@ -32,7 +32,7 @@ pub struct SingleText<'a> {
     /// The line of its statement.
     pub line: u32,
     pub records: Qualifying<'a>,
-    pub one: &'a SingleMove<'a>,
+    pub one: &'a CarriedMove<'a>,
 }
 
 impl SingleText<'_> {
@@ -77,7 +77,7 @@ impl fmt::Display for SingleText<'_> {
 /// Who tells single moves.
 pub trait Teller {
     /// Tells a single move between these records, which was carried out just now. Its statement stands on this line.
-    fn tell(&mut self, line: u32, records: Qualifying<'_>, one: &SingleMove<'_>);
+    fn tell(&mut self, line: u32, records: Qualifying<'_>, one: &CarriedMove<'_>);
 }
 
 /// A teller that tells nothing.
@@ -85,7 +85,7 @@ pub trait Teller {
 pub struct Silent;
 
 impl Teller for Silent {
-    fn tell(&mut self, _line: u32, _records: Qualifying<'_>, _one: &SingleMove<'_>) {}
+    fn tell(&mut self, _line: u32, _records: Qualifying<'_>, _one: &CarriedMove<'_>) {}
 }
 
 /// Who watches the single moves of a record, and has each of them told.
@@ -111,7 +111,7 @@ impl<'a, T> Watching<'a, T> {
 impl<T: Teller> Watcher for Watching<'_, T> {
     ghost seen = { λ watching. None };
 
-    fn see(&mut self, one: &SingleMove<'_>) {
+    fn see(&mut self, one: &CarriedMove<'_>) {
         let line = line_at(self.lines, one.number.statement);
         self.teller.tell(line, self.records, one);
     }

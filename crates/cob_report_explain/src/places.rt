@@ -1,6 +1,6 @@
 //! Where operands stand.
 
-ghost use Rattle.std.specs.Prelude.{◌≡◌, ◌+◌, ◌≤◌, length, IfOk};
+ghost use Rattle.std.specs.Prelude.{◌+◌, ◌≤◌, length, IfOk};
 ghost use Rattle.cob_layout.specs.Sound.{IsSound};
 ghost use Rattle.cob_layout.specs.Storage.{greatest_length};
 ghost use Rattle.cob_layout.specs.Standing.{IsRoomFor};
@@ -8,25 +8,16 @@ ghost use Rattle.cob_move_data.specs.Moves.{IsOperand, operand_in};
 ghost use Rattle.cob_move_receive.specs.Sent.{Occupies};
 ghost use Rattle.cob_move_apply.specs.Located.{Located};
 
-use cob_layout::{Counts, Kind, Layout, Place, Ref};
+use cob_layout::{Counts, Layout, Place, Ref};
 use cob_move_apply::{Stop, stop_of};
 use cob_move_data::Side;
 
 /// The storage of the record of one side.
 #[derive(Clone, Copy)]
-pub(crate) struct Stored<'a> {
+pub(crate) struct SideStorage<'a> {
     pub(crate) side: Side,
     pub(crate) layout: &'a Layout,
     pub(crate) bytes: &'a [u8],
-}
-
-/// What an entry of the record of a layout describes.
-pub(crate) fn entry_kind<'a>(layout: &'a Layout, entry: &Ref) -> &'a Kind
-    requires sound { IsSound layout.now }
-    requires operand { IsOperand layout.now (operand_in layout.now entry.now) }
-    ensures { result.now ≡ (operand_in layout.now entry.now).kind }
-{
-    layout.kind(entry.node)
 }
 
 /// Where an entry stands in a storage, sending or receiving, by the counts there that it needs.
@@ -35,7 +26,7 @@ pub(crate) fn entry_kind<'a>(layout: &'a Layout, entry: &Ref) -> &'a Kind
 ///
 /// The first count that it needs and that isn't valid; a subscript past its table's count.
 pub(crate) fn locate(
-    stored: &Stored<'_>,
+    stored: &SideStorage<'_>,
     entry: &Ref,
     receiving: bool,
     counts: &mut Counts,

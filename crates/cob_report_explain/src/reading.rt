@@ -7,7 +7,7 @@ ghost use Rattle.cob_convert_record.specs.Rooms.{capacity_for};
 ghost use Rattle.cob_convert_stream.specs.Reasons.{is_write_cause};
 ghost use Rattle.cob_records.specs.Frame.{is_write_fault};
 
-use cob_convert_record::{Cause, Conversion, Reason, Room, Side};
+use cob_convert_record::{Conversion, Reason, Room};
 use cob_convert_stream::sized_are_storages;
 use cob_records::Source;
 use cob_records_parts::{Numbered, Stopped, find_record};
@@ -26,11 +26,7 @@ fn unread(stop: Stopped) -> Refused
 {
     Refused {
         number: stop.number,
-        why: Reason {
-            side: Side::In,
-            offset: 0,
-            cause: Cause::Record(stop.fault),
-        },
+        why: Reason::of_frame(stop.fault),
     }
 }
 

@@ -11,11 +11,12 @@ ghost use Rattle.cob_report_explain.specs.Room.{HasEachRoom};
 ghost use Rattle.cob_report_explain.specs.Seen.{SeesFromInput, SeesMove, SeesWithinOutput, move_of, records_of_layouts};
 
 use crate::giving::give_all;
-use crate::places::{Stored, entry_kind, locate};
+use crate::places::{SideStorage, locate};
 use crate::room::{EachRoom, RecordLayouts};
-use crate::single::{Given, MoveParts, MoveStop, sender_stop};
+use crate::single::{MoveParts, MoveStop, sender_stop};
 use crate::watcher::Watcher;
 use cob_layout::{Ref, field, places_lie_in_storage};
+use cob_move_apply::{Given, entry_kind};
 use cob_move_data::{Sender, Side};
 use cob_move_receive::Sent;
 
@@ -56,7 +57,7 @@ fn walk_from_input<W: Watcher>(
 {
     let _ = layouts.input.greatest();
     places_lie_in_storage();
-    let stored = Stored {
+    let stored = SideStorage {
         side: Side::In,
         layout: layouts.input,
         bytes: input,
@@ -103,7 +104,7 @@ fn walk_within_output<W: Watcher>(
         (each_ending result output.new) (W.seen watcher.old) (W.seen watcher.new) }
     ensures room { HasEachRoom (records_of_layouts layouts.now) room.new }
 {
-    let stored = Stored {
+    let stored = SideStorage {
         side: Side::Out,
         layout: layouts.output,
         bytes: &*output,
@@ -150,8 +151,8 @@ pub(crate) fn walk_move<W: Watcher>(
     requires input { IsStorage layouts.now.input.now input.now }
     requires output { length output.old ≡ greatest_length layouts.now.output.now }
     requires room { HasEachRoom (records_of_layouts layouts.now) room.old }
-    ensures seen { SeesMove layouts.now (move_of parts.now) input.now output.old (each_ending result output.new)
-        (W.seen watcher.old) (W.seen watcher.new) }
+    ensures seen { SeesMove layouts.now (move_of parts.now) input.now output.old
+        (each_ending result output.new) (W.seen watcher.old) (W.seen watcher.new) }
     ensures room { HasEachRoom (records_of_layouts layouts.now) room.new }
 {
     match parts.sender {

@@ -6,9 +6,8 @@ ghost use Rattle.cob_report_explain.specs.Seen.{move_of};
 ghost use Rattle.cob_report_explain.specs.declared.single.Asked.TheVariants as asked;
 
 use cob_layout::{Place, Ref};
-use cob_move_apply::Stop;
-use cob_move_data::{Sender, Side};
-use cob_move_receive::Sent;
+use cob_move_apply::{Given, Stop};
+use cob_move_data::Sender;
 
 /// Which single move of a paragraph it is.
 #[derive(Clone, Copy, PartialEq, Eq)]
@@ -47,14 +46,6 @@ pub struct MoveStop {
     pub stop: Stop,
 }
 
-/// What a sender gives to each of its receivers, and where it lies. A constant lies nowhere: its offset is 0.
-#[derive(Clone, Copy)]
-pub struct Given<'a> {
-    pub sent: Sent<'a>,
-    pub side: Side,
-    pub offset: u32,
-}
-
 /// A sender with its receivers, as a statement has them.
 #[derive(Clone, Copy)]
 pub(crate) struct MoveParts<'a> {
@@ -68,7 +59,7 @@ pub(crate) struct MoveParts<'a> {
 
 /// A single move that was carried out.
 #[derive(Clone, Copy)]
-pub struct SingleMove<'a> {
+pub struct CarriedMove<'a> {
     pub number: SingleNumber,
     pub sender: &'a Sender,
     /// What the sender gave.

@@ -1,7 +1,6 @@
 //! The moves of a statement, one after another.
 
-ghost use Rattle.std.specs.Prelude.{◌≡◌, ◌≤◌, length, map};
-ghost use Rattle.cob_limits.specs.Limits.{most_dimensions};
+ghost use Rattle.std.specs.Prelude.{◌≡◌, length, map};
 ghost use Rattle.cob_layout.specs.Sound.{IsSound};
 ghost use Rattle.cob_layout.specs.Storage.{greatest_length, IsStorage};
 ghost use Rattle.cob_move_data.specs.Moves.{AreMoves, IsMove, entry_below, numbered_move_by, statement_moves_by};
@@ -13,31 +12,9 @@ use crate::room::{EachRoom, RecordLayouts};
 use crate::senders::walk_move;
 use crate::single::{MoveParts, MoveStop};
 use crate::watcher::Watcher;
-use arrayvec::ArrayVec;
-use cob_layout::Ref;
-use cob_limits::MAX_SUBSCRIPTS;
+use cob_move_apply::entry_below;
 use cob_move_data::{NumberedPair, PairMoves, Sender, StatementMoves};
 use std::slice;
-
-/// The same subscripts once more.
-fn same_subscripts(subscripts: &[u32]) -> ArrayVec<u32, MAX_SUBSCRIPTS>
-    requires { length subscripts.now ≤ most_dimensions }
-    ensures { result.items ≡ subscripts.now }
-{
-    let mut same = ArrayVec::new();
-    let _ = same.try_extend_from_slice(subscripts);
-    same
-}
-
-/// The entry with this number, with the subscripts of a group.
-fn entry_below(group: &Ref, number: usize) -> Ref
-    ensures { result ≡ entry_below group.now number }
-{
-    Ref {
-        node: number,
-        subscripts: same_subscripts(group.subscripts.as_slice()),
-    }
-}
 
 /// Carries out the move of the pair of two groups with this number, and hands its single move out.
 ///
@@ -96,7 +73,8 @@ fn walk_pairs<W: Watcher>(
 ) -> Result<(), MoveStop>
     requires in_sound { IsSound layouts.now.input.now }
     requires out_sound { IsSound layouts.now.output.now }
-    requires moves { AreMoves (records_of_layouts layouts.now) (moves_of_group layouts.now group.now) }
+    requires moves { AreMoves (records_of_layouts layouts.now)
+        (moves_of_group layouts.now group.now) }
     requires input { IsStorage layouts.now.input.now input.now }
     requires output { length output.old ≡ greatest_length layouts.now.output.now }
     requires room { HasEachRoom (records_of_layouts layouts.now) room.old }

@@ -48,11 +48,11 @@ fn write_digits<W: fmt::Write>(f: &mut fmt::Formatter<W>, bytes: &[u8]) -> fmt::
 
 /// Bytes, which print as their hexadecimal digits; where they are many, as those at both ends and their number.
 #[derive(Clone, Copy)]
-struct Digits<'a> {
+struct HexBytes<'a> {
     bytes: &'a [u8],
 }
 
-impl fmt::Display for Digits<'_> {
+impl fmt::Display for HexBytes<'_> {
     fn fmt<W: fmt::Write>(&self, f: &mut fmt::Formatter<W>) -> fmt::Result {
         match Told::of(self.bytes) {
             Told::Whole(bytes) => write_digits(f, bytes),
@@ -110,7 +110,7 @@ fn write_item<W: fmt::Write>(f: &mut fmt::Formatter<W>, item: &Item, bytes: &[u8
     }
     match number_text(item, bytes) {
         Some(text) => write_characters(f, text.as_slice()),
-        None => write!(f, "?{}", Digits { bytes }),
+        None => write!(f, "?{}", HexBytes { bytes }),
     }
 }
 
@@ -133,7 +133,7 @@ pub(crate) struct HeldText<'a> {
 
 impl fmt::Display for HeldText<'_> {
     fn fmt<W: fmt::Write>(&self, f: &mut fmt::Formatter<W>) -> fmt::Result {
-        let digits = Digits { bytes: self.bytes };
+        let digits = HexBytes { bytes: self.bytes };
         write!(f, "{} {digits}", self.offset)?;
         match self.kind {
             Some(kind) => {

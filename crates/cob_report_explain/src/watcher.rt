@@ -4,7 +4,7 @@ ghost use Rattle.std.specs.Prelude.{◌≡◌, List, [], ◌∷◌, Option};
 ghost use Rattle.cob_report_explain.specs.Each.{Single, append_singles};
 ghost use Rattle.cob_report_explain.specs.Seen.{handed_single};
 
-use crate::single::SingleMove;
+use crate::single::CarriedMove;
 
 /// Who is handed each single move, as soon as it is carried out.
 pub trait Watcher {
@@ -12,6 +12,6 @@ pub trait Watcher {
     ghost seen: { Self → Option (List Single) };
 
     /// Is handed a single move.
-    fn see(&mut self, one: &SingleMove<'_>)
+    fn see(&mut self, one: &CarriedMove<'_>)
         ensures { seen self.new ≡ append_singles (seen self.old) (handed_single one.now ∷ []) };
 }

@@ -3,7 +3,7 @@
 use cob_copybook_tree::{Item, Kind, Name, Node, Value};
 use cob_layout_places::Ref;
 use cob_move_data::{Sender, Side};
-use cob_report_words::{ConstantText, Named, entry_of, write_subscripts};
+use cob_report_words::{ConstantText, NamedOccurrence, entry_of, write_subscripts};
 use std::fmt;
 
 /// The records of a paragraph, in which names are looked for.
@@ -23,17 +23,9 @@ pub struct Occurrence<'a> {
     pub subscripts: &'a [u32],
 }
 
-/// Whether an entry has this name.
-fn has_name(entry: &Node, name: &Name) -> bool {
-    match &entry.name {
-        Some(own) => own.as_bytes() == name.as_bytes(),
-        None => false,
-    }
-}
-
 /// How many entries, of this one and those beneath it, have this name.
 fn count_named(entry: &Node, name: &Name) -> usize {
-    let mut count: usize = if has_name(entry, name) { 1 } else { 0 };
+    let mut count: usize = if entry.is_called(name) { 1 } else { 0 };
     for child in entry.children.iter() {
         count = count.saturating_add(count_named(child, name));
     }
@@ -83,8 +75,8 @@ impl<'a> Occurrence<'a> {
     }
 
     /// The same with the names of all groups that hold it.
-    pub fn qualified(&self) -> Named<'a> {
-        Named::new(self.records.record(self.side), self.number, self.subscripts)
+    pub fn qualified(&self) -> NamedOccurrence<'a> {
+        NamedOccurrence::new(self.records.record(self.side), self.number, self.subscripts)
     }
 }
 

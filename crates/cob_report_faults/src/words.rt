@@ -1,6 +1,6 @@
 //! The words that tell a flaw.
 
-use cob_codec::{Flaw, Wanted};
+use cob_codec::{ExpectedPart, Flaw};
 use std::fmt;
 
 /// A flaw of so many bytes, in words, as `the last half byte is 0, no sign`.
@@ -12,20 +12,20 @@ pub struct FlawText {
 }
 
 /// What a part isn't.
-fn missing_words(wanted: Wanted) -> &'static str {
+fn missing_words(wanted: ExpectedPart) -> &'static str {
     match wanted {
-        Wanted::Zero => "not 0",
-        Wanted::Digit => "no digit",
-        Wanted::Sign => "no sign",
-        Wanted::Zone => "not F",
-        Wanted::DigitByte => "no digit",
-        Wanted::SignByte => "no sign",
+        ExpectedPart::Zero => "not 0",
+        ExpectedPart::Digit => "no digit",
+        ExpectedPart::Sign => "no sign",
+        ExpectedPart::Zone => "not F",
+        ExpectedPart::DigitByte => "no digit",
+        ExpectedPart::SignByte => "no sign",
     }
 }
 
 /// Whether the part that is wanted is a whole byte.
-fn is_byte(wanted: Wanted) -> bool {
-    matches!(wanted, Wanted::DigitByte | Wanted::SignByte)
+fn is_byte(wanted: ExpectedPart) -> bool {
+    matches!(wanted, ExpectedPart::DigitByte | ExpectedPart::SignByte)
 }
 
 impl fmt::Display for FlawText {

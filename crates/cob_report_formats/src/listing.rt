@@ -5,7 +5,7 @@ ghost use Rattle.cob_copybook_tree.specs.Lengths.{greatest_number, sum_of};
 ghost use Rattle.cob_layout.specs.Standing.{IsRoomFor};
 ghost use Rattle.cob_records.specs.Forms.{HasBlockSize};
 
-use crate::contents::Contents;
+use crate::contents::ReceivedRecord;
 use cob_convert_stream::Reason;
 use cob_layout::{Counts, Layout};
 use cob_records::{Form, RecordFault, Source};
@@ -48,7 +48,7 @@ pub(crate) trait RecordLines {
     /// # Errors
     ///
     /// A write that failed, want of memory.
-    fn put(&mut self, contents: Contents<'_>) -> Result<(), Unwritten>;
+    fn put(&mut self, contents: ReceivedRecord<'_>) -> Result<(), Unwritten>;
 
     /// How many bytes the sink took.
     fn sent(&self) -> u64;
@@ -74,7 +74,7 @@ fn list_records<R: Source, L: RecordLines>(
             Ok(Some(count)) => count,
             Err(reason) => return Err(stop_at(done + 1, reason, lines.sent())),
         };
-        let contents = Contents {
+        let contents = ReceivedRecord {
             spots: places.spots(),
             bytes: &bytes[..count],
         };

@@ -4,11 +4,11 @@ ghost use Rattle.std.specs.Prelude.{◌≡◌, IfSome};
 ghost use Rattle.cob_records.specs.Forms.{HasBlockSize};
 ghost use Rattle.json.specs.Print.{IsNumber};
 
-use crate::contents::{Contents, times_at};
+use crate::contents::{ReceivedRecord, times_at};
 use crate::listing::{RecordLines, Unwritten, list};
 use crate::members::{Content, members_of};
 use crate::outgoing::put_text;
-use crate::values::{Value, shown_value};
+use crate::values::{FormattedValue, shown_value};
 use cob_cp037::decode_byte;
 use cob_layout::{Item, Layout};
 use cob_records::{Form, Sink, Source};
@@ -80,12 +80,12 @@ fn put_value(
     bytes: &[u8],
 ) -> Result<(), AllocError> {
     match shown_value(item, bytes) {
-        Value::Number(text) => match number_of(text.as_slice()) {
+        FormattedValue::Number(text) => match number_of(text.as_slice()) {
             Some(number) => out.number(number),
             None => put_bytes(out, room, bytes),
         },
-        Value::NoNumber => put_bytes(out, room, bytes),
-        Value::Characters => put_characters(out, room, bytes),
+        FormattedValue::NoNumber => put_bytes(out, room, bytes),
+        FormattedValue::Characters => put_characters(out, room, bytes),
     }
 }
 
@@ -94,7 +94,7 @@ fn put_content(
     content: &Content,
     out: &mut Writer,
     room: &mut String,
-    contents: Contents,
+    contents: ReceivedRecord,
     behind: usize,
 ) -> Result<(), AllocError> {
     match content {
@@ -125,7 +125,7 @@ fn line_of(
     line: Vec<u8>,
     record: &Content,
     room: &mut String,
-    contents: Contents,
+    contents: ReceivedRecord,
 ) -> Result<Vec<u8>, AllocError> {
     let mut line = line;
     line.clear();
@@ -151,7 +151,7 @@ struct Objects<'a, W> {
 }
 
 impl<W: Sink> RecordLines for Objects<'_, W> {
-    fn put(&mut self, contents: Contents<'_>) -> Result<(), Unwritten> {
+    fn put(&mut self, contents: ReceivedRecord<'_>) -> Result<(), Unwritten> {
         let line = mem::replace(&mut self.line, Vec::new(self.alloc));
         self.line = line_of(line, &self.record, &mut self.room, contents)?;
         put_text(&mut *self.sink, &mut self.sent, self.line.as_slice())?;

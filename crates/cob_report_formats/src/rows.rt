@@ -4,16 +4,17 @@ ghost use Rattle.std.specs.Prelude.{◌≡◌, ◌≤◌, ◌<◌, ◌+◌, leng
 ghost use Rattle.cob_limits.specs.Limits.{most_dimensions};
 ghost use Rattle.cob_records.specs.Forms.{HasBlockSize};
 
-use crate::contents::{Contents, times_at};
+use crate::contents::{ReceivedRecord, times_at};
 use crate::listing::{RecordLines, Unwritten, list, unshown};
 use crate::outgoing::Outgoing;
-use crate::values::{Value, shown_value};
+use crate::values::{FormattedValue, shown_value};
 use arrayvec::ArrayVec;
 use cob_layout::{Item, Layout, Spot};
 use cob_limits::MAX_SUBSCRIPTS;
 use cob_records::{Form, Sink, Source};
 use cob_report_show::{
-    Book, Line, Named, ShowFault, digits_of, items_of, push_subscripts, push_text, shown_byte,
+    Book, ListedItem, ListingLine, ShowFault, digits_of, items_of, push_subscripts, push_text,
+    shown_byte,
 };
 use csv::Writer;
 use std::alloc::{AllocError, Global};
@@ -22,7 +23,7 @@ use std::alloc::{AllocError, Global};
 const FIRST_ROOM: usize = 131_008;
 
 /// Subscripts, those of the outermost table first.
-type Subscripts = ArrayVec<u32, MAX_SUBSCRIPTS>;
+type RowSubscripts = ArrayVec<u32, MAX_SUBSCRIPTS>;
 
 /// The cells of rows that go to a sink.
 type Cells<'a, W> = Writer<Outgoing<'a, W>>;
@@ -72,14 +73,14 @@ fn decode(text: &mut Vec<u8>, bytes: &[u8]) -> Result<(), AllocError> {
 fn put_value(text: &mut Vec<u8>, item: &Item, bytes: &[u8]) -> Result<(), AllocError> {
     text.clear();
     match shown_value(item, bytes) {
-        Value::Number(number) => text.extend_from_slice(number.as_slice()),
-        Value::NoNumber => spell(text, bytes),
-        Value::Characters => decode(text, bytes),
+        FormattedValue::Number(number) => text.extend_from_slice(number.as_slice()),
+        FormattedValue::NoNumber => spell(text, bytes),
+        FormattedValue::Characters => decode(text, bytes),
     }
 }
 
 /// These subscripts and a further one.
-fn with_subscript(subscripts: &[u32], last: u32) -> Subscripts
+fn with_subscript(subscripts: &[u32], last: u32) -> RowSubscripts
     requires { length subscripts.now < most_dimensions }
     ensures { length result.items ≡ length subscripts.now + 1 }
 {
@@ -92,12 +93,12 @@ fn with_subscript(subscripts: &[u32], last: u32) -> Subscripts
 /// Writes the cell of an element's name with its subscripts.
 fn put_name<W: Sink>(
     cells: &mut Cells<'_, W>,
-    item: &Named,
+    item: &ListedItem,
     subscripts: &[u32],
 ) -> Result<(), Unwritten>
     requires { length subscripts.now ≤ most_dimensions }
 {
-    let mut name = Line::new();
+    let mut name = ListingLine::new();
     push_text(&mut name, item.name.as_bytes());
     push_subscripts(&mut name, subscripts);
     put_cell(cells, name.as_slice())
@@ -108,7 +109,7 @@ fn put_name<W: Sink>(
 fn put_names<W: Sink>(
     cells: &mut Cells<'_, W>,
     greatest: &[Spot],
-    item: &Named,
+    item: &ListedItem,
     tables: &[usize],
     subscripts: &[u32],
 ) -> Result<(), Unwritten>
@@ -145,8 +146,8 @@ fn put_values<W: Sink>(
     cells: &mut Cells<'_, W>,
     room: &mut Vec<u8>,
     greatest: &[Spot],
-    contents: Contents,
-    item: &Named,
+    contents: ReceivedRecord,
+    item: &ListedItem,
     tables: &[usize],
     behind: usize,
 ) -> Result<(), Unwritten> {
@@ -173,7 +174,7 @@ struct Rows<'a, 'l, W: Sink> {
     /// The text of a cell.
     room: Vec<u8>,
     /// The named elementary items of a record.
-    items: Vec<Named>,
+    items: Vec<ListedItem>,
     /// Where the entries stand where each table has its greatest number of elements.
     greatest: &'l [Spot],
 }
@@ -190,7 +191,7 @@ impl<W: Sink> Rows<'_, '_, W> {
 }
 
 impl<W: Sink> RecordLines for Rows<'_, '_, W> {
-    fn put(&mut self, contents: Contents<'_>) -> Result<(), Unwritten> {
+    fn put(&mut self, contents: ReceivedRecord<'_>) -> Result<(), Unwritten> {
         for item in self.items.iter() {
             let tables = item.tables.as_slice();
             put_values(

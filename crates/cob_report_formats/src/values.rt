@@ -6,7 +6,7 @@ use cob_report_show::number_text;
 
 /// What bytes are as the value of an item.
 #[derive(Drop)]
-pub(crate) enum Value {
+pub(crate) enum FormattedValue {
     /// A number, by its text.
     Number(ArrayVec<u8, 64>),
     /// The bytes of a number item that represent none.
@@ -16,15 +16,15 @@ pub(crate) enum Value {
 }
 
 /// What bytes are as the value of an item.
-pub(crate) fn shown_value(item: &Item, bytes: &[u8]) -> Value {
+pub(crate) fn shown_value(item: &Item, bytes: &[u8]) -> FormattedValue {
     if !is_number_item(item) {
-        return Value::Characters;
+        return FormattedValue::Characters;
     }
     if bytes.len() != usize::from(item.size()) {
-        return Value::NoNumber;
+        return FormattedValue::NoNumber;
     }
     match number_text(item, bytes) {
-        Some(text) => Value::Number(text),
-        None => Value::NoNumber,
+        Some(text) => FormattedValue::Number(text),
+        None => FormattedValue::NoNumber,
     }
 }

@@ -10,16 +10,16 @@ use Rattle.std.specs.List.{count_by, list_any}
 use Rattle.std.specs.Option.{unwrap_or}
 use Rattle.indexmap.specs.IndexMap.{IndexMap, UpdatesBy, get_by}
 use Rattle.cob_report_html.specs.Ends.{IsCount, same, same_origin}
-use Rattle.cob_report_html.specs.declared.ends.Ends.{Ends}
+use Rattle.cob_report_html.specs.declared.ends.JoinedEnds.{JoinedEnds}
 use Rattle.cob_report_html.specs.declared.ends.Origin.{Origin}
 use Rattle.cob_report_html.specs.declared.ends.Origin.TheVariants.{Input, Output, Constant}
-use Rattle.cob_report_html.specs.contracts.ends.EndsPartialEq.TheImpl as ends_eq
+use Rattle.cob_report_html.specs.contracts.ends.JoinedEndsPartialEq.TheImpl as ends_eq
 use Rattle.cob_report_html.specs.contracts.ends.OriginPartialEq.TheImpl as origin_eq
 
 -- ---- what `==` says
 
 -- as the derived one of the code
-abbrev pub equal : Ends → Ends → Bool
+abbrev pub equal : JoinedEnds → JoinedEnds → Bool
 equal a b = (ends_eq.ghosts).eq a b
 
 origin_same : (a b : Origin) → (origin_eq.ghosts).eq a b ≡ same_origin a b
@@ -33,7 +33,7 @@ origin_same (Constant a) (Input b) = refl
 origin_same (Constant a) (Output b) = refl
 origin_same (Constant a) (Constant b) = refl
 
-equal_at : (a b : Ends) → equal a b ≡ same a b
+equal_at : (a b : JoinedEnds) → equal a b ≡ same a b
 equal_at a b = ap (λ (o : Bool). o && (a.to == b.to)) (origin_same a.from b.from)
 
 pub equal_same : equal ≡ same
@@ -55,10 +55,10 @@ origin_itself (Input a) = nat_eq_equiv.refl a
 origin_itself (Output a) = nat_eq_equiv.refl a
 origin_itself (Constant a) = nat_eq_equiv.refl a
 
-same_symm : (a b : Ends) → same a b ≡ same b a
+same_symm : (a b : JoinedEnds) → same a b ≡ same b a
 same_symm a b = ap (λ (o : Bool). o && (a.to == b.to)) (origin_symm a.from b.from) ∙ ap (λ (t : Bool). same_origin b.from a.from && t) (nat_eq_equiv.symm a.to b.to)
 
-same_itself : (a : Ends) → same a a ≡ true
+same_itself : (a : JoinedEnds) → same a a ≡ true
 same_itself a = ap (λ (o : Bool). o && (a.to == a.to)) (origin_itself a.from) ∙ nat_eq_equiv.refl a.to
 
 origin_one : (a b : Origin) → same_origin a b ≡ true → a ≡ b
@@ -77,7 +77,7 @@ both_true true true is = (refl, refl)
 both_true true false is = absurd (true≢false (sym is))
 both_true false b is = absurd (true≢false (sym is))
 
-same_one : (a b : Ends) → same a b ≡ true → a ≡ b
+same_one : (a b : JoinedEnds) → same a b ≡ true → a ≡ b
 same_one a b is =
     let (from, to) = both_true (same_origin a.from b.from) (a.to == b.to) is in
     let sent = origin_one a.from b.from from in
@@ -110,18 +110,18 @@ count_some p (x ∷ xs) (suc i) d within is =
 -- ---- all counted
 
 -- one more is counted
-pub tally_more : (singles : List Ends) (i : ℕ) (d : Ends) (n : ℕ) (counts next : Ends → Option ℕ) → i < length singles → n ≡ unwrap_or (counts (get_or singles i d)) 0
-    → ((q : Ends) → next q ≡ cond (same (get_or singles i d) q) (Some (n + 1)) (counts q))
-    → ((q : Ends) → unwrap_or (counts q) 0 ≡ count_by (same q) (take i singles)) → (q : Ends) → unwrap_or (next q) 0 ≡ count_by (same q) (take (i + 1) singles)
+pub tally_more : (singles : List JoinedEnds) (i : ℕ) (d : JoinedEnds) (n : ℕ) (counts next : JoinedEnds → Option ℕ) → i < length singles → n ≡ unwrap_or (counts (get_or singles i d)) 0
+    → ((q : JoinedEnds) → next q ≡ cond (same (get_or singles i d) q) (Some (n + 1)) (counts q))
+    → ((q : JoinedEnds) → unwrap_or (counts q) 0 ≡ count_by (same q) (take i singles)) → (q : JoinedEnds) → unwrap_or (next q) 0 ≡ count_by (same q) (take (i + 1) singles)
 tally_more singles i d n counts next within is updates so_far q = by (same (get_or singles i d) q) refl
   where
-    one : Ends
+    one : JoinedEnds
     one = get_or singles i d
 
     by : (b : Bool) → same (get_or singles i d) q ≡ b → unwrap_or (next q) 0 ≡ count_by (same q) (take (i + 1) singles)
     by true here =
         ap (λ (o : Option ℕ). unwrap_or o 0) (updates q ∙ ap (λ (x : Bool). cond x (Some (n + 1)) (counts q)) here)
-        ∙ ap (λ (k : ℕ). k + 1) (is ∙ so_far one ∙ ap (λ (e : Ends). count_by (same e) (take i singles)) (same_one one q here))
+        ∙ ap (λ (k : ℕ). k + 1) (is ∙ so_far one ∙ ap (λ (e : JoinedEnds). count_by (same e) (take i singles)) (same_one one q here))
         ∙ sym (count_by_more_yes (same q) singles i d within (same_symm q one ∙ here))
     by false here =
         ap (λ (o : Option ℕ). unwrap_or o 0) (updates q ∙ ap (λ (x : Bool). cond x (Some (n + 1)) (counts q)) here)
@@ -130,25 +130,25 @@ tally_more singles i d n counts next within is updates so_far q = by (same (get_
 -- ---- one by one
 
 -- of so many single moves each has its count, and the counts of the others are left
-pub record SoFar (singles : List Ends) (i : ℕ) (counts : List (Option ℕ)) (left : Ends → Option ℕ) : Type 0 where
+pub record SoFar (singles : List JoinedEnds) (i : ℕ) (counts : List (Option ℕ)) (left : JoinedEnds → Option ℕ) : Type 0 where
   pub many : length counts ≡ i
   pub each : (at : ℕ) → at < i → IsCount singles at (get_or counts at None)
-  pub taken : (q : Ends) → list_any (same q) (take i singles) ≡ true → left q ≡ None
-  pub others : (q : Ends) → list_any (same q) (take i singles) ≡ false → unwrap_or (left q) 0 ≡ count_by (same q) singles
+  pub taken : (q : JoinedEnds) → list_any (same q) (take i singles) ≡ true → left q ≡ None
+  pub others : (q : JoinedEnds) → list_any (same q) (take i singles) ≡ false → unwrap_or (left q) 0 ≡ count_by (same q) singles
 
 -- the count of the next one
-count_next : (singles : List Ends) (i : ℕ) (d : Ends) (r : Option ℕ) (left : Ends → Option ℕ) → i < length singles → r ≡ left (get_or singles i d)
-    → ((q : Ends) → list_any (same q) (take i singles) ≡ true → left q ≡ None)
-    → ((q : Ends) → list_any (same q) (take i singles) ≡ false → unwrap_or (left q) 0 ≡ count_by (same q) singles) → IsCount singles i r
+count_next : (singles : List JoinedEnds) (i : ℕ) (d : JoinedEnds) (r : Option ℕ) (left : JoinedEnds → Option ℕ) → i < length singles → r ≡ left (get_or singles i d)
+    → ((q : JoinedEnds) → list_any (same q) (take i singles) ≡ true → left q ≡ None)
+    → ((q : JoinedEnds) → list_any (same q) (take i singles) ≡ false → unwrap_or (left q) 0 ≡ count_by (same q) singles) → IsCount singles i r
 count_next singles i d None left within is taken others = λ first.
     let one = get_or singles i d in
     let none : list_any (same one) (take i singles) ≡ false = none_any (same one) (take i singles) (λ k e below.
     let low : k < i = omega (arith, below, length-take-le i singles (omega (arith, within))) in
-    ap (same one) (get_or-take i singles k e low) ∙ subst (λ (x : Ends). same x (get_or singles k e) ≡ false) (at_any singles i e d within) (first.none k e low)) in
+    ap (same one) (get_or-take i singles k e low) ∙ subst (λ (x : JoinedEnds). same x (get_or singles k e) ≡ false) (at_any singles i e d within) (first.none k e low)) in
     let zero_count : 0 ≡ count_by (same one) singles = ap (λ (o : Option ℕ). unwrap_or o 0) is ∙ others one none in
     absurd (omega (arith, zero_count, count_some (same one) singles i d within (same_itself one)))
   where
-    at_any : (xs : List Ends) (n : ℕ) (a b : Ends) → n < length xs → get_or xs n a ≡ get_or xs n b
+    at_any : (xs : List JoinedEnds) (n : ℕ) (a b : JoinedEnds) → n < length xs → get_or xs n a ≡ get_or xs n b
     at_any [] n a b low = absurd (omega (arith, low))
     at_any (x ∷ xs) zero a b low = refl
     at_any (x ∷ xs) (suc n) a b low = at_any xs n a b (omega (arith, low))
@@ -161,7 +161,7 @@ count_next singles i d (Some count) left within is taken others = by (list_any (
         is_there None = false
         is_there (Some n) = true
 
-    at_any : (xs : List Ends) (n : ℕ) (a b : Ends) → n < length xs → get_or xs n a ≡ get_or xs n b
+    at_any : (xs : List JoinedEnds) (n : ℕ) (a b : JoinedEnds) → n < length xs → get_or xs n a ≡ get_or xs n b
     at_any [] n a b low = absurd (omega (arith, low))
     at_any (x ∷ xs) zero a b low = refl
     at_any (x ∷ xs) (suc n) a b low = at_any xs n a b (omega (arith, low))
@@ -170,16 +170,16 @@ count_next singles i d (Some count) left within is taken others = by (list_any (
     by true there = absurd (some_none (left (get_or singles i d)) is (taken (get_or singles i d) there))
     by false none = (
       record {
-        none = λ k e low. subst (λ (x : Ends). same x (get_or singles k e) ≡ false) (at_any singles i d e within)
+        none = λ k e low. subst (λ (x : JoinedEnds). same x (get_or singles k e) ≡ false) (at_any singles i d e within)
             (ap (same (get_or singles i d)) (sym (get_or-take i singles k e low))
             ∙ none_of (same (get_or singles i d)) (take i singles) k e none (omega (arith, low, length-take-le i singles (omega (arith, within)))));
       },
       λ e. ap (λ (o : Option ℕ). unwrap_or o 0) is ∙ others (get_or singles i d) none
-          ∙ ap (λ (x : Ends). count_by (same x) singles) (at_any singles i d e within),
+          ∙ ap (λ (x : JoinedEnds). count_by (same x) singles) (at_any singles i d e within),
     )
 
-pub so_far_more : (singles : List Ends) (i : ℕ) (d : Ends) (counts : List (Option ℕ)) (r : Option ℕ) (left next : Ends → Option ℕ) → i < length singles
-    → r ≡ left (get_or singles i d) → ((q : Ends) → next q ≡ cond (same (get_or singles i d) q) None (left q)) → SoFar singles i counts left
+pub so_far_more : (singles : List JoinedEnds) (i : ℕ) (d : JoinedEnds) (counts : List (Option ℕ)) (r : Option ℕ) (left next : JoinedEnds → Option ℕ) → i < length singles
+    → r ≡ left (get_or singles i d) → ((q : JoinedEnds) → next q ≡ cond (same (get_or singles i d) q) None (left q)) → SoFar singles i counts left
     → SoFar singles (i + 1) (counts ++ r ∷ []) next
 so_far_more singles i d counts r left next within is updates so_far = record {
   many = omega (arith, length-append counts (r ∷ []), so_far.many);
@@ -198,17 +198,17 @@ so_far_more singles i d counts r left next within is updates so_far = record {
         same_place : (n : ℕ) → n < i + 1 → i ≤ n → n ≡ i
         same_place n low up = omega (arith, low, up)
 
-    now : (q : Ends) (b here : Bool) → same (get_or singles i d) q ≡ b → list_any (same q) (take i singles) ≡ here → list_any (same q) (take (i + 1) singles) ≡ (here || b)
+    now : (q : JoinedEnds) (b here : Bool) → same (get_or singles i d) q ≡ b → list_any (same q) (take i singles) ≡ here → list_any (same q) (take (i + 1) singles) ≡ (here || b)
     now q b here one before = list_any_more (same q) singles i d within ∙ ap (λ (x : Bool). x || same q (get_or singles i d)) before
         ∙ ap (λ (x : Bool). here || x) (same_symm q (get_or singles i d) ∙ one)
 
-    taken : (q : Ends) (b : Bool) → same (get_or singles i d) q ≡ b → (here : Bool) → list_any (same q) (take i singles) ≡ here
+    taken : (q : JoinedEnds) (b : Bool) → same (get_or singles i d) q ≡ b → (here : Bool) → list_any (same q) (take i singles) ≡ here
         → list_any (same q) (take (i + 1) singles) ≡ true → next q ≡ None
     taken q true one here before there = updates q ∙ ap (λ (x : Bool). cond x None (left q)) one
     taken q false one true before there = updates q ∙ ap (λ (x : Bool). cond x None (left q)) one ∙ so_far.taken q before
     taken q false one false before there = absurd (true≢false (sym there ∙ now q false false one before))
 
-    others : (q : Ends) (b : Bool) → same (get_or singles i d) q ≡ b → (here : Bool) → list_any (same q) (take i singles) ≡ here
+    others : (q : JoinedEnds) (b : Bool) → same (get_or singles i d) q ≡ b → (here : Bool) → list_any (same q) (take i singles) ≡ here
         → list_any (same q) (take (i + 1) singles) ≡ false → unwrap_or (next q) 0 ≡ count_by (same q) singles
     others q true one true before none = absurd (true≢false (sym (now q true true one before) ∙ none))
     others q true one false before none = absurd (true≢false (sym (now q true false one before) ∙ none))
@@ -219,32 +219,32 @@ so_far_more singles i d counts r left next within is updates so_far = record {
 -- ---- over the map of the code
 
 -- what a map has at a key, by either word for equal keys
-at_same : {S : Type 0} (m : IndexMap Ends ℕ S) (e : Ends) (o : Option ℕ) → o ≡ get_by (equal e) m → o ≡ get_by (same e) m
-at_same m e o is = subst (λ (E : Ends → Ends → Bool). o ≡ get_by (E e) m) equal_same is
+at_same : {S : Type 0} (m : IndexMap JoinedEnds ℕ S) (e : JoinedEnds) (o : Option ℕ) → o ≡ get_by (equal e) m → o ≡ get_by (same e) m
+at_same m e o is = subst (λ (E : JoinedEnds → JoinedEnds → Bool). o ≡ get_by (E e) m) equal_same is
 
-updates_same : {S : Type 0} (m n : IndexMap Ends ℕ S) (e : Ends) (w : Option ℕ) → UpdatesBy equal (equal e) m n w
-    → (q : Ends) → get_by (same q) n ≡ cond (same e q) w (get_by (same q) m)
-updates_same m n e w updates = subst (λ (E : Ends → Ends → Bool). (q : Ends) → get_by (E q) n ≡ cond (E e q) w (get_by (E q) m)) equal_same updates.0
+updates_same : {S : Type 0} (m n : IndexMap JoinedEnds ℕ S) (e : JoinedEnds) (w : Option ℕ) → UpdatesBy equal (equal e) m n w
+    → (q : JoinedEnds) → get_by (same q) n ≡ cond (same e q) w (get_by (same q) m)
+updates_same m n e w updates = subst (λ (E : JoinedEnds → JoinedEnds → Bool). (q : JoinedEnds) → get_by (E q) n ≡ cond (E e q) w (get_by (E q) m)) equal_same updates.0
 
 -- how many were counted so far is no more than the moves
-pub tally_small : {S : Type 0} (singles : List Ends) (i : ℕ) (d : Ends) (n : ℕ) (o : Option ℕ) (m : IndexMap Ends ℕ S) → i < length singles
+pub tally_small : {S : Type 0} (singles : List JoinedEnds) (i : ℕ) (d : JoinedEnds) (n : ℕ) (o : Option ℕ) (m : IndexMap JoinedEnds ℕ S) → i < length singles
     → o ≡ get_by (equal (get_or singles i d)) m → n ≡ unwrap_or o 0
-    → ((q : Ends) → unwrap_or (get_by (same q) m) 0 ≡ count_by (same q) (take i singles)) → n ≤ i
+    → ((q : JoinedEnds) → unwrap_or (get_by (same q) m) 0 ≡ count_by (same q) (take i singles)) → n ≤ i
 tally_small singles i d n o m within there is so_far =
     let all = so_far (get_or singles i d) in
     let at : unwrap_or o 0 ≡ unwrap_or (get_by (same (get_or singles i d)) m) 0 = ap (λ (x : Option ℕ). unwrap_or x 0) (at_same m (get_or singles i d) o there) in
     omega (arith, is, at, all, count_by-le-length (same (get_or singles i d)) (take i singles), length-take-le i singles (omega (arith, within)))
 
-pub tally_step : {S : Type 0} (singles : List Ends) (i : ℕ) (d : Ends) (n : ℕ) (o : Option ℕ) (m next : IndexMap Ends ℕ S) → i < length singles
+pub tally_step : {S : Type 0} (singles : List JoinedEnds) (i : ℕ) (d : JoinedEnds) (n : ℕ) (o : Option ℕ) (m next : IndexMap JoinedEnds ℕ S) → i < length singles
     → o ≡ get_by (equal (get_or singles i d)) m → n ≡ unwrap_or o 0 → UpdatesBy equal (equal (get_or singles i d)) m next (Some (n + 1))
-    → ((q : Ends) → unwrap_or (get_by (same q) m) 0 ≡ count_by (same q) (take i singles))
-    → (q : Ends) → unwrap_or (get_by (same q) next) 0 ≡ count_by (same q) (take (i + 1) singles)
+    → ((q : JoinedEnds) → unwrap_or (get_by (same q) m) 0 ≡ count_by (same q) (take i singles))
+    → (q : JoinedEnds) → unwrap_or (get_by (same q) next) 0 ≡ count_by (same q) (take (i + 1) singles)
 tally_step singles i d n o m next within there is updates so_far =
     let one = get_or singles i d in
     tally_more singles i d n (λ q. get_by (same q) m) (λ q. get_by (same q) next) within (is ∙ ap (λ (x : Option ℕ). unwrap_or x 0) (at_same m one o there))
     (updates_same m next one (Some (n + 1)) updates) so_far
 
-pub taken_step : {S : Type 0} (singles : List Ends) (i : ℕ) (d : Ends) (counts pushed : List (Option ℕ)) (r : Option ℕ) (m next : IndexMap Ends ℕ S) → i < length singles
+pub taken_step : {S : Type 0} (singles : List JoinedEnds) (i : ℕ) (d : JoinedEnds) (counts pushed : List (Option ℕ)) (r : Option ℕ) (m next : IndexMap JoinedEnds ℕ S) → i < length singles
     → r ≡ get_by (equal (get_or singles i d)) m → UpdatesBy equal (equal (get_or singles i d)) m next None → pushed ≡ counts ++ r ∷ []
     → SoFar singles i counts (λ q. get_by (same q) m) → SoFar singles (i + 1) pushed (λ q. get_by (same q) next)
 taken_step singles i d counts pushed r m next within there updates push so_far =

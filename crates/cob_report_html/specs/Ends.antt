@@ -1,7 +1,7 @@
 -- What single moves join.
 use Rattle.std.specs.Prelude.{◌≡◌, ◌==◌, ◌&&◌, ◌<◌, ℕ, Bool, false, List, Option, None, Some, length, get_or, slice_index_or}
 use Rattle.std.specs.List.{count_by}
-use Rattle.cob_report_html.specs.declared.ends.Ends.{Ends}
+use Rattle.cob_report_html.specs.declared.ends.JoinedEnds.{JoinedEnds}
 use Rattle.cob_report_html.specs.declared.ends.Origin.{Origin}
 use Rattle.cob_report_html.specs.declared.ends.Origin.TheVariants.{Input, Output, Constant}
 
@@ -13,19 +13,19 @@ same_origin (Constant one) (Constant other) = one == other
 same_origin one other = false
 
 -- whether two moves join the same
-abbrev pub same : Ends → Ends → Bool
+abbrev pub same : JoinedEnds → JoinedEnds → Bool
 same one other = same_origin one.from other.from && (one.to == other.to)
 
 -- no single move before this one joins the same
-pub record IsFirst (singles : List Ends) (at : ℕ) : Type 0 where
-  pub none : (k : ℕ) (d : Ends) → k < at → same (slice_index_or singles at d) (slice_index_or singles k d) ≡ false
+pub record IsFirst (singles : List JoinedEnds) (at : ℕ) : Type 0 where
+  pub none : (k : ℕ) (d : JoinedEnds) → k < at → same (slice_index_or singles at d) (slice_index_or singles k d) ≡ false
 
 -- of the single move at this place: it is the first that joins the same, and so many do; or it isn't
-abbrev pub IsCount : List Ends → ℕ → Option ℕ → Type 0
-IsCount singles at (Some count) = IsFirst singles at × ((d : Ends) → count ≡ count_by (same (slice_index_or singles at d)) singles)
+abbrev pub IsCount : List JoinedEnds → ℕ → Option ℕ → Type 0
+IsCount singles at (Some count) = IsFirst singles at × ((d : JoinedEnds) → count ≡ count_by (same (slice_index_or singles at d)) singles)
 IsCount singles at None = IsFirst singles at → ⊥
 
 -- each of these says so of the single move at its place
-pub record AreCountsAtFirsts (singles : List Ends) (counts : List (Option ℕ)) : Type 0 where
+pub record AreCountsAtFirsts (singles : List JoinedEnds) (counts : List (Option ℕ)) : Type 0 where
   pub many : length counts ≡ length singles
   pub each : (at : ℕ) → at < length singles → IsCount singles at (get_or counts at None)

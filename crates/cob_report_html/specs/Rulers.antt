@@ -1,11 +1,11 @@
 -- Rows of a ruler of bytes, and the parts of runs that stand in them.
 use Rattle.std.specs.Prelude.{◌≡◌, ◌+◌, ◌*◌, ◌<◌, ◌≤◌, ◌%◌, ℕ}
-use Rattle.cob_report_html.specs.declared.rulers.Part.{Part}
+use Rattle.cob_report_html.specs.declared.rulers.RulerPart.{RulerPart}
 use Rattle.cob_report_html.specs.declared.rulers.TheConstants.{ROW}
 
 -- The part of a run that stands in the row in which it begins: it begins with the run and within a row, has bytes where the run has some, and ends with the
 -- run or with the row.
-pub record IsRowPart (offset long : ℕ) (part : Part) : Type 0 where
+pub record IsRowPart (offset long : ℕ) (part : RulerPart) : Type 0 where
   pub begins : part.row * ROW + part.before ≡ offset
   pub within : part.before + part.length ≤ ROW
   pub some : 0 < long → 0 < part.length

@@ -1,11 +1,11 @@
 -- What shapes print.
 use Rattle.std.specs.Prelude.{ℕ, List, ◌++◌, decimal}
 use lib.Chars.{codes}
-use Rattle.cob_report_html.specs.declared.shapes.Line.{Line}
+use Rattle.cob_report_html.specs.declared.shapes.StraightLine.{StraightLine}
 use Rattle.cob_report_html.specs.declared.shapes.Rectangle.{Rectangle}
 
 -- a line, its ends by hundredths of the width and by units from above
-abbrev pub line_text : Line → List ℕ
+abbrev pub line_text : StraightLine → List ℕ
 line_text line =
     codes "<line x1=\"" ++ decimal line.x1 ++ codes "%\" y1=\"" ++ decimal line.y1 ++ codes "\" x2=\"" ++ decimal line.x2 ++ codes "%\" y2=\"" ++ decimal line.y2
     ++ codes "\"/>"

@@ -19,14 +19,14 @@ pub enum Origin {
 
 /// What a single move joins: what it sends, and the entry of the output record that receives it.
 #[derive(Clone, Copy, PartialEq, Eq, Hash)]
-pub struct Ends {
+pub struct JoinedEnds {
     pub from: Origin,
     pub to: usize,
 }
 
 /// How many of these single moves join the same, by what they join.
-fn tally(alloc: Global, singles: &[Ends]) -> Result<IndexMap<Ends, usize>, AllocError>
-    ensures { IfOk result (λ counts. (ends : Ends)
+fn tally(alloc: Global, singles: &[JoinedEnds]) -> Result<IndexMap<JoinedEnds, usize>, AllocError>
+    ensures { IfOk result (λ counts. (ends : JoinedEnds)
         → unwrap_or (get_by (same ends) counts) 0 ≡ count_by (same ends) singles.now) }
 {
     let mut counts = IndexMap::new(alloc);
@@ -42,7 +42,7 @@ fn tally(alloc: Global, singles: &[Ends]) -> Result<IndexMap<Ends, usize>, Alloc
 /// # Errors
 ///
 /// Where no memory is left.
-pub fn counts_of(alloc: Global, singles: &[Ends]) -> Result<Vec<Option<usize>>, AllocError>
+pub fn counts_of(alloc: Global, singles: &[JoinedEnds]) -> Result<Vec<Option<usize>>, AllocError>
     ensures { IfOk result (λ counts. AreCountsAtFirsts singles.now counts.items) }
 {
     let mut left = tally(alloc, singles)?;

@@ -7,7 +7,8 @@ use std::fmt;
 
 /// The escape of a character that has a meaning of its own in HTML.
 fn escape_of(character: char) -> Option<&'static str>
-    ensures escape { IfSome result (λ escape. encode_utf8_all (escaped_character character) ≡ escape.now) }
+    ensures escape { IfSome result
+        (λ escape. encode_utf8_all (escaped_character character) ≡ escape.now) }
     ensures plain { IfNone result
         (encode_utf8_all (escaped_character character) ≡ encode_utf8 character) }
 {

@@ -5,7 +5,7 @@
 //! Texts and shapes as HTML, made up where they are printed: texts with their escapes, and the lines and rectangles of a drawing in SVG.
 //!
 //! - [`Escaped`] prints a text so that a browser shows just its characters: `<`, `>`, `&` and `"` as escapes, and each other one as it is.
-//! - [`Line`] and [`Rectangle`] print as elements of a drawing.
+//! - [`StraightLine`] and [`Rectangle`] print as elements of a drawing.
 //!
 //! What each prints is promised whole (`output`). That no text can leave its place is a law: what is written of it are plain characters and escapes, one
 //! behind another ([`escapes_read_back`]; `ReadsAs` of specs/Escapes.antt), and such a writing is read in one way, as the text ([`reading_is_one`]). So it
@@ -44,10 +44,10 @@ mod runs;
 mod shapes;
 mod tops;
 
-pub use ends::{Ends, Origin, counts_of};
+pub use ends::{JoinedEnds, Origin, counts_of};
 pub use escapes::Escaped;
 pub use laws::{escapes_read_back, reading_is_one};
-pub use rulers::{Part, ROW, part_at, rows_of};
+pub use rulers::{ROW, RulerPart, part_at, rows_of};
 pub use runs::bare_length;
-pub use shapes::{Line, Rectangle};
+pub use shapes::{Rectangle, StraightLine};
 pub use tops::{SHEET, tops_of};

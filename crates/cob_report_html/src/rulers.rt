@@ -8,7 +8,7 @@ pub const ROW: u32 = 64;
 
 /// A part of a run of bytes that stands in one row of a ruler.
 #[derive(Clone, Copy, PartialEq, Eq)]
-pub struct Part {
+pub struct RulerPart {
     /// The row, from 0.
     pub row: u32,
     /// The bytes of the row in front of it.
@@ -17,11 +17,11 @@ pub struct Part {
 }
 
 /// The part of a run of so many bytes from this offset on that stands in the row in which it begins.
-pub fn part_at(offset: u32, length: u32) -> Part
+pub fn part_at(offset: u32, length: u32) -> RulerPart
     ensures { IsRowPart offset length result }
 {
     let before = offset % ROW;
-    Part {
+    RulerPart {
         row: offset / ROW,
         before,
         length: length.min(ROW - before),

@@ -5,14 +5,14 @@ use std::fmt;
 /// A straight line, which prints as an element of a drawing. Its ends stand so many hundredths of the drawing's width from the left, and so many units
 /// from above.
 #[derive(Clone, Copy, PartialEq, Eq)]
-pub struct Line {
+pub struct StraightLine {
     pub x1: u32,
     pub y1: u32,
     pub x2: u32,
     pub y2: u32,
 }
 
-impl fmt::Display for Line {
+impl fmt::Display for StraightLine {
     ghost use Rattle.std.specs.Prelude.{Some};
     ghost use Rattle.cob_report_html.specs.Shapes.{line_text};
 

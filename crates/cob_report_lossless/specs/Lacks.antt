@@ -1,12 +1,11 @@
 -- What an item lacks to lose nothing of another one.
 use Rattle.std.specs.Prelude.{◌≡◌, ◌⊎◌, ◌&&◌, ◌<◌, ◌≤ℤ◌, IsFalse, IsTrue, true}
-use Rattle.cob_picture.specs.Counts.{scale, signed}
+use Rattle.cob_picture.specs.Counts.{digits_before, scale, signed}
 use Rattle.cob_picture.specs.Positions.{shows_number}
 use Rattle.cob_picture.specs.declared.category.Category.TheVariants.{AlphanumericEdited}
 use Rattle.cob_copybook_tree.specs.declared.node.Item.{Item}
 use Rattle.cob_copybook_tree.specs.Lengths.{item_size}
 use Rattle.cob_move_receive.specs.Copying.{is_of_characters}
-use Rattle.cob_back_moves.specs.Wider.{digits_before}
 use Rattle.cob_report_lossless.specs.declared.lacks.Lack.{Lack}
 use Rattle.cob_report_lossless.specs.declared.lacks.Lack.TheVariants as lack
 

@@ -4,12 +4,11 @@ ghost use Rattle.std.specs.Prelude.{◌≡◌, IfNone, IfSome, IsTrue, true};
 ghost use Rattle.cob_picture.specs.Positions.{shows_number};
 ghost use Rattle.cob_picture.specs.declared.category.Category.TheVariants.{AlphanumericEdited};
 ghost use Rattle.cob_move_receive.specs.Copying.{is_of_characters};
-ghost use Rattle.cob_back_moves.specs.Wider.{IsLongerText, IsWiderNumber, LosesNothing, digits_before};
+ghost use Rattle.cob_back_moves.specs.Wider.{IsLongerText, IsWiderNumber, LosesNothing};
 ghost use Rattle.cob_report_lossless.specs.Lacks.{ArePaired, Lacks};
 
 use cob_copybook_tree::Item;
 use cob_move_receive::is_of_characters;
-use cob_picture::Picture;
 
 /// What the second of two items lacks to lose nothing of the first.
 #[derive(Clone, Copy, PartialEq, Eq)]
@@ -32,13 +31,6 @@ pub enum Lack {
     Character,
 }
 
-/// How many digits of a picture's number stand before the point; below 0, how many places behind the point the first one stands.
-pub(crate) fn digits_before(picture: &Picture) -> i16
-    ensures { result ≡ digits_before picture.now }
-{
-    i16::from(picture.digits()) - i16::from(picture.scale())
-}
-
 /// Whether an item is alphanumeric edited.
 fn is_edited_text(item: &Item) -> bool
     ensures { IsTrue result → item.now.picture.category ≡ AlphanumericEdited }
@@ -55,7 +47,7 @@ fn lack_of_number(item: &Item, other: &Item) -> Option<Lack>
     ensures lost { IfSome result (λ lack. IsWiderNumber item.now other.now → ⊥) }
     ensures lacks { IfSome result (λ lack. Lacks item.now other.now lack) }
 {
-    if digits_before(&other.picture) < digits_before(&item.picture) {
+    if other.picture.digits_before() < item.picture.digits_before() {
         return Some(Lack::Before);
     }
     if other.picture.scale() < item.picture.scale() {

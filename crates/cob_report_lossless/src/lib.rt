@@ -27,5 +27,5 @@ mod words;
 
 pub use lacks::{Lack, lack_of};
 pub use lines::{line_at, lines_of};
-pub use reasons::{LinedMoves, Position, Reason, ToldLoss, told_loss};
+pub use reasons::{LinedMoves, LossPosition, LossReason, ToldLoss, named_in, told_loss};
 pub use singles::{LinedSingle, singles_of};

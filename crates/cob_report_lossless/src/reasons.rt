@@ -4,11 +4,11 @@ use crate::items::{Stay, Ways, first_stay};
 use crate::lacks::Lack;
 use crate::singles::{LinedSingle, singles_of, twice};
 use crate::storage::first_otherwise;
-use cob_back_moves::{Loss, MovesBetween, Way};
+use cob_back_moves::{Direction, Loss, MovesBetween};
 use cob_copybook_tree::{Item, Kind, Name, Node, Value};
 use cob_layout::Layout;
 use cob_move_data::{Element, Sent, Side};
-use cob_report_words::{Named, entry_of};
+use cob_report_words::{NamedOccurrence, entry_of};
 use std::alloc::{AllocError, Global};
 
 /// Moves, and the lines of their statements.
@@ -20,47 +20,47 @@ pub struct LinedMoves<'a> {
 
 /// Why conversions may lose something.
 #[derive(Drop)]
-pub enum Reason<'a> {
+pub enum LossReason<'a> {
     /// The records of the conversion back aren't those of the one there.
     Records,
     /// The entry redefines this one.
-    Redefines(Named<'a>, &'a Name),
+    Redefines(NamedOccurrence<'a>, &'a Name),
     /// The table varies.
-    Varies(Named<'a>),
+    Varies(NamedOccurrence<'a>),
     /// A literal is moved to this item.
-    Literal(Named<'a>),
+    Literal(NamedOccurrence<'a>),
     /// A figurative constant is moved to this item.
-    Figurative(Named<'a>),
+    Figurative(NamedOccurrence<'a>),
     /// This sender is of the output record.
-    OwnRecord(Named<'a>),
+    OwnRecord(NamedOccurrence<'a>),
     /// This sender is a group.
-    SendingGroup(Named<'a>),
+    SendingGroup(NamedOccurrence<'a>),
     /// This receiver is a group.
-    ReceivingGroup(Named<'a>),
+    ReceivingGroup(NamedOccurrence<'a>),
     /// This sender is binary, and read whole.
-    Whole(Named<'a>),
+    Whole(NamedOccurrence<'a>),
     /// This occurrence receives twice, first by the statement on this line.
     Twice {
-        receiver: Named<'a>,
+        receiver: NamedOccurrence<'a>,
         first: u32,
     },
     /// This receiver has no name.
-    Nameless(Named<'a>),
+    Nameless(NamedOccurrence<'a>),
     /// This item isn't moved.
-    NotMoved(Named<'a>),
+    NotMoved(NamedOccurrence<'a>),
     /// This item receives nothing.
-    NotReceived(Named<'a>),
+    NotReceived(NamedOccurrence<'a>),
     /// This item receives `away`, to which `other` is moved, or nothing.
     Other {
-        item: Named<'a>,
-        away: Named<'a>,
-        other: Option<Named<'a>>,
+        item: NamedOccurrence<'a>,
+        away: NamedOccurrence<'a>,
+        other: Option<NamedOccurrence<'a>>,
     },
     /// An item is moved to `other`, which lacks something.
     Lacks {
-        item: Named<'a>,
+        item: NamedOccurrence<'a>,
         own: &'a Item,
-        other: Named<'a>,
+        other: NamedOccurrence<'a>,
         others: &'a Item,
         lack: Lack,
     },
@@ -68,13 +68,13 @@ pub enum Reason<'a> {
 
 /// Where a point fails.
 #[derive(Clone, Copy, PartialEq, Eq)]
-pub enum Position {
+pub enum LossPosition {
     /// In neither text alone.
     Nowhere,
     /// In no statement of a paragraph.
-    Paragraph(Way),
+    Paragraph(Direction),
     /// In a statement of a paragraph that begins on this line.
-    Statement { way: Way, line: u32 },
+    Statement { way: Direction, line: u32 },
     /// In the entry of a copybook, that of the first conversion's input or output, on this line.
     Entry { side: Side, line: u32 },
 }
@@ -82,20 +82,20 @@ pub enum Position {
 /// Why conversions may lose something, and where. It prints as one line.
 #[derive(Drop)]
 pub struct ToldLoss<'a> {
-    pub reason: Reason<'a>,
-    pub position: Position,
+    pub reason: LossReason<'a>,
+    pub position: LossPosition,
 }
 
-/// An occurrence of an entry of the record of a layout.
-fn named_in<'a>(layout: &'a Layout, element: Element<'_>) -> Named<'a> {
-    Named::new(layout.root(), element.number, element.subscripts)
+/// An occurrence of an entry of the record of a layout, by its name.
+pub fn named_in<'a>(layout: &'a Layout, element: Element<'_>) -> NamedOccurrence<'a> {
+    NamedOccurrence::new(layout.root(), element.number, element.subscripts)
 }
 
 /// What is told of a statement on this line.
-fn told_on<'a>(reason: Reason<'a>, way: Way, line: u32) -> ToldLoss<'a> {
+fn told_on<'a>(reason: LossReason<'a>, way: Direction, line: u32) -> ToldLoss<'a> {
     ToldLoss {
         reason,
-        position: Position::Statement { way, line },
+        position: LossPosition::Statement { way, line },
     }
 }
 
@@ -110,14 +110,14 @@ fn is_group(layout: &Layout, number: usize) -> bool {
 /// Why an entry of a record doesn't stand in one way, in the copybook of this side of the first conversion.
 fn told_entry<'a>(layout: &'a Layout, side: Side) -> Option<ToldLoss<'a>> {
     let entry = first_otherwise(layout.root())?;
-    let named = Named::new(layout.root(), entry.number, &[]);
+    let named = NamedOccurrence::new(layout.root(), entry.number, &[]);
     let reason = match &entry.redefines {
-        Some(area) => Reason::Redefines(named, area),
-        None => Reason::Varies(named),
+        Some(area) => LossReason::Redefines(named, area),
+        None => LossReason::Varies(named),
     };
     Some(ToldLoss {
         reason,
-        position: Position::Entry {
+        position: LossPosition::Entry {
             side,
             line: entry.line,
         },
@@ -125,10 +125,10 @@ fn told_entry<'a>(layout: &'a Layout, side: Side) -> Option<ToldLoss<'a>> {
 }
 
 /// Why the records of moves don't stand in one way. The input of the moves back is the output of those there.
-fn told_storage<'a>(moves: &MovesBetween<'a>, way: Way) -> Option<ToldLoss<'a>> {
+fn told_storage<'a>(moves: &MovesBetween<'a>, way: Direction) -> Option<ToldLoss<'a>> {
     let (first, second) = match way {
-        Way::There => (Side::In, Side::Out),
-        Way::Back => (Side::Out, Side::In),
+        Direction::There => (Side::In, Side::Out),
+        Direction::Back => (Side::Out, Side::In),
     };
     match told_entry(moves.layouts.input, first) {
         Some(told) => Some(told),
@@ -137,17 +137,20 @@ fn told_storage<'a>(moves: &MovesBetween<'a>, way: Way) -> Option<ToldLoss<'a>> 
 }
 
 /// Why what a single move sends is no item of the input record.
-fn told_sender<'a>(moves: &MovesBetween<'a>, single: &LinedSingle<'a>) -> Option<Reason<'a>> {
+fn told_sender<'a>(moves: &MovesBetween<'a>, single: &LinedSingle<'a>) -> Option<LossReason<'a>> {
     match single.sent {
-        Sent::Constant(Value::Figurative(_)) => Some(Reason::Figurative(named_in(
+        Sent::Constant(Value::Figurative(_)) => Some(LossReason::Figurative(named_in(
             moves.layouts.output,
             single.receiver,
         ))),
-        Sent::Constant(_) => Some(Reason::Literal(named_in(moves.layouts.output, single.receiver))),
+        Sent::Constant(_) => Some(LossReason::Literal(named_in(
+            moves.layouts.output,
+            single.receiver,
+        ))),
         Sent::Entry {
             side: Side::Out,
             entry,
-        } => Some(Reason::OwnRecord(named_in(moves.layouts.output, entry))),
+        } => Some(LossReason::OwnRecord(named_in(moves.layouts.output, entry))),
         Sent::Entry {
             side: Side::In,
             entry,
@@ -155,24 +158,24 @@ fn told_sender<'a>(moves: &MovesBetween<'a>, single: &LinedSingle<'a>) -> Option
             if !is_group(moves.layouts.input, entry.number) {
                 return None;
             }
-            Some(Reason::SendingGroup(named_in(moves.layouts.input, entry)))
+            Some(LossReason::SendingGroup(named_in(moves.layouts.input, entry)))
         }
     }
 }
 
 /// Why a single move isn't elementary.
-fn told_operand<'a>(moves: &MovesBetween<'a>, single: &LinedSingle<'a>) -> Option<Reason<'a>> {
+fn told_operand<'a>(moves: &MovesBetween<'a>, single: &LinedSingle<'a>) -> Option<LossReason<'a>> {
     if let Some(reason) = told_sender(moves, single) {
         return Some(reason);
     }
     if !is_group(moves.layouts.output, single.receiver.number) {
         return None;
     }
-    Some(Reason::ReceivingGroup(named_in(moves.layouts.output, single.receiver)))
+    Some(LossReason::ReceivingGroup(named_in(moves.layouts.output, single.receiver)))
 }
 
 /// Why a single move may read more than its sender's picture says.
-fn told_reading<'a>(moves: &MovesBetween<'a>, single: &LinedSingle<'a>) -> Option<Reason<'a>> {
+fn told_reading<'a>(moves: &MovesBetween<'a>, single: &LinedSingle<'a>) -> Option<LossReason<'a>> {
     let Sent::Entry { entry, .. } = single.sent else {
         return None;
     };
@@ -180,21 +183,21 @@ fn told_reading<'a>(moves: &MovesBetween<'a>, single: &LinedSingle<'a>) -> Optio
     if !named.item()?.storage_kind().is_read_whole() {
         return None;
     }
-    Some(Reason::Whole(named))
+    Some(LossReason::Whole(named))
 }
 
 /// Why the receiver of a single move has no name.
-fn told_name<'a>(moves: &MovesBetween<'a>, single: &LinedSingle<'a>) -> Option<Reason<'a>> {
+fn told_name<'a>(moves: &MovesBetween<'a>, single: &LinedSingle<'a>) -> Option<LossReason<'a>> {
     let entry = entry_of(moves.layouts.output.root(), single.receiver.number)?;
     if entry.name.is_some() {
         return None;
     }
-    Some(Reason::Nameless(named_in(moves.layouts.output, single.receiver)))
+    Some(LossReason::Nameless(named_in(moves.layouts.output, single.receiver)))
 }
 
 /// What each single move is asked for.
 #[derive(Clone, Copy)]
-enum Asked {
+enum AskedAbout {
     /// That it is elementary.
     Elementary,
     /// That its sender is read as its picture says.
@@ -205,16 +208,16 @@ enum Asked {
 
 /// Why the first of these single moves fails that isn't as is asked.
 fn told_single<'a>(
-    asked: Asked,
+    asked: AskedAbout,
     moves: &MovesBetween<'a>,
     singles: &[LinedSingle<'a>],
-    way: Way,
+    way: Direction,
 ) -> Option<ToldLoss<'a>> {
     for single in singles {
         let reason = match asked {
-            Asked::Elementary => told_operand(moves, single),
-            Asked::Pictured => told_reading(moves, single),
-            Asked::Named => told_name(moves, single),
+            AskedAbout::Elementary => told_operand(moves, single),
+            AskedAbout::Pictured => told_reading(moves, single),
+            AskedAbout::Named => told_name(moves, single),
         };
         if let Some(reason) = reason {
             return Some(told_on(reason, way, single.line));
@@ -227,10 +230,10 @@ fn told_single<'a>(
 fn told_twice<'a>(
     moves: &MovesBetween<'a>,
     singles: &[LinedSingle<'a>],
-    way: Way,
+    way: Direction,
 ) -> Option<ToldLoss<'a>> {
     let (first, again) = twice(singles)?;
-    let reason = Reason::Twice {
+    let reason = LossReason::Twice {
         receiver: named_in(moves.layouts.output, again.receiver),
         first: first.line,
     };
@@ -240,10 +243,10 @@ fn told_twice<'a>(
 /// What an occurrence receives from elsewhere.
 fn told_other<'a>(
     moves: &MovesBetween<'a>,
-    item: Named<'a>,
+    item: NamedOccurrence<'a>,
     away: Element<'a>,
     out: Option<LinedSingle<'a>>,
-) -> Reason<'a> {
+) -> LossReason<'a> {
     let other = match out {
         Some(
             LinedSingle {
@@ -253,7 +256,7 @@ fn told_other<'a>(
         ) => Some(named_in(moves.layouts.input, entry)),
         _ => None,
     };
-    Reason::Other {
+    LossReason::Other {
         item,
         away: named_in(moves.layouts.output, away),
         other,
@@ -263,41 +266,41 @@ fn told_other<'a>(
 /// What the receiver of a single move lacks to lose nothing of an item.
 fn told_lack<'a>(
     moves: &MovesBetween<'a>,
-    item: Named<'a>,
+    item: NamedOccurrence<'a>,
     out: LinedSingle<'a>,
     lack: Lack,
 ) -> Option<ToldLoss<'a>> {
     let own = item.item()?;
     let other = named_in(moves.layouts.output, out.receiver);
     let others = other.item()?;
-    let reason = Reason::Lacks {
+    let reason = LossReason::Lacks {
         item,
         own,
         other,
         others,
         lack,
     };
-    Some(told_on(reason, Way::There, out.line))
+    Some(told_on(reason, Direction::There, out.line))
 }
 
 /// Why an occurrence doesn't come back.
 fn told_stay<'a>(
     moves: &MovesBetween<'a>,
-    item: Named<'a>,
+    item: NamedOccurrence<'a>,
     stay: Stay<'a>,
 ) -> Option<ToldLoss<'a>> {
     match stay {
         Stay::NotMoved => Some(ToldLoss {
-            reason: Reason::NotMoved(item),
-            position: Position::Paragraph(Way::There),
+            reason: LossReason::NotMoved(item),
+            position: LossPosition::Paragraph(Direction::There),
         }),
         Stay::NotReceived => Some(ToldLoss {
-            reason: Reason::NotReceived(item),
-            position: Position::Paragraph(Way::Back),
+            reason: LossReason::NotReceived(item),
+            position: LossPosition::Paragraph(Direction::Back),
         }),
         Stay::Other { home, away, out } => Some(told_on(
             told_other(moves, item, away, out),
-            Way::Back,
+            Direction::Back,
             home.line,
         )),
         Stay::Lacking { out, lack } => told_lack(moves, item, out, lack),
@@ -318,7 +321,7 @@ fn told_item<'a>(
         output: moves.layouts.output.root(),
     };
     let (subscripts, stay) = first_stay(&ways, root, number)?;
-    let item = Named::new(root, number, subscripts.as_slice());
+    let item = NamedOccurrence::new(root, number, subscripts.as_slice());
     told_stay(moves, item, stay)
 }
 
@@ -338,18 +341,38 @@ pub fn told_loss<'a>(
     let (to, from) = (&there.moves, &back.moves);
     let told = match loss {
         Loss::Records => Some(ToldLoss {
-            reason: Reason::Records,
-            position: Position::Nowhere,
+            reason: LossReason::Records,
+            position: LossPosition::Nowhere,
         }),
-        Loss::Storage(Way::There) => told_storage(to, Way::There),
-        Loss::Storage(Way::Back) => told_storage(from, Way::Back),
-        Loss::Operand(Way::There) => told_single(Asked::Elementary, to, &forth, Way::There),
-        Loss::Operand(Way::Back) => told_single(Asked::Elementary, from, &home, Way::Back),
-        Loss::Reading(Way::There) => told_single(Asked::Pictured, to, &forth, Way::There),
-        Loss::Reading(Way::Back) => told_single(Asked::Pictured, from, &home, Way::Back),
-        Loss::Receiver(Way::There) => told_twice(to, &forth, Way::There),
-        Loss::Receiver(Way::Back) => told_twice(from, &home, Way::Back),
-        Loss::Name => told_single(Asked::Named, from, &home, Way::Back),
+        Loss::Storage(Direction::There) => told_storage(to, Direction::There),
+        Loss::Storage(Direction::Back) => told_storage(from, Direction::Back),
+        Loss::Operand(Direction::There) => told_single(
+            AskedAbout::Elementary,
+            to,
+            &forth,
+            Direction::There,
+        ),
+        Loss::Operand(Direction::Back) => told_single(
+            AskedAbout::Elementary,
+            from,
+            &home,
+            Direction::Back,
+        ),
+        Loss::Reading(Direction::There) => told_single(
+            AskedAbout::Pictured,
+            to,
+            &forth,
+            Direction::There,
+        ),
+        Loss::Reading(Direction::Back) => told_single(
+            AskedAbout::Pictured,
+            from,
+            &home,
+            Direction::Back,
+        ),
+        Loss::Receiver(Direction::There) => told_twice(to, &forth, Direction::There),
+        Loss::Receiver(Direction::Back) => told_twice(from, &home, Direction::Back),
+        Loss::Name => told_single(AskedAbout::Named, from, &home, Direction::Back),
         Loss::Item(number) => told_item(to, &forth, &home, number),
     };
     Ok(told)

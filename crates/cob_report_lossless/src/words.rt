@@ -1,35 +1,35 @@
 //! The words that tell a loss.
 
-use crate::lacks::{Lack, digits_before};
-use crate::reasons::{Position, Reason, ToldLoss};
-use cob_back_moves::Way;
+use crate::lacks::Lack;
+use crate::reasons::{LossPosition, LossReason, ToldLoss};
+use cob_back_moves::Direction;
 use cob_copybook_tree::Item;
 use cob_move_data::Side;
 use cob_picture::Category;
-use cob_report_words::{Named, PictureText};
+use cob_report_words::{NamedOccurrence, PictureText};
 use std::fmt;
 
 /// Two items, of which the second one lacks something.
 #[derive(Clone, Copy)]
-struct Pair<'p, 'a> {
-    item: &'p Named<'a>,
+struct ItemPair<'p, 'a> {
+    item: &'p NamedOccurrence<'a>,
     own: &'a Item,
-    other: &'p Named<'a>,
+    other: &'p NamedOccurrence<'a>,
     others: &'a Item,
 }
 
 /// A side of the point.
 #[derive(Clone, Copy)]
-enum Part {
+enum PointSide {
     Before,
     Behind,
 }
 
 /// The option that names a paragraph.
-fn way_word(way: Way) -> &'static str {
+fn way_word(way: Direction) -> &'static str {
     match way {
-        Way::There => "there",
-        Way::Back => "back",
+        Direction::There => "there",
+        Direction::Back => "back",
     }
 }
 
@@ -58,24 +58,32 @@ fn counted_word(count: u16, one: &'static str, more: &'static str) -> &'static s
 }
 
 /// The word for a side of the point.
-fn part_word(part: Part) -> &'static str {
+fn part_word(part: PointSide) -> &'static str {
     match part {
-        Part::Before => "before",
-        Part::Behind => "behind",
+        PointSide::Before => "before",
+        PointSide::Behind => "behind",
     }
 }
 
 /// Writes how far beyond the point a number begins or ends.
-fn write_beyond<W: fmt::Write>(f: &mut fmt::Formatter<W>, part: Part, count: u16) -> fmt::Result {
+fn write_beyond<W: fmt::Write>(
+    f: &mut fmt::Formatter<W>,
+    part: PointSide,
+    count: u16,
+) -> fmt::Result {
     let places = counted_word(count, "place", "places");
     match part {
-        Part::Before => write!(f, "begins {count} {places} behind the point"),
-        Part::Behind => write!(f, "ends {count} {places} before the point"),
+        PointSide::Before => write!(f, "begins {count} {places} behind the point"),
+        PointSide::Behind => write!(f, "ends {count} {places} before the point"),
     }
 }
 
 /// Writes how many digits a number has on a side of the point.
-fn write_digits<W: fmt::Write>(f: &mut fmt::Formatter<W>, part: Part, count: i16) -> fmt::Result {
+fn write_digits<W: fmt::Write>(
+    f: &mut fmt::Formatter<W>,
+    part: PointSide,
+    count: i16,
+) -> fmt::Result {
     let side = part_word(part);
     if count < 0 {
         return write_beyond(f, part, count.unsigned_abs());
@@ -90,7 +98,7 @@ fn write_digits<W: fmt::Write>(f: &mut fmt::Formatter<W>, part: Part, count: i16
 /// Writes how many digits a number has, where another one has so many fewer.
 fn write_more_digits<W: fmt::Write>(
     f: &mut fmt::Formatter<W>,
-    part: Part,
+    part: PointSide,
     count: i16,
     fewer: i16,
 ) -> fmt::Result {
@@ -101,20 +109,20 @@ fn write_more_digits<W: fmt::Write>(
         return write_digits(f, part, count);
     }
     match part {
-        Part::Before => write!(f, "begins at the point"),
-        Part::Behind => write!(f, "ends at the point"),
+        PointSide::Before => write!(f, "begins at the point"),
+        PointSide::Behind => write!(f, "ends at the point"),
     }
 }
 
 /// How many digits an item's number has on a side of the point; below 0, so many places beyond it.
-fn digits_on(part: Part, item: &Item) -> i16 {
+fn digits_on(part: PointSide, item: &Item) -> i16 {
     match part {
-        Part::Before => digits_before(&item.picture),
-        Part::Behind => i16::from(item.picture.scale()),
+        PointSide::Before => item.picture.digits_before(),
+        PointSide::Behind => i16::from(item.picture.scale()),
     }
 }
 
-impl Pair<'_, '_> {
+impl ItemPair<'_, '_> {
     /// Writes the second item with its picture.
     fn write_other<W: fmt::Write>(&self, f: &mut fmt::Formatter<W>) -> fmt::Result {
         let picture = PictureText {
@@ -132,7 +140,11 @@ impl Pair<'_, '_> {
     }
 
     /// Writes that the second item has fewer digits on a side of the point.
-    fn write_fewer<W: fmt::Write>(&self, f: &mut fmt::Formatter<W>, part: Part) -> fmt::Result {
+    fn write_fewer<W: fmt::Write>(
+        &self,
+        f: &mut fmt::Formatter<W>,
+        part: PointSide,
+    ) -> fmt::Result {
         let fewer = digits_on(part, self.others);
         self.write_other(f)?;
         write_digits(f, part, fewer)?;
@@ -164,8 +176,8 @@ impl Pair<'_, '_> {
     /// Writes what the second item lacks.
     fn write_lack<W: fmt::Write>(&self, f: &mut fmt::Formatter<W>, lack: Lack) -> fmt::Result {
         match lack {
-            Lack::Before => self.write_fewer(f, Part::Before),
-            Lack::Behind => self.write_fewer(f, Part::Behind),
+            Lack::Before => self.write_fewer(f, PointSide::Before),
+            Lack::Behind => self.write_fewer(f, PointSide::Behind),
             Lack::Character => self.write_shorter(f),
             Lack::Category => self.write_categories(f),
             Lack::Sign => {
@@ -188,41 +200,41 @@ impl Pair<'_, '_> {
     }
 }
 
-impl fmt::Display for Reason<'_> {
+impl fmt::Display for LossReason<'_> {
     fn fmt<W: fmt::Write>(&self, f: &mut fmt::Formatter<W>) -> fmt::Result {
         match self {
-            Reason::Records => write!(f, "the records of back are not those of there"),
-            Reason::Redefines(entry, area) => write!(f, "{entry} redefines {area}"),
-            Reason::Varies(entry) => write!(f, "{entry} is a table that varies"),
-            Reason::Literal(receiver) => write!(f, "{receiver} receives a literal"),
-            Reason::Figurative(receiver) => {
+            LossReason::Records => write!(f, "the records of back are not those of there"),
+            LossReason::Redefines(entry, area) => write!(f, "{entry} redefines {area}"),
+            LossReason::Varies(entry) => write!(f, "{entry} is a table that varies"),
+            LossReason::Literal(receiver) => write!(f, "{receiver} receives a literal"),
+            LossReason::Figurative(receiver) => {
                 write!(f, "{receiver} receives a figurative constant")
             }
-            Reason::OwnRecord(sender) => {
+            LossReason::OwnRecord(sender) => {
                 write!(f, "{sender}, which is sent, is of the output record")
             },
-            Reason::SendingGroup(sender) => write!(f, "{sender}, which is sent, is a group"),
-            Reason::ReceivingGroup(receiver) => {
+            LossReason::SendingGroup(sender) => write!(f, "{sender}, which is sent, is a group"),
+            LossReason::ReceivingGroup(receiver) => {
                 write!(f, "{receiver}, which receives, is a group")
             }
-            Reason::Whole(sender) => write!(f, "{sender} is binary and read whole"),
-            Reason::Twice { receiver, first } => {
+            LossReason::Whole(sender) => write!(f, "{sender} is binary and read whole"),
+            LossReason::Twice { receiver, first } => {
                 write!(f, "{receiver} receives twice, first in line {first}")
             }
-            Reason::Nameless(receiver) => write!(f, "{receiver}, which receives, has no name"),
-            Reason::NotMoved(item) => write!(f, "{item} is not moved"),
-            Reason::NotReceived(item) => write!(f, "{item} receives nothing"),
-            Reason::Other { item, away, other } => match other {
+            LossReason::Nameless(receiver) => write!(f, "{receiver}, which receives, has no name"),
+            LossReason::NotMoved(item) => write!(f, "{item} is not moved"),
+            LossReason::NotReceived(item) => write!(f, "{item} receives nothing"),
+            LossReason::Other { item, away, other } => match other {
                 Some(other) => write!(f, "{item} receives {away}, and {other} is moved to that"),
                 None => write!(f, "{item} receives {away}, and nothing is moved to that"),
             },
-            Reason::Lacks {
+            LossReason::Lacks {
                 item,
                 own,
                 other,
                 others,
                 lack,
-            } => Pair {
+            } => ItemPair {
                 item,
                 own,
                 other,
@@ -233,13 +245,13 @@ impl fmt::Display for Reason<'_> {
     }
 }
 
-impl fmt::Display for Position {
+impl fmt::Display for LossPosition {
     fn fmt<W: fmt::Write>(&self, f: &mut fmt::Formatter<W>) -> fmt::Result {
         match self {
-            Position::Nowhere => Ok(()),
-            Position::Paragraph(way) => write!(f, ": {}", way_word(*way)),
-            Position::Statement { way, line } => write!(f, ": {} line {line}", way_word(*way)),
-            Position::Entry { side, line } => write!(f, ": {} line {line}", book_word(*side)),
+            LossPosition::Nowhere => Ok(()),
+            LossPosition::Paragraph(way) => write!(f, ": {}", way_word(*way)),
+            LossPosition::Statement { way, line } => write!(f, ": {} line {line}", way_word(*way)),
+            LossPosition::Entry { side, line } => write!(f, ": {} line {line}", book_word(*side)),
         }
     }
 }

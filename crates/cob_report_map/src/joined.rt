@@ -6,7 +6,7 @@ ghost use Rattle.cob_report_map.specs.Joined.{ends_in, sent_origin, side_origin,
 
 use cob_back_losses::Unkept;
 use cob_move_data::{Sent, Side, SingleMove, Singles, StatementMoves};
-use cob_report_html::{Ends, Origin};
+use cob_report_html::{JoinedEnds, Origin};
 use indexmap::IndexMap;
 use std::alloc::{AllocError, Global};
 
@@ -31,10 +31,10 @@ fn sent_origin(sent: Sent<'_>, statement: usize) -> Origin
 }
 
 /// What a single move joins.
-fn single_ends(single: SingleMove<'_>) -> Ends
+fn single_ends(single: SingleMove<'_>) -> JoinedEnds
     ensures { result ≡ single_ends (plain_single single.entry) }
 {
-    Ends {
+    JoinedEnds {
         from: sent_origin(single.sent, single.statement),
         to: single.receiver.number,
     }
@@ -45,7 +45,7 @@ fn single_ends(single: SingleMove<'_>) -> Ends
 /// # Errors
 ///
 /// Where no memory is left.
-pub fn ends_of(alloc: Global, statements: &[StatementMoves]) -> Result<Vec<Ends>, AllocError>
+pub fn ends_of(alloc: Global, statements: &[StatementMoves]) -> Result<Vec<JoinedEnds>, AllocError>
     ensures { IfOk result (λ ends. ends.items ≡ ends_in statements.now) }
 {
     let mut ends = Vec::new(alloc);
@@ -62,7 +62,7 @@ pub fn ends_of(alloc: Global, statements: &[StatementMoves]) -> Result<Vec<Ends>
 /// Where no memory is left.
 pub(crate) fn marked_ends(
     alloc: Global,
-    ends: &[Ends],
+    ends: &[JoinedEnds],
     descriptions: &[Option<Unkept>],
 ) -> Result<Vec<bool>, AllocError> {
     let mut lost = IndexMap::new(alloc);

@@ -3,9 +3,9 @@
 use crate::lost::Lost;
 use cob_move_data::{Element, Sent, Side};
 use cob_report_boxes::{Drawn, EscapedConstant};
-use cob_report_html::Line;
+use cob_report_html::StraightLine;
 use cob_report_lossless::LinedSingle;
-use cob_report_words::Named;
+use cob_report_words::NamedOccurrence;
 use std::fmt;
 
 /// Where the first of the lines of senders of the output record turns, in hundredths of the drawing's width; each next one turns further to the left.
@@ -28,12 +28,12 @@ pub struct Sides<'a> {
 }
 
 /// An occurrence of an entry of one of the records.
-fn named_in<'a>(sides: &'a Sides<'_>, side: Side, element: Element<'_>) -> Named<'a> {
+fn named_in<'a>(sides: &'a Sides<'_>, side: Side, element: Element<'_>) -> NamedOccurrence<'a> {
     let drawn = match side {
         Side::In => &sides.input,
         Side::Out => &sides.output,
     };
-    Named::new(drawn.layout.root(), element.number, element.subscripts)
+    NamedOccurrence::new(drawn.layout.root(), element.number, element.subscripts)
 }
 
 /// What a single move sends, which prints as the name of an occurrence or as a constant.
@@ -53,7 +53,10 @@ impl fmt::Display for EscapedSent<'_, '_> {
 }
 
 /// The receiver of a single move.
-pub(crate) fn receiver_of<'a>(sides: &'a Sides<'_>, single: LinedSingle<'_>) -> Named<'a> {
+pub(crate) fn receiver_of<'a>(
+    sides: &'a Sides<'_>,
+    single: LinedSingle<'_>,
+) -> NamedOccurrence<'a> {
     named_in(sides, Side::Out, single.receiver)
 }
 
@@ -106,7 +109,7 @@ fn write_title<'a, W: fmt::Write>(
 
 /// Writes the line from a box of the input record.
 fn write_across<W: fmt::Write>(f: &mut fmt::Formatter<W>, from: u32, to: u32) -> fmt::Result {
-    let line = Line {
+    let line = StraightLine {
         x1: 0,
         y1: from,
         x2: 100,
@@ -127,19 +130,19 @@ fn write_back<W: fmt::Write>(
     from: u32,
     to: u32,
 ) -> fmt::Result {
-    let out = Line {
+    let out = StraightLine {
         x1: turn,
         y1: from,
         x2: 100,
         y2: from,
     };
-    let along = Line {
+    let along = StraightLine {
         x1: turn,
         y1: from,
         x2: turn,
         y2: to,
     };
-    let home = Line {
+    let home = StraightLine {
         x1: turn,
         y1: to,
         x2: 100,
@@ -154,7 +157,7 @@ fn write_constant<W: fmt::Write>(
     constant: EscapedConstant<'_>,
     to: u32,
 ) -> fmt::Result {
-    let line = Line {
+    let line = StraightLine {
         x1: CONSTANT,
         y1: to,
         x2: 100,

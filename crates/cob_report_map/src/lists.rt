@@ -2,11 +2,11 @@
 
 use crate::lines::{EscapedSent, Sides, class_of, receiver_of};
 use crate::lost::Lost;
-use cob_layout::{Kind, Node};
-use cob_report_boxes::{Drawn, spot_of, told_length};
+use cob_layout::{Kind, Node, Spot};
+use cob_report_boxes::{Drawn, told_length};
 use cob_report_html::bare_length;
 use cob_report_lossless::LinedSingle;
-use cob_report_words::Named;
+use cob_report_words::NamedOccurrence;
 use std::fmt;
 
 /// Writes the row of single moves that join the same, of which this is the first.
@@ -37,7 +37,7 @@ fn item_at<'a>(drawn: &Drawn<'_>, entry: &'a Node, byte: u32) -> Option<&'a Node
         return None;
     }
     if matches!(entry.kind, Kind::Item(_)) {
-        let spot = spot_of(drawn.layout.greatest_spots(), entry.number);
+        let spot = Spot::of(drawn.layout.greatest_spots(), entry.number);
         let end = spot.offset.saturating_add(spot.length);
         return if spot.offset <= byte && byte < end {
             Some(entry)
@@ -62,7 +62,7 @@ fn write_run<W: fmt::Write>(
 ) -> fmt::Result {
     write!(f, "<tr><td>{offset}</td><td>{length}</td><td>")?;
     if let Some(entry) = item_at(drawn, drawn.layout.root(), offset) {
-        let named = Named::new(drawn.layout.root(), entry.number, &[]);
+        let named = NamedOccurrence::new(drawn.layout.root(), entry.number, &[]);
         write!(f, "{named}")?;
     }
     writeln!(f, "</td></tr>")

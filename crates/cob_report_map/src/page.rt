@@ -15,10 +15,10 @@ use crate::style::{
 use cob_back_losses::{Losses, Unkept};
 use cob_layout::{Layout, Spot};
 use cob_move_data::{Sent, StatementMoves};
-use cob_report_boxes::{Contents, Drawn, draw, write_boxes};
+use cob_report_boxes::{Drawn, GivenRecord, draw, write_boxes};
 use cob_report_html::{Escaped, SHEET, counts_of};
 use cob_report_lossless::{LinedSingle, singles_of};
-use cob_report_words::Named;
+use cob_report_words::NamedOccurrence;
 use std::alloc::{AllocError, Global};
 use std::fmt;
 
@@ -83,8 +83,8 @@ pub struct Page<'a> {
 }
 
 /// A record that is given, as it is drawn.
-fn contents_of<'a>(record: Record<'a>) -> Contents<'a> {
-    Contents {
+fn contents_of<'a>(record: Record<'a>) -> GivenRecord<'a> {
+    GivenRecord {
         spots: record.spots,
         bytes: record.bytes,
     }
@@ -238,8 +238,8 @@ fn count_undescribed(descriptions: &[Option<Unkept>]) -> usize {
 }
 
 /// The record of a layout, by its name.
-fn record_name(layout: &Layout) -> Named<'_> {
-    Named::new(layout.root(), 0, &[])
+fn record_name(layout: &Layout) -> NamedOccurrence<'_> {
+    NamedOccurrence::new(layout.root(), 0, &[])
 }
 
 /// Writes the page's head, and the first line of its body.

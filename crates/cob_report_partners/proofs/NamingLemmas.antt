@@ -8,7 +8,7 @@ use Rattle.cob_copybook_names.specs.Naming.{Bearer, has_name, is_named, named, q
 use Rattle.cob_report_partners.specs.Entries.{DraftEntry, listed_bearer}
 use Rattle.cob_report_partners.specs.Naming.{IsNeeded, IsSpread, NamesOne, Spreads, reach}
 use Rattle.cob_report_partners.specs.declared.entries.DraftEntry.{DraftEntry as ListedEntry}
-use Rattle.cob_report_partners.specs.declared.naming.Spread.{Spread}
+use Rattle.cob_report_partners.specs.declared.naming.NameSpread.{NameSpread}
 
 reach_step : (t : Bool) (k n m : ℕ) (x y : Bool) → Decides x (k ≤ n) → Decides y (suc k ≤ m) → Decides (if t then x else y) (suc k ≤ (if t then n + 1 else m))
 reach_step true k n m x y (is, only) other = (λ h. omega (arith, is h), λ h. only (omega (arith, h)))
@@ -47,7 +47,7 @@ not_true true h = absurd (h refl)
 not_true false h = refl
 
 -- a further entry that bears the name and is reached so far
-pub spread_further : (s t : Spread) (r : ℕ) (name : List ℕ) (qs : List (List ℕ)) (b : Bearer DraftEntry) (front : List (Bearer DraftEntry))
+pub spread_further : (s t : NameSpread) (r : ℕ) (name : List ℕ) (qs : List (List ℕ)) (b : Bearer DraftEntry) (front : List (Bearer DraftEntry))
     → has_name name b.name ≡ true → r ≡ reach qs b.above → r ≤ length qs
     → ((k count : ℕ) → k ≤ r → IsSpread s k count → IsSpread t k (count + 1))
     → ((k count : ℕ) → r < k → IsSpread s k count → IsSpread t k count)
@@ -67,7 +67,7 @@ spread_further s t r name qs b front has is within more same bounded before =
     }
 
 -- one that does not bear it
-pub spread_apart : (s : Spread) (name : List ℕ) (qs : List (List ℕ)) (b : Bearer DraftEntry) (front : List (Bearer DraftEntry)) → has_name name b.name ≡ false
+pub spread_apart : (s : NameSpread) (name : List ℕ) (qs : List (List ℕ)) (b : Bearer DraftEntry) (front : List (Bearer DraftEntry)) → has_name name b.name ≡ false
     → Spreads s name qs front → Spreads s name qs (front ++ b ∷ [])
 spread_apart s name qs b front has before =
     record {
@@ -76,7 +76,7 @@ spread_apart s name qs b front has before =
     }
 
 -- no entry
-pub spread_none : (s : Spread) (name : List ℕ) (qs : List (List ℕ)) → s.most ≡ 0 → s.next ≡ 0 → Spreads s name qs []
+pub spread_none : (s : NameSpread) (name : List ℕ) (qs : List (List ℕ)) → s.most ≡ 0 → s.next ≡ 0 → Spreads s name qs []
 spread_none s name qs most next =
     record {
       most = omega (arith, most);
@@ -84,7 +84,7 @@ spread_none s name qs most next =
     }
 
 -- the least number that names one alone
-pub needed : (s : Spread) (name : List ℕ) (qs : List (List ℕ)) (all : List (Bearer DraftEntry)) → Spreads s name qs all → s.next < s.most → IsNeeded name qs all s.next
+pub needed : (s : NameSpread) (name : List ℕ) (qs : List (List ℕ)) (all : List (Bearer DraftEntry)) → Spreads s name qs all → s.next < s.most → IsNeeded name qs all s.next
 needed s name qs all h lt =
     record {
       names = (h.each s.next (omega (arith, h.most, lt))).one (omega arith) lt;
@@ -92,7 +92,7 @@ needed s name qs all h lt =
     }
 
 -- and where there is none
-pub not_needed : (s : Spread) (name : List ℕ) (qs : List (List ℕ)) (all : List (Bearer DraftEntry)) → Spreads s name qs all → (s.next < s.most → ⊥)
+pub not_needed : (s : NameSpread) (name : List ℕ) (qs : List (List ℕ)) (all : List (Bearer DraftEntry)) → Spreads s name qs all → (s.next < s.most → ⊥)
     → (k : ℕ) → k ≤ length qs → NamesOne name qs k all → ⊥
 not_needed s name qs all h no_lt k le one =
     let at = h.each k le in

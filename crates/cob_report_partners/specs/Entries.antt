@@ -18,7 +18,7 @@ use Rattle.cob_layout_places.specs.declared.varying.Table.{Table}
 use Rattle.cob_move_names.specs.Candidates.{with_table}
 use Rattle.cob_report_partners.specs.declared.entries.DraftEntry.{DraftEntry as ListedEntry}
 use Rattle.cob_report_partners.specs.declared.entries.Setting.{Setting as StoredSetting}
-use Rattle.cob_report_partners.specs.declared.entries.Source.{Source as StoredSource}
+use Rattle.cob_report_partners.specs.declared.entries.PartnerSource.{PartnerSource as StoredSource}
 
 -- What is known of an entry besides its names: its record, its number and that of the last entry beneath it (its own where there is none), the greatest
 -- number of each table that holds it or that it is, the outermost first, what it describes, whether none of these tables varies, whether it stands in no

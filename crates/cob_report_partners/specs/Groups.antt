@@ -5,8 +5,7 @@ use Rattle.std.specs.Borrow.{Bor}
 use Rattle.std.specs.Cmp.Lexicographic.{pointwise}
 use Rattle.indexmap.specs.IndexMap.{IndexMap, get_by}
 use Rattle.cob_copybook_names.specs.Naming.{Bearer, has_name}
-use Rattle.cob_copybook_tree.specs.declared.node.Kind.{Kind}
-use Rattle.cob_copybook_tree.specs.declared.node.Kind.TheVariants.{Group, Item as ItemKind}
+use Rattle.cob_copybook_tree.specs.Nodes.{is_group_kind}
 use Rattle.cob_copybook_names.specs.declared.bearer.Bearer.{Bearer as Listed}
 use Rattle.cob_report_partners.specs.declared.entries.DraftEntry.{DraftEntry as ListedEntry}
 use Rattle.cob_report_partners.specs.Entries.{DraftEntry, listed_bearer}
@@ -21,14 +20,9 @@ abbrev pub is_below : List (List ℕ) → Bool
 is_below [] = false
 is_below (a ∷ more) = true
 
--- it is a group
-abbrev pub describes_group : Kind → Bool
-describes_group Group = true
-describes_group (ItemKind i) = false
-
 -- it is a group below a record, and has the name
 abbrev pub is_group_named : List ℕ → Bearer DraftEntry → Bool
-is_group_named name b = describes_group b.entry.kind && (is_below b.above && has_name name b.name)
+is_group_named name b = is_group_kind b.entry.kind && (is_below b.above && has_name name b.name)
 
 -- some group below a record has the name
 abbrev pub names_group : List (Bearer DraftEntry) → List ℕ → Bool

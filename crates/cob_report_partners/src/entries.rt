@@ -20,7 +20,7 @@ use cob_move_data::Side;
 use std::alloc::{AllocError, Global};
 
 /// The greatest numbers of tables, one inside the other, the outermost first.
-pub type Tables = ArrayVec<u32, MAX_SUBSCRIPTS>;
+pub type GreatestNumbers = ArrayVec<u32, MAX_SUBSCRIPTS>;
 
 /// An entry of one of the two records.
 #[derive(Drop)]
@@ -30,7 +30,7 @@ pub struct DraftEntry<'a> {
     /// The number of the last entry beneath it, or its own where there is none.
     pub last: usize,
     /// The tables that hold it or that it is.
-    pub tables: Tables,
+    pub tables: GreatestNumbers,
     /// Whether none of these varies.
     pub steady: bool,
     /// Whether it stands in no redefinition.
@@ -46,7 +46,7 @@ pub type DraftBearer<'a> = Bearer<'a, DraftEntry<'a>>;
 
 /// The record whose entries are listed, with its tables that vary.
 #[derive(Clone, Copy)]
-struct Source<'t> {
+struct PartnerSource<'t> {
     side: Side,
     varying: &'t [Table],
 }
@@ -54,7 +54,7 @@ struct Source<'t> {
 /// Where an entry stands.
 #[derive(Drop)]
 struct Setting {
-    tables: Tables,
+    tables: GreatestNumbers,
     steady: bool,
     own: bool,
     redefined: Option<usize>,
@@ -63,7 +63,7 @@ struct Setting {
 }
 
 /// The same tables once more.
-fn copied(tables: &[u32]) -> Tables
+fn copied(tables: &[u32]) -> GreatestNumbers
     requires { length tables.now ≤ most_dimensions }
     ensures { result.items ≡ tables.now }
 {
@@ -75,7 +75,7 @@ fn copied(tables: &[u32]) -> Tables
 }
 
 /// The tables that hold an entry, and itself if it is one.
-fn tables_with(entry: &Node, holding: &[u32]) -> Tables
+fn tables_with(entry: &Node, holding: &[u32]) -> GreatestNumbers
     requires nested { length holding.now + own_dimension (out-Node entry.now).occurs
         ≤ most_dimensions }
     ensures { result.items ≡ with_table (is_table (out-Node entry.now).occurs)
@@ -145,7 +145,7 @@ fn last_number(entry: &Node) -> usize
 }
 
 /// An entry that stands there.
-fn entry_inside<'a>(source: Source<'_>, outer: &Setting, entry: &'a Node) -> DraftEntry<'a>
+fn entry_inside<'a>(source: PartnerSource<'_>, outer: &Setting, entry: &'a Node) -> DraftEntry<'a>
     requires nested { length outer.now.tables.items + own_dimension (out-Node entry.now).occurs
         ≤ most_dimensions }
     ensures { draft_entry result ≡ entry_inside (seen_source source.entry) (seen_setting outer.now)
@@ -167,7 +167,7 @@ fn entry_inside<'a>(source: Source<'_>, outer: &Setting, entry: &'a Node) -> Dra
 /// Puts an entry behind those that are listed.
 fn list_entry<'a>(
     alloc: Global,
-    source: Source<'_>,
+    source: PartnerSource<'_>,
     above: &[&'a [u8]],
     outer: &Setting,
     entry: &'a Node,
@@ -191,7 +191,7 @@ fn list_entry<'a>(
 /// Puts an entry, and then those beneath it, behind those that are listed. The names `above` are those of the groups that it stands in.
 fn list_tree<'a>(
     alloc: Global,
-    source: Source<'_>,
+    source: PartnerSource<'_>,
     above: &[&'a [u8]],
     outer: &Setting,
     entry: &'a Node,
@@ -244,7 +244,7 @@ pub fn entries_of<'a>(
     // For what `list_tree` asks: a record description is sound.
     records_are_sound();
     let varying = tables(alloc, layout.root())?;
-    let source = Source {
+    let source = PartnerSource {
         side,
         varying: varying.as_slice(),
     };

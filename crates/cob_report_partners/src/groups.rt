@@ -4,10 +4,9 @@ ghost use Rattle.std.specs.Prelude.{◌≡◌, ◌≢◌, ℕ, List, Some, filte
 ghost use Rattle.cob_copybook_names.specs.Listed.{name_text, texts};
 ghost use Rattle.cob_copybook_names.specs.Naming.{has_name};
 ghost use Rattle.cob_report_partners.specs.Entries.{listed_bearer};
-ghost use Rattle.cob_report_partners.specs.Groups.{AreGroups, describes_group, has_group, is_below, is_group_named, is_noted};
+ghost use Rattle.cob_report_partners.specs.Groups.{AreGroups, has_group, is_below, is_group_named, is_noted};
 
 use crate::entries::DraftBearer;
-use cob_copybook_tree::Kind;
 use indexmap::IndexMap;
 use std::alloc::{AllocError, Global};
 
@@ -15,13 +14,6 @@ use std::alloc::{AllocError, Global};
 #[derive(Drop)]
 pub struct GroupNames<'a> {
     names: IndexMap<&'a [u8], ()>,
-}
-
-/// Whether an entry is a group.
-fn describes_group(kind: &Kind) -> bool
-    ensures { result ≡ describes_group kind.now }
-{
-    matches!(kind, Kind::Group)
 }
 
 /// Whether an entry stands below a record.
@@ -36,7 +28,7 @@ fn group_name<'a>(bearer: &DraftBearer<'a>) -> Option<&'a [u8]>
     ensures { (name : List ℕ) → has_name name (name_text result)
         ≡ is_group_named name (listed_bearer bearer.now) }
 {
-    if describes_group(&bearer.entry.entry.kind) && is_below(bearer.above.as_slice()) {
+    if bearer.entry.entry.kind.is_group() && is_below(bearer.above.as_slice()) {
         return bearer.name;
     }
     None

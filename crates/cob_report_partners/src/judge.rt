@@ -4,7 +4,7 @@ ghost use Rattle.std.specs.Prelude.{◌≡◌, IfNone, IfOk, IfSome};
 ghost use Rattle.cob_report_partners.specs.Verdicts.{AreLosses, JudgesBytes, JudgesKinds, JudgesPlaces, KeepsAll, MayStand, Objects, greatest_element};
 
 use crate::entries::DraftEntry;
-use cob_back_losses::{Losses, Sent, Unkept, description_lost, losses_of};
+use cob_back_losses::{JudgedSent, Losses, Unkept, description_lost, losses_of};
 use cob_copybook_tree::{Kind, Node, element_length};
 use cob_move_receive::{Refusal, SenderKind, refusal_of};
 use std::alloc::{AllocError, Global};
@@ -80,7 +80,7 @@ fn objection_of_bytes(
 ) -> Result<Option<Objection>, AllocError>
     ensures { IfOk result (λ objection. JudgesBytes from.now to.now objection) }
 {
-    match description_lost(alloc, &Sent::Entry(from.entry), to.entry)? {
+    match description_lost(alloc, &JudgedSent::Entry(from.entry), to.entry)? {
         Some(unkept) => Ok(Some(Objection::Description(unkept))),
         None => Ok(None),
     }

@@ -33,7 +33,7 @@ mod partners;
 mod records;
 mod words;
 
-pub use entries::{DraftBearer, DraftEntry, Tables, entries_of};
+pub use entries::{DraftBearer, DraftEntry, GreatestNumbers, entries_of};
 pub use judge::{Objection, objection_to};
 pub use naming::qualifiers_needed;
 pub use partners::{Partner, only_item_beneath, partner_of, partner_within};

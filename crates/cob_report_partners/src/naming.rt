@@ -12,7 +12,7 @@ use crate::records::BothRecords;
 
 /// How many entries a name with its qualifiers names: none from `most` of them on, one alone from `next` on, and more than one with fewer.
 #[derive(Clone, Copy)]
-struct Spread {
+struct NameSpread {
     most: usize,
     next: usize,
 }
@@ -34,9 +34,9 @@ fn reach(qualifiers: &[&[u8]], above: &[&[u8]]) -> usize
     reach(qualifiers, more)
 }
 
-impl Spread {
+impl NameSpread {
     /// With a further entry, which a name with so many qualifiers names, and with fewer.
-    fn with(self, reach: usize) -> Spread
+    fn with(self, reach: usize) -> NameSpread
         requires room { reach < usize.MAX }
         ensures named { (k count : ℕ) → k ≤ reach → IsSpread self k count
             → IsSpread result k (count + 1) }
@@ -46,12 +46,12 @@ impl Spread {
     {
         let fewer = reach + 1;
         if self.most < fewer {
-            return Spread {
+            return NameSpread {
                 most: fewer,
                 next: self.most,
             };
         }
-        Spread {
+        NameSpread {
             most: self.most,
             next: self.next.max(fewer),
         }
@@ -59,14 +59,19 @@ impl Spread {
 }
 
 /// With a further entry, which bears the name and stands in groups of these names.
-fn spread_with(before: Spread, qualifiers: &[&[u8]], above: &[&[u8]]) -> Spread
+fn spread_with(before: NameSpread, qualifiers: &[&[u8]], above: &[&[u8]]) -> NameSpread
     ensures { SpreadsOnNamed before result (texts qualifiers.now) (texts above.now) }
 {
     before.with(reach(qualifiers, above))
 }
 
 /// With a further entry.
-fn spread_by(before: Spread, name: &[u8], qualifiers: &[&[u8]], bearer: &DraftBearer<'_>) -> Spread
+fn spread_by(
+    before: NameSpread,
+    name: &[u8],
+    qualifiers: &[&[u8]],
+    bearer: &DraftBearer<'_>,
+) -> NameSpread
     ensures { SpreadsOn before result name.now (texts qualifiers.now)
         (listed_bearer bearer.now ∷ []) }
 {
@@ -78,11 +83,11 @@ fn spread_by(before: Spread, name: &[u8], qualifiers: &[&[u8]], bearer: &DraftBe
 
 /// With further entries.
 fn spread_over(
-    before: Spread,
+    before: NameSpread,
     name: &[u8],
     qualifiers: &[&[u8]],
     entries: &[DraftBearer<'_>],
-) -> Spread
+) -> NameSpread
     ensures { SpreadsOn before result name.now (texts qualifiers.now)
         (map listed_bearer entries.now) }
 {
@@ -100,7 +105,7 @@ pub fn qualifiers_needed(records: &BothRecords<'_>, name: &[u8], above: &[&[u8]]
     ensures none { IfNone result ((k : ℕ) → k ≤ length above.now
         → NamesOne name.now (texts above.now) k (all_bearers records.now) → ⊥) }
 {
-    let none = Spread { most: 0, next: 0 };
+    let none = NameSpread { most: 0, next: 0 };
     let inputs = spread_over(none, name, above, records.inputs());
     let all = spread_over(inputs, name, above, records.outputs());
     if all.next < all.most {

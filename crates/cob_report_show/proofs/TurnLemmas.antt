@@ -7,7 +7,7 @@ use Rattle.cob_layout.specs.Fields.{field_of}
 use Rattle.cob_layout.specs.Ways.{spot_at}
 use Rattle.cob_records.specs.declared.records.RecordFault.{RecordFault}
 use Rattle.cob_records.specs.Device.{Took}
-use Rattle.cob_report_show.specs.declared.named.Named.{Named}
+use Rattle.cob_report_show.specs.declared.named.ListedItem.{ListedItem}
 use Rattle.cob_report_show.specs.Elements.{NamedItem, Printed, ElementStandsAt, named_item, table_times}
 use Rattle.cob_report_show.specs.Lines.{AreBegunInTurn, AreElementLines, AreInTurn, AreItemLines, BeginElementLines, BeginItemLines, IsElementLine, IsLineWith, front_text}
 use Rattle.cob_report_show.specs.Sent.{CountsSent, BeginsOne, Sends}
@@ -121,10 +121,10 @@ all_items r all left other before sent w0 w so_far none = (
   so_far.took,
 )
 
-pub items_left : (items : List Named) (i : ℕ) (n : Named) → i < length items → n ≡ get_or items i n → map named_item (drop i items) ≡ named_item n ∷ map named_item (drop (i + 1) items)
-items_left items i n low is = ap (map named_item) (drop_more items i n low) ∙ ap (λ (m : Named). named_item m ∷ map named_item (drop (i + 1) items)) (sym is)
+pub items_left : (items : List ListedItem) (i : ℕ) (n : ListedItem) → i < length items → n ≡ get_or items i n → map named_item (drop i items) ≡ named_item n ∷ map named_item (drop (i + 1) items)
+items_left items i n low is = ap (map named_item) (drop_more items i n low) ∙ ap (λ (m : ListedItem). named_item m ∷ map named_item (drop (i + 1) items)) (sym is)
 
-pub no_items_left : (items : List Named) (i : ℕ) → length items ≤ i → map named_item (drop i items) ≡ []
+pub no_items_left : (items : List ListedItem) (i : ℕ) → length items ≤ i → map named_item (drop i items) ≡ []
 no_items_left items i end = ap (map named_item) (drop_all i items end)
 
 -- ---- the tables of an item

@@ -15,7 +15,7 @@ use Rattle.cob_layout.specs.Placed.{placed}
 use Rattle.cob_layout.specs.Standing.{Standing, ArePlaces}
 use Rattle.cob_layout.specs.Ways.{own_table, spot_at}
 use Rattle.cob_report_show.specs.declared.elements.Contents.{Contents}
-use Rattle.cob_report_show.specs.declared.named.Named.{Named}
+use Rattle.cob_report_show.specs.declared.named.ListedItem.{ListedItem}
 
 -- a named elementary item: its number, its name, what it is, and the numbers of the tables that hold it or that it is, the outermost first
 pub record NamedItem : Type 0 where
@@ -40,7 +40,7 @@ named_in over (AnEntry e children more) =
     own_of over e ++ (named_in (over ++ own_table e.occurs e.number) children ++ named_in over more)
 
 -- a named elementary item, as it is kept
-abbrev pub named_item : Named → NamedItem
+abbrev pub named_item : ListedItem → NamedItem
 named_item n = record { number = n.number; name = n.name; item = n.item; tables = n.tables.items }
 
 -- a record that is printed: its entries, its counts and where the entries stand under them, and its bytes

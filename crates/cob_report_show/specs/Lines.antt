@@ -5,7 +5,7 @@ use Rattle.cob_layout.specs.Fields.{field_of}
 use Rattle.cob_layout_places.specs.declared.reference.Ref.{Ref}
 use Rattle.cob_records.specs.declared.records.RecordFault.{RecordFault}
 use Rattle.cob_report_show.specs.declared.elements.Contents.{Contents}
-use Rattle.cob_report_show.specs.declared.named.Named.{Named}
+use Rattle.cob_report_show.specs.declared.named.ListedItem.{ListedItem}
 use Rattle.cob_report_show.specs.Elements.{NamedItem, Printed, ElementStandsAt, named_in, named_item, printed_record, table_times}
 use Rattle.cob_report_show.specs.Sent.{BeginsOne, IsBeginning, Sends, SendsOne}
 use Rattle.cob_report_show.specs.Values.{IsValueShown}
@@ -85,19 +85,19 @@ BeginRecordLines r number part =
     ⊎ ((lines : List ℕ) × BeginItemLines r (named_in [] r.tree) lines × (part ≡ number_line number ++ lines))
 
 -- the line of the element of an item that this reference names went out
-abbrev pub SendsElement : Contents → Named → Ref → ℕ → ℕ → Result (Unit {0}) RecordFault → List ℕ → Type 0
+abbrev pub SendsElement : Contents → ListedItem → Ref → ℕ → ℕ → Result (Unit {0}) RecordFault → List ℕ → Type 0
 SendsElement c x reference before after answer part =
     SendsOne (IsElementLine (printed_record c) (named_item x) reference.subscripts.items) before after answer part
 
 -- the lines of the elements of an item went out: under the subscripts of the reference, which are those of its outer tables, those of each element
 -- of these tables, which are left
-abbrev pub SendsElements : Contents → Named → List ℕ → Ref → ℕ → ℕ → Result (Unit {0}) RecordFault → List ℕ → Type 0
+abbrev pub SendsElements : Contents → ListedItem → List ℕ → Ref → ℕ → ℕ → Result (Unit {0}) RecordFault → List ℕ → Type 0
 SendsElements c x tables reference before after answer part =
     Sends (AreElementLines (printed_record c) (named_item x) (table_times (printed_record c) tables) reference.subscripts.items)
     (BeginElementLines (printed_record c) (named_item x) (table_times (printed_record c) tables) reference.subscripts.items) before after answer part
 
 -- the lines of these items went out
-abbrev pub SendsItems : Contents → List Named → ℕ → ℕ → Result (Unit {0}) RecordFault → List ℕ → Type 0
+abbrev pub SendsItems : Contents → List ListedItem → ℕ → ℕ → Result (Unit {0}) RecordFault → List ℕ → Type 0
 SendsItems c items before after answer part =
     Sends (AreItemLines (printed_record c) (map named_item items)) (BeginItemLines (printed_record c) (map named_item items)) before after answer part
 

@@ -9,8 +9,8 @@ ghost use Rattle.cob_layout.specs.Ways.{spot_at};
 ghost use Rattle.cob_report_show.specs.Elements.{AllStand, IsLaidOut, ItemsStand, ElementStandsAt, StandsWithin, named_item, printed_record};
 ghost use Rattle.cob_report_show.specs.Lines.{SendsElement, SendsElements, SendsItems, front_text, further_text, subscripts_text};
 
-use crate::named::Named;
-use crate::text::{Line, push_number, push_text};
+use crate::named::ListedItem;
+use crate::text::{ListingLine, push_number, push_text};
 use crate::values::put_value;
 use arrayvec::ArrayVec;
 use cob_layout::{Counts, Layout, Place, Ref, field};
@@ -25,7 +25,7 @@ pub(crate) struct Contents<'a> {
 }
 
 /// Adds further subscripts, each behind a comma.
-fn push_further(line: &mut Line, subscripts: &[u32])
+fn push_further(line: &mut ListingLine, subscripts: &[u32])
     requires many { length subscripts.now ≤ 6 }
     requires room { length line.old.items ≤ 41 }
     ensures text { line.new.items ≡ line.old.items ++ further_text subscripts.now }
@@ -38,7 +38,7 @@ fn push_further(line: &mut Line, subscripts: &[u32])
 }
 
 /// Adds subscripts in brackets, parted by commas, where there are some.
-pub fn push_subscripts(line: &mut Line, subscripts: &[u32])
+pub fn push_subscripts(line: &mut ListingLine, subscripts: &[u32])
     requires many { length subscripts.now ≤ most_dimensions }
     requires room { length line.old.items ≤ longest_name }
     ensures text { line.new.items ≡ line.old.items ++ subscripts_text subscripts.now }
@@ -54,7 +54,7 @@ pub fn push_subscripts(line: &mut Line, subscripts: &[u32])
 }
 
 /// The front of the line of an element: its name with its subscripts, and its offset.
-fn front_of(name: &[u8], subscripts: &[u32], offset: u32) -> Line
+fn front_of(name: &[u8], subscripts: &[u32], offset: u32) -> ListingLine
     requires name { length name.now ≤ longest_name }
     requires many { length subscripts.now ≤ most_dimensions }
     ensures text { result.items ≡ front_text name.now subscripts.now offset }
@@ -70,7 +70,7 @@ fn front_of(name: &[u8], subscripts: &[u32], offset: u32) -> Line
 }
 
 /// The place of an element that is there.
-fn place_of(contents: Contents, item: &Named, reference: &Ref) -> Place
+fn place_of(contents: Contents, item: &ListedItem, reference: &Ref) -> Place
     requires laid { IsLaidOut (printed_record contents) }
     requires node { reference.now.node ≡ item.now.number }
     requires stands { StandsWithin (printed_record contents) (named_item item.now)
@@ -94,7 +94,7 @@ fn put_element<W: Sink>(
     sink: &mut W,
     sent: &mut u64,
     contents: Contents,
-    item: &Named,
+    item: &ListedItem,
     reference: &Ref,
 ) -> Result<(), RecordFault>
     requires laid { IsLaidOut (printed_record contents) }
@@ -138,7 +138,7 @@ fn put_elements<W: Sink>(
     sink: &mut W,
     sent: &mut u64,
     contents: Contents,
-    item: &Named,
+    item: &ListedItem,
     tables: &[usize],
     reference: &mut Ref,
 ) -> Result<(), RecordFault>
@@ -173,7 +173,7 @@ pub(crate) fn put_items<W: Sink>(
     sink: &mut W,
     sent: &mut u64,
     contents: Contents,
-    items: &[Named],
+    items: &[ListedItem],
 ) -> Result<(), RecordFault>
     requires laid { IsLaidOut (printed_record contents) }
     requires stand { ItemsStand (printed_record contents) (map named_item items.now) }

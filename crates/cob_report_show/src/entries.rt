@@ -11,7 +11,7 @@ ghost use Rattle.cob_records.specs.Frame.{is_write_error, is_write_fault, taken_
 ghost use Rattle.cob_report_show.specs.Entries.{ListsEntries, entry_line, greatest_spot, item_word, kind_word, level_text, lines_among, longest_line, name_by_number, name_or_filler, occurs_text, redefines_text, spot_text};
 ghost use Rattle.cob_report_show.specs.Sent.{SendsText};
 
-use crate::text::{Line, push_number, push_text, put};
+use crate::text::{ListingLine, push_number, push_text, put};
 use arrayvec::ArrayVec;
 use cob_layout::{Item, Kind, Layout, Name, Node, ResolvedOccurs, Spot, records_are_sound};
 use cob_picture::Category;
@@ -110,7 +110,7 @@ fn greatest_spot(layout: &Layout, number: usize) -> Spot
 }
 
 /// Adds a space and a number.
-fn push_behind_space(line: &mut Line, number: u32)
+fn push_behind_space(line: &mut ListingLine, number: u32)
     requires { length line.old.items + 11 ≤ 256 }
     ensures text { line.new.items ≡ line.old.items ++ 32 ∷ decimal number }
     ensures long { length line.new.items ≤ length line.old.items + 11 }
@@ -120,7 +120,7 @@ fn push_behind_space(line: &mut Line, number: u32)
 }
 
 /// Adds a level in two digits.
-fn push_level(line: &mut Line, level: u8)
+fn push_level(line: &mut ListingLine, level: u8)
     requires { length line.old.items + 11 ≤ 256 }
     ensures text { line.new.items ≡ line.old.items ++ level_text level }
     ensures long { length line.new.items ≤ length line.old.items + 11 }
@@ -132,7 +132,7 @@ fn push_level(line: &mut Line, level: u8)
 }
 
 /// Adds where an element stands, and how long it is.
-fn push_spot(line: &mut Line, spot: Spot)
+fn push_spot(line: &mut ListingLine, spot: Spot)
     requires { length line.old.items + 22 ≤ 256 }
     ensures text { line.new.items ≡ line.old.items ++ spot_text spot }
     ensures long { length line.new.items ≤ length line.old.items + 22 }
@@ -142,7 +142,7 @@ fn push_spot(line: &mut Line, spot: Spot)
 }
 
 /// Adds which entry an entry redefines, where it redefines one.
-fn push_redefined(line: &mut Line, redefines: &Option<Name>)
+fn push_redefined(line: &mut ListingLine, redefines: &Option<Name>)
     requires { length line.old.items + 41 ≤ 256 }
     ensures text { line.new.items ≡ line.old.items ++ redefines_text redefines.now }
     ensures long { length line.new.items ≤ length line.old.items + 41 }
@@ -154,7 +154,7 @@ fn push_redefined(line: &mut Line, redefines: &Option<Name>)
 }
 
 /// Adds how often an entry occurs, where it is a table: so many times, or from a least to a greatest number by the item that counts.
-fn push_occurs(line: &mut Line, layout: &Layout, occurs: ResolvedOccurs)
+fn push_occurs(line: &mut ListingLine, layout: &Layout, occurs: ResolvedOccurs)
     requires { length line.old.items + 63 ≤ 256 }
     ensures text { line.new.items ≡ line.old.items ++ occurs_text layout.now occurs }
     ensures long { length line.new.items ≤ length line.old.items + 63 }
@@ -176,7 +176,7 @@ fn push_occurs(line: &mut Line, layout: &Layout, occurs: ResolvedOccurs)
 }
 
 /// The line of an entry.
-fn line_of(layout: &Layout, entry: &Node) -> Line
+fn line_of(layout: &Layout, entry: &Node) -> ListingLine
     ensures text { result.items ≡ entry_line layout.now (node entry.now).top }
     ensures some { 0 < length result.items }
     ensures long { length result.items ≤ longest_line }

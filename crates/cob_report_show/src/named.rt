@@ -11,7 +11,7 @@ use std::alloc::{AllocError, Global};
 
 /// A named elementary item.
 #[derive(Drop)]
-pub struct Named {
+pub struct ListedItem {
     /// The number of its entry.
     pub number: usize,
     pub name: Name,
@@ -21,13 +21,13 @@ pub struct Named {
 }
 
 /// Adds an entry where it is a named elementary item; it stands in these tables.
-fn push_own(entry: &Node, over: &[usize], items: &mut Vec<Named>) -> Result<(), AllocError>
+fn push_own(entry: &Node, over: &[usize], items: &mut Vec<ListedItem>) -> Result<(), AllocError>
     requires { length over.now + own_dimension (node entry.now).top.occurs ≤ most_dimensions }
     ensures { IfOk result (λ _. map named_item items.new.items
         ≡ map named_item items.old.items ++ own_of over.now (node entry.now).top) }
 {
     if let (Kind::Item(item), Some(name)) = (&entry.kind, &entry.name) {
-        items.push(Named {
+        items.push(ListedItem {
             number: entry.number,
             name: name.clone(),
             item: item.clone(),
@@ -38,7 +38,7 @@ fn push_own(entry: &Node, over: &[usize], items: &mut Vec<Named>) -> Result<(), 
 }
 
 /// Adds the named elementary items among an entry, which stands in these tables, and those beneath it, in their order.
-fn push_named(entry: &Node, over: &[usize], items: &mut Vec<Named>) -> Result<(), AllocError>
+fn push_named(entry: &Node, over: &[usize], items: &mut Vec<ListedItem>) -> Result<(), AllocError>
     requires { AreNested (length over.now) (tree_of entry.now) }
     ensures { IfOk result (λ _. map named_item items.new.items
         ≡ map named_item items.old.items ++ named_in over.now (tree_of entry.now)) }
@@ -56,7 +56,7 @@ fn push_named(entry: &Node, over: &[usize], items: &mut Vec<Named>) -> Result<()
 /// # Errors
 ///
 /// Where no memory is left.
-pub(crate) fn named_items(alloc: Global, root: &Node) -> Result<Vec<Named>, AllocError>
+pub(crate) fn named_items(alloc: Global, root: &Node) -> Result<Vec<ListedItem>, AllocError>
     requires { AreNested 0 (tree_of root.now) }
     ensures { IfOk result (λ items. map named_item items.items ≡ named_in [] (tree_of root.now)) }
 {

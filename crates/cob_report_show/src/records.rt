@@ -2,7 +2,7 @@
 
 ghost use Rattle.std.specs.Prelude.{◌≡◌, ◌≤◌, [], length, map, take, IfErr, IfOk, IfSome, IsFalse, IsTrue, Err, is_err, true, false};
 ghost use Rattle.cob_convert_stream.specs.Sizes.{IsFitting};
-ghost use Rattle.cob_convert_stream.specs.Reasons.{frame_reason, is_error_cause, is_read_cause, is_refused_for, is_write_cause};
+ghost use Rattle.cob_convert_stream.specs.Reasons.{is_error_cause, is_read_cause, is_refused_for, is_write_cause};
 ghost use Rattle.cob_copybook_tree.specs.Lengths.{greatest_number, sum_of};
 ghost use Rattle.cob_layout.specs.Standing.{AreSomePlaces, IsRoomFor};
 ghost use Rattle.cob_layout.specs.Storage.{current_length, greatest_length};
@@ -19,8 +19,8 @@ ghost use Rattle.cob_move_data.specs.declared.operands.Side.TheVariants.{In};
 ghost use Rattle.cob_convert_stream.specs.declared.fault.Cause.TheVariants.{Limit};
 
 use crate::elements::{Contents, put_items};
-use crate::named::{Named, named_items};
-use crate::text::{Line, push_text, put};
+use crate::named::{ListedItem, named_items};
+use crate::text::{ListingLine, push_text, put};
 use cob_convert_stream::{Cause, Reason, RunFault, Side, is_fitting};
 use cob_layout::{Book, CountFault, Counts, Layout, places_end_in_length, records_are_sound};
 use cob_records::{Form, RecordFault, Sink, Source, next_in_form};
@@ -49,24 +49,12 @@ pub const LIMIT: u64 = u64::MAX - 1;
 
 /// What the records are that are shown.
 #[derive(Clone, Copy)]
-struct Shown<'a> {
+struct ShownAs<'a> {
     layout: &'a Layout,
     /// Their named elementary items.
-    items: &'a [Named],
+    items: &'a [ListedItem],
     /// How they stand in their stream.
     form: Form,
-}
-
-/// The reason of a frame that cannot be read, or that is not one of the layout.
-fn frame_reason(fault: RecordFault) -> Reason
-    ensures value { result ≡ frame_reason fault }
-    ensures stop { IsStop result.offset result.cause }
-{
-    Reason {
-        side: Side::In,
-        offset: 0,
-        cause: Cause::Record(fault),
-    }
 }
 
 /// The reason of a count that isn't valid, or whose item ends past the record.
@@ -78,7 +66,7 @@ fn count_reason(fault: CountFault) -> Reason
     ensures errors { is_error_cause result.cause ≡ false }
 {
     if fault.short {
-        return frame_reason(RecordFault::Length);
+        return Reason::of_frame(RecordFault::Length);
     }
     Reason {
         side: Side::In,
@@ -128,13 +116,13 @@ pub fn read_record<R: Source>(
     let count = match next_in_form(source, form, layout.greatest(), bytes, left) {
         Ok(None) => return Ok(None),
         Ok(Some(count)) => count,
-        Err(fault) => return Err(frame_reason(fault)),
+        Err(fault) => return Err(Reason::of_frame(fault)),
     };
     if let Err(fault) = layout.counts_of(&bytes[..count], places) {
         return Err(count_reason(fault));
     }
     if !fits_counts(layout, form, places, count) {
-        return Err(frame_reason(RecordFault::Length));
+        return Err(Reason::of_frame(RecordFault::Length));
     }
     Ok(Some(count))
 }
@@ -148,7 +136,7 @@ fn put_record_number<W: Sink>(sink: &mut W, sent: &mut u64, number: u64) -> Resu
     ensures errors { W.errors sink.new ≡ counted (is_write_error result) (W.errors sink.old) }
 {
     let mut buffer = Buffer::new();
-    let mut line = Line::new();
+    let mut line = ListingLine::new();
     push_text(&mut line, b"record ");
     push_text(&mut line, buffer.format(number).as_bytes());
     line.push(b'\n');
@@ -161,7 +149,7 @@ fn put_lines<W: Sink>(
     sent: &mut u64,
     number: u64,
     contents: Contents,
-    items: &[Named],
+    items: &[ListedItem],
 ) -> Result<(), RecordFault>
     requires items { map named_item items.now ≡ named_in [] contents.layout.now }
     requires record { HoldsRecord contents.layout.now contents.places.now
@@ -200,18 +188,12 @@ pub fn stop_at(number: u64, reason: Reason, written: u64) -> ShowFault
       written = written;
     } }
 {
-    ShowFault::Run(RunFault {
-        number,
-        side: reason.side,
-        offset: reason.offset,
-        cause: reason.cause,
-        written,
-    })
+    ShowFault::Run(reason.at(number, written))
 }
 
 /// Shows the records of a source, one after another, up to its end or the first stop.
 fn show_records<R: Source, W: Sink>(
-    shown: Shown,
+    shown: ShownAs,
     bytes: &mut [u8],
     places: &mut Counts,
     source: &mut R,
@@ -257,7 +239,7 @@ fn show_records<R: Source, W: Sink>(
 /// # Errors
 ///
 /// Where no memory is left.
-pub fn items_of(alloc: Global, book: &Book) -> Result<Vec<Named>, AllocError>
+pub fn items_of(alloc: Global, book: &Book) -> Result<Vec<ListedItem>, AllocError>
     ensures { IfOk result (λ items. map named_item items.items ≡ named_in [] book.now) }
 {
     records_are_sound();
@@ -304,7 +286,7 @@ pub fn show<R: Source, W: Sink>(
     let mut bytes = vec![in alloc; 0u8; usize::from(layout.greatest())]?;
     let mut places = layout.new_counts(alloc)?;
     let items = items_of(alloc, book)?;
-    let shown = Shown {
+    let shown = ShownAs {
         layout,
         items: &items,
         form,

@@ -15,7 +15,7 @@ use itoa::Buffer;
 const ROOM: usize = 256;
 
 /// The text of a line or of a part of one, made up before it is written.
-pub type Line = ArrayVec<u8, ROOM>;
+pub type ListingLine = ArrayVec<u8, ROOM>;
 
 /// How many bytes of a text of so many went out in a call that answers so.
 fn taken_by(answer: Result<(), RecordFault>, long: usize) -> usize
@@ -45,7 +45,7 @@ pub fn put<W: Sink>(sink: &mut W, sent: &mut u64, text: &[u8]) -> Result<(), Rec
 }
 
 /// Adds a text.
-pub fn push_text(line: &mut Line, text: &[u8])
+pub fn push_text(line: &mut ListingLine, text: &[u8])
     requires { length line.old.items + length text.now ≤ 256 }
     ensures text { line.new.items ≡ line.old.items ++ text.now }
 {
@@ -53,7 +53,7 @@ pub fn push_text(line: &mut Line, text: &[u8])
 }
 
 /// Adds a number in decimal digits.
-pub(crate) fn push_number(line: &mut Line, number: u32)
+pub(crate) fn push_number(line: &mut ListingLine, number: u32)
     requires { length line.old.items + 10 ≤ 256 }
     ensures text { line.new.items ≡ line.old.items ++ decimal number }
     ensures long { length line.new.items ≤ length line.old.items + 10 }

@@ -11,7 +11,7 @@ ghost use Rattle.cob_report_show.specs.Sent.{SendsAdded, SendsFront, SendsOne};
 ghost use Rattle.cob_records.specs.Device.{counted, Took};
 ghost use Rattle.cob_records.specs.Frame.{is_write_error, is_write_fault};
 
-use crate::text::{Line, push_text, put};
+use crate::text::{ListingLine, push_text, put};
 use arrayvec::ArrayVec;
 use cob_cp037::decode_byte;
 use cob_layout::{Item, is_number_item, read_number};
@@ -126,7 +126,11 @@ fn piece_of(notation: Notation, byte: u8) -> ArrayVec<u8, 4>
 }
 
 /// Writes what a line holds where there is no room left in it for a further byte and for its end.
-fn make_room<W: Sink>(sink: &mut W, sent: &mut u64, line: &mut Line) -> Result<(), RecordFault>
+fn make_room<W: Sink>(
+    sink: &mut W,
+    sent: &mut u64,
+    line: &mut ListingLine,
+) -> Result<(), RecordFault>
     ensures lines { Took (W.taken sink.old) (W.taken sink.new)
         (SendsFront line.old.items line.new.items sent.old sent.new result) }
     ensures room { length line.new.items + 6 ≤ 256 }
@@ -146,7 +150,7 @@ fn make_room<W: Sink>(sink: &mut W, sent: &mut u64, line: &mut Line) -> Result<(
 fn put_pieces<W: Sink>(
     sink: &mut W,
     sent: &mut u64,
-    line: &mut Line,
+    line: &mut ListingLine,
     notation: Notation,
     bytes: &[u8],
 ) -> Result<(), RecordFault>
@@ -170,7 +174,7 @@ fn put_pieces<W: Sink>(
 fn put_characters<W: Sink>(
     sink: &mut W,
     sent: &mut u64,
-    line: &mut Line,
+    line: &mut ListingLine,
     bytes: &[u8],
 ) -> Result<(), RecordFault>
     requires { length line.old.items + 66 ≤ 256 }
@@ -191,7 +195,7 @@ fn put_characters<W: Sink>(
 fn put_unknown<W: Sink>(
     sink: &mut W,
     sent: &mut u64,
-    line: &mut Line,
+    line: &mut ListingLine,
     bytes: &[u8],
 ) -> Result<(), RecordFault>
     requires { length line.old.items + 66 ≤ 256 }
@@ -211,7 +215,7 @@ fn put_unknown<W: Sink>(
 fn put_number<W: Sink>(
     sink: &mut W,
     sent: &mut u64,
-    line: &mut Line,
+    line: &mut ListingLine,
     item: &Item,
     bytes: &[u8],
 ) -> Result<(), RecordFault>
@@ -238,7 +242,7 @@ fn put_number<W: Sink>(
 pub(crate) fn put_value<W: Sink>(
     sink: &mut W,
     sent: &mut u64,
-    line: &mut Line,
+    line: &mut ListingLine,
     item: &Item,
     bytes: &[u8],
 ) -> Result<(), RecordFault>

@@ -1,20 +1,20 @@
 //! What entries are, and what their bytes get, as it is told.
 
 use crate::items::ItemText;
-use crate::names::Named;
+use crate::names::NamedOccurrence;
 use std::fmt;
 
 /// An occurrence of an entry with what it is, an item or a group. It prints as `DD OF D OF R, PIC 99`, and as `D OF R, group`.
 #[derive(Clone, Copy)]
 pub struct DescribedText<'s, 'a> {
-    pub named: &'s Named<'a>,
+    pub named: &'s NamedOccurrence<'a>,
 }
 
 /// What a byte gets of an entry that is sent: a byte of this one, or, where there is none, a space behind the sender's end. It prints as
 /// `the bytes of N OF R, PIC S9(4) COMP` where that is a number, and else as `characters of T OF R`.
 #[derive(Clone, Copy)]
 pub struct GotText<'s, 'a> {
-    pub sent: Option<&'s Named<'a>>,
+    pub sent: Option<&'s NamedOccurrence<'a>>,
 }
 
 impl fmt::Display for DescribedText<'_, '_> {

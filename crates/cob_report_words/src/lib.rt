@@ -2,7 +2,7 @@
 //!
 //! Each prints as its text, by `Display`:
 //!
-//! - [`Named`], an occurrence of an entry, as its name, those of the groups that hold it, and its subscripts: `E OF T OF R (1, 2)`;
+//! - [`NamedOccurrence`], an occurrence of an entry, as its name, those of the groups that hold it, and its subscripts: `E OF T OF R (1, 2)`;
 //! - [`DescribedText`], an occurrence with what it is: `DD OF D OF R, PIC 99`, and [`GotText`], what a byte gets of an entry that is sent;
 //! - [`PictureText`] and [`ItemText`], a picture by its symbols with their repeats, and an item as a copybook writes it: `PIC S9(7)V99 COMP-3`;
 //! - [`ConstantText`], a literal or a figurative constant as it is written.
@@ -26,6 +26,6 @@ mod pictures;
 pub use constants::ConstantText;
 pub use described::{DescribedText, GotText};
 pub use items::ItemText;
-pub use names::{Named, Subscripts, entry_of, item_of, write_subscripts};
+pub use names::{NamedOccurrence, Subscripts, entry_of, item_of, write_subscripts};
 pub use occurrences::{advance, first_subscripts, tables_over};
 pub use pictures::PictureText;

@@ -10,7 +10,7 @@ pub type Subscripts = ArrayVec<u32, MAX_SUBSCRIPTS>;
 
 /// An occurrence of an entry of a record. It prints as its name, those of the groups that hold it, and its subscripts: `E OF T OF R (1, 2)`.
 #[derive(Drop)]
-pub struct Named<'a> {
+pub struct NamedOccurrence<'a> {
     root: &'a Node,
     number: usize,
     subscripts: Subscripts,
@@ -46,10 +46,10 @@ pub fn item_of(root: &Node, number: usize) -> Option<&Item> {
     }
 }
 
-impl<'a> Named<'a> {
+impl<'a> NamedOccurrence<'a> {
     /// The occurrence of the entry of a record with this number under these subscripts.
-    pub fn new(root: &'a Node, number: usize, subscripts: &[u32]) -> Named<'a> {
-        Named {
+    pub fn new(root: &'a Node, number: usize, subscripts: &[u32]) -> NamedOccurrence<'a> {
+        NamedOccurrence {
             root,
             number,
             subscripts: kept_subscripts(subscripts),
@@ -113,7 +113,7 @@ pub fn write_subscripts<W: fmt::Write>(
     write!(f, ")")
 }
 
-impl fmt::Display for Named<'_> {
+impl fmt::Display for NamedOccurrence<'_> {
     fn fmt<W: fmt::Write>(&self, f: &mut fmt::Formatter<W>) -> fmt::Result {
         write_names(f, self.root, self.number)?;
         write_subscripts(f, self.subscripts.as_slice())

@@ -5,7 +5,7 @@ use Rattle.std.specs.Char.{to_ascii_uppercase}
 use Rattle.cob_source.specs.declared.token.Cell.{Cell}
 use Rattle.cob_source.specs.declared.token.Cutting.{Cutting}
 use Rattle.cob_source.specs.declared.token.Cutting.TheVariants.{Whole, Apart}
-use Rattle.cob_source.specs.declared.token.Kind.TheVariants.{Word, Literal, Stop}
+use Rattle.cob_source.specs.declared.token.TokenKind.TheVariants.{Word, Literal, Stop}
 use Rattle.cob_source.specs.Tokens.{Lexeme}
 use Rattle.cob_source.specs.Pieces.{pieces}
 

@@ -1,11 +1,11 @@
 -- What a reader of tokens sees of them.
 use Rattle.std.specs.Prelude.{ℕ, List, map}
 use Rattle.cob_source.specs.declared.token.Token.{Token}
-use Rattle.cob_source.specs.declared.token.Kind.{Kind}
+use Rattle.cob_source.specs.declared.token.TokenKind.{TokenKind}
 
 -- a word, a literal or a stop: its characters, and the line and the column of the first of them
 pub record Lexeme : Type 0 where
-  pub kind : Kind
+  pub kind : TokenKind
   pub text : List ℕ
   pub line : ℕ
   pub column : ℕ

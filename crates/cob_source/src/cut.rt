@@ -3,7 +3,7 @@ ghost use Rattle.std.specs.List.{AllByRecursion};
 ghost use Rattle.cob_source.specs.Tokens.{Lexeme, lexemes};
 ghost use Rattle.cob_source.specs.Cuts.{IsPlain, is_plain, is_gap, is_quote, plain_first, quote_first, open_from, open_quote, stop, words_before_sign, lexemes_of, Chunk, Body, NotFirstQuote, literal, Cuts};
 
-use crate::token::{Cell, Cutting, Kind, Token};
+use crate::token::{Cell, Cutting, Token, TokenKind};
 use crate::word::push_words;
 use std::alloc::{AllocError, Global};
 
@@ -42,7 +42,7 @@ fn push_stop(alloc: Global, period: Cell, out: &mut Vec<Token>) -> Result<(), Al
     let mut text = Vec::new(alloc);
     text.push(period.byte)?;
     out.push(Token {
-        kind: Kind::Stop,
+        kind: TokenKind::Stop,
         text,
         line: period.line,
         column: period.column,
@@ -138,7 +138,7 @@ fn push_literal(opening: Cell, text: Vec<u8>, out: &mut Vec<Token>) -> Result<()
         (lexemes out.new.items ≡ lexemes out.old.items ++ literal opening text.items) }
 {
     out.push(Token {
-        kind: Kind::Literal,
+        kind: TokenKind::Literal,
         text,
         line: opening.line,
         column: opening.column,

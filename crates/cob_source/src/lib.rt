@@ -44,4 +44,4 @@ pub use laws::{
 };
 pub use lines::without_return;
 pub use reader::{paragraph_tokens, tokens};
-pub use token::{Kind, Token};
+pub use token::{Token, TokenKind};

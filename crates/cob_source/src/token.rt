@@ -17,7 +17,7 @@ pub enum Cutting {
 
 /// What a token is.
 #[derive(Clone, Copy, PartialEq, Eq)]
-pub enum Kind {
+pub enum TokenKind {
     /// A word, in capitals.
     Word,
     /// A literal between quotes.
@@ -35,5 +35,5 @@ pub struct Token {
     pub line: u32,
     /// The column of the first character, from 8 to 72.
     pub column: u8,
-    pub kind: Kind,
+    pub kind: TokenKind,
 }

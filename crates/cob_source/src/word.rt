@@ -4,7 +4,7 @@ ghost use Rattle.cob_source.specs.Tokens.{lexemes};
 ghost use Rattle.cob_source.specs.Pieces.{is_bracket, is_cut, cut_first, pieces};
 ghost use Rattle.cob_source.specs.Cuts.{word_text, word, words_of};
 
-use crate::token::{Cell, Cutting, Kind, Token};
+use crate::token::{Cell, Cutting, Token, TokenKind};
 use std::alloc::{AllocError, Global};
 
 /// The characters of a word, in capitals.
@@ -25,7 +25,7 @@ fn push_word(alloc: Global, cells: &[Cell], out: &mut Vec<Token>) -> Result<(), 
     if let Some(first) = cells.first() {
         let text = capitals(alloc, cells)?;
         out.push(Token {
-            kind: Kind::Word,
+            kind: TokenKind::Word,
             text,
             line: first.line,
             column: first.column,

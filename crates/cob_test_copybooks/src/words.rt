@@ -2,17 +2,17 @@
 //!
 //! A row is a text between quotes, or of the table `long_texts` how many bytes one has, of which the words are counted.
 
-use cob_source::{Kind, SourceFault, Token, paragraph_tokens, tokens};
+use cob_source::{SourceFault, Token, TokenKind, paragraph_tokens, tokens};
 use cob_test_rows::{Row, RowFault, push_text};
 use std::alloc::{AllocError, Global};
 use std::fmt::Write;
 
 /// The name of a kind of token.
-fn kind_name(kind: Kind) -> &'static str {
+fn kind_name(kind: TokenKind) -> &'static str {
     match kind {
-        Kind::Word => "word",
-        Kind::Literal => "literal",
-        Kind::Stop => "stop",
+        TokenKind::Word => "word",
+        TokenKind::Literal => "literal",
+        TokenKind::Stop => "stop",
     }
 }
 

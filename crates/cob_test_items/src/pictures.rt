@@ -1,6 +1,6 @@
 //! Pictures.
 
-use cob_picture::{Category, Picture, PictureFault, Role, Run, Symbol};
+use cob_picture::{Category, Picture, PictureFault, PositionRole, Run, Symbol};
 use cob_test_rows::{Row, RowFault};
 use std::alloc::{AllocError, Global};
 use std::fmt::Write;
@@ -41,18 +41,18 @@ fn symbol_name(symbol: Symbol) -> &'static str {
 }
 
 /// The name of a role.
-fn role_name(role: Role) -> &'static str {
+fn role_name(role: PositionRole) -> &'static str {
     match role {
-        Role::Character => "character",
-        Role::Insertion => "insertion",
-        Role::DecimalPoint => "decimal point",
-        Role::Digit => "digit",
-        Role::Suppressed => "suppressed",
-        Role::Floating => "floating",
-        Role::FirstFloating => "first floating",
-        Role::FixedSign => "fixed sign",
-        Role::FixedCurrency => "fixed currency",
-        Role::NoByte => "no byte",
+        PositionRole::Character => "character",
+        PositionRole::Insertion => "insertion",
+        PositionRole::DecimalPoint => "decimal point",
+        PositionRole::Digit => "digit",
+        PositionRole::Suppressed => "suppressed",
+        PositionRole::Floating => "floating",
+        PositionRole::FirstFloating => "first floating",
+        PositionRole::FixedSign => "fixed sign",
+        PositionRole::FixedCurrency => "fixed currency",
+        PositionRole::NoByte => "no byte",
     }
 }
 

@@ -4,7 +4,7 @@
 use cob_convert::Status;
 use cob_program_commands::{answer, refuse};
 use cob_program_line::LineFault;
-use cob_program_runtime::{Limited, take_closed};
+use cob_program_runtime::{LimitedRuntime, take_closed};
 use std::env;
 use std::io::ErrorKind;
 use std::process::ExitCode;
@@ -20,7 +20,7 @@ fn words(rt: &HostRuntime) -> Result<Vec<String>, LineFault> {
 
 /// Does what the words ask for, and answers the status. No file is written past the limit that the system has for its size.
 fn run(rt: &HostRuntime) -> u8 {
-    let limited = Limited::new(rt);
+    let limited = LimitedRuntime::new(rt);
     match words(rt) {
         Ok(words) => answer(&limited, words.as_slice()),
         Err(fault) => refuse(&limited, &fault),

@@ -6,11 +6,11 @@ use Rattle.cob_records.specs.declared.records.Form.{Form}
 use Rattle.cob_convert_record.specs.Conversion.{in_length}
 use Rattle.cob_convert_stream.specs.declared.fault.Reason.{Reason}
 use Rattle.cob_convert_stream.specs.declared.fault.RunFault.{RunFault}
-use Rattle.cob_convert_stream.specs.Reasons.{is_read_cause}
+use Rattle.cob_convert_stream.specs.Reasons.{fault_at, is_read_cause}
 use Rattle.cob_convert.specs.declared.aside.AsideFault.TheVariants as fault
-use Rattle.cob_convert.specs.declared.aside.Ending.TheVariants as ending
+use Rattle.cob_convert.specs.declared.aside.AsideOutcome.TheVariants as ending
 use Rattle.cob_convert.specs.Aside.{is_aside_ending, is_aside_error, is_aside_error_ending, is_aside_fault, is_read_ending, is_read_fault}
-use Rattle.cob_convert.specs.Outcomes.{append_notes, fault_at}
+use Rattle.cob_convert.specs.Outcomes.{append_notes}
 use Rattle.cob_convert.proofs.Sifted.{aside_error_over, aside_exit, aside_over, clean_exit, counts_closed, emptied_again, fits_in, input_exit, limit_exit, read_over, record_size, reject_exit, start, step_converted, step_rejected, write_exit}
 use Rattle.cob_convert.proofs.aside.run_over_aside.Goals as goal
 
@@ -102,7 +102,7 @@ loop-done-preserved-in-Err-converted g c =
           c.loop-done.invariant.so_far (rw c.in-Ok-Some.field-0-is at c.in-Ok-Some.ensures.reads) (rw c.in-Ok-Some.field-0-is at c.in-Ok-Some.ensures.whole) c.in-Err-converted.ensures.rejects (omega (arith, c.loop-done.invariant.so_far.within)) refl
           (subst (λ (f : Form). Took (g.A.Sink.taken c.loop-done.aside) (g.A.Sink.taken c.set_aside.new.aside) (Puts (framed_alone f (take c.in-Ok-Some.count c.next_whole.new.slot)) (Ok tt)))
           c.in_form-form.ensures.value c.in_default.ensures.aside)
-          (c.in_default.ensures.noted ∙ ap (λ (f : RunFault). append_notes (g.N.Notes.told c.loop-done.notes) (f ∷ [])) c.fault_of-fault.ensures)
+          (c.in_default.ensures.noted ∙ ap (λ (f : RunFault). append_notes (g.N.Notes.told c.loop-done.notes) (f ∷ [])) c.at-fault.ensures)
           (λ e. c.first_behind_rejected-first.ensures.none (c.held.ensures ∙ e)) (λ e. c.first_behind_rejected-first.ensures.some (omega (arith, e, c.held.ensures)));
       few = omega (arith, c.loop-done.invariant.few);
       reads = search rules;
@@ -134,7 +134,7 @@ returns-in-Err-write_record-clause-ran g c =
     write_exit c.args.conversion.now c.args.most c.loop-done.done c.loop-done.rejected c.loop-done.first c.loop-done.written c.write_record.new.written c.loop-done.left c.next_whole.new.left c.in-Ok-Some.count c.in-Ok.made c.loop-done.outlet c.in-Err-write_record.fault _ c.next_whole.new.slot c.converted.new.output
     _ (g.R.Source.coming c.loop-done.source) _ _ (record { sink = g.W.Sink.taken c.loop-done.sink; aside = g.A.Sink.taken c.loop-done.aside; notes = g.N.Notes.told c.loop-done.notes }) _
     c.loop-done.invariant.so_far (rw c.in-Ok-Some.field-0-is at c.in-Ok-Some.ensures.reads) c.in-Ok.ensures.converts (omega arith) c.in-Err-write_record.ensures.puts
-    (ap (λ (f : RunFault). Err (fault.Stopped f)) (c.fault_of-fault-in-Err-write_record.ensures ∙ ap (λ (r : Reason). fault_at c.loop-done.first r c.write_record.new.written) c.of_write.ensures)) refl refl
+    (ap (λ (f : RunFault). Err (fault.Stopped f)) (c.at-fault-in-Err-write_record.ensures ∙ ap (λ (r : Reason). fault_at c.loop-done.first r c.write_record.new.written) c.of_write.ensures)) refl refl
 
 pub returns-in-Err-write_record-clause-outlet : goal.returns-in-Err-write_record-clause-outlet
 returns-in-Err-write_record-clause-outlet g c =

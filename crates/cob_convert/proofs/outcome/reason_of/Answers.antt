@@ -5,4 +5,4 @@ pub returns-in-Misfit : goal.returns-in-Misfit
 returns-in-Misfit c = λ conversion input misfit. ByLayout (rw c.in-Misfit.is at misfit)
 
 pub returns-in-Stopped : goal.returns-in-Stopped
-returns-in-Stopped c = λ conversion input stops. let (sized, at) = rw c.in-Stopped.is at stops in ByConversion c.in-Stopped.stop sized at c.reason_of_stop.ensures
+returns-in-Stopped c = λ conversion input stops. let (sized, at) = rw c.in-Stopped.is at stops in ByConversion c.in-Stopped.stop sized at c.stop_reason.ensures.reason

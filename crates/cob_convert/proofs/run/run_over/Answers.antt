@@ -2,14 +2,10 @@ use Rattle.std.proofs.Common.{ℕ, Bool, rules, arith, take, Some, ◌∙◌, ap
 use Rattle.cob_records.specs.Device.{counted}
 use Rattle.cob_convert_stream.specs.declared.fault.Reason.{Reason}
 use Rattle.cob_convert_stream.specs.declared.fault.RunFault.{RunFault}
-use Rattle.cob_convert_stream.specs.Reasons.{is_read_cause, reason_of}
+use Rattle.cob_convert_stream.specs.Reasons.{fault_at, is_read_cause, reason_of}
 use Rattle.cob_convert.proofs.Carried.{clean_exit, emptied_again, fits_in, input_exit, limit_exit, reads_closed, reject_exit, step, write_exit}
 use Rattle.cob_convert.proofs.Rejections.{rejected_unread}
 use Rattle.cob_convert.proofs.run.run_over.Goals as goal
-
--- the fault of a record for this reason
-abbrev fault_at : ℕ → Reason → ℕ → RunFault
-fault_at number why written = record { number = number; side = why.side; offset = why.offset; cause = why.cause; written = written }
 
 pub returns-in-Ok-None-clause-ran : goal.returns-in-Ok-None-clause-ran
 returns-in-Ok-None-clause-ran g c =
@@ -56,9 +52,9 @@ returns-in-Err-write_record-clause-ran g c =
     _ (g.R.Source.coming c.loop-done.source) _ _ (g.W.Sink.taken c.loop-done.sink) _
     c.loop-done.invariant.so_far (rw c.in-Ok-Some.field-0-is at c.in-Ok-Some.ensures.reads) c.in-Ok.ensures.converts (omega arith)
     c.in-Err-write_record.ensures.puts
-    (ap reason_of c.stop_behind.ensures ∙ ap (λ (r : Reason). reason_of (fault_at 0 r 0)) c.of_write.ensures)
-    (omega (arith, c.loop-done.invariant.so_far.few, c.from-held.ensures, c.held.ensures, ap (λ (f : RunFault). f.number) c.stop_behind.ensures))
-    (ap (λ (f : RunFault). f.written) c.stop_behind.ensures)
+    (ap reason_of c.at.ensures ∙ ap (λ (r : Reason). reason_of (fault_at 0 r 0)) c.of_write.ensures)
+    (omega (arith, c.loop-done.invariant.so_far.few, c.from-held.ensures, c.held.ensures, ap (λ (f : RunFault). f.number) c.at.ensures))
+    (ap (λ (f : RunFault). f.written) c.at.ensures)
 
 pub returns-in-Err-write_record-clause-outlet : goal.returns-in-Err-write_record-clause-outlet
 returns-in-Err-write_record-clause-outlet g c =

@@ -1,6 +1,6 @@
 use Rattle.std.proofs.Common.{sym, ◌∙◌, arith}
 use Rattle.cob_picture.specs.declared.symbol.Symbol.{Symbol}
-use Rattle.cob_picture.specs.declared.edited.Part.TheVariants.{Lead}
+use Rattle.cob_picture.specs.declared.edited.EditedPart.TheVariants.{Lead}
 use Rattle.cob_picture.specs.Positions.{is_that}
 use Rattle.cob_picture.specs.Edited.{belongs, symbol_kind}
 use Rattle.cob_picture.proofs.Placed.{any_runs}

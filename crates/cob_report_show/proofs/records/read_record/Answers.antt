@@ -28,7 +28,7 @@ returns-clause-next g c =
 
 pub returns-in-Err-clause-next : goal.returns-in-Err-clause-next
 returns-in-Err-clause-next g c =
-    next_refused c.args.form c.args.layout.now c.args.left.now c.next_in_form.new.left c.next_in_form.new.slot c.in-Err.fault c.frame_reason.result _ _ c.frame_reason.ensures.value (rw c.greatest.ensures.value at c.in-Err.ensures.frame)
+    next_refused c.args.form c.args.layout.now c.args.left.now c.next_in_form.new.left c.next_in_form.new.slot c.in-Err.fault c.of_frame.result _ _ c.of_frame.ensures (rw c.greatest.ensures.value at c.in-Err.ensures.frame)
 
 pub returns-in-Err-counts_of-clause-next : goal.returns-in-Err-counts_of-clause-next
 returns-in-Err-counts_of-clause-next g c =
@@ -37,6 +37,6 @@ returns-in-Err-counts_of-clause-next g c =
 
 pub returns-then-not-fits_counts-clause-next : goal.returns-then-not-fits_counts-clause-next
 returns-then-not-fits_counts-clause-next g c =
-    next_unfitting c.args.form c.args.layout.now c.counts_of.new.counts c.args.left.now c.next_in_form.new.left c.next_in_form.new.slot c.in-Ok-Some.count c.frame_reason-then-not-fits_counts.result _ _
-    c.frame_reason-then-not-fits_counts.ensures.value c.in_default.ensures.stands (c.if-not-fits_counts.ensures.only refl)
+    next_unfitting c.args.form c.args.layout.now c.counts_of.new.counts c.args.left.now c.next_in_form.new.left c.next_in_form.new.slot c.in-Ok-Some.count c.of_frame-then-not-fits_counts.result _ _
+    c.of_frame-then-not-fits_counts.ensures c.in_default.ensures.stands (c.if-not-fits_counts.ensures.only refl)
     (rw (c.in-Ok-Some.field-0-is, c.greatest.ensures.value) at c.in-Ok-Some.ensures.frame)

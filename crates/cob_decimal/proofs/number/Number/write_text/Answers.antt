@@ -17,4 +17,4 @@ returns c =
     ]
     in
     made c.args.self.now.negative c.args.self.now.digits c.args.self.now.scale c.write_fraction.new.out.items c.as_slice-digits.ensures.digits
-    (c.write_fraction.ensures ∙ rw (c.write_whole.ensures, c.without_zeros.ensures, sign, c.zeros.ensures, c.saturating_sub-point.ensures, c.places-places.ensures, c.as_slice-digits.ensures.value, take_rest, to_z-of_z w8 c.args.self.now.scale fits, append_assoc) refl)
+    (c.write_fraction.ensures ∙ rw (c.write_whole.ensures, c.without_zeros.ensures.rest, sign, c.zeros_of-zeros.ensures, c.saturating_sub-point.ensures, c.places-places.ensures, c.as_slice-digits.ensures.value, take_rest, to_z-of_z w8 c.args.self.now.scale fits, append_assoc) refl)

@@ -1,7 +1,0 @@
-use Rattle.std.proofs.Common.{◌≡◌}
-use Rattle.cob_copybook_tree.specs.Nodes.{forest}
-use Rattle.cob_copybook_same.proofs.EntryLemmas.{Both, left}
-use Rattle.cob_copybook_same.proofs.entries.+entries.Given as goal
-
-abbrev pub invariant-are_same_entries-loop-entry : goal.invariant-are_same_entries-loop-entry
-invariant-are_same_entries-loop-entry l = Both (left l.entries l.entry-index ≡ forest l.rest) (forest l.entries ≡ forest l.others)
