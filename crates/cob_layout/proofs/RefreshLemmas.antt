@@ -62,15 +62,15 @@ unkept_none t (k ∷ ks) long none = absurd (omega (arith, long, ap length none)
 
 -- ---- what is kept behind a reading
 
-each_kept : (t : Forest Resolved) (bytes : List ℕ) (xs : List Table) (ks : List (Option StoredCount)) → length ks ≡ length xs
+are_kept : (t : Forest Resolved) (bytes : List ℕ) (xs : List Table) (ks : List (Option StoredCount)) → length ks ≡ length xs
     → ((x : Table) (k : StoredCount) → IsKeptAs x k xs ks → IsStoredCount t bytes x k.number) → AreKept t bytes xs (kept_numbers ks)
-each_kept t bytes [] ks e h = tt
-each_kept t bytes (x ∷ xs) [] e h = absurd (omega (arith, e))
-each_kept t bytes (x ∷ xs) (None ∷ ks) e h = (tt, each_kept t bytes xs ks (omega (arith, e)) (λ y k is. h y k (inr is)))
-each_kept t bytes (x ∷ xs) (Some j ∷ ks) e h = (h x j (inl (refl, refl)), each_kept t bytes xs ks (omega (arith, e)) (λ y k is. h y k (inr is)))
+are_kept t bytes [] ks e h = tt
+are_kept t bytes (x ∷ xs) [] e h = absurd (omega (arith, e))
+are_kept t bytes (x ∷ xs) (None ∷ ks) e h = (tt, are_kept t bytes xs ks (omega (arith, e)) (λ y k is. h y k (inr is)))
+are_kept t bytes (x ∷ xs) (Some j ∷ ks) e h = (h x j (inl (refl, refl)), are_kept t bytes xs ks (omega (arith, e)) (λ y k is. h y k (inr is)))
 
 pub numbers_kept : (t : Forest Resolved) (bytes : List ℕ) (ks : List (Option StoredCount)) → length ks ≡ length (tables_of t) → AreKeptOf t bytes ks → AreKept t bytes (tables_of t) (kept_numbers ks)
-numbers_kept t bytes ks long kept = each_kept t bytes (tables_of t) ks long kept.numbers
+numbers_kept t bytes ks long kept = are_kept t bytes (tables_of t) ks long kept.numbers
 
 pub numbers_read : (read : Table → Bool) (d : List ℕ) (spots : List Spot) (xs : List Table) (ks : List (Option StoredCount)) → length ks ≡ length xs
     → kept_numbers (kept_read read d spots xs ks) ≡ kept_after read d xs (kept_numbers ks)
