@@ -119,7 +119,7 @@ first_part law r m p ps rest input before end steady h (inr (stop, after, inr (o
 -- ---- receivers that leave what an entry of their record sends
 
 -- the bytes that were written are as many as the place has, where the storage is as long as before
-written_size : (p : Place) (before bytes : List ℕ) → p.offset + p.length ≤ length before → length (with_field before p bytes) ≡ length before → length bytes ≡ p.length
+pub written_size : (p : Place) (before bytes : List ℕ) → p.offset + p.length ≤ length before → length (with_field before p bytes) ≡ length before → length bytes ≡ p.length
 written_size p before bytes fits same = omega (
   arith,
   fits,

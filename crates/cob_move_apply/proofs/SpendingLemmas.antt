@@ -126,7 +126,7 @@ spends_as r m n input before result after old new same h = subst (λ (k : Move).
 -- ---- a move that was made ready
 
 -- what the receiver of a move that was made ready got
-made_bytes : (side : Side) (p : MovePlaces) (before after : List ℕ) (outcome : Option (List ℕ)) → done after ≡ received_at side p before outcome → (bytes : List ℕ) × (outcome ≡ Some bytes) × (with_field before p.to bytes ≡ after)
+pub made_bytes : (side : Side) (p : MovePlaces) (before after : List ℕ) (outcome : Option (List ℕ)) → done after ≡ received_at side p before outcome → (bytes : List ℕ) × (outcome ≡ Some bytes) × (with_field before p.to bytes ≡ after)
 made_bytes side p before after (Some bytes) same = (bytes, refl, sym (ap (λ (e : Ending). e.storage) same))
 made_bytes side p before after None same = absurd (stop_of after before _ same)
 

@@ -4,6 +4,8 @@ use Rattle.std.proofs.lemmas.List.{drop-take, drop_all, take-append-drop, take-a
 use Rattle.cob_codec.specs.declared.reading.Reading.{Reading}
 use Rattle.cob_codec.specs.declared.reading.Reading.TheVariants.{Pictured}
 use Rattle.cob_copybook_tree.specs.declared.node.Kind.{Kind}
+use Rattle.cob_copybook_tree.specs.Forests.{Forest}
+use Rattle.cob_copybook_tree.specs.Nodes.{Resolved}
 use Rattle.cob_layout.specs.declared.fields.Place.{Place}
 use Rattle.cob_layout.specs.Fields.{field_of, with_field}
 use Rattle.cob_move_data.specs.declared.operands.Side.{Side}
@@ -24,6 +26,7 @@ use Rattle.cob_move_apply.specs.Located.{stop_at}
 use Rattle.cob_move_apply.specs.Made.{IsMadeReady, StandAt}
 use Rattle.cob_move_apply.specs.Spent.{HaveSpent, IsSpent, PlaceSpends}
 use Rattle.cob_move_apply.specs.Steps.{CarriesAnywhere, CarriesPictured, GivesText, copied_move}
+use Rattle.cob_move_apply.specs.Surveyed.{IsSurvey, SurveysField}
 use Rattle.cob_move_apply.specs.Written.{HasPlaces, IsReceivedFrom, ended}
 use Rattle.cob_move_apply.specs.declared.step.LocatedMove.{LocatedMove}
 use Rattle.cob_move_apply.specs.declared.step.MovePlaces.{MovePlaces}
@@ -31,9 +34,10 @@ use Rattle.cob_move_apply.specs.declared.step.PreparedMove.{PreparedMove}
 use Rattle.cob_move_apply.specs.declared.stop.StopCause.TheVariants.{NoValue}
 use Rattle.cob_move_apply.specs.declared.survey.Survey.{Survey}
 use Rattle.cob_move_apply.proofs.CopyLemmas.{as_long}
+use Rattle.cob_move_apply.proofs.CutLemmas.{written_size}
 use Rattle.cob_move_apply.proofs.LocatedLemmas.{located_ends}
 use Rattle.cob_move_apply.proofs.PreparedLemmas.{IsAnswered, ends_there, last_bytes}
-use Rattle.cob_move_apply.proofs.SpendingLemmas.{located_met}
+use Rattle.cob_move_apply.proofs.SpendingLemmas.{located_met, made_bytes}
 use Rattle.cob_move_apply.proofs.SpentLemmas.{spent_behind}
 
 -- what the step answers of bytes that the sender's end is what the receiver gets
@@ -102,13 +106,30 @@ backwards_is p storage new fits =
 pub taken_ends : (p : Place) (bytes storage : List ℕ) → p.offset + p.length ≤ length storage → bytes ≡ field_of p storage → last_bytes p.length bytes ≡ field_of p storage
 taken_ends p bytes storage fits same = ap (λ n. last_bytes n bytes) (sym (as_long p storage fits) ∙ sym (ap length same)) ∙ (all_bytes bytes ∙ same)
 
+-- bytes that were left as they were, behind a front and within one
+pub onwards_kept : (start n : ℕ) (storage new : List ℕ) → new ≡ take n (drop start storage) → take start storage ++ (new ++ drop n (drop start storage)) ≡ storage
+onwards_kept start n storage new same =
+    ap (λ t. take start storage ++ (t ++ drop n (drop start storage))) same
+    ∙ ap (λ t. take start storage ++ t) (take-append-drop n (drop start storage))
+    ∙ take-append-drop start storage
+
+-- what is kept of the output record once a step moved
+pub survey_made : (t : Forest Resolved) (p : PreparedMove) (steps : MoveSteps) (k : MoveKinds) (before after : List ℕ) (old new : Survey) → IsMoveStep steps k p.step → HasPlaces p.places k
+    → p.places.to.offset + p.places.to.length ≤ length before → length after ≡ length before → IsMadeReady Out p steps before before (done after) → SurveysField t p.places.to old new
+    → IsSurvey t before old → IsSurvey t after new
+survey_made t p steps k before after old new is has within size made changes surveyed =
+    let (outcome, received, same) = made k is has in
+    let (bytes, some, written) = made_bytes Out p.places before after outcome same in
+    subst (λ (b : List ℕ). IsSurvey t b new) written
+    (changes before bytes within (written_size p.places.to before bytes within (ap length written ∙ size)) surveyed)
+
 -- ---- wherever both stand
 
 -- between these kinds, of so many bytes
 abbrev pub between : Kind → Kind → ℕ → ℕ → MoveKinds
 between from to sent received = record { sender = from; sent = sent; receiver = to; received = received }
 
-least : (n : ℕ) → n ≤ n
+pub least : (n : ℕ) → n ≤ n
 least n = omega arith
 
 -- a step of these kinds that got all bytes of its sender

@@ -124,7 +124,7 @@ fn run_by_rule(
     let start = places.to.offset as usize;
     let end = start + places.to.length as usize;
     let sent = field(input, places.from);
-    if receive_by_rule(kinds, layouts.reading, sent, &mut output[start..end]) {
+    if receive_by_rule(&kinds, layouts.reading, sent, &mut output[start..end]) {
         space.output.change_output(layouts, places.to);
         true
     } else {

@@ -72,17 +72,17 @@ fn both_within(
 fn run_between_bytes(
     plan: &Plan,
     step: LocatedStep,
-    kinds: Kinds<'_>,
+    kinds: &Kinds<'_>,
     reading: Reading,
     from: &[u8],
     to: &mut [u8],
 ) -> bool
-    requires carries { CarriesLocated plan.now.prepared plan.now.pictured kinds.sender.now
-        kinds.receiver.now step }
+    requires carries { CarriesLocated plan.now.prepared plan.now.pictured kinds.now.sender.now
+        kinds.now.receiver.now step }
     requires serves { serves step reading ≡ true }
-    requires sent { Occupies kinds.sender.now (length from.now) }
-    requires received { Occupies kinds.receiver.now (length to.old) }
-    ensures gets { Received (Entry kinds.sender.now from.now reading) kinds.receiver.now
+    requires sent { Occupies kinds.now.sender.now (length from.now) }
+    requires received { Occupies kinds.now.receiver.now (length to.old) }
+    ensures gets { Received (Entry kinds.now.sender.now from.now reading) kinds.now.receiver.now
         (length to.old) (outcome result to.new) }
     ensures same { result ≡ false → to.new ≡ to.old }
 {
@@ -136,7 +136,7 @@ fn run_there(
     let end = start + places.to.length as usize;
     let taken = &space.content.as_slice()[..sent];
     let to = &mut output[start..end];
-    if run_between_bytes(plan, one.step, kinds, layouts.reading, taken, to) {
+    if run_between_bytes(plan, one.step, &kinds, layouts.reading, taken, to) {
         space.output.change_output(layouts, places.to);
         true
     } else {

@@ -85,7 +85,7 @@ fn plain_copy(sent: &Ref, receiver: &Ref, both: &Between<'_>) -> Option<MovePlac
     requires receiver { IsOperand both.now.output.now
         (operand_in both.now.output.now receiver.now) }
     ensures copied { IfSome result (λ c. AlwaysCopied both.now c
-        (entry_alone both.now sent.now receiver.now)) }
+        (entry_alone In both.now sent.now receiver.now)) }
     ensures short { IfSome result AreWithinLongest }
     ensures value { (reading : Reading) → result ≡ entry_copy both.now sent.now receiver.now
         reading }
@@ -520,7 +520,7 @@ fn push_move(
         plan.old.steps.items plan.new.steps.items) }
 {
     let receivers = one.receivers.as_slice();
-    if may_be_cut(&one.sender, receivers, both) && !receivers.is_empty() {
+    if may_be_cut(&one.sender, receivers, both) && !one.receivers.is_empty() {
         return push_singles(given, number, one, both, plan);
     }
     let part = StatementPart {

@@ -19,14 +19,14 @@ pub(crate) struct Kinds<'a> {
 /// that what carries out steps stays short.
 #[inline(never)]
 pub(crate) fn receive_by_rule(
-    kinds: Kinds<'_>,
+    kinds: &Kinds<'_>,
     reading: Reading,
     from: &[u8],
     to: &mut [u8],
 ) -> bool
-    requires sent { Occupies kinds.sender.now (length from.now) }
-    requires received { Occupies kinds.receiver.now (length to.old) }
-    ensures gets { Received (Entry kinds.sender.now from.now reading) kinds.receiver.now
+    requires sent { Occupies kinds.now.sender.now (length from.now) }
+    requires received { Occupies kinds.now.receiver.now (length to.old) }
+    ensures gets { Received (Entry kinds.now.sender.now from.now reading) kinds.now.receiver.now
         (length to.old) (outcome result to.new) }
     ensures same { result ≡ false → to.new ≡ to.old }
 {
