@@ -22,6 +22,7 @@ use Rattle.cob_move_apply.specs.InPlace.{AppliedInPlace}
 use Rattle.cob_move_apply.specs.Placed.{IsFixed}
 use Rattle.cob_move_apply.specs.Steps.{AreMovesCut, AreReceived, IsMoveCut, MayBeCut, SendsTheSame, alone, singles}
 use Rattle.cob_move_apply.proofs.InPlaceLemmas.{applied_of}
+use Rattle.cob_move_apply.proofs.PlainLemmas.{none_of}
 use Rattle.cob_move_apply.proofs.OneLemmas.{one_given, one_place, ok_is, ok_not, stop_of}
 
 -- ---- moves behind moves
@@ -204,13 +205,13 @@ cut_moves law r (m ∷ ms) parts input before end long (own, rest, cut, one, mor
 
 -- ---- cutting
 
-no_table_of : (xs : List Table) (b : Bool) → b ≡ not (length xs == 0) → b ≡ false → xs ≡ []
-no_table_of [] b e f = refl
-no_table_of (x ∷ xs) b e f = absurd (let never : true ≡ false = sym e ∙ f in cc)
+not_false : (b : Bool) → not b ≡ false → b ≡ true
+not_false true e = refl
+not_false false e = absurd (cc)
 
 -- no table of a record varies, where one says so
 pub no_table : (t : Forest Resolved) (b : Bool) → b ≡ not (length (tables_of t) == 0) → b ≡ false → tables_of t ≡ []
-no_table t b e f = no_table_of (tables_of t) b e f
+no_table t b e f = none_of (tables_of t) (not_false (length (tables_of t) == 0) (sym e ∙ f))
 
 -- moves behind moves
 pub cut_both : (r : Records) (ms ns parts others : List Move) → AreMovesCut r ms parts → AreMovesCut r ns others → AreMovesCut r (ms ++ ns) (parts ++ others)

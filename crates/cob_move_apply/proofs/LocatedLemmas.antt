@@ -62,9 +62,9 @@ characters_at p right = Characters (record { sent = p.from.length; right = right
 pub characters_there : (side : Side) (r : Records) (steps : MoveSteps) (one : LocatedMove) (right : Bool) (p : MovePlaces) (input before : List ℕ) → StandAt side r one input before p
     → GivesText (operand_in (record_of r side) one.sent).kind (operand_in r.output one.receiver).kind right
     → IsMoveStep steps (kinds_of (operand_in (record_of r side) one.sent).kind (operand_in r.output one.receiver).kind p.from p.to) (characters_at p right)
-characters_there side r steps one right p input before stand (gives, side) = record {
+characters_there side r steps one right p input before stand (gives, stands) = record {
   occupied = record { sender = stand.sent; receiver = stand.received };
-  between = record { gives = gives; count = refl; side = side };
+  between = record { gives = gives; count = refl; side = stands };
 }
 
 pub made_characters : (side : Side) (r : Records) (x : Reading) (steps : MoveSteps) (one : LocatedMove) (right : Bool) (p : MovePlaces) (input before : List ℕ) (end : Ending) → StandAt side r one input before p

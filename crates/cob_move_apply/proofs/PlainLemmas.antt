@@ -27,7 +27,7 @@ both : (a b : Bool) → (a && b) ≡ true → (a ≡ true) × (b ≡ true)
 both true b e = (refl, e)
 both false b e = absurd (cc)
 
-none_of : (xs : List Table) → (length xs == 0) ≡ true → xs ≡ []
+pub none_of : (xs : List Table) → (length xs == 0) ≡ true → xs ≡ []
 none_of [] e = refl
 none_of (x ∷ xs) e = absurd (omega (arith, eqb-true _ _ e))
 

@@ -178,8 +178,8 @@ there_has_spent side r x one p input before bytes after old mid new stand receiv
 -- what was received of such kinds
 pub received_as : (s t k l : Kind) (x : Reading) (sent_bytes field : List ℕ) (n m : ℕ) (b : Bool) (new : List ℕ) → s ≡ k → t ≡ l → sent_bytes ≡ field → n ≡ m → b ≡ true
     → Received (sent.Entry s sent_bytes x) t n (outcome b new) → Received (sent.Entry k field x) l m (Some new)
-received_as s t k l x sent_bytes field n m b new from to same size yes h =
+received_as s t k l x sent_bytes field n m b new from to same size there h =
     subst (λ (y : Kind). Received (sent.Entry y field x) l m (Some new)) from
     (subst (λ (y : Kind). Received (sent.Entry s field x) y m (Some new)) to
     (subst (λ (ys : List ℕ). Received (sent.Entry s ys x) t m (Some new)) same
-    (subst (λ (i : ℕ). Received (sent.Entry s sent_bytes x) t i (Some new)) size (subst (λ (c : Bool). Received (sent.Entry s sent_bytes x) t n (outcome c new)) yes h))))
+    (subst (λ (i : ℕ). Received (sent.Entry s sent_bytes x) t i (Some new)) size (subst (λ (c : Bool). Received (sent.Entry s sent_bytes x) t n (outcome c new)) there h))))

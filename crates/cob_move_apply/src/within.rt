@@ -61,7 +61,7 @@ fn step_backwards(
     let end = start + places.to.length as usize;
     let sent = places.from.offset as usize + places.from.length as usize - end;
     let (front, back) = storage.split_at_mut(end);
-    prepared.run(step, &back[..sent], &mut front[start..])
+    prepared.run(step, &back[..sent], &mut front[start..end])
 }
 
 /// Carries out a step between two places of a storage, which may share bytes: those of the sender are taken first.

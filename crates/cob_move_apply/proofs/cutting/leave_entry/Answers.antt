@@ -1,4 +1,4 @@
-use Rattle.std.proofs.Common.{List, map, subst, sym}
+use Rattle.std.proofs.Common.{false, List, map, subst, sym}
 use Rattle.std.specs.List.{AllByRecursion}
 use Rattle.std.proofs.lemmas.List.{drop_all}
 use Rattle.cob_move_data.specs.declared.operands.Operand.{Operand}

@@ -1,3 +1,4 @@
+use Rattle.std.proofs.Common.{true}
 use Rattle.cob_move_data.specs.Moves.{operand_in}
 use Rattle.cob_move_apply.proofs.PlaceLemmas.{fixed}
 use Rattle.cob_move_apply.proofs.cutting.leaves_place.Goals as goal

@@ -1,4 +1,4 @@
-use Rattle.std.proofs.Common.{Ok, arith, subst}
+use Rattle.std.proofs.Common.{Ok, arith, false, subst, true}
 use Rattle.cob_move_data.specs.declared.operands.Operand.{Operand}
 use Rattle.cob_move_data.specs.declared.operands.Side.TheVariants.{Out}
 use Rattle.cob_move_receive.specs.Sent.{Occupies}

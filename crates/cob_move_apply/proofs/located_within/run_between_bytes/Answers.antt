@@ -1,30 +1,27 @@
-use Rattle.std.proofs.Common.{◌≡◌, ℕ, Some, length, refl, subst, sym}
+use Rattle.std.proofs.Common.{Some, length, refl}
 use Rattle.cob_move_receive.specs.Received.{outcome}
-use Rattle.cob_move_steps.specs.Pool.{IsMoveStep}
-use Rattle.cob_move_steps.specs.declared.pool.MoveStep.TheVariants.{Characters}
 use Rattle.cob_move_apply.proofs.LocatedLemmas.{read_by_picture}
 use Rattle.cob_move_apply.proofs.WithinLemmas.{between, characters_of, got_always, got_characters, got_pictured, least}
 use Rattle.cob_move_apply.proofs.located_within.run_between_bytes.Goals as goal
 
 pub run_characters-requires : goal.run_characters-requires
 run_characters-requires c =
-    let gives = rw c.in-Characters.is at c.requires.carries in
-    let kinds = between c.args.kinds.now.sender.now c.args.kinds.now.receiver.now (length c.args.from.now) (length c.args.to.now) in
-    let is = subst (λ (m : ℕ). IsMoveStep c.args.plan.now.prepared kinds (Characters (record { sent = m; right = c.in-Characters.right }))) (sym c.len-sent.ensures)
-    (characters_of c.args.plan.now.prepared c.args.kinds.now.sender.now c.args.kinds.now.receiver.now c.in-Characters.right (length c.args.from.now) (length c.args.to.now) gives c.requires.sent c.requires.received) in
-    (kinds, is, least (length c.args.from.now), refl)
+    let gives = rw c.in-Characters.is at c.requires.carries in (
+      between c.args.kinds.now.sender.now c.args.kinds.now.receiver.now (length c.args.from.now) (length c.args.to.now),
+      characters_of c.args.plan.now.prepared c.args.kinds.now.sender.now c.args.kinds.now.receiver.now c.in-Characters.right (length c.args.from.now) (length c.args.to.now) gives c.requires.sent c.requires.received,
+      least (length c.args.from.now),
+      refl,
+    )
 
 pub returns-in-Characters-clause-gets : goal.returns-in-Characters-clause-gets
 returns-in-Characters-clause-gets c =
     let gives = rw c.in-Characters.is at c.requires.carries in
-    let ran = rw c.len-sent.ensures at c.run_characters.ensures in
     got_characters c.args.plan.now.prepared c.args.kinds.now.sender.now c.args.kinds.now.receiver.now c.in-Characters.right c.args.from.now (length c.args.to.now) (Some c.run_characters.new.to) c.args.reading gives
-    c.requires.sent c.requires.received ran
+    c.requires.sent c.requires.received c.run_characters.ensures
 
 pub run-requires : goal.run-requires
 run-requires c =
-    let carries = rw c.in-Always.is at c.requires.carries in
-    (
+    let carries = rw c.in-Always.is at c.requires.carries in (
       between c.args.kinds.now.sender.now c.args.kinds.now.receiver.now (length c.args.from.now) (length c.args.to.now),
       carries (length c.args.from.now) (length c.args.to.now) c.requires.sent c.requires.received,
       least (length c.args.from.now),
@@ -39,8 +36,7 @@ returns-in-Always-clause-gets c =
 
 pub run-requires-in-Pictured : goal.run-requires-in-Pictured
 run-requires-in-Pictured c =
-    let carries = rw c.in-Pictured.is at c.requires.carries in
-    (
+    let carries = rw c.in-Pictured.is at c.requires.carries in (
       between c.args.kinds.now.sender.now c.args.kinds.now.receiver.now (length c.args.from.now) (length c.args.to.now),
       carries (length c.args.from.now) (length c.args.to.now) c.requires.sent c.requires.received,
       least (length c.args.from.now),

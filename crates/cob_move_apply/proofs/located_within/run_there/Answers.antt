@@ -75,12 +75,14 @@ returns-then-run_between_bytes-clause-space c =
     let start : ℕ = c.args.places.now.to.offset in
     let end : ℕ = start + c.args.places.now.to.length in
     let back : end - start ≡ c.args.places.now.to.length = omega arith in
+    let room : c.args.space.now.content.len ≡ length c.copy_field.new.content =
+    omega (arith, c.args.space.now.content.ok.0, c.copy_field.auto.content, ap length c.as_mut_slice.ensures.value) in
     let size : length c.run_between_bytes.new.to ≡ c.args.places.now.to.length = c.run_between_bytes.auto.to ∙ (mid_len start end c.args.output.now (omega (arith, c.requires.stand.within, c.requires.output)) ∙ back) in
     record {
       surveyed_input = c.requires.space.surveyed_input;
       surveyed_output = subst (λ (bytes : List ℕ). IsSurvey c.args.layouts.now.output.now bytes c.change_output.new.self) (sym (put_is c.args.places.now.to c.run_between_bytes.new.to c.args.output.now))
           (c.change_output.ensures.survey c.args.output.now c.run_between_bytes.new.to (omega (arith, c.requires.stand.within, c.requires.output)) size c.requires.space.surveyed_output);
-      content = ?;
+      content = ap length (front_is c.args.space.now.content.len c.copy_field.new.content _ room) ∙ (c.copy_field.auto.content ∙ (ap length c.as_mut_slice.ensures.value ∙ c.requires.space.content));
     }
 
 pub returns-else-run_between_bytes-clause-same : goal.returns-else-run_between_bytes-clause-same

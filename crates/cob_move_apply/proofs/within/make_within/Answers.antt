@@ -7,6 +7,7 @@ use Rattle.cob_move_apply.specs.Surveyed.{IsSurvey, records}
 use Rattle.cob_move_apply.specs.Written.{ended}
 use Rattle.cob_move_apply.specs.declared.stop.StopCause.TheVariants.{NoValue}
 use Rattle.cob_move_apply.specs.declared.step.PreparedMove.{PreparedMove}
+use Rattle.cob_move_apply.proofs.ReceiverLemmas.{front_is}
 use Rattle.cob_move_apply.proofs.StepLemmas.{made_prepared, prepared_reads, prepared_within, the_prepared}
 use Rattle.cob_move_apply.proofs.SpendingLemmas.{prepared_spends}
 use Rattle.cob_move_apply.proofs.SpentLemmas.{spent_none}
@@ -39,6 +40,8 @@ returns-then-step_anywhere-clause-applied c = λ own is.
 
 pub returns-then-step_anywhere-clause-space : goal.returns-then-step_anywhere-clause-space
 returns-then-step_anywhere-clause-space c =
+    let room : c.args.space.now.content.len ≡ length c.step_anywhere.new.content =
+    omega (arith, c.args.space.now.content.ok.0, c.step_anywhere.auto.content, ap length c.as_mut_slice-content.ensures.value) in
     let p : PreparedMove = record { places = c.args.places.now; step = c.args.step } in
     let (k, at, has) = the_prepared Out c.args.layouts.now.reading (records c.args.layouts.now) c.args.plan.now.prepared p c.requires.step.0 c.requires.step.1 in
     let within = prepared_within Out c.args.layouts.now.reading (records c.args.layouts.now) c.args.plan.now.prepared p c.requires.step.0 c.requires.step.1 in record {
@@ -46,7 +49,7 @@ returns-then-step_anywhere-clause-space c =
       surveyed_output = survey_made c.args.layouts.now.output.now p c.args.plan.now.prepared k c.args.output.now c.step_anywhere.new.storage _ _ at has (omega (arith, within, c.requires.output)) c.step_anywhere.auto.storage
           (subst (λ (b : Bool). IsMadeReady Out p c.args.plan.now.prepared c.args.output.now c.args.output.now (ended Out c.args.places.now b c.step_anywhere.new.storage)) c.if-step_anywhere.true c.step_anywhere.ensures.made)
           c.change_output.ensures.survey c.requires.space.surveyed_output;
-      content = ?;
+      content = ap length (front_is c.args.space.now.content.len c.step_anywhere.new.content _ room) ∙ (c.step_anywhere.auto.content ∙ (ap length c.as_mut_slice-content.ensures.value ∙ c.requires.space.content));
     }
 
 pub returns-then-step_anywhere-clause-spends : goal.returns-then-step_anywhere-clause-spends
@@ -63,11 +66,14 @@ returns-else-step_anywhere-clause-applied c = λ own is.
     (subst (λ (b : Bool). IsMadeReady Out p c.args.plan.now.prepared c.args.output.now c.args.output.now (ended Out c.args.places.now b c.step_anywhere.new.storage)) c.if-step_anywhere.false c.step_anywhere.ensures.made) is
 
 pub returns-else-step_anywhere-clause-space : goal.returns-else-step_anywhere-clause-space
-returns-else-step_anywhere-clause-space c = record {
-  surveyed_input = c.requires.space.surveyed_input;
-  surveyed_output = subst (λ (bytes : List ℕ). IsSurvey c.args.layouts.now.output.now bytes c.args.space.now.output) (sym (c.step_anywhere.ensures.same c.if-step_anywhere.false)) c.requires.space.surveyed_output;
-  content = ?;
-}
+returns-else-step_anywhere-clause-space c =
+    let room : c.args.space.now.content.len ≡ length c.step_anywhere.new.content =
+    omega (arith, c.args.space.now.content.ok.0, c.step_anywhere.auto.content, ap length c.as_mut_slice-content.ensures.value) in
+    record {
+      surveyed_input = c.requires.space.surveyed_input;
+      surveyed_output = subst (λ (bytes : List ℕ). IsSurvey c.args.layouts.now.output.now bytes c.args.space.now.output) (sym (c.step_anywhere.ensures.same c.if-step_anywhere.false)) c.requires.space.surveyed_output;
+      content = ap length (front_is c.args.space.now.content.len c.step_anywhere.new.content _ room) ∙ (c.step_anywhere.auto.content ∙ (ap length c.as_mut_slice-content.ensures.value ∙ c.requires.space.content));
+    }
 
 pub returns-else-step_anywhere-clause-spends : goal.returns-else-step_anywhere-clause-spends
 returns-else-step_anywhere-clause-spends c = λ own is.
