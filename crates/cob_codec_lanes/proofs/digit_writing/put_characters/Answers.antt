@@ -1,0 +1,4 @@
+use Rattle.cob_codec_lanes.proofs.digit_writing.put_characters.Goals as goal
+
+pub returns : goal.returns
+returns c = ?
