@@ -1,13 +1,13 @@
 -- Which items a reader of digits' bytes reads: zoned ones, ones with a separate sign, and numerals.
-use Rattle.std.proofs.Common.{◌≡◌, ◌≢◌, ℕ, zero, suc, ◌+◌, ◌-◌, ◌*◌, ◌/◌, ◌%◌, ◌<◌, ◌≤◌, Bool, true, false, cond, Some, List, [], ◌∷◌, ◌++◌, map, length, get_or, take, drop, refl, sym, ap, subst, ◌∙◌, inl, inr, arith, get_or-take, get_or-drop, length-take-le, length-drop}
+use Rattle.std.proofs.Common.{◌≡◌, ◌≢◌, ℕ, suc, ◌+◌, ◌-◌, ◌/◌, ◌%◌, ◌<◌, ◌≤◌, Bool, true, false, cond, Some, List, [], ◌∷◌, ◌++◌, map, length, get_or, take, drop, refl, sym, ap, subst, ◌∙◌, arith, get_or-take, get_or-drop, length-take-le, length-drop}
 use Rattle.std.proofs.lemmas.List.{get_or-map, length-map, take_all, get_or_append_left, get_or_at, drop_more}
-use Rattle.cob_decimal.specs.Decimal.{IsDigits, number_of}
+use Rattle.cob_decimal.specs.Decimal.{IsDigits}
 use Rattle.cob_codec.specs.Sign.{IsSigned, sign_meaning, sign_place}
 use Rattle.cob_codec.specs.Zoned.{IsZoned, digit_bytes, low_digit}
 use Rattle.cob_codec.specs.Separate.{IsSignedSeparately, separate_form, sign_byte}
 use Rattle.cob_codec.proofs.SignLemmas.{digit_small}
 use Rattle.cob_codec.proofs.PackedLemmas.{all_but_last}
-use Rattle.cob_codec.proofs.ZonedLaws.{low_halves, zoned_digit}
+use Rattle.cob_codec.proofs.ZonedLaws.{zoned_digit}
 use Rattle.cob_codec_lanes.specs.Readers.{AreNumeralsOf}
 use Rattle.cob_codec_lanes.specs.Signs.{byte_meaning, own_meaning}
 use Rattle.cob_codec_lanes.specs.DigitItems.{AreDigitBytes, IsDigitReaderOf, digits_from}
@@ -57,7 +57,7 @@ same_digits size first count place free sign signed r bytes f = ap (λ n. digits
 -- what it is to read, in these words
 reader_of : (represents : List ℕ → Bool → List ℕ → Type 0) (size first count place free : ℕ) (sign : SignByte) (signed : Bool) (r : DigitReader) → ReadsDigits size first count place free sign signed r
     → ((bytes : List ℕ) (minus negative : Bool) → length bytes ≡ size → ArePlaced first count place free sign signed bytes minus → IsDigits (digits_from first count bytes) → IsSigned minus (digits_from first count bytes) negative
-      → represents bytes negative (digits_from first count bytes))
+    → represents bytes negative (digits_from first count bytes))
     → ((bytes : List ℕ) (negative : Bool) (digits : List ℕ) → length bytes ≡ size → represents bytes negative digits → (minus : Bool) × ArePlaced first count place free sign signed bytes minus)
     → IsDigitReaderOf represents size r
 reader_of represents size first count place free sign signed r f reads passes = record {
@@ -87,11 +87,14 @@ reads_zoned count signed leading r f =
       meaning = p.said;
       sign = is;
     })
-    (λ bytes negative digits long z. (z.minus, record {
-      low = λ k lt. subst (λ n. get_or bytes n 0 % 16 < 10) (sym (bare k)) (zoned_digit count signed leading bytes negative digits k z (omega arith));
-      zones = λ k lt other. ap (λ n. get_or bytes n 0 / 16) (bare k) ∙ z.zones k lt (λ e. other (bare k ∙ e));
-      said = z.meaning;
-    }))
+    (λ bytes negative digits long z. (
+      z.minus,
+      record {
+        low = λ k lt. subst (λ n. get_or bytes n 0 % 16 < 10) (sym (bare k)) (zoned_digit count signed leading bytes negative digits k z (omega arith));
+        zones = λ k lt other. ap (λ n. get_or bytes n 0 / 16) (bare k) ∙ z.zones k lt (λ e. other (bare k ∙ e));
+        said = z.meaning;
+      },
+    ))
 
 -- the same, where the number of digits is another's
 pub zoned_digits : (n count : ℕ) (signed leading : Bool) (r : DigitReader) → n ≡ count → ReadsDigits n 0 n (sign_place signed leading n) (sign_place signed leading n) Zone signed r → IsDigitReaderOf (IsZoned count signed leading) count r
@@ -123,16 +126,19 @@ reads_numerals count r some f =
       valid = valid;
       plus = never_minus count (digits_from 0 count bytes) negative minus (plain_sign (get_or bytes (count - 1) 0) minus (ap (λ n. get_or bytes n 0 / 16) (sym (bare (count - 1))) ∙ p.zones (count - 1) (omega arith) (λ e. absurd (omega arith))) p.said) is;
     })
-    (λ bytes negative digits long z. (false, record {
-      low = λ k lt.
-          let inside : k < length bytes = omega arith in
-          let same : get_or digits k 0 ≡ get_or bytes k 0 % 16 = ap (λ xs. get_or xs k 0) z.low_halves ∙ get_or-map low_digit bytes k 0 0 inside in
-          let many : length digits ≡ length bytes = ap length z.low_halves ∙ length-map bytes low_digit in
-          let there : get_or bytes k 0 % 16 < 10 = omega (arith, same, digit_small digits k z.valid (omega arith)) in
-          subst (λ n. get_or bytes n 0 % 16 < 10) (sym (bare k)) there;
-      zones = λ k lt other. ap (λ n. get_or bytes n 0 / 16) (bare k) ∙ z.zones k lt;
-      said = plain_meaning (get_or bytes (count - 1) 0) (z.zones (count - 1) (omega arith));
-    }))
+    (λ bytes negative digits long z. (
+      false,
+      record {
+        low = λ k lt.
+            let inside : k < length bytes = omega arith in
+            let same : get_or digits k 0 ≡ get_or bytes k 0 % 16 = ap (λ xs. get_or xs k 0) z.low_halves ∙ get_or-map low_digit bytes k 0 0 inside in
+            let many : length digits ≡ length bytes = ap length z.low_halves ∙ length-map bytes low_digit in
+            let there : get_or bytes k 0 % 16 < 10 = omega (arith, same, digit_small digits k z.valid (omega arith)) in
+            subst (λ n. get_or bytes n 0 % 16 < 10) (sym (bare k)) there;
+        zones = λ k lt other. ap (λ n. get_or bytes n 0 / 16) (bare k) ∙ z.zones k lt;
+        said = plain_meaning (get_or bytes (count - 1) 0) (z.zones (count - 1) (omega arith));
+      },
+    ))
 
 -- the same, where the number of digits is another's
 pub numeral_digits : (n count : ℕ) (r : DigitReader) → n ≡ count → 0 < n → ReadsDigits n 0 n (n - 1) n Zone false r → IsDigitReaderOf (AreNumeralsOf count) count r
@@ -173,29 +179,31 @@ reads_separate count leading r f =
     let place : ℕ = own_sign_byte leading count in
     reader_of (IsSignedSeparately count leading) (count + 1) first count place (count + 1) Own true r f
     (λ bytes minus negative long p valid is.
-      let part : List ℕ = take count (drop first bytes) in
-      let within : first + count ≤ count + 1 = first_within leading count in
-      let part_long : length part ≡ count = length-take-le count (drop first bytes) (omega (arith, length-drop first bytes)) in
-      let zones : (k : ℕ) → k < length part → get_or part k 0 / 16 ≡ 15 = λ k lt.
-      let inside : k < count = omega arith in
-      ap (λ b. b / 16) (get_or-take count (drop first bytes) k 0 inside ∙ get_or-drop first bytes k 0) ∙ p.zones k inside (λ e. absurd (omega arith)) in
-      let sign : get_or bytes place 0 ≡ sign_byte minus = own_is (get_or bytes place 0) minus p.said in
-      record {
-        count_is = length-map part low_digit ∙ part_long;
-        valid = valid;
-        minus = minus;
-        text = bytes_are leading count bytes long ∙ ap (λ s. cond leading (s ∷ part) (part ++ s ∷ [])) sign
-            ∙ ap (λ xs. cond leading (sign_byte minus ∷ xs) (xs ++ sign_byte minus ∷ [])) (digits_back part zones);
-        sign = is;
-      })
+    let part : List ℕ = take count (drop first bytes) in
+    let within : first + count ≤ count + 1 = first_within leading count in
+    let part_long : length part ≡ count = length-take-le count (drop first bytes) (omega (arith, length-drop first bytes)) in
+    let zones : (k : ℕ) → k < length part → get_or part k 0 / 16 ≡ 15 = λ k lt.
+    let inside : k < count = omega arith in
+    ap (λ b. b / 16) (get_or-take count (drop first bytes) k 0 inside ∙ get_or-drop first bytes k 0) ∙ p.zones k inside (λ e. absurd (omega arith)) in
+    let sign : get_or bytes place 0 ≡ sign_byte minus = own_is (get_or bytes place 0) minus p.said in
+    record {
+      count_is = length-map part low_digit ∙ part_long;
+      valid = valid;
+      minus = minus;
+      text = bytes_are leading count bytes long ∙ ap (λ s. cond leading (s ∷ part) (part ++ s ∷ [])) sign
+          ∙ ap (λ xs. cond leading (sign_byte minus ∷ xs) (xs ++ sign_byte minus ∷ [])) (digits_back part zones);
+      sign = is;
+    })
     (λ bytes negative digits long z.
-      let within : first + count ≤ count + 1 = first_within leading count in
-      let byte : (k : ℕ) → k < count → get_or bytes (first + k) 0 ≡ 240 + get_or digits k 0 = λ k lt. ap (λ xs. get_or xs (first + k) 0) z.text ∙ digit_in_form leading z.minus count k digits z.count_is lt in
-      (z.minus, record {
+    let within : first + count ≤ count + 1 = first_within leading count in
+    let byte : (k : ℕ) → k < count → get_or bytes (first + k) 0 ≡ 240 + get_or digits k 0 = λ k lt. ap (λ xs. get_or xs (first + k) 0) z.text ∙ digit_in_form leading z.minus count k digits z.count_is lt in (
+      z.minus,
+      record {
         low = λ k lt. omega (arith, byte k lt, digit_small digits k z.valid (omega (arith, z.count_is)));
         zones = λ k lt other. omega (arith, byte k lt, digit_small digits k z.valid (omega (arith, z.count_is)));
         said = ap own_meaning (ap (λ xs. get_or xs place 0) z.text ∙ sign_in_form leading z.minus count digits z.count_is) ∙ own_of z.minus;
-      }))
+      },
+    ))
 
 -- the same, where the number of digits is another's
 pub separate_digits : (n count : ℕ) (leading : Bool) (r : DigitReader) → n ≡ count → ReadsDigits (n + 1) (first_byte leading) n (own_sign_byte leading n) (n + 1) Own true r → IsDigitReaderOf (IsSignedSeparately count leading) (count + 1) r

@@ -1,7 +1,7 @@
 -- Items of sixteen digits and more that have a byte for each digit, read.
-use Rattle.std.proofs.Common.{◌≡◌, ◌≢◌, ◌↔◌, ℕ, zero, suc, ◌+◌, ◌-◌, ◌*◌, ◌/◌, ◌%◌, ◌<◌, ◌≤◌, ◌&&◌, Bool, true, false, not, cond, eqb, ltb, leb, IsTrue, Option, Some, List, [], ◌∷◌, ◌++◌, map, length, get_or, take, drop, replicate, refl, sym, ap, subst, ◌∙◌, inl, inr, arith, w8, Fits, eq-eqb, ne_eqb, ltb-true, lt-ltb, le-ltb, leb-true, leb-false, eqb-true, length-append, length-drop, length-take-le, get_or-drop, get_or-take}
+use Rattle.std.proofs.Common.{◌≡◌, ◌≢◌, ◌↔◌, ℕ, zero, suc, ◌+◌, ◌-◌, ◌/◌, ◌%◌, ◌<◌, ◌≤◌, ◌&&◌, Bool, true, false, not, cond, eqb, ltb, IsTrue, Option, Some, List, [], ◌∷◌, ◌++◌, length, get_or, take, drop, replicate, refl, sym, ap, subst, ◌∙◌, inl, inr, arith, eq-eqb, ne_eqb, lt-ltb, length-append, length-drop, length-take-le, get_or-drop, get_or-take}
 use Rattle.std.proofs.lemmas.Bool.{cases_lt, cases_eq, le-leb, lt-leb}
-use Rattle.std.proofs.lemmas.List.{ext_get_or, get_or-append_right, get_or_append_left, get_or-replicate, length-replicate, get_or-map, length-map, take_all}
+use Rattle.std.proofs.lemmas.List.{ext_get_or, get_or-append_right, get_or_append_left, get_or-replicate, length-replicate, get_or-map, length-map}
 use Rattle.cob_decimal.specs.Decimal.{IsDigits, number_of}
 use Rattle.cob_codec.specs.Sign.{IsSigned}
 use Rattle.cob_codec.specs.Zoned.{low_digit}
@@ -10,12 +10,11 @@ use Rattle.cob_codec_lanes.specs.Windows.{last_bytes, padded_window}
 use Rattle.cob_codec_lanes.specs.Signs.{byte_meaning, is_some, number_meaning}
 use Rattle.cob_codec_lanes.specs.DigitLanes.{AreDigitBounds, digit_lane, has_digit, lane_byte, least_zone, most_digit}
 use Rattle.cob_codec_lanes.specs.DigitItems.{AreDigitBytes, AreDigitsRead, IsDigitReaderOf, digits_from}
-use Rattle.cob_codec_lanes.specs.Wide.{AreHeldWide, AreWidelyRead, IsWideRead}
+use Rattle.cob_codec_lanes.specs.Wide.{AreHeldWide, IsWideRead}
 use Rattle.cob_codec_lanes.specs.declared.lanes.Bounds.{Bounds}
 use Rattle.cob_codec_lanes.specs.declared.digit_reader.DigitReader.{DigitReader}
 use Rattle.cob_codec_lanes.proofs.HalfLemmas.{all_digits, signed_as}
 use Rattle.cob_codec_lanes.proofs.WideNumbers.{lane_behind, lane_in_front}
-use Rattle.cob_codec_lanes.proofs.WindowLemmas.{small_of}
 use Rattle.cob_codec_lanes.proofs.WordWriting.{zeros_front}
 
 -- ---- a window's lanes are the bytes before its end

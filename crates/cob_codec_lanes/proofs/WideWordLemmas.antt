@@ -1,5 +1,5 @@
 -- Binary items of more than sixteen digits, read and written.
-use Rattle.std.proofs.Common.{◌≡◌, ℕ, zero, suc, ◌+◌, ◌-◌, ◌*◌, ◌/◌, ◌%◌, ◌^◌, ◌<◌, ◌≤◌, ◌&&◌, Bool, true, false, IsTrue, cond, ltb, leb, ltb-true, List, [], ◌∷◌, ◌++◌, length, take, get_or, replicate, refl, sym, ap, subst, ◌∙◌, arith, length-append, length-take-le, get_or-take}
+use Rattle.std.proofs.Common.{◌≡◌, ℕ, ◌+◌, ◌-◌, ◌*◌, ◌/◌, ◌%◌, ◌^◌, ◌<◌, ◌≤◌, ◌&&◌, Bool, true, false, IsTrue, cond, ltb, leb, ltb-true, List, [], ◌∷◌, ◌++◌, length, take, get_or, replicate, refl, sym, ap, subst, ◌∙◌, arith, length-append, length-take-le, get_or-take}
 use Rattle.std.proofs.lemmas.List.{append_assoc}
 use Rattle.std.proofs.lemmas.Bool.{lt-leb, ltb-false}
 use Rattle.cob_decimal.specs.Decimal.{IsDigits, number_of}
@@ -9,7 +9,7 @@ use Rattle.byteorder.specs.Endian.{big_bytes}
 use Rattle.cob_codec.specs.Binary.{IsBinary, binary_form, binary_length, binary_number, signed_number}
 use Rattle.cob_codec.proofs.BinaryLaws.{fits_half, same_signed, width}
 use Rattle.cob_codec_lanes.specs.Lanes.{AreTens, picked_at}
-use Rattle.cob_codec_lanes.specs.Wide.{AreHeldWide, AreWidelyRead, IsWideRead}
+use Rattle.cob_codec_lanes.specs.Wide.{AreHeldWide, IsWideRead}
 use Rattle.cob_codec_lanes.specs.WideWords.{IsWideWordReaderOf, IsWideWordWriterOf}
 use Rattle.cob_codec_lanes.specs.Windows.{last_bytes}
 use Rattle.cob_codec_lanes.specs.Words.{turned}

@@ -1,5 +1,5 @@
 -- Numbers of at most thirty-two digits in two vectors: the last sixteen digits, and those in front of them.
-use Rattle.std.specs.Prelude.{◌≡◌, ℕ, ◌≤◌, ℤ, pos, negsuc, ◌-ℤ◌, Bool, true, false, List, ◌++◌, length}
+use Rattle.std.specs.Prelude.{◌≡◌, ℕ, ◌≤◌, ℤ, negsuc, ◌-ℤ◌, Bool, true, false, List, ◌++◌, length}
 use Rattle.cob_decimal.specs.Decimal.{IsDigits, number_of}
 use Rattle.cob_codec.specs.Sign.{IsSigned}
 use Rattle.cob_codec_lanes.specs.Windows.{ArePowerPicks}

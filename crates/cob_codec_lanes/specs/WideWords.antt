@@ -1,5 +1,5 @@
 -- Binary items of more than sixteen digits as words.
-use Rattle.std.specs.Prelude.{◌≡◌, ℕ, ◌+◌, ◌-◌, ◌*◌, ◌^◌, ◌<◌, ◌≤◌, ◌&&◌, Bool, true, IsTrue, List, ◌++◌, length, take}
+use Rattle.std.specs.Prelude.{◌≡◌, ℕ, ◌-◌, ◌*◌, ◌^◌, ◌<◌, ◌≤◌, ◌&&◌, Bool, true, IsTrue, List, ◌++◌, take}
 use Rattle.cob_decimal.specs.Decimal.{number_of}
 use Rattle.cob_codec.specs.Binary.{IsBinary, binary_form}
 use Rattle.cob_codec_lanes.specs.Lanes.{AreTens}

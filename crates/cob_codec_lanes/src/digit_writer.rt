@@ -1,4 +1,4 @@
-ghost use Rattle.std.specs.Prelude.{◌≤◌};
+ghost use Rattle.std.specs.Prelude.{◌≡◌, ◌+◌, ◌<◌, ◌≤◌, false};
 
 use crate::digit_item::DigitItem;
 
@@ -14,4 +14,6 @@ pub struct DigitWriter {
     pub minus: u8,
     pub ghost plus_fits: { plus ≤ 240 },
     pub ghost minus_fits: { minus ≤ 240 },
+    pub ghost among: { own ≡ false → (digits.first ≤ digits.place)
+        × (digits.place < digits.first + digits.count) },
 }

@@ -1,9 +1,9 @@
 //! Items of sixteen digits and more that have a byte for each digit, written.
 
-ghost use Rattle.std.specs.Prelude.{◌≡◌, ◌+◌, ◌-◌, ◌≤◌, ◌<◌, ◌++◌, ℕ, length, slice_index, take};
+ghost use Rattle.std.specs.Prelude.{◌≡◌, ◌+◌, ◌-◌, ◌%◌, ◌≤◌, ◌<◌, ◌++◌, if◌then◌else◌, length, slice_index, take};
 ghost use Rattle.cob_codec.specs.Separate.{separate_form};
 ghost use Rattle.cob_codec.specs.Zoned.{digit_bytes, zoned_form};
-ghost use Rattle.cob_codec_lanes.specs.DigitItems.{AreDigitsMade, IsDigitWriterOf};
+ghost use Rattle.cob_codec_lanes.specs.DigitItems.{AreDigitsMade, IsDigitWriterOf, sign_written};
 ghost use Rattle.cob_codec_lanes.specs.Lanes.{AreTens};
 
 use crate::digit_item::DigitItem;
@@ -76,6 +76,30 @@ impl DigitWriter {
         }
     }
 
+    /// The sign of a number that is negative or not, as it is written.
+    #[inline(always)]
+    fn sign_of(&self, minus: bool) -> u8
+        ensures sign { result ≡ sign_written self.now minus }
+        ensures fits { result ≤ 240 }
+    {
+        if minus { self.minus } else { self.plus }
+    }
+
+    /// The digit in whose byte the sign stands, or 0 where its byte is its own.
+    #[inline(always)]
+    fn digit_under(&self, bytes: &[u8]) -> u8
+        requires { self.now.digits.place < length bytes.now }
+        ensures digit { result ≡ (if self.now.own then 0
+            else slice_index bytes.now self.now.digits.place % 16) }
+        ensures fits { result ≤ 15 }
+    {
+        if self.own {
+            0
+        } else {
+            bytes[self.digits.place] % 16
+        }
+    }
+
     /// Writes the digits of a number, those in front and the last sixteen, with its sign into all bytes of an item.
     #[inline(always)]
     pub fn write(&self, front: u8x16, back: u8x16, minus: bool, out: &mut [u8])
@@ -85,9 +109,6 @@ impl DigitWriter {
     {
         let first = self.digits.first;
         put_characters(front, back, &mut out[first..first + self.digits.count]);
-        let place = self.digits.place;
-        let digit = if self.own { 0 } else { out[place] % 16 };
-        let sign = if minus { self.minus } else { self.plus };
-        out[place] = sign + digit;
+        out[self.digits.place] = self.sign_of(minus) + self.digit_under(out);
     }
 }

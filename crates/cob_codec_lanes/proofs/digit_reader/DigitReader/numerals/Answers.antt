@@ -1,4 +1,4 @@
-use Rattle.std.proofs.Common.{◌≡◌, ℕ, ap, ◌∙◌, arith}
+use Rattle.std.proofs.Common.{ℕ, ap, arith}
 use Rattle.cob_codec_lanes.proofs.DigitKinds.{numeral_digits}
 use Rattle.cob_codec_lanes.proofs.digit_reader.DigitReader.numerals.Goals as goal
 

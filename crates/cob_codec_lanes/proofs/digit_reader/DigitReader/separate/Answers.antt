@@ -1,4 +1,4 @@
-use Rattle.std.proofs.Common.{◌≡◌, ℕ, ap, ◌∙◌}
+use Rattle.std.proofs.Common.{ℕ, ap, ◌∙◌}
 use Rattle.cob_codec_lanes.proofs.DigitKinds.{separate_digits}
 use Rattle.cob_codec_lanes.proofs.digit_reader.DigitReader.separate.Goals as goal
 

@@ -1,4 +1,4 @@
-use Rattle.std.proofs.Common.{◌≡◌, ℕ, refl}
+use Rattle.std.proofs.Common.{ℕ, refl}
 use Rattle.cob_codec_lanes.proofs.DigitWriting.{separate_digit_writer}
 use Rattle.cob_codec_lanes.proofs.digit_writer.DigitWriter.separate.Goals as goal
 

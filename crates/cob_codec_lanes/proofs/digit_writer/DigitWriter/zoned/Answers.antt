@@ -1,4 +1,4 @@
-use Rattle.std.proofs.Common.{◌≡◌, ◌*◌, ℕ, refl, ap, ◌∙◌, arith}
+use Rattle.std.proofs.Common.{◌*◌, ℕ, refl, ap, arith}
 use Rattle.cob_codec_lanes.proofs.DigitWriting.{zoned_digit_writer}
 use Rattle.cob_codec_lanes.proofs.digit_writer.DigitWriter.zoned.Goals as goal
 
