@@ -21,3 +21,4 @@ pub mod DigitReading
 pub mod DigitKinds
 pub mod WideWordLemmas
 pub mod DigitWriting
+pub mod PairReading

@@ -12,7 +12,7 @@ use Rattle.cob_codec_lanes.specs.Lanes.{AreTens, picked_at}
 use Rattle.cob_codec_lanes.specs.Wide.{AreHeldWide, IsWideRead}
 use Rattle.cob_codec_lanes.specs.WideWords.{IsWideWordReaderOf, IsWideWordWriterOf}
 use Rattle.cob_codec_lanes.specs.Windows.{last_bytes}
-use Rattle.cob_codec_lanes.specs.Words.{turned}
+use Rattle.cob_codec_lanes.specs.Words.{turned, width_bytes}
 use Rattle.cob_codec_lanes.specs.declared.width.Width.TheVariants.{Eight}
 use Rattle.cob_codec_lanes.specs.declared.wide_word.WideWordReader.{WideWordReader}
 use Rattle.cob_codec_lanes.specs.declared.wide_word.WideWordWriter.{WideWordWriter}
@@ -41,12 +41,13 @@ held_word number front back first last f b high low = record {
 eight : (count : ℕ) → 9 < count → binary_length count ≡ 8
 eight count many = ap (λ b. cond {A = ℕ} b 2 (cond {A = ℕ} (leb count 9) 4 8)) (lt-leb _ _ (omega arith)) ∙ ap (λ b. cond {A = ℕ} b 4 8) (lt-leb _ _ many)
 
-pub read_wide_word : (count : ℕ) (signed : Bool) (r : WideWordReader) (bytes front back : List ℕ) (is_number minus : Bool) (magnitude : ℕ) → IsWideWordReaderOf count signed r → 8 ≤ length bytes
-    → signed_number minus magnitude ≡ binary_number r.signed (last_bytes 8 bytes) → (IsTrue minus → 0 < magnitude) → is_number ≡ ltb magnitude r.limit
-    → AreHeldWide magnitude front back → IsWideRead (IsBinary count signed (last_bytes 8 bytes)) is_number minus front back
+pub read_wide_word : (count : ℕ) (signed : Bool) (r : WideWordReader) (bytes front back : List ℕ) (is_number minus : Bool) (magnitude : ℕ) → IsWideWordReaderOf count signed r → width_bytes r.width ≤ length bytes
+    → signed_number minus magnitude ≡ binary_number r.signed (last_bytes (width_bytes r.width) bytes) → (IsTrue minus → 0 < magnitude) → is_number ≡ ltb magnitude r.limit
+    → AreHeldWide magnitude front back → IsWideRead (IsBinary count signed (last_bytes (binary_length count) bytes)) is_number minus front back
 read_wide_word count signed r bytes front back is_number minus magnitude is within value nonzero told held =
-    let field : List ℕ = last_bytes 8 bytes in
-    let there : signed_number minus magnitude ≡ binary_number signed field = value ∙ ap (λ b. binary_number b field) is.sign in
+    let field : List ℕ = last_bytes (binary_length count) bytes in
+    let there : signed_number minus magnitude ≡ binary_number signed field =
+    value ∙ ap (λ b. binary_number b (last_bytes (width_bytes r.width) bytes)) is.sign ∙ ap (λ n. binary_number signed (last_bytes n bytes)) is.wide in
     record {
       number = λ e.
           let small : magnitude < r.limit = ltb-true _ _ (sym told ∙ e) in
@@ -56,7 +57,7 @@ read_wide_word count signed r bytes front back is_number minus magnitude is with
             negative = minus;
             digits = ds.0;
             represented = record {
-              long = last_long 8 bytes within ∙ sym (eight count is.many);
+              long = ap (λ n. length (last_bytes n bytes)) (sym is.wide) ∙ last_long (width_bytes r.width) bytes within ∙ is.wide;
               count_is = ds.2;
               valid = ds.1;
               nonzero = λ t. omega (arith, nonzero t, ds.3);

@@ -10,3 +10,4 @@ pub mod Wide
 pub mod DigitLanes
 pub mod DigitItems
 pub mod WideWords
+pub mod Pairs

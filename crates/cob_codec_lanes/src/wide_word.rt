@@ -1,12 +1,13 @@
 ghost use Rattle.std.specs.Prelude.{◌≡◌, ◌≤◌, ◌^◌};
-ghost use Rattle.cob_codec_lanes.specs.declared.width.Width.TheVariants.{Eight};
 ghost use Rattle.cob_codec_lanes.specs.Widths.{greatest_plain};
 
 use crate::lanes::Picks;
+use crate::width::Width;
 
-/// What reads the number of binary items of ten digits and more.
+/// What reads the number of binary items, as one in two vectors.
 #[derive(Clone, Copy)]
 pub struct WideWordReader {
+    pub width: Width,
     /// Whether the item is signed.
     pub signed: bool,
     /// The least magnitude that the item's digits don't hold.
@@ -14,7 +15,7 @@ pub struct WideWordReader {
     /// The greatest word that is not below zero.
     pub plain: u64,
     pub ghost most: { limit ≤ 10 ^ 18 },
-    pub ghost signs: { plain ≡ greatest_plain signed Eight },
+    pub ghost signs: { plain ≡ greatest_plain signed width },
 }
 
 /// What writes binary items of more than sixteen digits.

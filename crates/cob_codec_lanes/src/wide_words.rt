@@ -1,9 +1,10 @@
-//! Binary items of more than sixteen digits, as numbers in two vectors.
+//! Binary items as numbers in two vectors.
 
 ghost use Rattle.std.specs.Prelude.{◌≡◌, ◌+◌, ◌*◌, ◌%◌, ◌^◌, ◌<◌, ◌≤◌, ◌++◌, ℕ, Bool, length};
 ghost use Rattle.cob_decimal.specs.Decimal.{number_of};
 ghost use Rattle.cob_codec_lanes.specs.Lanes.{AreTens};
 ghost use Rattle.cob_codec_lanes.specs.Wide.{AreHeldWide};
+ghost use Rattle.cob_codec_lanes.specs.Words.{width_bytes};
 ghost use Rattle.cob_codec_lanes.specs.WideWords.{IsWideWordRead, IsWideWordReaderOf, IsWideWordWriterOf, IsWideWordWritten};
 
 use crate::binary_reading::{greatest_plain, signed_in};
@@ -12,7 +13,7 @@ use crate::lanes::picked;
 use crate::picks::{Spread, digit_picks};
 use crate::wide_read::WideRead;
 use crate::wide_word::{WideWordReader, WideWordWriter};
-use crate::width::Width;
+use crate::width::{Width, width_of};
 use crate::words::{lanes_of, number_in};
 use cob_codec::Shape;
 use std::simd::prelude::*;
@@ -50,27 +51,28 @@ fn number_in_both(front: u8x16, back: u8x16) -> u64
 }
 
 impl WideWordReader {
-    /// What reads binary items of a shape of 10 to 18 digits.
+    /// What reads binary items of a shape of at most 18 digits.
     pub fn of(shape: &Shape) -> WideWordReader
-        requires many { 9 < shape.now.digits }
         requires few { shape.now.digits ≤ 18 }
         ensures { IsWideWordReaderOf shape.now.digits shape.now.signed result }
     {
+        let width = width_of(shape);
         WideWordReader {
+            width,
             signed: shape.signed,
             limit: power_of_ten(shape.digits),
-            plain: greatest_plain(shape.signed, Width::Eight),
+            plain: greatest_plain(shape.signed, width),
         }
     }
 
     /// The number of the item at the end of bytes.
     #[inline(always)]
     pub fn read(&self, bytes: &[u8]) -> WideRead
-        requires { 8 ≤ length bytes.now }
+        requires { width_bytes self.now.width ≤ length bytes.now }
         ensures { IsWideWordRead self.now bytes.now
             result.is_number result.minus result.front result.back }
     {
-        let (minus, magnitude) = signed_in(Width::Eight, self.plain, bytes);
+        let (minus, magnitude) = signed_in(self.width, self.plain, bytes);
         let (front, back) = both_lanes_of(magnitude);
         WideRead {
             is_number: magnitude < self.limit,
