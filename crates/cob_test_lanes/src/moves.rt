@@ -4,7 +4,9 @@ ghost use Rattle.std.specs.Prelude.{◌≤◌, length};
 
 use crate::tally::Tally;
 use cob_copybook_tree::Item;
-use cob_move_steps::{AnyNumberStep, EditStep, NumberStep, TextStep, WideEditStep, WideStep};
+use cob_move_steps::{
+    AnyNumberStep, EditStep, LongStep, NumberStep, TextStep, WideEditStep, WideStep,
+};
 use std::alloc::{AllocError, Global};
 
 /// What stands in a receiver's bytes before the move.
@@ -89,4 +91,21 @@ pub fn tally_move(
         None => tally.count_none(),
     }
     Ok(())
+}
+
+/// Moves the number at the end of a record to a number by a step of any number of digits, and counts what came of it.
+pub fn tally_long_move(sender: &Item, receiver: &Item, record: &[u8], tally: &mut Tally) {
+    let size = usize::from(receiver.size());
+    if size > 32 {
+        tally.count_none();
+        return;
+    }
+    let mut bytes = [UNWRITTEN; 32];
+    match LongStep::prepare(sender, receiver) {
+        Some(step) => {
+            let moved = step.run(record, &mut bytes[..size]);
+            tally.count(moved, &bytes[..size]);
+        }
+        None => tally.count_none(),
+    }
 }
