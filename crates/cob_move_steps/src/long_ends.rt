@@ -1,5 +1,7 @@
 use crate::number_ends::NumberWriter;
-use cob_codec_lanes::{DigitReader, DigitWriter, PairReader, WideWordReader, WideWordWriter, WideWriter};
+use cob_codec_lanes::{
+    DigitReader, DigitWriter, PairReader, WideWordReader, WideWordWriter, WideWriter,
+};
 
 /// What reads the number that items of one kind give, of any number of digits.
 #[derive(Clone, Copy)]

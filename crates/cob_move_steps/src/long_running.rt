@@ -96,7 +96,7 @@ fn write_packed(writer: &WideWriter, front: u8x16, back: u8x16, minus: bool, to:
 fn write_digits(writer: &DigitWriter, front: u8x16, back: u8x16, minus: bool, to: &mut [u8])
     ensures { length to.old ≡ writer.now.digits.size → AreTens front → AreTens back
         → AreDigitsMade writer.now minus
-            (take (writer.now.digits.count - 16) front ++ back) to.new }
+        (take (writer.now.digits.count - 16) front ++ back) to.new }
 {
     if to.len() == writer.digits.size {
         writer.write(front, back, minus, to);

@@ -8,7 +8,7 @@ returns c =
     let last = c.last_wanted.result in
     record {
       sends = c.in_ok-reader.ensures.sends;
-      receives = c.is_number_item.ensures.yes c.if-not-is_number_item.false;
+      receives = c.if-not-is_number_item.ensures.yes;
       room = omega (arith, front.most, c.front_wanted.ensures.digits);
       reader = c.in_ok-reader.ensures.reader;
       front = keeper_as front.digits _ front.shift _ c.of-front.result c.front_wanted.ensures.digits c.front_wanted.ensures.shift c.of-front.ensures;
