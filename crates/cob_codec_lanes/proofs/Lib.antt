@@ -22,3 +22,4 @@ pub mod DigitKinds
 pub mod WideWordLemmas
 pub mod DigitWriting
 pub mod PairReading
+pub mod LongTextLemmas

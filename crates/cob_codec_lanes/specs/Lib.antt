@@ -11,3 +11,4 @@ pub mod DigitLanes
 pub mod DigitItems
 pub mod WideWords
 pub mod Pairs
+pub mod LongTexts

@@ -14,3 +14,4 @@ pub mod TextStepLemmas
 pub mod LongKinds
 pub mod LongDigits
 pub mod LongLemmas
+pub mod LongTextLemmas

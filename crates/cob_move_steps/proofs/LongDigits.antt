@@ -7,7 +7,7 @@ use Rattle.cob_codec_lanes.specs.Lanes.{AreTens, AreZero}
 use Rattle.cob_codec_lanes.specs.Readers.{AreWanted}
 use Rattle.cob_codec_lanes.proofs.WantedLemmas.{wanted_aligned, wanted_tens, wanted_valid, wanted_zero}
 use Rattle.cob_codec_lanes.proofs.WideLemmas.{joined, joined_aligned, joined_length, joined_valid, joined_zero}
-use Rattle.cob_move_steps.specs.Long.{last_count, long_digits}
+use Rattle.cob_move_steps.specs.LongDigits.{last_count, long_digits}
 
 pub few_last : (count : ℕ) → count ≤ 16 → last_count count ≡ count
 few_last count few =

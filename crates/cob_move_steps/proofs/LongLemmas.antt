@@ -25,11 +25,18 @@ use Rattle.cob_move_receive.specs.Sent.{Amount, Entry}
 use Rattle.cob_move_receive.specs.Numbers.{AreNumerals, GivesUnder, HoldsAligned, IsNumberIn, IsReadAs, ItemGives, digits_of}
 use Rattle.cob_move_receive.specs.Received.{Received, GetsNumber, GetsCharacters, outcome}
 use Rattle.cob_move_steps.specs.Ends.{GivesSigned, item_digits}
-use Rattle.cob_move_steps.specs.Long.{IsCharacterNumber, IsLongStep, SendsLong, last_count, long_digits}
+use Rattle.cob_move_steps.specs.Long.{IsCharacterNumber, IsLongReceiverFor, IsLongStep, IsLongWriterFor, SendsLong}
+use Rattle.cob_move_steps.specs.LongDigits.{last_count, long_digits}
+use Rattle.cob_move_steps.specs.Texts.{IsPlainlyEdited}
+use Rattle.cob_move_steps.specs.declared.long_ends.LongReceiver.{LongReceiver}
+use Rattle.cob_move_steps.specs.declared.long_ends.LongReceiver.TheVariants as receiver
+use Rattle.cob_move_steps.specs.declared.long_ends.LongWriter.{LongWriter}
+use Rattle.cob_move_steps.specs.declared.long_ends.LongWriter.TheVariants as writer
 use Rattle.cob_move_steps.specs.Steps.{received_form}
 use Rattle.cob_move_steps.specs.declared.long_step.LongStep.{LongStep}
 use Rattle.cob_move_steps.proofs.GivenLemmas.{at_scale, from_false, low_digits, match_false, number_gives, number_sent, numeral_digits, numeral_zones, numerals_are}
 use Rattle.cob_move_steps.proofs.AnyNumberLemmas.{left_nonzero, size_is}
+use Rattle.cob_move_steps.proofs.EditLemmas.{edited_of_sent}
 use Rattle.cob_move_steps.proofs.LongDigits.{AreLongDigits, long_are}
 use Rattle.cob_move_steps.proofs.StepLemmas.{holds_digits, match_true, not_false, not_true, number_item, number_shows}
 
@@ -126,14 +133,21 @@ gives_long reading i bytes v sends g =
 
 -- ---- what is moved
 
-pub moved_long : (s r : Item) (step : LongStep) (reading : Reading) (item front back first last new : List ℕ) (told minus left zero_is : Bool) (n : ℕ) → IsLongStep s r step → n ≡ item_size r → not told ≡ false
+-- such a receiver is a number
+pub long_number : (to : Item) (w : LongWriter) → IsLongWriterFor to w → IsNumberItem to
+long_number to (writer.Short w) is = is.number
+long_number to (writer.Packed w) is = is.number
+long_number to (writer.Digits w) is = is.number
+long_number to (writer.Word w) is = is.number
+
+pub moved_long : (s r : Item) (step : LongStep) (reading : Reading) (item front back first last new : List ℕ) (told minus left zero_is : Bool) (n : ℕ) → IsLongStep s r step → IsNumberItem r → n ≡ item_size r → not told ≡ false
     → IsWideRead (GivesSigned reading s item) told minus front back
     → ((number wanted : ℕ) (shift : ℤ) → IsWideKeeperOf wanted shift step.front → AreHeldWide number front back → AreWanted wanted shift number first)
     → ((number wanted : ℕ) (shift : ℤ) → IsWideKeeperOf wanted shift step.back → AreHeldWide number front back → AreWanted wanted shift number last)
     → IsTrue zero_is ↔ (AreZero first × AreZero last) → left ≡ (minus && not zero_is)
     → ((AreTens first) → (AreTens last) → (IsTrue left → 0 < number_of (long_digits (item_digits r) first last)) → new ≡ received_form r left (long_digits (item_digits r) first last))
     → Received (Entry (ItemKind s) item reading) (ItemKind r) n (outcome true new)
-moved_long s r step reading item front back first last new told minus left zero_is n is size number read keep_front keep_back zero left_is written =
+moved_long s r step reading item front back first last new told minus left zero_is n is receives size number read keep_front keep_back zero left_is written =
     let count : ℕ = item_digits r in
     let from : ℤ = scale s.picture.positions in
     let to : ℤ = scale r.picture.positions in
@@ -147,14 +161,43 @@ moved_long s r step reading item front back first last new told minus left zero_
     let some : IsTrue left → 0 < number_of ds = λ t. left_nonzero minus zero_is (number_of ds) (λ e. nothing.1 e) (subst (λ b. IsTrue b) left_is t) in
     let stored : new ≡ received_form r (minus && not zero_is) ds = written d.front_tens d.back_tens some ∙ ap (λ b. received_form r b ds) left_is in
     let h : HoldsAligned r v new = holds_digits s r minus a.negative zero_is a.digits ds new a.sign d.valid d.long d.value nothing stored in
-    match_true (shows_number r.picture.category) (GetsNumber (Entry (ItemKind s) item reading) r (Some new)) (GetsCharacters (Entry (ItemKind s) item reading) (ItemKind r) n (Some new)) (number_shows r (number_item r is.receives)) (
+    match_true (shows_number r.picture.category) (GetsNumber (Entry (ItemKind s) item reading) r (Some new)) (GetsCharacters (Entry (ItemKind s) item reading) (ItemKind r) n (Some new)) (number_shows r (number_item r receives)) (
       v,
       a.represented,
-      match_true (is_number r) (HoldsAligned r v new) (IsEdited r.picture r.blank v.negative v.digits v.scale new) (number_item r is.receives) h,
+      match_true (is_number r) (HoldsAligned r v new) (IsEdited r.picture r.blank v.negative v.digits v.scale new) (number_item r receives) h,
     )
+
+-- an edited receiver
+pub moved_to_text : (s r : Item) (step : LongStep) (reading : Reading) (item front back first last new : List ℕ) (told minus : Bool) (n : ℕ) → IsLongStep s r step → IsPlainlyEdited r → not told ≡ false
+    → IsWideRead (GivesSigned reading s item) told minus front back
+    → ((number wanted : ℕ) (shift : ℤ) → IsWideKeeperOf wanted shift step.front → AreHeldWide number front back → AreWanted wanted shift number first)
+    → ((number wanted : ℕ) (shift : ℤ) → IsWideKeeperOf wanted shift step.back → AreHeldWide number front back → AreWanted wanted shift number last)
+    → (AreTens first → AreTens last → IsEdited r.picture r.blank minus (long_digits (item_digits r) first last) (scale r.picture.positions) new)
+    → Received (Entry (ItemKind s) item reading) (ItemKind r) n (outcome true new)
+moved_to_text s r step reading item front back first last new told minus n is receives number read keep_front keep_back written =
+    let count : ℕ = item_digits r in
+    let from : ℤ = scale s.picture.positions in
+    let to : ℤ = scale r.picture.positions in
+    let a : AreWidelyRead (GivesSigned reading s item) minus front back = read.number (not_false told number) in
+    let value : ℕ = number_of a.digits in
+    let d : AreLongDigits count from to value first last =
+    long_are count from to value first last (omega (arith, is.room)) (keep_front value (count - 16) (to -ℤ from -ℤ pos 16) is.front a.held) (keep_back value (last_count count) (to -ℤ from) is.back a.held) in
+    let v : Amount = at_scale s a.negative a.digits in
+    let h : IsEdited r.picture r.blank a.negative a.digits from new =
+    edited_of_sent r.picture r.blank minus a.negative (long_digits count first last) a.digits new from d.valid d.long d.value a.sign (written d.front_tens d.back_tens) in
+    match_true (shows_number r.picture.category) (GetsNumber (Entry (ItemKind s) item reading) r (Some new)) (GetsCharacters (Entry (ItemKind s) item reading) (ItemKind r) n (Some new)) receives.shows (
+      v,
+      a.represented,
+      match_false (is_number r) (HoldsAligned r v new) (IsEdited r.picture r.blank v.negative v.digits v.scale new) receives.edited h,
+    )
+
+-- a receiver shows a number
+receiver_shows : (r : Item) (w : LongReceiver) → IsLongReceiverFor r w → shows_number r.picture.category ≡ true
+receiver_shows r (receiver.Number w) is = number_shows r (number_item r (long_number r w is))
+receiver_shows r (receiver.Text w) is = is.edited.plainly.shows
 
 pub not_moved_long : (s r : Item) (step : LongStep) (reading : Reading) (item front back new : List ℕ) (told minus : Bool) (n : ℕ) → IsLongStep s r step → not told ≡ true → IsWideRead (GivesSigned reading s item) told minus front back
     → Received (Entry (ItemKind s) item reading) (ItemKind r) n (outcome false new)
 not_moved_long s r step reading item front back new told minus n is none read =
-    match_true (shows_number r.picture.category) (GetsNumber (Entry (ItemKind s) item reading) r None) (GetsCharacters (Entry (ItemKind s) item reading) (ItemKind r) n None) (number_shows r (number_item r is.receives))
+    match_true (shows_number r.picture.category) (GetsNumber (Entry (ItemKind s) item reading) r None) (GetsCharacters (Entry (ItemKind s) item reading) (ItemKind r) n None) (receiver_shows r step.writer is.writer)
     (λ v gives. read.nothing (not_true told none) v.negative v.digits (gives_long reading s item v is.sends gives))

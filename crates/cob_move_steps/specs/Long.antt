@@ -1,4 +1,4 @@
--- Single moves of numbers of any number of digits that are made ready: between numbers, and from characters to numbers.
+-- Single moves of numbers of any number of digits that are made ready: of numbers and characters, to numbers and edited items.
 use Rattle.std.specs.Prelude.{◌≡◌, ◌⊎◌, ℕ, ◌-◌, ◌<◌, ◌≤◌, pos, ◌-ℤ◌, nat_lt, if◌then◌else◌, Bool, IsTrue, List, ◌++◌, length, take, Option}
 use Rattle.cob_decimal.specs.Decimal.{number_of}
 use Rattle.cob_picture.specs.Counts.{scale, signed}
@@ -23,12 +23,16 @@ use Rattle.cob_codec_lanes.specs.declared.wide_word.WideWordReader.{WideWordRead
 use Rattle.cob_codec_lanes.specs.declared.wide_word.WideWordWriter.{WideWordWriter}
 use Rattle.cob_codec_lanes.specs.declared.wide_writer.WideWriter.{WideWriter}
 use Rattle.cob_move_steps.specs.Ends.{GivesSigned, IsNumberWriterFor, item_digits, SuitsReading}
+use Rattle.cob_move_steps.specs.LongDigits.{last_count, long_digits}
+use Rattle.cob_move_steps.specs.LongTexts.{IsLongTextWriterFor}
 use Rattle.cob_move_steps.specs.Running.{ReceivedWhereRead}
 use Rattle.cob_move_steps.specs.Steps.{received_form}
 use Rattle.cob_move_steps.specs.declared.long_ends.LongReader.{LongReader}
 use Rattle.cob_move_steps.specs.declared.long_ends.LongReader.TheVariants as reader
 use Rattle.cob_move_steps.specs.declared.long_ends.LongWriter.{LongWriter}
 use Rattle.cob_move_steps.specs.declared.long_ends.LongWriter.TheVariants as writer
+use Rattle.cob_move_steps.specs.declared.long_ends.LongReceiver.{LongReceiver}
+use Rattle.cob_move_steps.specs.declared.long_ends.LongReceiver.TheVariants as receiver
 use Rattle.cob_move_steps.specs.declared.long_step.LongStep.{LongStep}
 
 -- ---- senders
@@ -84,14 +88,6 @@ IsLongRead r bytes is_number minus front back =
 
 -- ---- receivers
 
--- How many of so many digits are the last sixteen: all of them where they are fewer.
-abbrev pub last_count : ℕ → ℕ
-last_count count = if nat_lt count 16 then count else 16
-
--- So many digits of two vectors: those in front of the last sixteen, and these.
-abbrev pub long_digits : (count : ℕ) → (front back : List ℕ) → List ℕ
-long_digits count front back = take (count - 16) front ++ take (last_count count) back
-
 -- The writer writes packed numbers of more than sixteen digits.
 pub record IsPackedWriterFor (to : Item) (w : WideWriter) : Type 0 where
   pub number : IsNumberItem to
@@ -121,17 +117,21 @@ IsLongWritten w front back minus n bytes =
     (to : Item) → IsLongWriterFor to w → n ≡ item_size to → AreTens front → AreTens back → (IsTrue minus → 0 < number_of (long_digits (item_digits to) front back))
     → bytes ≡ received_form to minus (long_digits (item_digits to) front back)
 
+-- The writer writes what an item receives of a number.
+abbrev pub IsLongReceiverFor : Item → LongReceiver → Type 0
+IsLongReceiverFor to (receiver.Number w) = IsLongWriterFor to w
+IsLongReceiverFor to (receiver.Text w) = IsLongTextWriterFor to w
+
 -- ---- steps
 
 -- The step moves the number that one item gives to another: it keeps the last sixteen of the digits that this has, and those in front of them.
 pub record IsLongStep (from to : Item) (step : LongStep) : Type 0 where
   pub sends : SendsLong from
-  pub receives : IsNumberItem to
   pub room : item_digits to ≤ 32
   pub reader : IsLongReaderFor from step.reader
   pub front : IsWideKeeperOf (item_digits to - 16) (scale to.picture.positions -ℤ scale from.picture.positions -ℤ pos 16) step.front
   pub back : IsWideKeeperOf (last_count (item_digits to)) (scale to.picture.positions -ℤ scale from.picture.positions) step.back
-  pub writer : IsLongWriterFor to step.writer
+  pub writer : IsLongReceiverFor to step.writer
 
 -- What a receiver of n bytes holds after the move of the item that ends these bytes, or none: for each two items whose step this is, where the
 -- bytes have the sender at their end and n is the receiver's size.

@@ -1,3 +1,4 @@
+use crate::long_text_writer::LongTextWriter;
 use crate::number_ends::NumberWriter;
 use cob_codec_lanes::{
     DigitReader, DigitWriter, PairReader, WideWordReader, WideWordWriter, WideWriter,
@@ -25,4 +26,13 @@ pub enum LongWriter {
     Digits(DigitWriter),
     /// Binary ones of more than sixteen digits.
     Word(WideWordWriter),
+}
+
+/// What writes the number that items of one kind receive, of any number of digits.
+#[derive(Drop)]
+pub enum LongReceiver {
+    /// Those that are stored as numbers.
+    Number(LongWriter),
+    /// Edited ones.
+    Text(LongTextWriter),
 }

@@ -1,21 +1,24 @@
 //! Steps of numbers of any number of digits, made ready.
 
-ghost use Rattle.std.specs.Prelude.{◌≡◌, ◌↔◌, ◌-◌, ◌≤◌, ◌≤ℤ◌, pos, ◌-ℤ◌, IfSome, IsSome, IsTrue};
+ghost use Rattle.std.specs.Prelude.{◌≡◌, ◌↔◌, ◌-◌, ◌≤◌, ◌≤ℤ◌, pos, ◌-ℤ◌, IfOk, IfSome, IsSome, IsTrue};
 ghost use Rattle.cob_picture.specs.Counts.{scale};
 ghost use Rattle.cob_copybook_tree.specs.declared.kinds.StorageKind.TheVariants.{Binary, Packed, Separate, Zoned};
 ghost use Rattle.cob_copybook_tree.specs.Items.{IsNumberItem, storage_kind};
 ghost use Rattle.cob_move_steps.specs.Ends.{item_digits};
-ghost use Rattle.cob_move_steps.specs.Long.{IsCharacterNumber, IsLongReaderFor, IsLongStep, IsLongWriterFor, last_count, SendsLong};
+ghost use Rattle.cob_move_steps.specs.Long.{IsCharacterNumber, IsLongReaderFor, IsLongStep, IsLongReceiverFor, IsLongWriterFor, SendsLong};
+ghost use Rattle.cob_move_steps.specs.LongDigits.{last_count};
 
 use crate::ends_preparing::number_writer;
-use crate::long_ends::{LongReader, LongWriter};
+use crate::long_ends::{LongReader, LongReceiver, LongWriter};
 use crate::long_step::LongStep;
+use crate::long_texts::long_text_writer;
 use cob_codec_lanes::{
     DigitReader, DigitWriter, PairReader, Wanted, WideKeeper, WideWordReader, WideWordWriter,
     WideWriter,
 };
 use cob_copybook_tree::{Item, StorageKind, is_number_item};
 use cob_picture::Category;
+use std::alloc::{AllocError, Global};
 
 /// Whether an item holds from 1 to 31 characters. Its picture has no point.
 fn is_character_number(item: &Item) -> bool
@@ -208,24 +211,53 @@ fn front_wanted(sender: &Item, receiver: &Item) -> Wanted
     Wanted { digits, shift }
 }
 
+/// What writes the number that a receiver gets.
+///
+/// # Errors
+///
+/// There is not enough memory.
+fn long_receiver(alloc: Global, receiver: &Item) -> Result<Option<LongReceiver>, AllocError>
+    ensures { IfOk result (λ writer. IfSome writer (IsLongReceiverFor receiver.now)) }
+{
+    if !is_number_item(receiver) {
+        return match long_text_writer(alloc, receiver)? {
+            Some(writer) => Ok(Some(LongReceiver::Text(writer))),
+            None => Ok(None),
+        };
+    }
+    match long_writer(receiver) {
+        Some(writer) => Ok(Some(LongReceiver::Number(writer))),
+        None => Ok(None),
+    }
+}
+
 impl LongStep {
     /// The step of the move of one item to another. There is one where the sender is a number or holds at most 31 characters, and the receiver is
-    /// a number.
-    pub fn prepare(sender: &Item, receiver: &Item) -> Option<LongStep>
-        ensures { IfSome result (IsLongStep sender.now receiver.now) }
+    /// a number, or edits one in at most 48 bytes.
+    ///
+    /// # Errors
+    ///
+    /// There is not enough memory.
+    pub fn prepare(
+        alloc: Global,
+        sender: &Item,
+        receiver: &Item,
+    ) -> Result<Option<LongStep>, AllocError>
+        ensures { IfOk result (λ step. IfSome step (IsLongStep sender.now receiver.now)) }
     {
-        if !is_number_item(receiver) {
-            return None;
-        }
-        let reader = long_reader(sender)?;
-        let writer = long_writer(receiver)?;
+        let Some(reader) = long_reader(sender) else {
+            return Ok(None);
+        };
+        let Some(writer) = long_receiver(alloc, receiver)? else {
+            return Ok(None);
+        };
         let front = WideKeeper::of(front_wanted(sender, receiver));
         let back = WideKeeper::of(last_wanted(sender, receiver));
-        Some(LongStep {
+        Ok(Some(LongStep {
             reader,
             front,
             back,
             writer,
-        })
+        }))
     }
 }

@@ -9,7 +9,7 @@ ghost use Rattle.cob_move_steps.specs.Ends.{IsItemWritten};
 ghost use Rattle.cob_move_steps.specs.Long.{IsLongCarriedOut, IsLongRead, IsLongWritten};
 ghost use Rattle.cob_move_receive.specs.Received.{outcome};
 
-use crate::long_ends::{LongReader, LongWriter};
+use crate::long_ends::{LongReader, LongReceiver, LongWriter};
 use crate::long_step::LongStep;
 use crate::number_ends::NumberWriter;
 use cob_codec_lanes::{
@@ -147,8 +147,13 @@ impl LongStep {
         }
         let front = self.front.keep(read.front, read.back);
         let back = self.back.keep(read.front, read.back);
-        let minus = keeps_minus_of_both(read.minus, front, back);
-        self.writer.write(front, back, minus, to);
+        match &self.writer {
+            LongReceiver::Number(writer) => {
+                let minus = keeps_minus_of_both(read.minus, front, back);
+                writer.write(front, back, minus, to);
+            }
+            LongReceiver::Text(writer) => writer.write(front, back, read.minus, to),
+        }
         true
     }
 }

@@ -234,7 +234,7 @@ impl MoveSteps {
         if let Some(step) = NumeralsStep::prepare(from, to) {
             return Ok(Some(self.put_numerals(step)?));
         }
-        match LongStep::prepare(from, to) {
+        match LongStep::prepare(self.alloc, from, to)? {
             Some(step) => Ok(Some(self.put_long(step)?)),
             None => Ok(None),
         }

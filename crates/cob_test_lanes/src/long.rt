@@ -4,7 +4,8 @@ ghost use Rattle.std.specs.Prelude.{◌<◌, ◌≤◌};
 
 use crate::characters::characters_item;
 use crate::draws::Draws;
-use crate::kinds::ItemKind;
+use crate::edited::{EditedKind, item_of};
+use crate::kinds::{ItemKind, all_kinds};
 use crate::moves::tally_long_move;
 use crate::numbers::drawn_item;
 use crate::senders::drawn_record;
@@ -31,10 +32,14 @@ fn try_to(
 {
     let receiver = drawn_item(alloc, to, received, draws)?;
     match (sender, &receiver) {
-        (Some(sender), Some(receiver)) => tally_long_move(sender, receiver, record, tally),
-        _ => tally.count_none(),
+        (Some(sender), Some(receiver)) => {
+            tally_long_move(alloc, sender, receiver, record, tally)
+        }
+        _ => {
+            tally.count_none();
+            Ok(())
+        }
     }
-    Ok(())
 }
 
 /// Tries the moves between items of two kinds, of each number of digits.
@@ -86,6 +91,31 @@ pub fn try_long_characters(
                 draws,
                 &mut tally,
             )?;
+        }
+    }
+    Ok(tally)
+}
+
+/// Tries the moves of items of all kinds, of each number of digits, to edited items of a kind.
+pub fn try_long_edited(
+    alloc: Global,
+    to: &EditedKind,
+    draws: &mut Draws,
+) -> Result<Tally, AllocError> {
+    let mut tally = Tally::new();
+    let Some(receiver) = item_of(to) else {
+        return Ok(tally);
+    };
+    for from in &all_kinds() {
+        for sent in 1..from.most_long_digits() + 1 {
+            let sender = drawn_item(alloc, from, sent, draws)?;
+            let record = drawn_record(alloc, from, sent as usize, draws)?;
+            match &sender {
+                Some(sender) => {
+                    tally_long_move(alloc, sender, &receiver, record.as_slice(), &mut tally)?;
+                }
+                None => tally.count_none(),
+            }
         }
     }
     Ok(tally)

@@ -27,9 +27,11 @@ use crate::converted::{
     try_edited_to_numbers,
 };
 use crate::draws::Draws;
-use crate::edited::{EditedKind, edited_kinds, long_kinds, try_all_edited, try_edited};
+use crate::edited::{
+    EditedKind, edited_kinds, long_kinds, longest_kinds, try_all_edited, try_edited,
+};
 use crate::kinds::{all_kinds, kinds};
-use crate::long::{try_long_characters, try_long_kinds};
+use crate::long::{try_long_characters, try_long_edited, try_long_kinds};
 use crate::near::try_near;
 use crate::numbers::{try_kinds, try_wide_kinds};
 use crate::shown::try_shown;
@@ -197,6 +199,16 @@ fn print_long_numbers(rt: HostRuntime, draws: &mut Draws) -> io::Result<()> {
     for to in &kinds {
         let tally = try_long_characters(rt.alloc(), to, draws)?;
         print_tally(rt, "characters", to.name, &tally)?;
+    }
+    for kinds in [
+        edited_kinds().as_slice(),
+        long_kinds().as_slice(),
+        longest_kinds().as_slice(),
+    ] {
+        for to in kinds {
+            let tally = try_long_edited(rt.alloc(), to, draws)?;
+            print_tally(rt, "numbers", to.picture, &tally)?;
+        }
     }
     Ok(())
 }

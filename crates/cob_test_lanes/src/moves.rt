@@ -94,18 +94,25 @@ pub fn tally_move(
 }
 
 /// Moves the number at the end of a record to a number by a step of any number of digits, and counts what came of it.
-pub fn tally_long_move(sender: &Item, receiver: &Item, record: &[u8], tally: &mut Tally) {
+pub fn tally_long_move(
+    alloc: Global,
+    sender: &Item,
+    receiver: &Item,
+    record: &[u8],
+    tally: &mut Tally,
+) -> Result<(), AllocError> {
     let size = usize::from(receiver.size());
-    if size > 32 {
+    if size > 48 {
         tally.count_none();
-        return;
+        return Ok(());
     }
-    let mut bytes = [UNWRITTEN; 32];
-    match LongStep::prepare(sender, receiver) {
+    let mut bytes = [UNWRITTEN; 48];
+    match LongStep::prepare(alloc, sender, receiver)? {
         Some(step) => {
             let moved = step.run(record, &mut bytes[..size]);
             tally.count(moved, &bytes[..size]);
         }
         None => tally.count_none(),
     }
+    Ok(())
 }

@@ -3,7 +3,8 @@ use Rattle.cob_decimal.specs.Decimal.{number_of}
 use Rattle.cob_copybook_tree.specs.Lengths.{item_size}
 use Rattle.cob_codec_lanes.proofs.DigitWriting.{both_long, both_valid}
 use Rattle.cob_move_steps.specs.Ends.{IsNumberWriterFor, item_digits}
-use Rattle.cob_move_steps.specs.Long.{AreDigitsWrittenFor, IsLongWriterFor, IsPackedWriterFor, long_digits}
+use Rattle.cob_move_steps.specs.Long.{AreDigitsWrittenFor, IsLongWriterFor, IsPackedWriterFor}
+use Rattle.cob_move_steps.specs.LongDigits.{long_digits}
 use Rattle.cob_move_steps.specs.Steps.{received_form}
 use Rattle.cob_move_steps.proofs.LongDigits.{long_joined, long_short}
 use Rattle.cob_move_steps.proofs.PoolLemmas.{writer_fits}
