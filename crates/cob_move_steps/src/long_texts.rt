@@ -1,6 +1,6 @@
 //! Texts of edited items of any number of digits, made ready and written.
 
-ghost use Rattle.std.specs.Prelude.{◌≡◌, ◌↔◌, ◌==◌, ◌+◌, ◌<◌, ◌≤◌, ℕ, true, length, slice_index, vec_len, IfOk, IfSome, IsSome, IsTrue};
+ghost use Rattle.std.specs.Prelude.{◌≡◌, ◌↔◌, ◌==◌, ◌+◌, ◌-◌, ◌<◌, ◌≤◌, ℕ, true, length, slice_index, vec_len, IfOk, IfSome, IsSome, IsTrue};
 ghost use Rattle.std.specs.List.{prefix_len};
 ghost use Rattle.cob_edit.specs.Rows.{ArePlacesOf};
 ghost use Rattle.cob_codec_lanes.specs.Lanes.{is_pick};
@@ -177,12 +177,13 @@ fn zeros_of_both(front: u8x16, back: u8x16, count: u8) -> usize
     ensures value { result ≡ prefix_len (λ d. d == 0) (long_digits count front back) }
     ensures within { result ≤ count }
 {
-    let leading = front_count(count);
+    let front_digits = front_count(count);
+    let leading = usize::from(front_digits);
     let zeros = zeros_before(front);
-    if zeros < usize::from(leading) {
+    if zeros < leading {
         zeros
     } else {
-        usize::from(leading) + zeros_in_front(back, count - leading)
+        leading + zeros_in_front(back, count - front_digits)
     }
 }
 
