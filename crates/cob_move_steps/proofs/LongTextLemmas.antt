@@ -193,9 +193,9 @@ long_valid count front back few first last tens more =
       | inr ge ↦ omega (arith, digit_behind count i front back few first last ge (omega arith), more (i - (count - 16)) (omega arith))
     ])
 
-pub long_text_made : (to : Item) (zeros : ℕ) (row : List Cell) (t : LongText) → item_digits to ≤ 31 → item_size to ≤ 48 → item_size to ≡ length row → IsLongTextOf (item_digits to) row t → IsRowOf to.picture to.blank zeros row
-    → IsLongTextFor to zeros t
-long_text_made to zeros row t few fits size is texts negative front back bytes first last tens more told shown =
+pub long_text_made : (to : Item) (leading : ℕ) (row : List Cell) (t : LongText) → item_digits to ≤ 31 → item_size to ≤ 48 → item_size to ≡ length row → IsLongTextOf (item_digits to) row t → IsRowOf to.picture to.blank leading row
+    → IsLongTextFor to leading t
+long_text_made to leading row t few fits size is texts negative front back bytes first last tens more told shown =
     let count : ℕ = item_digits to in
     let here : take (item_size to) bytes ≡ row_bytes (long_digits count front back) negative row =
     ap (λ k. take k bytes) size ∙ long_row count row t negative front back bytes (omega arith) few first last tens more is shown in
