@@ -1,5 +1,5 @@
 -- Digits of two vectors, those in front of the last sixteen and these: together they are the number, aligned.
-use Rattle.std.proofs.Common.{◌≡◌, ◌↔◌, ℕ, ◌+◌, ◌-◌, ◌<◌, ◌≤◌, ℤ, pos, ◌-ℤ◌, cond, List, [], ◌++◌, length, get_or, take, refl, sym, ap, subst, ◌∙◌, inl, inr, arith, lt-ltb, le-ltb, length-take-le}
+use Rattle.std.proofs.Common.{◌≡◌, ◌↔◌, ℕ, ◌-◌, ◌<◌, ◌≤◌, ℤ, pos, ◌-ℤ◌, cond, List, ◌++◌, length, take, sym, ap, subst, ◌∙◌, inl, inr, arith, lt-ltb, le-ltb, length-take-le}
 use Rattle.std.proofs.lemmas.Bool.{cases_lt}
 use Rattle.std.proofs.lemmas.List.{take_all}
 use Rattle.cob_decimal.specs.Decimal.{IsDigits, number_of, aligned}

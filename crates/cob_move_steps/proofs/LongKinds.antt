@@ -1,5 +1,5 @@
 -- Which items the readers and writers of numbers of any number of digits are made ready for.
-use Rattle.std.proofs.Common.{◌≡◌, ℕ, ◌+◌, ◌-◌, ◌*◌, ◌/◌, ◌<◌, ◌≤◌, ◌&&◌, ℤ, Bool, true, false, List, refl, sym, ap, subst, ◌∙◌, arith}
+use Rattle.std.proofs.Common.{◌≡◌, ℕ, ◌+◌, ◌/◌, ◌&&◌, ℤ, Bool, true, false, List, refl, sym, ap, subst, ◌∙◌}
 use Rattle.cob_picture.specs.Counts.{digits, signed}
 use Rattle.cob_picture.specs.Positions.{PlainPicture}
 use Rattle.cob_codec.specs.Packed.{IsPacked}

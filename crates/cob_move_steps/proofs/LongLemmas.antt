@@ -1,10 +1,9 @@
 -- Steps of numbers of any number of digits, carried out.
-use Rattle.std.proofs.Common.{◌≡◌, ◌↔◌, ◌<◌, ◌≤◌, ℕ, ◌+◌, ◌-◌, ◌&&◌, ℤ, pos, ◌-ℤ◌, Bool, true, false, not, IsTrue, List, ◌++◌, map, length, take, Some, None, refl, sym, ap, subst, ◌∙◌, inl, inr, arith}
-use Rattle.std.proofs.lemmas.Bool.{cases_eq}
-use Rattle.cob_decimal.specs.Decimal.{IsDigits, number_of, aligned}
+use Rattle.std.proofs.Common.{◌≡◌, ◌↔◌, ◌<◌, ℕ, ◌-◌, ◌&&◌, ℤ, pos, ◌-ℤ◌, Bool, true, false, not, IsTrue, List, map, length, Some, None, sym, ap, subst, ◌∙◌, inl, inr, arith}
+use Rattle.cob_decimal.specs.Decimal.{IsDigits, number_of}
 use Rattle.cob_picture.specs.Counts.{scale, signed}
 use Rattle.cob_picture.specs.Positions.{shows_number}
-use Rattle.cob_codec.specs.Binary.{IsBinary, binary_form, binary_length}
+use Rattle.cob_codec.specs.Binary.{IsBinary, binary_length}
 use Rattle.cob_codec.specs.Zoned.{low_digit}
 use Rattle.cob_codec.specs.declared.reading.Reading.{Reading}
 use Rattle.cob_codec.specs.declared.reading.Reading.TheVariants.{Pictured}

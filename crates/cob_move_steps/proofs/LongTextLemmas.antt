@@ -1,5 +1,5 @@
 -- Texts of edited items that are made of digits in two vectors.
-use Rattle.std.proofs.Common.{◌≡◌, ℕ, zero, suc, ◌+◌, ◌-◌, ◌%◌, ◌<◌, ◌≤◌, ◌==◌, ◌&&◌, Bool, true, false, cond, ltb, leb, List, [], ◌∷◌, ◌++◌, length, take, get_or, refl, sym, ap, subst, ◌∙◌, inl, inr, arith, lt-ltb, le-ltb, length-take-le, get_or-take}
+use Rattle.std.proofs.Common.{◌≡◌, ℕ, suc, ◌+◌, ◌-◌, ◌%◌, ◌<◌, ◌≤◌, ◌==◌, ◌&&◌, Bool, true, false, cond, ltb, leb, List, [], ◌∷◌, ◌++◌, length, take, get_or, refl, sym, ap, subst, ◌∙◌, inl, inr, arith, lt-ltb, le-ltb, length-take-le, get_or-take}
 use Rattle.std.proofs.lemmas.Bool.{cases_lt, le-leb, lt-leb}
 use Rattle.std.proofs.lemmas.List.{ext_get_or, get_or_past, get_or_append_left, get_or-append_right, get_or-map, length-append, length-map}
 use Rattle.std.specs.List.{prefix_len}
@@ -19,7 +19,7 @@ use Rattle.cob_codec_lanes.specs.declared.long_text.PairText.{PairText}
 use Rattle.cob_codec_lanes.proofs.HalfLemmas.{all_digits}
 use Rattle.cob_move_steps.specs.Ends.{item_digits}
 use Rattle.cob_move_steps.specs.LongDigits.{last_count, long_digits}
-use Rattle.cob_move_steps.specs.LongTexts.{AreLongTextsFor, IsLongEditedItem, IsLongTextFor, IsLongTextOf, IsPairTextOf, back_lane, front_lane}
+use Rattle.cob_move_steps.specs.LongTexts.{AreLongTextsFor, IsLongTextFor, IsLongTextOf, IsPairTextOf, back_lane, front_lane}
 use Rattle.cob_move_steps.specs.Texts.{added_to, cell_in}
 use Rattle.cob_move_steps.proofs.LongDigits.{few_last, many_last}
 use Rattle.cob_move_steps.proofs.TextLemmas.{first_numbered, more_numbered, zeros_all, zeros_few}

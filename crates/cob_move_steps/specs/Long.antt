@@ -1,5 +1,5 @@
 -- Single moves of numbers of any number of digits that are made ready: of numbers and characters, to numbers and edited items.
-use Rattle.std.specs.Prelude.{◌≡◌, ◌⊎◌, ℕ, ◌-◌, ◌<◌, ◌≤◌, pos, ◌-ℤ◌, nat_lt, if◌then◌else◌, Bool, IsTrue, List, ◌++◌, length, take, Option}
+use Rattle.std.specs.Prelude.{◌≡◌, ◌⊎◌, ℕ, ◌-◌, ◌<◌, ◌≤◌, pos, ◌-ℤ◌, Bool, IsTrue, List, length, Option}
 use Rattle.cob_decimal.specs.Decimal.{number_of}
 use Rattle.cob_picture.specs.Counts.{scale, signed}
 use Rattle.cob_picture.specs.declared.category.Category.TheVariants.{Alphanumeric}

@@ -1,4 +1,4 @@
-use Rattle.std.proofs.Common.{◌≡◌, ◌⊎◌, ◌≤◌, length, subst, ap, sym, inl, inr}
+use Rattle.std.proofs.Common.{◌⊎◌, ◌≤◌, length, subst, ap, sym, inl, inr}
 use Rattle.cob_picture.specs.Counts.{signed}
 use Rattle.cob_codec.specs.Binary.{binary_length}
 use Rattle.cob_copybook_tree.specs.Items.{IsSentBy}

@@ -1,6 +1,5 @@
 use Rattle.std.proofs.Common.{◌≡◌, ◌<◌, ◌≤◌, ◌-◌, ◌++◌, ℕ, List, length, take, subst, ap, sym, ◌∙◌, arith}
 use Rattle.cob_decimal.specs.Decimal.{number_of}
-use Rattle.cob_copybook_tree.specs.Lengths.{item_size}
 use Rattle.cob_codec_lanes.proofs.DigitWriting.{both_long, both_valid}
 use Rattle.cob_move_steps.specs.Ends.{IsNumberWriterFor, item_digits}
 use Rattle.cob_move_steps.specs.Long.{AreDigitsWrittenFor, IsLongWriterFor, IsPackedWriterFor}
