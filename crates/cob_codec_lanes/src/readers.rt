@@ -18,7 +18,7 @@ use crate::wanted::Wanted;
 use cob_codec::Shape;
 
 /// The greatest half byte that is a digit.
-const NINE: u8 = 9;
+pub(crate) const NINE: u8 = 9;
 
 /// The place of the sign among the bytes of a zoned item.
 pub(crate) fn sign_place(signed: bool, leading: bool, count: usize) -> usize
