@@ -113,7 +113,7 @@ fn is_unkept(
     covered: &[bool],
     at: usize,
 ) -> bool
-    requires sent_element { HoldsSent (sent_element from.now) bytes.now (length received.now) }
+    requires sent { HoldsSent (sent_element from.now) bytes.now (length received.now) }
     requires there { at < length received.now }
     ensures unkept { IsTrue result → IsUnkept (sent_element from.now) (map item_byte received.now)
         (IsMarked covered.now) at }
@@ -131,7 +131,7 @@ pub(crate) fn first_unkept(
     received: &[ItemByte<'_>],
     covered: &[bool],
 ) -> Option<Unkept>
-    requires sent_element { HoldsSent (sent_element from.now) bytes.now (length received.now) }
+    requires sent { HoldsSent (sent_element from.now) bytes.now (length received.now) }
     ensures { TellsAmong (sent_element from.now) (map item_byte received.now)
         (IsMarked covered.now) result }
 {
