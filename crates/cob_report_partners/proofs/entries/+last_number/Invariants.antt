@@ -2,7 +2,7 @@ use Rattle.std.proofs.Common.{◌≡◌}
 use Rattle.cob_copybook_tree.specs.Nodes.{node}
 use Rattle.cob_layout_places.proofs.ForestLemmas.{left}
 use Rattle.cob_report_partners.specs.Entries.{last_entry_number}
-use Rattle.cob_report_partners.proofs.entries.+last_entry_number.Given as goal
+use Rattle.cob_report_partners.proofs.entries.+last_number.Given as goal
 
 abbrev pub decreases-last_number : goal.decreases-last_number
 decreases-last_number l = goal.size-last_number l
