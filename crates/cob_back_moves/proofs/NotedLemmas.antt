@@ -1,7 +1,7 @@
 -- Occurrences that are noted once receive once.
-use Rattle.std.proofs.Common.{◌≡◌, ℕ, ◌+◌, ◌<◌, ◌≤◌, true, false, List, [], ◌∷◌, ◌++◌, length, get_or, drop, set, refl, sym, ap, subst, ◌∙◌, append-nil, append_assoc, inl, inr}
-use Rattle.std.specs.Prelude.{Bool, Result, Option, Some, None, Ok, Err, option_map, IfNone, IsSome, is_some}
-use Rattle.std.proofs.lemmas.List.{drop_all, get_or-set_same, get_or-set_other}
+use Rattle.std.proofs.Common.{◌≡◌, ℕ, ◌<◌, true, false, List, [], ◌∷◌, length, get_or, set, map, refl, sym, ap, subst, ◌∙◌, inl, inr}
+use Rattle.std.specs.Prelude.{Bool, Result, Option, Some, None, Ok, Err, option_map, IsSome}
+use Rattle.std.proofs.lemmas.List.{get_or-set_same, get_or-set_other}
 use Rattle.std.proofs.lemmas.Bool.{cases_eq}
 use Rattle.cob_codec.specs.declared.reading.Reading.{Reading}
 use Rattle.cob_copybook_tree.specs.Forests.{Forest}
@@ -13,20 +13,15 @@ use Rattle.cob_layout.specs.declared.layout.PlaceFault.{PlaceFault}
 use Rattle.cob_layout_places.specs.Cover.{Occurrence}
 use Rattle.cob_layout_places.specs.Lengths.{times}
 use Rattle.cob_layout_places.specs.Places.{place_of}
-use Rattle.cob_move_data.specs.declared.operands.Move as code_move
-use Rattle.cob_move_data.specs.declared.operands.NumberedPair.{NumberedPair}
-use Rattle.cob_move_data.specs.declared.operands.PairMoves.{PairMoves}
-use Rattle.cob_move_data.specs.declared.operands.StatementMoves.{StatementMoves}
-use Rattle.cob_move_data.specs.declared.operands.StatementMoves.TheVariants.{Pairs, Single}
 use Rattle.cob_layout_places.specs.declared.places.Found.{Found}
 use Rattle.cob_layout_places.specs.declared.reference.Ref.{Ref}
-use Rattle.cob_move_data.specs.Moves.{Records, move_by, sender_by}
-use Rattle.cob_move_apply.proofs.ListLemmas.{next}
-use Rattle.cob_move_data.specs.Singles.{SingleMove, occurrence, occurrence_of}
-use Rattle.cob_back_moves.specs.Singles.{ReceiveOnce}
-use Rattle.cob_back_moves.specs.Noting.{BeginsAt, IsNotedAt, NotesFirst, NotesOnce, ReceiveFirst}
-use Rattle.cob_back_moves.specs.Received.{singles_by_pairs, singles_by_statement, singles_to}
-use Rattle.cob_back_moves.proofs.EachLemmas.{one_move}
+use Rattle.cob_move_data.specs.declared.operands.StatementMoves.{StatementMoves}
+use Rattle.cob_move_data.specs.Moves.{Records}
+use Rattle.cob_move_data.specs.Singles.{PlainSingle, SingleMove, occurrence, occurrence_of, single_between, singles_of}
+use Rattle.cob_move_data.proofs.SingleLemmas.{of_placed}
+use Rattle.cob_back_moves.specs.Singles.{ReceiveOnce, Receives}
+use Rattle.cob_back_moves.specs.Noting.{BeginsAt, NotesFirst}
+use Rattle.cob_back_moves.specs.Received.{singles_by}
 
 -- ---- where an occurrence begins
 
@@ -58,14 +53,31 @@ one_beginning tree x a b h k =
 
 -- ---- one note
 
+-- a statement is noted at this byte
+abbrev IsNotedAt : List (Option ℕ) → ℕ → Type 0
+IsNotedAt noted at = IsSome (get_or noted at None)
+
+-- a statement is noted at the byte at which the occurrence begins
+record HasNotedBegin (tree : Forest Resolved) (noted : List (Option ℕ)) (x : Occurrence) : Type 0 where
+  at : ℕ
+  begins : BeginsAt tree x at
+  there : IsNotedAt noted at
+
+-- no occurrence receives twice in these, and none receives that is noted
+pub record ReceiveFirst (tree : Forest Resolved) (noted : List (Option ℕ)) (ss : List SingleMove) : Type 0 where
+  once : ReceiveOnce ss
+  fresh : (x : Occurrence) → HasNotedBegin tree noted x → Receives x ss → ⊥
+
 still_noted : (noted : List (Option ℕ)) (at statement other : ℕ) → at < length noted → IsNotedAt noted other → IsNotedAt (set noted at (Some statement)) other
 still_noted noted at statement other lt h = elim (cases_eq other at) [
   | inl is ↦ subst (λ (o : ℕ). IsNotedAt (set noted at (Some statement)) o) (sym is) (subst IsSome (sym (get_or-set_same noted at (Some statement) None lt)) refl)
   | inr differs ↦ subst IsSome (sym (get_or-set_other noted at other (Some statement) None differs)) h
 ]
 
-pub noted_step : (tree : Forest Resolved) (noted after : List (Option ℕ)) (s : SingleMove) → NotesFirst tree noted (occurrence_of s.receiver) after → NotesOnce tree noted (s ∷ []) after
-noted_step tree noted after s h = λ others k.
+-- where the receiver of the first one gets its note, the others are compared with the notes that there are then
+first_noted : (tree : Forest Resolved) (noted after : List (Option ℕ)) (s : SingleMove) (ss : List SingleMove) → NotesFirst tree noted (occurrence_of s.receiver) after
+    → ReceiveFirst tree after ss → ReceiveFirst tree noted (s ∷ ss)
+first_noted tree noted after s ss h k =
     let x = occurrence_of s.receiver in
     let here : IsNotedAt after h.at = subst (λ (ns : List (Option ℕ)). IsNotedAt ns h.at) (sym h.first.made) (subst IsSome (sym (get_or-set_same noted h.at (Some h.statement) None h.first.within)) refl) in
     record {
@@ -85,52 +97,20 @@ noted_step tree noted after s h = λ others k.
 
 -- ---- one by one
 
--- the receivers of the first elements are noted: if those of the elements that are left are noted from there on, so are all
-abbrev pub Noted : {A : Type 0} → (List A → List SingleMove) → List A → ℕ → Forest Resolved → List (Option ℕ) → List (Option ℕ) → Type 0
-Noted f xs i tree noted now = (others : List SingleMove) → ReceiveFirst tree now (f (drop i xs) ++ others) → ReceiveFirst tree noted (f xs ++ others)
+-- Those before are noted: if those that are left are compared with the notes that there are now, no occurrence receives twice in all.
+abbrev pub Noted : Forest Resolved → List (Option ℕ) → List PlainSingle → List StatementMoves → Type 0
+Noted tree now left all = (x : Reading) (r : Records) → ReceiveFirst tree now (map (single_between x r) left) → ReceiveOnce (singles_by x r all)
 
-pub noted_next : {A : Type 0} (f : List A → List SingleMove) (xs : List A) (i : ℕ) (x : A) (first : List SingleMove) (tree : Forest Resolved) (noted now after : List (Option ℕ)) → i < length xs → x ≡ get_or xs i x
-    → ((ys : List A) → f (x ∷ ys) ≡ first ++ f ys) → NotesOnce tree now first after → Noted f xs i tree noted now → Noted f xs (i + 1) tree noted after
-noted_next {A} f xs i x first tree noted now after lt is cut step so = λ others h.
-    let behind = drop (i + 1) xs in
-    let stepped = subst (λ (ss : List SingleMove). ReceiveFirst tree now ss) (sym (append_assoc first (f behind) others)) (step (f behind ++ others) h) in
-    let joined = subst (λ (ss : List SingleMove). ReceiveFirst tree now (ss ++ others)) (sym (cut behind)) stepped in
-    so others (subst (λ (ys : List A). ReceiveFirst tree now (f ys ++ others)) (sym (next xs i x lt is)) joined)
+pub noted_none : (tree : Forest Resolved) (now : List (Option ℕ)) (left : List PlainSingle) (all : List StatementMoves) → left ≡ singles_of all → Noted tree now left all
+noted_none tree now left all is x r h = subst ReceiveOnce (ap (map (single_between x r)) is ∙ sym (of_placed x r 0 all)) h.once
 
-pub noted_all : {A : Type 0} (f : List A → List SingleMove) (xs : List A) (i : ℕ) (tree : Forest Resolved) (noted now : List (Option ℕ)) → length xs ≤ i → f [] ≡ [] → Noted f xs i tree noted now
-    → NotesOnce tree noted (f xs) now
-noted_all {A} f xs i tree noted now past none so = λ others h.
-    let ended = subst (λ (ss : List SingleMove). ReceiveFirst tree now (ss ++ others)) (sym none) h in
-    so others (subst (λ (ys : List A). ReceiveFirst tree now (f ys ++ others)) (sym (drop_all i xs past)) ended)
+pub noted_next : (tree : Forest Resolved) (now after : List (Option ℕ)) (left later : List PlainSingle) (p : PlainSingle) (all : List StatementMoves) → left ≡ p ∷ later
+    → NotesFirst tree now p.receiver after → Noted tree now left all → Noted tree after later all
+noted_next tree now after left later p all is notes so x r h =
+    so x r (subst (λ (ps : List PlainSingle). ReceiveFirst tree now (map (single_between x r) ps)) (sym is)
+    (first_noted tree now after (single_between x r p) (map (single_between x r) later) notes h))
 
--- ---- one statement
-
-pub single_noted : (x : Reading) (r : Records) (given : StatementMoves) (m : code_move.Move) (rs : List Ref) (tree : Forest Resolved) (noted after : List (Option ℕ)) → given ≡ Single m → rs ≡ m.receivers.items
-    → NotesOnce tree noted (singles_to (sender_by x r m.sender) r rs) after → NotesOnce tree noted (singles_by_statement x r given) after
-single_noted x r given m rs tree noted after is receives h =
-    subst (λ (g : StatementMoves). NotesOnce tree noted (singles_by_statement x r g) after) (sym is)
-    (subst (λ (ss : List SingleMove). NotesOnce tree noted ss after) (sym (one_move (move_by x r m)))
-    (subst (λ (qs : List Ref). NotesOnce tree noted (singles_to (sender_by x r m.sender) r qs) after) receives h))
-
-pub pairs_noted : (x : Reading) (r : Records) (given : StatementMoves) (g : PairMoves) (ps : List NumberedPair) (tree : Forest Resolved) (noted after : List (Option ℕ)) → given ≡ Pairs g → ps ≡ g.pairs.items
-    → NotesOnce tree noted (singles_by_pairs x r g ps) after → NotesOnce tree noted (singles_by_statement x r given) after
-pairs_noted x r given g ps tree noted after is same h =
-    subst (λ (s : StatementMoves). NotesOnce tree noted (singles_by_statement x r s) after) (sym is)
-    (subst (λ (qs : List NumberedPair). NotesOnce tree noted (singles_by_pairs x r g qs) after) same h)
-
--- ---- all
-
-pub noted_once : (tree : Forest Resolved) (noted after : List (Option ℕ)) (ss : List SingleMove) → NotesOnce tree noted ss after → ReceiveOnce ss
-noted_once tree noted after ss h =
-    let all = h [] (record { once = tt; fresh = λ x was e. e }) in
-    subst ReceiveOnce (append-nil ss) all.once
-
--- ---- answers that are None
-
-pub unless_some : {A : Type 0} {P : Type 0} (o : Option A) → is_some o ≡ false → IfNone o P → P
-unless_some None e h = h
-unless_some (Some a) e h = absurd (cc)
-
-pub if_none_then : {A : Type 0} {P Q : Type 0} (o : Option A) → IfNone o P → (P → Q) → IfNone o Q
-if_none_then None h f = f h
-if_none_then (Some a) h f = tt
+pub noted_all : (tree : Forest Resolved) (now : List (Option ℕ)) (left : List PlainSingle) (all : List StatementMoves) (x : Reading) (r : Records) → left ≡ [] → Noted tree now left all
+    → ReceiveOnce (singles_by x r all)
+noted_all tree now left all x r none so =
+    so x r (subst (λ (ps : List PlainSingle). ReceiveFirst tree now (map (single_between x r) ps)) (sym none) (record { once = tt; fresh = λ y was e. e }))

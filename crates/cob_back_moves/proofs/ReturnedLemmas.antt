@@ -10,19 +10,19 @@ use Rattle.cob_layout_places.specs.Cover.{Occurrence}
 use Rattle.cob_layout.specs.Kept.{IsIn}
 use Rattle.cob_move_data.specs.declared.operands.Operand.{Operand}
 use Rattle.cob_move_data.specs.declared.operands.Side.TheVariants.{In, Out}
-use Rattle.cob_move_data.specs.Moves.{Entry, Literal, operand_in}
+use Rattle.cob_move_data.specs.Moves.{Entry, Literal, Sender}
 use Rattle.cob_back_moves.specs.Returns.{BringsHome, IsReturned}
-use Rattle.cob_move_data.specs.Singles.{SingleMove, occurrence_of}
+use Rattle.cob_move_data.specs.Singles.{SingleMove, occurrence_of, operand_at, plain_element, plain_sent, plain_single}
+use Rattle.cob_move_data.specs.declared.single.Element.{Element}
+use Rattle.cob_move_data.specs.declared.single.Sent as sent_code
+use Rattle.cob_move_data.specs.declared.single.Sent.TheVariants as sent
+use Rattle.cob_move_data.specs.declared.single.SingleMove as code_single
 use Rattle.cob_back_moves.specs.Singles.{Goes}
 use Rattle.cob_back_moves.specs.Wider.{LosesNothing}
-use Rattle.cob_back_moves.specs.Brought.{IsCarried, LosesNothingAs, occurrence_at}
+use Rattle.cob_back_moves.specs.Brought.{IsCarried, LosesNothingAs}
 use Rattle.cob_move_apply.specs.Some.{SomeOf}
-use Rattle.cob_back_moves.specs.Tested.{ref_of, sender_of, single_of}
-use Rattle.cob_back_moves.specs.declared.single.Element.{Element}
+use Rattle.cob_back_moves.specs.Tested.{sender_of, single_of}
 use Rattle.cob_back_moves.specs.declared.single.BothLayouts.{BothLayouts}
-use Rattle.cob_back_moves.specs.declared.single.Sent as sent_code
-use Rattle.cob_back_moves.specs.declared.single.Sent.TheVariants as sent
-use Rattle.cob_back_moves.specs.declared.single.Single.{Single}
 
 -- ---- one of some
 
@@ -44,22 +44,34 @@ operand_is a b o u e = cc
 pub comes_once : (s : SingleMove) (a b x : Occurrence) → Goes s a x → Goes s b x → a ≡ b
 comes_once s a b x g h = sym g.leaves ∙ ap occurrence_of (operand_is g.reading h.reading g.operand h.operand (sym g.sends ∙ h.sends)) ∙ h.leaves
 
-pub comes_from : (l : BothLayouts) (s : Single) (e : Element) (x : Occurrence) → s.sent ≡ sent.Entry In e → occurrence_at s.receiver ≡ x → Goes (single_of l s) (occurrence_at e) x
-comes_from l s e x is at = record { reading = l.reading; operand = operand_in l.input.now (ref_of e); sends = ap (sender_of l) is; leaves = refl; reaches = at }
+-- what a value of the code sends
+abbrev sends_by : BothLayouts → sent_code.Sent → Sender
+sends_by l t = sender_of l (plain_sent t)
 
-not_out : (l : BothLayouts) (e : Element) (x : Reading) (o : Operand) → sender_of l (sent.Entry Out e) ≡ Entry In x o → ⊥
+pub comes_from : (l : BothLayouts) (s : code_single.SingleMove) (e : Element) (x : Occurrence) → s.sent ≡ sent.Entry In e → plain_element s.receiver ≡ x
+    → Goes (single_of l (plain_single s)) (plain_element e) x
+comes_from l s e x is at = record {
+  reading = l.reading;
+  operand = operand_at l.input.now (plain_element e);
+  sends = ap (sends_by l) is;
+  leaves = refl;
+  reaches = at;
+}
+
+not_out : (l : BothLayouts) (e : Element) (x : Reading) (o : Operand) → sends_by l (sent.Entry Out e) ≡ Entry In x o → ⊥
 not_out l e x o h = cc
 
-pub from_output : (l : BothLayouts) (s : Single) (e : Element) (from x : Occurrence) → s.sent ≡ sent.Entry Out e → Goes (single_of l s) from x → ⊥
-from_output l s e from x is g = not_out l e g.reading g.operand (sym (ap (sender_of l) is) ∙ g.sends)
+pub from_output : (l : BothLayouts) (s : code_single.SingleMove) (e : Element) (from x : Occurrence) → s.sent ≡ sent.Entry Out e → Goes (single_of l (plain_single s)) from x → ⊥
+from_output l s e from x is g = not_out l e g.reading g.operand (sym (ap (sends_by l) is) ∙ g.sends)
 
 not_entry : (v : PlainValue) (x : Reading) (o : Operand) → Literal v ≡ Entry In x o → ⊥
 not_entry v x o h = cc
 
-pub from_constant : (l : BothLayouts) (s : Single) (t : sent_code.Sent) (v : PlainValue) (from x : Occurrence) → s.sent ≡ t → sender_of l t ≡ Literal v → Goes (single_of l s) from x → ⊥
-from_constant l s t v from x is literal g = not_entry v g.reading g.operand (sym literal ∙ sym (ap (sender_of l) is) ∙ g.sends)
+pub from_constant : (l : BothLayouts) (s : code_single.SingleMove) (t : sent_code.Sent) (v : PlainValue) (from x : Occurrence) → s.sent ≡ t → sends_by l t ≡ Literal v
+    → Goes (single_of l (plain_single s)) from x → ⊥
+from_constant l s t v from x is literal g = not_entry v g.reading g.operand (sym literal ∙ sym (ap (sends_by l) is) ∙ g.sends)
 
-pub elsewhere : (l : BothLayouts) (s : Single) (from x : Occurrence) (b : Bool) → b ≡ false → Decides b (occurrence_at s.receiver ≡ x) → Goes (single_of l s) from x → ⊥
+pub elsewhere : (l : BothLayouts) (s : code_single.SingleMove) (from x : Occurrence) (b : Bool) → b ≡ false → Decides b (plain_element s.receiver ≡ x) → Goes (single_of l (plain_single s)) from x → ⊥
 elsewhere l s from x b isnt (one, only) g = let is : b ≡ true = only g.reaches in cc
 
 -- ---- carried, and brought home

@@ -9,13 +9,12 @@ use Rattle.cob_layout_places.specs.Cover.{Occurrence}
 use Rattle.cob_move_data.specs.Moves.{AreMoves, Move, moves_by}
 use Rattle.cob_move_data.specs.declared.operands.StatementMoves.{StatementMoves}
 use Rattle.cob_back_moves.specs.Returns.{IsNamedItem, IsReturned}
-use Rattle.cob_move_data.specs.Singles.{SingleMove, all_singles, occurrence}
+use Rattle.cob_move_data.specs.Singles.{SingleMove, all_singles, occurrence, plain_element}
 use Rattle.cob_back_moves.specs.Singles.{Goes}
 use Rattle.cob_back_moves.specs.Wider.{LosesNothing}
 use Rattle.cob_back_moves.specs.Tested.{AreSound, layout_records}
 use Rattle.cob_back_moves.specs.declared.returned.Carried.{Carried}
 use Rattle.cob_back_moves.specs.declared.returned.ItemElement.{ItemElement}
-use Rattle.cob_back_moves.specs.declared.single.Element.{Element}
 use Rattle.cob_back_moves.specs.declared.single.BothLayouts.{BothLayouts}
 use Rattle.cob_back_moves.specs.declared.some.MovesBetween.{MovesBetween}
 
@@ -31,10 +30,6 @@ singles_in m = all_singles (moves_between m.layouts m.statements.now)
 pub record AreLegal (m : MovesBetween) : Type 0 where
   pub sound : AreSound m.layouts
   pub moves : AreMoves (layout_records m.layouts) (moves_between m.layouts m.statements.now)
-
--- the occurrence that an element is
-abbrev pub occurrence_at : Element → Occurrence
-occurrence_at e = occurrence e.number e.subscripts.now.items
 
 -- the occurrence of an item that an element is
 abbrev pub occurrence_of_item : ItemElement → Occurrence
@@ -53,7 +48,7 @@ pub record IsCarried (from to : Occurrence) (i : Item) (s : SingleMove) : Type 0
 
 -- the single move carries the occurrence of an item to where it is to be carried
 abbrev pub Carries : Carried → SingleMove → Type 0
-Carries c s = IsCarried (occurrence_of_item c.from) (occurrence_at c.to) c.from.item.now s
+Carries c s = IsCarried (occurrence_of_item c.from) (plain_element c.to) c.from.item.now s
 
 -- an occurrence of an item, moved away and moved back
 abbrev pub IsFine : MovesBetween → MovesBetween → ℕ → List ℕ → Item → Type 0

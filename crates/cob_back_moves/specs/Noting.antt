@@ -1,5 +1,5 @@
 -- Notes of the statements in which occurrences receive, by the bytes at which the occurrences begin.
-use Rattle.std.specs.Prelude.{◌≡◌, ◌<◌, ℕ, List, ◌++◌, Option, None, Some, IsSome, get_or, set, length}
+use Rattle.std.specs.Prelude.{◌≡◌, ◌<◌, ℕ, List, Option, None, Some, get_or, set, length}
 use Rattle.cob_copybook_tree.specs.Forests.{Forest}
 use Rattle.cob_copybook_tree.specs.Nodes.{Resolved}
 use Rattle.cob_layout.specs.Counting.{greatest_counts}
@@ -7,25 +7,12 @@ use Rattle.cob_layout_places.specs.Cover.{Occurrence}
 use Rattle.cob_layout_places.specs.Lengths.{times}
 use Rattle.cob_layout_places.specs.Places.{place_of}
 use Rattle.cob_layout_places.specs.declared.places.Found.{Found}
-use Rattle.cob_move_data.specs.Singles.{SingleMove}
-use Rattle.cob_back_moves.specs.Singles.{ReceiveOnce}
-use Rattle.cob_back_moves.specs.Received.{Spares}
 
 -- The occurrence begins at this byte of the record, where each table has its greatest number of elements.
 pub record BeginsAt (tree : Forest Resolved) (x : Occurrence) (at : ℕ) : Type 0 where
   pub found : Found
   pub place : place_of (times (greatest_counts tree)) x.number tree 0 0 x.subscripts ≡ Some found
   pub begins : found.offset ≡ at
-
--- a statement is noted at this byte
-abbrev pub IsNotedAt : List (Option ℕ) → ℕ → Type 0
-IsNotedAt noted at = IsSome (get_or noted at None)
-
--- a statement is noted at the byte at which the occurrence begins
-pub record HasNotedBegin (tree : Forest Resolved) (noted : List (Option ℕ)) (x : Occurrence) : Type 0 where
-  pub at : ℕ
-  pub begins : BeginsAt tree x at
-  pub there : IsNotedAt noted at
 
 -- these notes become those by a note at a byte at which there was none
 pub record IsNotedFirst (noted : List (Option ℕ)) (at statement : ℕ) (after : List (Option ℕ)) : Type 0 where
@@ -39,13 +26,3 @@ pub record NotesFirst (tree : Forest Resolved) (noted : List (Option ℕ)) (x : 
   pub begins : BeginsAt tree x at
   pub statement : ℕ
   pub first : IsNotedFirst noted at statement after
-
--- no occurrence receives twice in these, and none receives that is noted
-pub record ReceiveFirst (tree : Forest Resolved) (noted : List (Option ℕ)) (ss : List SingleMove) : Type 0 where
-  pub once : ReceiveOnce ss
-  pub fresh : (x : Occurrence) → HasNotedBegin tree noted x → Spares x ss
-
--- these notes become those by noting the receivers of single moves: if others behind them are so with regard to the notes that were made, all are so
--- with regard to those before
-abbrev pub NotesOnce : Forest Resolved → List (Option ℕ) → List SingleMove → List (Option ℕ) → Type 0
-NotesOnce tree noted ss after = (others : List SingleMove) → ReceiveFirst tree after others → ReceiveFirst tree noted (ss ++ others)

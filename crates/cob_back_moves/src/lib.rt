@@ -33,8 +33,9 @@
 //! home is looked for, and among those there the one that carries it to where that one comes from, to an item that loses nothing of it
 //! (src/returned.rt). The statement in which an occurrence receives is noted for the byte at which the occurrence begins (src/noted.rt): a search begins
 //! there, and goes round once (src/some.rt), and where each receiver begins at a byte of its own, none receives twice. So the time grows with the single
-//! moves times the entries of a record at most, in whatever order they stand. Only where two receivers begin at one byte are they compared
-//! (src/once.rt). The notes of both ways take half a megabyte of the stack.
+//! moves times the entries of a record at most, in whatever order they stand. Only where two receivers begin at one byte is the second of them looked
+//! for among all (src/once.rt). The notes of both ways take half a megabyte of the stack. All go over the single moves as the iterator `Singles` of
+//! cob_move_data gives them, and none knows in which form a statement keeps its moves.
 //!
 //! What these words mean stands in specs/Apart.antt, Singles.antt, Returns.antt, Lossless.antt and Same.antt; the points of the list stand in
 //! specs/Losses.antt.

@@ -3,19 +3,17 @@
 //! Where each byte is noted once, none of the occurrences receives twice; and a search for what one receives has where to begin. A note takes no
 //! memory: there is one for each byte that a record may have.
 
-ghost use Rattle.std.specs.Prelude.{◌≡◌, IfNone, IfSome};
+ghost use Rattle.std.specs.Prelude.{◌≡◌, IfNone, IfSome, IsTrue};
 ghost use Rattle.cob_codec.specs.declared.reading.Reading.{Reading as Read};
-ghost use Rattle.cob_move_data.specs.Moves.{Records, Sender};
-ghost use Rattle.cob_back_moves.specs.Brought.{occurrence_at};
-ghost use Rattle.cob_back_moves.specs.Noting.{BeginsAt, IsNotedFirst, NotesFirst, NotesOnce};
-ghost use Rattle.cob_move_data.specs.Singles.{occurrence};
-ghost use Rattle.cob_back_moves.specs.Received.{singles_by, singles_by_pairs, singles_by_statement, singles_to};
+ghost use Rattle.cob_move_data.specs.Moves.{Records};
+ghost use Rattle.cob_back_moves.specs.Noting.{BeginsAt, IsNotedFirst, NotesFirst};
+ghost use Rattle.cob_move_data.specs.Singles.{occurrence, plain_element};
+ghost use Rattle.cob_back_moves.specs.Singles.{ReceiveOnce};
+ghost use Rattle.cob_back_moves.specs.Received.{singles_by};
 
-use crate::single::{Element, element_of};
 use cob_layout::Layout;
-use cob_layout_places::Ref;
 use cob_limits::MAX_RECORD;
-use cob_move_data::{NumberedPair, PairMoves, StatementMoves};
+use cob_move_data::{Element, Singles, StatementMoves};
 
 /// How many bytes a record may have.
 pub(crate) const MOST_BYTES: usize = MAX_RECORD as usize;
@@ -30,116 +28,43 @@ fn byte_of(layout: &Layout, number: usize, subscripts: &[u32]) -> Option<usize>
     Some(place.offset as usize)
 }
 
-/// Notes that what begins at a byte receives in a statement, and answers None; or answers the statement that is noted there, or this one where
-/// there is no such byte.
-fn note_at(noted: &mut [Option<u32>], at: usize, statement: u32) -> Option<u32>
-    ensures { IfNone result (IsNotedFirst noted.old at statement noted.new) }
+/// Notes that what begins at a byte receives in a statement, where there is such a byte and nothing is noted there. Tells whether it was noted.
+fn note_at(noted: &mut [Option<u32>], at: usize, statement: u32) -> bool
+    ensures { IsTrue result → IsNotedFirst noted.old at statement noted.new }
 {
-    if at >= noted.len() {
-        return Some(statement);
+    if at >= noted.len() || noted[at].is_some() {
+        return false;
     }
-    let before = noted[at];
-    if before.is_none() {
-        noted[at] = Some(statement);
-    }
-    before
+    noted[at] = Some(statement);
+    true
 }
 
-/// Notes that an occurrence of an entry of the output record receives in a statement, and answers None; or answers the statement that is noted
-/// where it begins, or this one where that isn't known.
-fn note(
-    noted: &mut [Option<u32>],
-    output: &Layout,
-    element: &Element<'_>,
-    statement: u32,
-) -> Option<u32>
-    ensures { IfNone result
-        (NotesFirst output.now noted.old (occurrence_at element.now) noted.new) }
+/// Notes that an occurrence of an entry of the output record receives in a statement, where it is known at which byte it begins and nothing is noted
+/// there. Tells whether it was noted.
+fn note(noted: &mut [Option<u32>], output: &Layout, element: &Element<'_>, statement: u32) -> bool
+    ensures { IsTrue result
+        → NotesFirst output.now noted.old (plain_element element.now) noted.new }
 {
-    match byte_of(output, element.number, element.subscripts.as_slice()) {
+    match byte_of(output, element.number, element.subscripts) {
         Some(at) => note_at(noted, at, statement),
-        None => Some(statement),
-    }
-}
-
-/// Notes these receivers of a statement.
-fn note_receivers(
-    noted: &mut [Option<u32>],
-    output: &Layout,
-    receivers: &[Ref],
-    statement: u32,
-) -> Option<u32>
-    ensures { IfNone result ((s : Sender) (r : Records) →
-        NotesOnce output.now noted.old (singles_to s r receivers.now) noted.new) }
-{
-    for receiver in receivers {
-        let before = note(noted, output, &element_of(receiver), statement);
-        if before.is_some() {
-            return before;
-        }
-    }
-    None
-}
-
-/// Notes the receivers of these pairs of two groups of a statement.
-fn note_pairs(
-    noted: &mut [Option<u32>],
-    output: &Layout,
-    group: &PairMoves,
-    pairs: &[NumberedPair],
-    statement: u32,
-) -> Option<u32>
-    ensures { IfNone result ((x : Read) (r : Records) →
-        NotesOnce output.now noted.old (singles_by_pairs x r group.now pairs.now) noted.new) }
-{
-    for pair in pairs {
-        let receiver = Element {
-            number: pair.to,
-            subscripts: &group.to.subscripts,
-        };
-        let before = note(noted, output, &receiver, statement);
-        if before.is_some() {
-            return before;
-        }
-    }
-    None
-}
-
-/// Notes the receivers of a statement with this number.
-fn note_statement(
-    noted: &mut [Option<u32>],
-    output: &Layout,
-    statement: &StatementMoves,
-    number: u32,
-) -> Option<u32>
-    ensures { IfNone result ((x : Read) (r : Records) →
-        NotesOnce output.now noted.old (singles_by_statement x r statement.now) noted.new) }
-{
-    match statement {
-        StatementMoves::Single(one) => {
-            note_receivers(noted, output, one.receivers.as_slice(), number)
-        }
-        StatementMoves::Pairs(group) => {
-            note_pairs(noted, output, group, group.pairs.as_slice(), number)
-        }
+        None => false,
     }
 }
 
 /// Notes the receivers of statements, each with the number of its statement. None where each begins at a byte of its own: then none receives
-/// twice. Else the number of a statement one of whose receivers may receive again.
-pub(crate) fn note_all(
+/// twice. Else the first that doesn't, or of which that isn't known.
+pub(crate) fn note_all<'a>(
     noted: &mut [Option<u32>],
     output: &Layout,
-    statements: &[StatementMoves],
-) -> Option<u32>
-    ensures { IfNone result ((x : Read) (r : Records) →
-        NotesOnce output.now noted.old (singles_by x r statements.now) noted.new) }
+    statements: &'a [StatementMoves],
+) -> Option<Element<'a>>
+    ensures { IfNone result ((x : Read) (r : Records)
+        → ReceiveOnce (singles_by x r statements.now)) }
 {
-    for (place, statement) in statements.iter().enumerate() {
-        let number = u32::try_from(place).unwrap_or(u32::MAX);
-        let before = note_statement(noted, output, statement, number);
-        if before.is_some() {
-            return before;
+    for single in Singles::new(statements) {
+        let statement = u32::try_from(single.statement).unwrap_or(u32::MAX);
+        if !note(noted, output, &single.receiver, statement) {
+            return Some(single.receiver);
         }
     }
     None

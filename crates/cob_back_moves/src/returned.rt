@@ -3,20 +3,19 @@
 ghost use Rattle.std.specs.Prelude.{◌≡◌, IfNone, IfSome};
 ghost use Rattle.std.specs.Bool.{Decides};
 ghost use Rattle.cob_layout_places.specs.Cover.{Occurrence as Place};
-ghost use Rattle.cob_move_data.specs.Moves.{IsOperand, operand_in};
+ghost use Rattle.cob_move_data.specs.Moves.{IsOperand};
 ghost use Rattle.cob_back_moves.specs.Returns.{BringsHome};
 ghost use Rattle.cob_back_moves.specs.Singles.{Goes};
-ghost use Rattle.cob_back_moves.specs.Brought.{AreLegal, Carries, IsFine, LosesNothingAs, occurrence_at, occurrence_of_item, singles_in};
-ghost use Rattle.cob_move_data.specs.Singles.{occurrence};
-ghost use Rattle.cob_back_moves.specs.Tested.{AreSound, IsSingle, ref_of, single_of};
+ghost use Rattle.cob_back_moves.specs.Brought.{AreLegal, Carries, IsFine, LosesNothingAs, occurrence_of_item, singles_in};
+ghost use Rattle.cob_move_data.specs.Singles.{occurrence, operand_at, plain_element, plain_single};
+ghost use Rattle.cob_back_moves.specs.Tested.{AreSound, IsSingle, single_of};
 
 use crate::noted::noted_for;
-use crate::once::are_same_subscripts;
-use crate::single::{BothLayouts, Element, Sent, Single, kind_of};
+use crate::single::{BothLayouts, is_at, kind_of};
 use crate::some::{Condition, MovesBetween, some_meets};
 use crate::wider::loses_nothing;
 use cob_copybook_tree::{Item, Kind};
-use cob_move_data::Side;
+use cob_move_data::{Element, Sent, Side, SingleMove};
 
 /// What is noted of the receivers of moves there and of moves back: where a search for one begins.
 #[derive(Clone, Copy)]
@@ -49,23 +48,17 @@ struct BroughtHome<'a> {
     to: ItemElement<'a>,
 }
 
-/// Whether an element is this occurrence. The numbers are compared first.
-fn is_at(element: &Element<'_>, number: usize, subscripts: &[u32]) -> bool
-    ensures { Decides result (occurrence_at element.now ≡ occurrence number subscripts.now) }
-{
-    element.number == number && are_same_subscripts(element.subscripts.as_slice(), subscripts)
-}
-
 /// Where a single move to this occurrence comes from; None where it goes to another one, or comes from no entry of the input record.
 fn origin<'a>(
     layouts: &BothLayouts<'_>,
-    single: &Single<'a>,
+    single: &SingleMove<'a>,
     number: usize,
     subscripts: &[u32],
 ) -> Option<Element<'a>>
-    ensures goes { IfSome result (λ e. Goes (single_of layouts.now single.now) (occurrence_at e)
-        (occurrence number subscripts.now)) }
-    ensures none { IfNone result ((from : Place) → Goes (single_of layouts.now single.now) from
+    ensures goes { IfSome result (λ e. Goes (single_of layouts.now (plain_single single.now))
+        (plain_element e) (occurrence number subscripts.now)) }
+    ensures none { IfNone result ((from : Place)
+        → Goes (single_of layouts.now (plain_single single.now)) from
         (occurrence number subscripts.now) → ⊥) }
 {
     if !is_at(&single.receiver, number, subscripts) {
@@ -84,9 +77,9 @@ fn origin<'a>(
 fn loses_nothing_at(layouts: &BothLayouts<'_>, element: &Element<'_>, item: &Item) -> bool
     requires sound { AreSound layouts.now }
     requires operand { IsOperand layouts.now.output.now
-        (operand_in layouts.now.output.now (ref_of element.now)) }
+        (operand_at layouts.now.output.now (plain_element element.now)) }
     ensures { Decides result (LosesNothingAs item.now
-        (operand_in layouts.now.output.now (ref_of element.now)).kind) }
+        (operand_at layouts.now.output.now (plain_element element.now)).kind) }
 {
     match kind_of(layouts.output, element) {
         Kind::Group => false,
@@ -98,14 +91,15 @@ fn loses_nothing_at(layouts: &BothLayouts<'_>, element: &Element<'_>, item: &Ite
 fn is_carried_from(
     carried: &Carried<'_, '_>,
     layouts: &BothLayouts<'_>,
-    single: &Single<'_>,
+    single: &SingleMove<'_>,
     from: &Element<'_>,
 ) -> bool
     requires sound { AreSound layouts.now }
-    requires single { IsSingle layouts.now single.now }
-    requires goes { Goes (single_of layouts.now single.now) (occurrence_at from.now)
-        (occurrence_at carried.now.to) }
-    ensures { Decides result (Carries carried.now (single_of layouts.now single.now)) }
+    requires single { IsSingle layouts.now (single_of layouts.now (plain_single single.now)) }
+    requires goes { Goes (single_of layouts.now (plain_single single.now))
+        (plain_element from.now) (plain_element carried.now.to) }
+    ensures { Decides result
+        (Carries carried.now (single_of layouts.now (plain_single single.now))) }
 {
     if !is_at(from, carried.from.number, carried.from.subscripts) {
         return false;
@@ -118,9 +112,8 @@ impl Condition for Carried<'_, '_> {
 
     ghost ready = { λ c. Unit {0} };
 
-    fn is_met(&self, layouts: &BothLayouts<'_>, single: &Single<'_>) -> bool {
-        let to = self.to.subscripts.as_slice();
-        match origin(layouts, single, self.to.number, to) {
+    fn is_met(&self, layouts: &BothLayouts<'_>, single: &SingleMove<'_>) -> bool {
+        match origin(layouts, single, self.to.number, self.to.subscripts) {
             None => false,
             Some(from) => is_carried_from(self, layouts, single, &from),
         }
@@ -133,7 +126,7 @@ impl Condition for BroughtHome<'_> {
 
     ghost ready = { λ b. AreLegal b.there.now };
 
-    fn is_met(&self, layouts: &BothLayouts<'_>, single: &Single<'_>) -> bool {
+    fn is_met(&self, layouts: &BothLayouts<'_>, single: &SingleMove<'_>) -> bool {
         let there = self.there;
         match origin(layouts, single, self.to.number, self.to.subscripts) {
             None => false,
@@ -147,7 +140,7 @@ impl Condition for BroughtHome<'_> {
                     self.noted,
                     there.layouts.output,
                     away.number,
-                    away.subscripts.as_slice(),
+                    away.subscripts,
                 ),
             ),
         }

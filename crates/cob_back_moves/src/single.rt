@@ -1,21 +1,19 @@
-//! Single moves: a sender and one of its receivers.
+//! Single moves between the records of two layouts, and what is asked of them.
 
-ghost use Rattle.std.specs.Prelude.{◌≡◌};
+ghost use Rattle.std.specs.Prelude.{◌≡◌, IsTrue};
 ghost use Rattle.std.specs.Bool.{Decides};
 ghost use Rattle.cob_layout.specs.Sound.{IsSound};
-ghost use Rattle.cob_move_data.specs.Moves.{IsOperand, IsSender, operand_in, record_of, sender_by};
-ghost use Rattle.cob_back_moves.specs.Singles.{IsElementary, IsInputItem, IsItemKind, IsSenderReadPictured, SendsPictured};
-ghost use Rattle.cob_back_moves.specs.Tested.{AreSound, IsSingle, PassesTest, layout_records, ref_of, sender_of, single_of};
+ghost use Rattle.cob_move_data.specs.Moves.{IsOperand, IsSender, record_of};
+ghost use Rattle.cob_move_data.specs.Singles.{occurrence, operand_at, plain_element, plain_sent, plain_single};
+ghost use Rattle.cob_back_moves.specs.Singles.{IsElementary, IsInputItem, IsSenderReadPictured};
+ghost use Rattle.cob_back_moves.specs.Tested.{AreSound, IsSingle, PassesTest, layout_records, sender_of, single_of};
 
 use crate::kinds::{is_item, is_read_pictured};
 use crate::named::bears_name;
-use arrayvec::ArrayVec;
 use cob_codec::Reading;
-use cob_copybook_tree::{Kind, Node, Value};
+use cob_copybook_tree::{Kind, Node};
 use cob_layout::Layout;
-use cob_layout_places::Ref;
-use cob_limits::MAX_SUBSCRIPTS;
-use cob_move_data::{Sender, Side};
+use cob_move_data::{Element, Sent, Side, SingleMove};
 
 /// The layouts of the two records that moves go between, and how their binary items are read that are sent.
 #[derive(Clone, Copy)]
@@ -37,29 +35,6 @@ impl<'a> BothLayouts<'a> {
     }
 }
 
-/// An occurrence of an entry of a record: the number of the entry, and its subscripts.
-#[derive(Clone, Copy)]
-pub(crate) struct Element<'a> {
-    pub(crate) number: usize,
-    pub(crate) subscripts: &'a ArrayVec<u32, MAX_SUBSCRIPTS>,
-}
-
-/// What a single move sends.
-#[derive(Clone, Copy)]
-pub(crate) enum Sent<'a> {
-    /// An occurrence of an entry of one of the two records.
-    Entry { side: Side, entry: Element<'a> },
-    /// A literal, or a figurative constant.
-    Constant(&'a Value),
-}
-
-/// What is sent, and an occurrence of an entry of the output record that receives it.
-#[derive(Clone, Copy)]
-pub(crate) struct Single<'a> {
-    pub(crate) sent: Sent<'a>,
-    pub(crate) receiver: Element<'a>,
-}
-
 /// What is asked of each single move.
 #[derive(Clone, Copy)]
 pub(crate) enum Test<'a> {
@@ -71,44 +46,43 @@ pub(crate) enum Test<'a> {
     Named(&'a Node),
 }
 
-/// The occurrence that a reference names.
-pub(crate) fn element_of(entry: &Ref) -> Element<'_>
-    ensures { ref_of result ≡ entry.now }
+/// Whether the last ones of two lists of subscripts differ.
+fn differ_at_last(subscripts: &[u32], others: &[u32]) -> bool
+    ensures { IsTrue result → subscripts.now ≡ others.now → ⊥ }
 {
-    Element {
-        number: entry.node,
-        subscripts: &entry.subscripts,
-    }
+    let count = subscripts.len();
+    count > 0 && count == others.len() && subscripts[count - 1] != others[count - 1]
 }
 
-/// What a sender sends.
-pub(crate) fn sent_of(sender: &Sender) -> Sent<'_>
-    ensures { (l : BothLayouts) → sender_of l result ≡ sender_by l.reading (layout_records l)
-        sender.now }
+/// Whether two lists of subscripts are one. The last subscripts, which differ most often, are compared first.
+fn are_same_subscripts(subscripts: &[u32], others: &[u32]) -> bool
+    ensures { Decides result (subscripts.now ≡ others.now) }
 {
-    match sender {
-        Sender::Entry { side, entry } => Sent::Entry {
-            side: *side,
-            entry: element_of(entry),
-        },
-        Sender::Constant(value) => Sent::Constant(value),
-    }
+    !differ_at_last(subscripts, others) && subscripts == others
+}
+
+/// Whether an element is this occurrence. The numbers are compared first.
+pub(crate) fn is_at(element: &Element<'_>, number: usize, subscripts: &[u32]) -> bool
+    ensures { Decides result (plain_element element.now ≡ occurrence number subscripts.now) }
+{
+    element.number == number && are_same_subscripts(element.subscripts, subscripts)
 }
 
 /// What an occurrence of an entry of the record of a layout describes.
-pub(crate) fn kind_of<'a>(layout: &'a Layout, entry: &Element<'_>) -> &'a Kind
+pub(crate) fn kind_of<'a>(layout: &'a Layout, element: &Element<'_>) -> &'a Kind
     requires sound { IsSound layout.now }
-    requires operand { IsOperand layout.now (operand_in layout.now (ref_of entry.now)) }
-    ensures { result.now ≡ (operand_in layout.now (ref_of entry.now)).kind }
+    requires operand { IsOperand layout.now (operand_at layout.now (plain_element element.now)) }
+    ensures { result.now ≡ (operand_at layout.now (plain_element element.now)).kind }
 {
-    layout.kind(entry.number)
+    layout.kind(element.number)
 }
 
 /// Whether what is sent is an item of the input record.
 fn is_input_item(layouts: &BothLayouts<'_>, sent: &Sent<'_>) -> bool
     requires sound { AreSound layouts.now }
-    requires sender { IsSender (layout_records layouts.now) (sender_of layouts.now sent.now) }
-    ensures { Decides result (IsInputItem (sender_of layouts.now sent.now)) }
+    requires sender { IsSender (layout_records layouts.now)
+        (sender_of layouts.now (plain_sent sent.now)) }
+    ensures { Decides result (IsInputItem (sender_of layouts.now (plain_sent sent.now))) }
 {
     match sent {
         Sent::Constant(_) => false,
@@ -122,8 +96,9 @@ fn is_input_item(layouts: &BothLayouts<'_>, sent: &Sent<'_>) -> bool
 /// Whether what is sent is read as its picture says.
 fn is_sent_pictured(layouts: &BothLayouts<'_>, sent: &Sent<'_>) -> bool
     requires sound { AreSound layouts.now }
-    requires sender { IsSender (layout_records layouts.now) (sender_of layouts.now sent.now) }
-    ensures { Decides result (IsSenderReadPictured (sender_of layouts.now sent.now)) }
+    requires sender { IsSender (layout_records layouts.now)
+        (sender_of layouts.now (plain_sent sent.now)) }
+    ensures { Decides result (IsSenderReadPictured (sender_of layouts.now (plain_sent sent.now))) }
 {
     match sent {
         Sent::Constant(_) => true,
@@ -135,19 +110,20 @@ fn is_sent_pictured(layouts: &BothLayouts<'_>, sent: &Sent<'_>) -> bool
 }
 
 /// Whether a single move is elementary.
-fn is_elementary(layouts: &BothLayouts<'_>, single: &Single<'_>) -> bool
+fn is_elementary(layouts: &BothLayouts<'_>, single: &SingleMove<'_>) -> bool
     requires sound { AreSound layouts.now }
-    requires single { IsSingle layouts.now single.now }
-    ensures { Decides result (IsElementary (single_of layouts.now single.now)) }
+    requires single { IsSingle layouts.now (single_of layouts.now (plain_single single.now)) }
+    ensures { Decides result (IsElementary (single_of layouts.now (plain_single single.now))) }
 {
     is_input_item(layouts, &single.sent) && is_item(kind_of(layouts.output, &single.receiver))
 }
 
 /// Whether a single move is as is asked.
-pub(crate) fn passes(test: &Test<'_>, layouts: &BothLayouts<'_>, single: &Single<'_>) -> bool
+pub(crate) fn passes(test: &Test<'_>, layouts: &BothLayouts<'_>, single: &SingleMove<'_>) -> bool
     requires sound { AreSound layouts.now }
-    requires single { IsSingle layouts.now single.now }
-    ensures { Decides result (PassesTest test.now (single_of layouts.now single.now)) }
+    requires single { IsSingle layouts.now (single_of layouts.now (plain_single single.now)) }
+    ensures { Decides result
+        (PassesTest test.now (single_of layouts.now (plain_single single.now))) }
 {
     match test {
         Test::Elementary => is_elementary(layouts, single),

@@ -1,18 +1,13 @@
 //! Whether some single move of statements meets a condition. They are gone through where they stand: nothing takes memory.
 
-ghost use Rattle.std.specs.Prelude.{◌≡◌};
 ghost use Rattle.std.specs.Bool.{Decides};
-ghost use Rattle.std.specs.List.{AllByRecursion};
-ghost use Rattle.cob_move_data.specs.Moves.{IsOperand, IsSender};
-ghost use Rattle.cob_move_data.specs.Singles.{SingleMove, all_singles};
+ghost use Rattle.cob_move_data.specs.Singles.{SingleMove as Meant, all_singles, plain_single};
 ghost use Rattle.cob_back_moves.specs.Brought.{AreLegal, moves_between, singles_in};
 ghost use Rattle.cob_move_apply.specs.Some.{SomeOf};
-ghost use Rattle.cob_back_moves.specs.Tested.{AreMovesBetween, AreSound, IsSingle, layout_records, operands_between, moves_of_pairs, sender_by_reading, single_of, singles_between, moves_of_statement};
+ghost use Rattle.cob_back_moves.specs.Tested.{AreMovesBetween, AreSound, IsSingle, single_of};
 
-use crate::each::{move_single, pair_single};
-use crate::single::{BothLayouts, Single};
-use cob_layout_places::Ref;
-use cob_move_data::{Move, NumberedPair, PairMoves, StatementMoves};
+use crate::single::BothLayouts;
+use cob_move_data::{SingleMove, Singles, StatementMoves};
 
 /// The moves of statements, and the layouts of the records between which they are.
 #[derive(Clone, Copy)]
@@ -24,95 +19,21 @@ pub struct MovesBetween<'a> {
 /// A condition of single moves.
 pub(crate) trait Condition {
     /// The single move meets it.
-    ghost met: { Self → SingleMove → Type 0 };
+    ghost met: { Self → Meant → Type 0 };
 
     /// What the answer rests on holds.
     ghost ready: { Self → Type 0 };
 
     /// Whether a single move meets it.
-    fn is_met(&self, layouts: &BothLayouts<'_>, single: &Single<'_>) -> bool
+    fn is_met(&self, layouts: &BothLayouts<'_>, single: &SingleMove<'_>) -> bool
         requires ready { ready self.now }
         requires sound { AreSound layouts.now }
-        requires single { IsSingle layouts.now single.now }
-        ensures { Decides result (met self.now (single_of layouts.now single.now)) };
+        requires single { IsSingle layouts.now (single_of layouts.now (plain_single single.now)) }
+        ensures { Decides result
+            (met self.now (single_of layouts.now (plain_single single.now))) };
 }
 
-/// Whether the single move of a move's sender to one of these receivers meets the condition.
-fn some_receiver_meets<C: Condition>(
-    condition: &C,
-    layouts: &BothLayouts<'_>,
-    one: &Move,
-    receivers: &[Ref],
-) -> bool
-    requires ready { C.ready condition.now }
-    requires sound { AreSound layouts.now }
-    requires sender { IsSender (layout_records layouts.now)
-        (sender_by_reading layouts.now one.now) }
-    requires receivers { AllByRecursion (IsOperand layouts.now.output.now)
-        (operands_between layouts.now receivers.now) }
-    ensures { Decides result (SomeOf (C.met condition.now)
-        (singles_between layouts.now one.now receivers.now)) }
-{
-    for receiver in receivers {
-        let single = move_single(one, receiver);
-        if condition.is_met(layouts, &single) {
-            return true;
-        }
-    }
-    false
-}
-
-/// Whether the single move of one of these pairs of two groups meets the condition.
-fn some_pair_meets<C: Condition>(
-    condition: &C,
-    layouts: &BothLayouts<'_>,
-    group: &PairMoves,
-    pairs: &[NumberedPair],
-) -> bool
-    requires ready { C.ready condition.now }
-    requires sound { AreSound layouts.now }
-    requires moves { AreMovesBetween layouts.now (moves_of_pairs layouts.now group.now pairs.now) }
-    ensures { Decides result (SomeOf (C.met condition.now) (all_singles
-        (moves_of_pairs layouts.now group.now pairs.now))) }
-{
-    for pair in pairs {
-        let single = pair_single(group, pair);
-        if condition.is_met(layouts, &single) {
-            return true;
-        }
-    }
-    false
-}
-
-/// Whether a single move of a statement meets the condition.
-fn some_of_statement_meets<C: Condition>(
-    condition: &C,
-    layouts: &BothLayouts<'_>,
-    statement: &StatementMoves,
-) -> bool
-    requires ready { C.ready condition.now }
-    requires sound { AreSound layouts.now }
-    requires moves { AreMovesBetween layouts.now (moves_of_statement layouts.now statement.now) }
-    ensures { Decides result (SomeOf (C.met condition.now) (all_singles
-        (moves_of_statement layouts.now statement.now))) }
-{
-    match statement {
-        StatementMoves::Single(one) => some_receiver_meets(
-            condition,
-            layouts,
-            one,
-            one.receivers.as_slice(),
-        ),
-        StatementMoves::Pairs(group) => some_pair_meets(
-            condition,
-            layouts,
-            group,
-            group.pairs.as_slice(),
-        ),
-    }
-}
-
-/// Whether a single move of these statements meets the condition.
+/// Whether some single move of these statements meets the condition.
 fn some_of_these_meets<C: Condition>(
     condition: &C,
     layouts: &BothLayouts<'_>,
@@ -124,8 +45,8 @@ fn some_of_these_meets<C: Condition>(
     ensures { Decides result (SomeOf (C.met condition.now)
         (all_singles (moves_between layouts.now statements.now))) }
 {
-    for statement in statements {
-        if some_of_statement_meets(condition, layouts, statement) {
+    for single in Singles::new(statements) {
+        if condition.is_met(layouts, &single) {
             return true;
         }
     }

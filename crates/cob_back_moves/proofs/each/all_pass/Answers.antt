@@ -1,40 +1,47 @@
-use Rattle.std.proofs.Common.{true, List, rules}
-use Rattle.std.specs.List.{AllByRecursion}
-use Rattle.cob_move_data.specs.declared.operands.StatementMoves.{StatementMoves}
-use Rattle.cob_move_data.specs.Moves.{AreMoves, statement_moves_by}
-use Rattle.cob_back_moves.specs.Tested.{PassAll, PassesTest, layout_records}
-use Rattle.cob_back_moves.proofs.EachLemmas.{moves_each, of_statements}
-use Rattle.cob_back_moves.proofs.LeftLemmas.{cuts_each, decides_by, each_at, left_fails, left_next, left_none, never}
+use Rattle.std.proofs.Common.{◌∙◌, rules}
+use Rattle.cob_move_data.specs.Singles.{PlainSingle, plain_single}
+use Rattle.cob_back_moves.specs.Brought.{moves_between}
+use Rattle.cob_back_moves.specs.Tested.{IsSingle, PassAll, PassesTest, single_of}
+use Rattle.cob_back_moves.proofs.EachLemmas.{each_meant, legal}
+use Rattle.cob_back_moves.proofs.LeftLemmas.{each_fails, each_next, each_none, next_is}
 use Rattle.cob_back_moves.proofs.each.all_pass.Goals as goal
 
-pub statement_passes-requires : goal.statement_passes-requires
-statement_passes-requires c =
+pub loop-single-init : goal.loop-single-init
+loop-single-init c =
     let l = c.args.layouts.now in
-    let P = λ (s : StatementMoves). AreMoves (layout_records l) (statement_moves_by l.reading (layout_records l) s) in
+    let is = c.into_iter-single-iterator.ensures.into_iter_gives ∙ c.new-single-items.ensures in
     record {
-      sound = c.requires.sound;
-      moves = each_at P c.args.statements.now c.loop-statement.statement-index c.statement-item.result c.loop-statement-test.true c.statement-item.is
-          (moves_each l.reading (layout_records l) c.args.statements.now c.requires.moves);
+      legal = legal l c.args.statements.now c.into_iter-single-iterator.result is c.requires.moves;
+      left = each_meant (PassesTest c.args.test.now) l c.args.statements.now c.into_iter-single-iterator.result is;
     }
 
-pub returns-then-not-statement_passes : goal.returns-then-not-statement_passes
-returns-then-not-statement_passes c =
+pub passes-requires : goal.passes-requires
+passes-requires c =
     let l = c.args.layouts.now in
-    let P = λ (s : StatementMoves). PassAll c.args.test.now (statement_moves_by l.reading (layout_records l) s) in
-    let fails = left_fails (λ (ss : List StatementMoves). AllByRecursion P ss) (λ (s : StatementMoves) (ss : List StatementMoves). P s) c.args.statements.now c.loop-statement.statement-index c.statement-item.result c.statement_passes.result
-    (cuts_each P) c.loop-statement-test.true c.statement-item.is (search rules) c.statement_passes.ensures c.loop-statement.invariant in
-    never _ (λ all. fails ((of_statements (PassesTest c.args.test.now) l.reading (layout_records l) c.args.statements.now).1 all))
+    record {
+      sound = c.requires.sound;
+      single = (next_is (λ (p : PlainSingle). IsSingle l (single_of l p)) c.loop-single.single-iterator c.next.new.self (plain_single c.in-Some.single)
+          c.in-Some.ensures.steps c.loop-single.invariant.legal).0;
+    }
 
-pub loop-statement-preserved : goal.loop-statement-preserved
-loop-statement-preserved c =
+pub returns-then-not-passes : goal.returns-then-not-passes
+returns-then-not-passes c =
     let l = c.args.layouts.now in
-    let P = λ (s : StatementMoves). PassAll c.args.test.now (statement_moves_by l.reading (layout_records l) s) in
-    left_next (λ (ss : List StatementMoves). AllByRecursion P ss) (λ (s : StatementMoves) (ss : List StatementMoves). P s) c.args.statements.now c.loop-statement.statement-index c.statement-item.result c.statement_passes.result
-    (cuts_each P) c.loop-statement-test.true c.statement-item.is (search rules) c.statement_passes.ensures c.loop-statement.invariant
+    each_fails (λ (p : PlainSingle). PassesTest c.args.test.now (single_of l p)) c.loop-single.single-iterator c.next.new.self (plain_single c.in-Some.single) c.passes.result
+    (PassAll c.args.test.now (moves_between l c.args.statements.now)) c.in-Some.ensures.steps (search rules) c.passes.ensures c.loop-single.invariant.left
+
+pub loop-single-preserved : goal.loop-single-preserved
+loop-single-preserved c =
+    let l = c.args.layouts.now in
+    record {
+      legal = (next_is (λ (p : PlainSingle). IsSingle l (single_of l p)) c.loop-single.single-iterator c.next.new.self (plain_single c.in-Some.single)
+          c.in-Some.ensures.steps c.loop-single.invariant.legal).1;
+      left = each_next (λ (p : PlainSingle). PassesTest c.args.test.now (single_of l p)) c.loop-single.single-iterator c.next.new.self (plain_single c.in-Some.single) c.passes.result
+          (PassAll c.args.test.now (moves_between l c.args.statements.now)) c.in-Some.ensures.steps (search rules) c.passes.ensures c.loop-single.invariant.left;
+    }
 
 pub returns : goal.returns
 returns c =
     let l = c.args.layouts.now in
-    let P = λ (s : StatementMoves). PassAll c.args.test.now (statement_moves_by l.reading (layout_records l) s) in
-    decides_by _ _ true (of_statements (PassesTest c.args.test.now) l.reading (layout_records l) c.args.statements.now)
-    (left_none (λ (ss : List StatementMoves). AllByRecursion P ss) c.args.statements.now c.loop-statement.statement-index tt c.loop-statement-test.false c.loop-statement.invariant)
+    each_none (λ (p : PlainSingle). PassesTest c.args.test.now (single_of l p)) c.loop-single.single-iterator (PassAll c.args.test.now (moves_between l c.args.statements.now))
+    c.in-None.ensures.steps.0 c.loop-single.invariant.left

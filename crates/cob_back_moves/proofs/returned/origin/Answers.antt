@@ -2,7 +2,7 @@ use Rattle.std.proofs.Common.{◌∙◌, ap, refl, rules}
 use Rattle.cob_copybook_entry.specs.Described.{plain_value}
 use Rattle.cob_move_data.specs.declared.operands.Side.{Side}
 use Rattle.cob_move_data.specs.Singles.{occurrence}
-use Rattle.cob_back_moves.specs.declared.single.Sent.TheVariants as sent
+use Rattle.cob_move_data.specs.declared.single.Sent.TheVariants as sent
 use Rattle.cob_back_moves.proofs.ReturnedLemmas.{comes_from, elsewhere, from_constant, from_output}
 use Rattle.cob_back_moves.proofs.returned.origin.Goals as goal
 

@@ -1,5 +1,4 @@
-use Rattle.cob_back_moves.specs.Brought.{occurrence_at}
-use Rattle.cob_move_data.specs.Singles.{occurrence}
+use Rattle.cob_move_data.specs.Singles.{occurrence, plain_element, plain_single}
 use Rattle.cob_back_moves.specs.Tested.{single_of}
 use Rattle.cob_back_moves.proofs.ReturnedLemmas.{never_carried}
 use Rattle.cob_back_moves.proofs.returned.CarriedCondition.is_met.Goals as goal
@@ -7,5 +6,5 @@ use Rattle.cob_back_moves.proofs.returned.CarriedCondition.is_met.Goals as goal
 pub returns-in-None : goal.returns-in-None
 returns-in-None c =
     let x = c.args.self.now in
-    never_carried (single_of c.args.layouts.now c.args.single.now) (occurrence x.from.number x.from.subscripts.now) (occurrence_at x.to) x.from.item.now
-    (rw c.as_slice-to.ensures.value at c.in-None.ensures.none)
+    never_carried (single_of c.args.layouts.now (plain_single c.args.single.now)) (occurrence x.from.number x.from.subscripts.now) (plain_element x.to) x.from.item.now
+    c.in-None.ensures.none
