@@ -16,3 +16,10 @@ pub mod SignLemmas
 pub mod FourLemmas
 pub mod NumeralReading
 pub mod TextLemmas
+pub mod WideNumbers
+pub mod DigitReading
+pub mod DigitKinds
+pub mod WideWordLemmas
+pub mod DigitWriting
+pub mod PairReading
+pub mod LongTextLemmas

@@ -51,7 +51,7 @@ parts_are false count v long most =
     ap (λ n. drop n v) here ∙ all_but_last (drop (15 - count) v) count many
     ∙ ap (λ b. take count (drop (15 - count) v) ++ b ∷ []) (get_or-drop (15 - count) v count 0 ∙ ap (λ n. get_or v n 0) last)
 
-digits_back : (bs : List ℕ) → ((k : ℕ) → k < length bs → get_or bs k 0 / 16 ≡ 15) → bs ≡ digit_bytes (map low_digit bs)
+pub digits_back : (bs : List ℕ) → ((k : ℕ) → k < length bs → get_or bs k 0 / 16 ≡ 15) → bs ≡ digit_bytes (map low_digit bs)
 digits_back [] zones = refl
 digits_back (b ∷ bs) zones =
     let zone : b / 16 ≡ 15 = zones 0 (omega arith) in
@@ -59,7 +59,7 @@ digits_back (b ∷ bs) zones =
     let rest : bs ≡ digit_bytes (map low_digit bs) = digits_back bs (λ k lt. zones (suc k) (omega arith)) in
     ap (λ x. x ∷ bs) first ∙ ap (λ xs. (240 + b % 16) ∷ xs) rest
 
-own_is : (byte : ℕ) (minus : Bool) → own_meaning byte ≡ Some minus → byte ≡ sign_byte minus
+pub own_is : (byte : ℕ) (minus : Bool) → own_meaning byte ≡ Some minus → byte ≡ sign_byte minus
 own_is byte minus e = go (eqb byte 78) refl (eqb byte 96) refl minus e
   where
     go : (a : Bool) → eqb byte 78 ≡ a → (b : Bool) → eqb byte 96 ≡ b → (m : Bool) → cond a (Some false) (cond b (Some true) None) ≡ Some m → byte ≡ sign_byte m
@@ -69,7 +69,7 @@ own_is byte minus e = go (eqb byte 78) refl (eqb byte 96) refl minus e
     go false p true q false e = absurd (cc)
     go false p false q m e = absurd (cc)
 
-own_of : (minus : Bool) → own_meaning (sign_byte minus) ≡ Some minus
+pub own_of : (minus : Bool) → own_meaning (sign_byte minus) ≡ Some minus
 own_of true = refl
 own_of false = refl
 

@@ -9,7 +9,7 @@ use Rattle.cob_codec_lanes.specs.Windows.{last_bytes, padded_window}
 use Rattle.cob_codec_lanes.specs.Readers.{AreLanesTaken, AreTaken, IsLanesRead, LanesPass}
 use Rattle.cob_codec_lanes.specs.declared.reader.LaneReader.{LaneReader}
 
-small_of : (x : ℕ) → Fits w8 x → x < 256
+pub small_of : (x : ℕ) → Fits w8 x → x < 256
 small_of x h = h.fits
 
 drop_zeros : (k n : ℕ) (bytes : List ℕ) → drop (k + n) (replicate k 0 ++ bytes) ≡ drop n bytes

@@ -50,7 +50,7 @@ digits_for (suc k) n lt =
     )
 
 -- the lane of a power of ten, of sixteen digits
-picked_place : (lanes : List ℕ) (z : ℤ) → length lanes ≡ 16 → IsDigits lanes → picked_at lanes (power_pick true 0 2 16 z) ≡ digit_at (number_of lanes) z
+pub picked_place : (lanes : List ℕ) (z : ℤ) → length lanes ≡ 16 → IsDigits lanes → picked_at lanes (power_pick true 0 2 16 z) ≡ digit_at (number_of lanes) z
 picked_place lanes (negsuc q) long valid = refl
 picked_place lanes (pos q) long valid =
     elim (cases_lt q 16) [
@@ -72,7 +72,7 @@ picked_place lanes (pos q) long valid =
     ]
 
 -- the lanes that are taken of a number's digits are those that are wanted
-taken_places : (lanes picks kept : List ℕ) (wanted : ℕ) (shift : ℤ) → length lanes ≡ 16 → IsDigits lanes → wanted ≤ 16 → ArePowerPicks true 0 2 16 wanted shift picks → length kept ≡ 16
+pub taken_places : (lanes picks kept : List ℕ) (wanted : ℕ) (shift : ℤ) → length lanes ≡ 16 → IsDigits lanes → wanted ≤ 16 → ArePowerPicks true 0 2 16 wanted shift picks → length kept ≡ 16
     → ((i : ℕ) → i < 16 → get_or kept i 0 ≡ picked_at lanes (get_or picks i 0)) → AreWanted wanted shift (number_of lanes) kept
 taken_places lanes picks kept wanted shift long valid room are kept_long each = record {
   long = kept_long;

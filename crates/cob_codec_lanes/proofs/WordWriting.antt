@@ -48,7 +48,7 @@ fours_number v fours a b c d long each ea eb ec ed =
 
 -- ---- digits at the end
 
-zeros_front : (k : ℕ) (xs : List ℕ) → number_of (replicate k 0 ++ xs) ≡ number_of xs
+pub zeros_front : (k : ℕ) (xs : List ℕ) → number_of (replicate k 0 ++ xs) ≡ number_of xs
 zeros_front zero xs = refl
 zeros_front (suc k) xs = omega (arith, zeros_front k xs)
 
@@ -74,7 +74,7 @@ front_pick count i few lt =
 lane_of : (digits : List ℕ) (k : ℕ) → k < 16 → picked_at digits k ≡ get_or digits k 0
 lane_of digits k lt = ap (λ b. cond {A = ℕ} b (get_or digits k 0) 0) (lt-ltb _ _ lt)
 
-ended : (count : ℕ) (picks digits v : List ℕ) → count ≤ 16 → AreDigitPicks true (2 * (16 - count)) 2 count picks → length digits ≡ 16 → length v ≡ 16
+pub ended : (count : ℕ) (picks digits v : List ℕ) → count ≤ 16 → AreDigitPicks true (2 * (16 - count)) 2 count picks → length digits ≡ 16 → length v ≡ 16
     → ((i : ℕ) → i < 16 → get_or v i 0 ≡ picked_at digits (get_or picks i 0)) → v ≡ replicate (16 - count) 0 ++ take count digits
 ended count picks digits v few are digits_long long each =
     let zeros : length (replicate {A = ℕ} (16 - count) 0) ≡ 16 - count = length-replicate {A = ℕ} (16 - count) 0 in
@@ -101,11 +101,11 @@ plain_word Two m lt = omega arith
 plain_word Four m lt = omega arith
 plain_word Eight m lt = omega arith
 
-word_is : (w : Width) (minus : Bool) (m : ℕ) → (IsTrue minus → 0 < m) → m < 256 ^ width_bytes w → turned minus m % 256 ^ width_bytes w ≡ cond {A = ℕ} minus (256 ^ width_bytes w - m) m
+pub word_is : (w : Width) (minus : Bool) (m : ℕ) → (IsTrue minus → 0 < m) → m < 256 ^ width_bytes w → turned minus m % 256 ^ width_bytes w ≡ cond {A = ℕ} minus (256 ^ width_bytes w - m) m
 word_is w true m some lt = turned_word w m (some refl) lt
 word_is w false m some lt = plain_word w m lt
 
-second : (a b : Bool) → IsTrue (a && b) → IsTrue b
+pub second : (a b : Bool) → IsTrue (a && b) → IsTrue b
 second true b h = h
 second false b h = absurd (cc)
 

@@ -6,3 +6,9 @@ pub mod Writers
 pub mod Texts
 pub mod Words
 pub mod Widths
+pub mod Wide
+pub mod DigitLanes
+pub mod DigitItems
+pub mod WideWords
+pub mod Pairs
+pub mod LongTexts

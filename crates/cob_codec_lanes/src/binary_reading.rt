@@ -54,7 +54,7 @@ fn greatest(width: Width) -> u64
 }
 
 /// The greatest word of an item that is not below zero.
-fn greatest_plain(signed: bool, width: Width) -> u64
+pub(crate) fn greatest_plain(signed: bool, width: Width) -> u64
     ensures { result ≡ greatest_plain signed width }
 {
     match (signed, width) {
@@ -67,7 +67,7 @@ fn greatest_plain(signed: bool, width: Width) -> u64
 
 /// The number of the last bytes: whether it is below zero, and its magnitude. Words up to a plain one are not below zero.
 #[inline(always)]
-fn signed_in(width: Width, plain: u64, bytes: &[u8]) -> (bool, u64)
+pub(crate) fn signed_in(width: Width, plain: u64, bytes: &[u8]) -> (bool, u64)
     requires { width_bytes width ≤ length bytes.now }
     ensures value { IsSignedIn width plain bytes.now result.0 result.1 }
     ensures nonzero { IsTrue result.0 → 0 < result.1 }

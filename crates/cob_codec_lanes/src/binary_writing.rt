@@ -18,7 +18,7 @@ use std::simd::prelude::*;
 
 /// Whether a minus is written: in a signed item.
 #[inline(always)]
-fn is_below(signed: bool, minus: bool) -> bool
+pub(crate) fn is_below(signed: bool, minus: bool) -> bool
     ensures { result ≡ (signed && minus) }
 {
     signed && minus
@@ -26,7 +26,7 @@ fn is_below(signed: bool, minus: bool) -> bool
 
 /// The word of a number that is negative or not: below zero what is left of all words.
 #[inline(always)]
-fn turned(minus: bool, magnitude: u64) -> u64
+pub(crate) fn turned(minus: bool, magnitude: u64) -> u64
     ensures { result ≡ turned minus magnitude }
 {
     if minus {
@@ -38,7 +38,7 @@ fn turned(minus: bool, magnitude: u64) -> u64
 
 /// Writes the last bytes of a word.
 #[inline(always)]
-fn put_word(width: Width, word: u64, out: &mut [u8])
+pub(crate) fn put_word(width: Width, word: u64, out: &mut [u8])
     requires { length out.old ≡ width_bytes width }
     ensures { out.new ≡ big_bytes (width_bytes width) (word % 256 ^ width_bytes width) }
 {

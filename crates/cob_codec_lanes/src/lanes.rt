@@ -38,7 +38,7 @@ fn highs(v: u8x16) -> u8x16
 
 /// The low half of each byte.
 #[inline(always)]
-fn lows(v: u8x16) -> u8x16
+pub(crate) fn lows(v: u8x16) -> u8x16
     ensures long { length result ≡ 16 }
     ensures lanes { (i : ℕ) → i < 16 → slice_index result i ≡ slice_index v i % 16 }
 {

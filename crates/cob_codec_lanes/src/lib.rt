@@ -21,6 +21,12 @@
 //! digits that are wanted when it is moved by the point (`AreWanted`); and [`WideText::is`] says whether the text that digits and a sign make
 //! is just this one.
 //!
+//! A number of at most thirty-two digits stands in two vectors: its last sixteen digits, and those in front of them, behind zeros
+//! (`AreHeldWide` of specs/Wide.antt). Three readers give one, whatever is wanted of it. [`PairReader`] reads items of at most sixteen bytes.
+//! [`DigitReader`] reads those that have a byte for each of sixteen digits and more: zoned ones, ones with a separate sign, and characters.
+//! [`WideWordReader`] reads binary ones. [`WideKeeper::keep`] keeps the digits that are wanted (`AreWanted`). [`DigitWriter`] and
+//! [`WideWordWriter`] write such digits as [`WideWriter`] does, and [`LongText::write`] shows them in a text of at most forty-eight bytes.
+//!
 //! It knows no record and no move, and nothing here takes memory.
 //!
 //! # Where it is proved
@@ -30,15 +36,27 @@
 //! one, with its sign and the digits that are wanted; a writer leaves exactly the stored form. `WideWriter::write` and what it writes of numbers in two
 //! vectors (`IsWideWriterOf`). The same of `BinaryReader` and `BinaryWriter` (`IsWordRead`, `IsWordWritten` of specs/Words.antt). That a reader of
 //! `numerals` reads characters, each a digit, as a whole number (`AreNumeralsOf`); `LaneText::write`, `WideText::write` and `WideText::is`,
-//! `DigitPlaces::digits`, `KeptDigits::keep` (specs/Texts.antt) and `zeros_before`.
+//! `DigitPlaces::digits`, `KeptDigits::keep` (specs/Texts.antt) and `zeros_before`. Of numbers in two vectors: what `PairReader`, `DigitReader` and
+//! `WideWordReader` read (`IsPairRead`, `AreDigitsRead`, `IsWideWordRead`), that `WideKeeper::keep` keeps the digits that are wanted, what `DigitWriter`
+//! and `WideWordWriter` leave (`IsDigitWriterOf`, `IsWideWordWritten`), and `LongText::write` (`AreLonglyShown`).
 #![tactic(auto)]
 
 mod binary;
 mod binary_reading;
 mod binary_writing;
 mod bounds;
+mod digit_bounds;
+mod digit_item;
+mod digit_reader;
+mod digit_reading;
+mod digit_writer;
+mod digit_writing;
 mod filling;
 mod lanes;
+mod long_text;
+mod long_texts;
+mod pair_reader;
+mod pair_reading;
 mod picks;
 mod reader;
 mod readers;
@@ -47,6 +65,10 @@ mod signs;
 mod text;
 mod text_lanes;
 mod wanted;
+mod wide_keeper;
+mod wide_read;
+mod wide_word;
+mod wide_words;
 mod wide_writer;
 mod width;
 mod words;
@@ -54,13 +76,22 @@ mod writer;
 mod writers;
 
 pub use binary::{BinaryReader, BinaryWriter};
+pub use digit_item::DigitItem;
+pub use digit_reader::DigitReader;
+pub use digit_writer::DigitWriter;
+pub use digit_writing::put_characters;
 pub use lanes::{Bounds, NO_LANE, Picks, keeps_minus, keeps_minus_of_both, zeros_before};
+pub use long_text::{LongText, PairText};
+pub use pair_reader::PairReader;
 pub use reader::LaneReader;
 pub use reading::LanesRead;
 pub use signs::SignByte;
 pub use text::{DigitPlaces, KeptDigits, LaneText, WideText};
 pub use text_lanes::TextLanes;
 pub use wanted::Wanted;
+pub use wide_keeper::WideKeeper;
+pub use wide_read::WideRead;
+pub use wide_word::{WideWordReader, WideWordWriter};
 pub use wide_writer::WideWriter;
 pub use width::Width;
 pub use writer::LaneWriter;

@@ -17,7 +17,7 @@ use crate::wanted::Wanted;
 use cob_codec::{Shape, sign_place};
 
 /// The greatest half byte that is a digit.
-const NINE: u8 = 9;
+pub(crate) const NINE: u8 = 9;
 
 /// Where the first digit stands in a window that ends with an item of so many digits with a separate sign.
 fn first_lane(leading: bool, count: usize) -> usize

@@ -34,7 +34,7 @@ fn padded_window(bytes: &[u8]) -> [u8; 16]
 
 /// Sixteen bytes that end with the last of these: behind zeros where there are fewer.
 #[inline(always)]
-fn window_of(bytes: &[u8]) -> u8x16
+pub(crate) fn window_of(bytes: &[u8]) -> u8x16
     ensures few { length bytes.now < 16 → result ≡ padded_window bytes.now }
     ensures many { 16 ≤ length bytes.now → result ≡ last_bytes 16 bytes.now }
 {

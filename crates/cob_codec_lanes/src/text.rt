@@ -53,7 +53,7 @@ pub struct KeptDigits {
 
 /// Writes the first bytes of thirty-two, as many as there is room for: sixteen, and sixteen behind them.
 #[inline(always)]
-fn put_both(front: &[u8], back: &[u8], out: &mut [u8])
+pub(crate) fn put_both(front: &[u8], back: &[u8], out: &mut [u8])
     requires room { length out.old ≤ 32 }
     requires first { length front.now ≡ 16 }
     requires last { length back.now ≡ 16 }

@@ -14,7 +14,7 @@ use crate::writer::LaneWriter;
 use cob_codec::{Shape, sign_place};
 
 /// The zone of a digit, in its byte.
-const ZONE: u8 = 0xF0;
+pub(crate) const ZONE: u8 = 0xF0;
 
 /// The code of the sign that is written.
 pub(crate) fn sign_code(signed: bool, minus: bool) -> u8
@@ -28,14 +28,14 @@ pub(crate) fn sign_code(signed: bool, minus: bool) -> u8
 }
 
 /// The byte of a sign that is written.
-fn sign_byte(minus: bool) -> u8
+pub(crate) fn sign_byte(minus: bool) -> u8
     ensures { result ≡ sign_byte minus }
 {
     if minus { 0x60 } else { 0x4E }
 }
 
 /// Which byte of an item with a separate sign has the first digit.
-fn first_byte(leading: bool) -> usize
+pub(crate) fn first_byte(leading: bool) -> usize
     ensures byte { result ≡ first_byte leading }
     ensures within { result ≤ 1 }
 {
@@ -43,7 +43,7 @@ fn first_byte(leading: bool) -> usize
 }
 
 /// Which byte of an item of so many digits with a separate sign has the sign.
-fn own_sign_byte(leading: bool, count: usize) -> usize
+pub(crate) fn own_sign_byte(leading: bool, count: usize) -> usize
     ensures byte { result ≡ own_sign_byte leading count }
     ensures within { result ≤ count }
 {

@@ -256,6 +256,7 @@ pub(crate) fn prepared_step(one: PreparedMove) -> Step
         MoveStep::WideEdited(_) => Step::Prepared(one),
         MoveStep::Numerals(_) => Step::Prepared(one),
         MoveStep::Text(_) => Step::Prepared(one),
+        MoveStep::Long(_) => Step::Prepared(one),
         MoveStep::Characters(step) => Step::Characters(CharactersMove { places, step }),
     }
 }

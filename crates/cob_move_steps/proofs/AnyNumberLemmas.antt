@@ -1,5 +1,5 @@
 -- Steps from and to binary items, carried out: what the receiver gets.
-use Rattle.std.proofs.Common.{◌≡◌, ◌↔◌, ◌<◌, ℕ, ◌&&◌, ◌-ℤ◌, ℤ, Bool, true, false, not, IsTrue, List, take, Some, None, refl, sym, ap, subst, ◌∙◌, inl, inr, arith}
+use Rattle.std.proofs.Common.{◌≡◌, ◌↔◌, ◌<◌, ℕ, ◌&&◌, ◌-ℤ◌, ℤ, Bool, true, false, not, IsTrue, List, take, Some, None, sym, ap, subst, ◌∙◌, inl, inr, arith}
 use Rattle.std.proofs.lemmas.Bool.{cases_eq}
 use Rattle.cob_decimal.specs.Decimal.{number_of}
 use Rattle.cob_picture.specs.Counts.{scale, signed}
@@ -55,7 +55,7 @@ word_written to minus ds new is e =
 -- ---- the step
 
 -- a minus stays where something is left
-left_nonzero : (minus zero_is : Bool) (n : ℕ) → (n ≡ 0 → IsTrue zero_is) → IsTrue (minus && not zero_is) → 0 < n
+pub left_nonzero : (minus zero_is : Bool) (n : ℕ) → (n ≡ 0 → IsTrue zero_is) → IsTrue (minus && not zero_is) → 0 < n
 left_nonzero true true n h e = absurd (cc)
 left_nonzero false zero_is n h e = absurd (cc)
 left_nonzero true false n h e = elim (cases_eq n 0) [ inl z ↦ (let no : IsTrue false = h z in absurd (cc)) | inr p ↦ omega arith ]

@@ -36,7 +36,7 @@ same_signs shown minus negative tells a n none sign is = (
 )
 
 -- what is edited of the digits that are kept is edited of the number that is sent
-edited_of_sent : (p : PlainPicture) (blank minus negative : Bool) (kept sent bytes : List ℕ) (from : ℤ) → IsDigits kept → length kept ≡ digits p.positions
+pub edited_of_sent : (p : PlainPicture) (blank minus negative : Bool) (kept sent bytes : List ℕ) (from : ℤ) → IsDigits kept → length kept ≡ digits p.positions
     → number_of kept ≡ aligned (number_of sent) from (scale p.positions) (digits p.positions) → IsSigned minus sent negative
     → IsEdited p blank minus kept (scale p.positions) bytes → IsEdited p blank negative sent from bytes
 edited_of_sent p blank minus negative kept sent bytes from valid count value sign e =

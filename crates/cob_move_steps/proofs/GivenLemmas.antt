@@ -132,26 +132,26 @@ numeral_byte b zone digit =
     let most : b ≤ 249 = omega arith in
     ap (λ t. t && leb b 249) (le-leb _ _ least) ∙ ap (λ t. true && t) (le-leb _ _ most)
 
-numerals_are : (bytes : List ℕ) → IsDigits (map low_digit bytes) → ((k : ℕ) → k < length bytes → get_or bytes k 0 / 16 ≡ 15) → AreNumerals bytes
+pub numerals_are : (bytes : List ℕ) → IsDigits (map low_digit bytes) → ((k : ℕ) → k < length bytes → get_or bytes k 0 / 16 ≡ 15) → AreNumerals bytes
 numerals_are [] valid zones = tt
 numerals_are (b ∷ bs) valid zones = (numeral_byte b (zones 0 (omega arith)) valid.0, numerals_are bs valid.1 (λ k lt. zones (suc k) (omega arith)))
 
 numeral_within : (b : ℕ) → is_numeral b ≡ true → (240 ≤ b) × (b ≤ 249)
 numeral_within b e = let both = and_parts _ _ e in (leb-true _ _ both.0, leb-true _ _ both.1)
 
-low_digits : (bytes : List ℕ) → AreNumerals bytes → map low_digit bytes ≡ digits_of bytes
+pub low_digits : (bytes : List ℕ) → AreNumerals bytes → map low_digit bytes ≡ digits_of bytes
 low_digits [] are = refl
 low_digits (b ∷ bs) are =
     let within : (240 ≤ b) × (b ≤ 249) = numeral_within b are.0 in
     let here : b % 16 ≡ b - 240 = omega (arith, within.0, within.1) in
     ap (λ d. d ∷ map low_digit bs) here ∙ ap (λ ds. (b - 240) ∷ ds) (low_digits bs are.1)
 
-numeral_zones : (bytes : List ℕ) → AreNumerals bytes → (k : ℕ) → k < length bytes → get_or bytes k 0 / 16 ≡ 15
+pub numeral_zones : (bytes : List ℕ) → AreNumerals bytes → (k : ℕ) → k < length bytes → get_or bytes k 0 / 16 ≡ 15
 numeral_zones [] are k lt = absurd (omega arith)
 numeral_zones (b ∷ bs) are zero lt = let within : (240 ≤ b) × (b ≤ 249) = numeral_within b are.0 in omega (arith, within.0, within.1)
 numeral_zones (b ∷ bs) are (suc k) lt = numeral_zones bs are.1 k (omega arith)
 
-numeral_digits : (bytes : List ℕ) → AreNumerals bytes → IsDigits (map low_digit bytes)
+pub numeral_digits : (bytes : List ℕ) → AreNumerals bytes → IsDigits (map low_digit bytes)
 numeral_digits [] are = tt
 numeral_digits (b ∷ bs) are =
     let within : (240 ≤ b) × (b ≤ 249) = numeral_within b are.0 in

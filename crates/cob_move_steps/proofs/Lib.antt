@@ -11,3 +11,7 @@ pub mod PicturedLemmas
 pub mod WideStepLemmas
 pub mod NumeralLemmas
 pub mod TextStepLemmas
+pub mod LongKinds
+pub mod LongDigits
+pub mod LongLemmas
+pub mod LongTextLemmas

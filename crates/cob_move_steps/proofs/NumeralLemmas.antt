@@ -1,5 +1,5 @@
 -- Steps of numbers that are moved to characters: the characters, and what the receiver gets.
-use Rattle.std.proofs.Common.{◌≡◌, ℕ, ◌+◌, ◌-◌, ◌%◌, ◌^◌, ◌<◌, ◌≤◌, ℤ, pos, ◌-ℤ◌, Bool, true, false, not, Option, List, ◌++◌, length, take, map, replicate, get_or, Some, None, MatchBool, cond, lt-ltb, le-ltb, refl, sym, ap, subst, ◌∙◌, inl, inr, arith, length-append, length-take-le, get_or-take}
+use Rattle.std.proofs.Common.{◌≡◌, ℕ, ◌+◌, ◌-◌, ◌%◌, ◌^◌, ◌<◌, ◌≤◌, ℤ, pos, ◌-ℤ◌, Bool, true, false, not, List, ◌++◌, length, take, map, replicate, get_or, Some, None, MatchBool, cond, lt-ltb, le-ltb, refl, sym, ap, subst, ◌∙◌, inl, inr, arith, length-append, length-take-le, get_or-take}
 use Rattle.std.proofs.Math.Nat.{mod-eq_of_lt}
 use Rattle.std.proofs.lemmas.Bool.{cases_lt}
 use Rattle.std.proofs.lemmas.Int.{ints}
@@ -13,9 +13,6 @@ use Rattle.cob_picture.specs.Positions.{PlainPicture, shows_number}
 use Rattle.cob_codec.specs.Sign.{IsHeld}
 use Rattle.cob_codec.specs.declared.reading.Reading.{Reading}
 use Rattle.cob_codec.specs.declared.reading.Reading.TheVariants.{Pictured, Whole}
-use Rattle.cob_copybook_entry.specs.declared.kinds.Usage.{Usage}
-use Rattle.cob_copybook_entry.specs.declared.kinds.Usage.TheVariants.{Display, Packed, Binary}
-use Rattle.cob_copybook_entry.specs.declared.kinds.Sign.{Sign}
 use Rattle.cob_copybook_tree.specs.declared.kinds.StorageKind.{StorageKind}
 use Rattle.cob_copybook_tree.specs.declared.kinds.StorageKind.TheVariants as kind
 use Rattle.cob_copybook_tree.specs.declared.node.Item.{Item}

@@ -15,13 +15,15 @@ use Rattle.cob_move_receive.specs.Sent.{Entry, Occupies}
 use Rattle.cob_move_steps.specs.Copies.{AreCharactersCarriedOut, IsCharactersStep}
 use Rattle.cob_move_steps.specs.Ends.{IsOwnWriter, SuitsReading, item_digits}
 use Rattle.cob_move_steps.specs.Deedits.{IsReceiverWriterFor, IsTextCarriedOut}
+use Rattle.cob_move_steps.specs.Long.{IsLongCarriedOut}
 use Rattle.cob_move_steps.specs.Numerals.{IsNumeralsCarriedOut}
-use Rattle.cob_move_steps.specs.Pool.{AreOccupied, BetweenItems, IsReceived, IsStepAt, IsStepBetween, KeepsSteps, MoveKinds, MovesNumber, MovesAnyNumber, MovesToEdited, MovesText, MovesToNumerals, MovesToWideEdited, MovesWide}
+use Rattle.cob_move_steps.specs.Pool.{AreOccupied, BetweenItems, IsReceived, IsStepAt, IsStepBetween, KeepsSteps, MoveKinds, MovesLong, MovesNumber, MovesAnyNumber, MovesToEdited, MovesText, MovesToNumerals, MovesToWideEdited, MovesWide}
 use Rattle.cob_move_steps.specs.Running.{IsAnyNumberCarriedOut, IsCarriedOut, IsEditCarriedOut, IsWideEditCarriedOut}
 use Rattle.cob_move_steps.specs.Wide.{IsWideCarriedOut}
 use Rattle.cob_move_steps.specs.declared.any_number_step.AnyNumberStep.{AnyNumberStep}
 use Rattle.cob_move_steps.specs.declared.characters_step.CharactersStep.{CharactersStep}
 use Rattle.cob_move_steps.specs.declared.edit_step.EditStep.{EditStep}
+use Rattle.cob_move_steps.specs.declared.long_step.LongStep.{LongStep}
 use Rattle.cob_move_steps.specs.declared.number_ends.NumberWriter.{NumberWriter}
 use Rattle.cob_move_steps.specs.declared.number_ends.NumberWriter.TheVariants as writer
 use Rattle.cob_move_steps.specs.declared.number_ends.ReceiverWriter.{ReceiverWriter}
@@ -67,20 +69,21 @@ read_at T moves steps n step is at = subst moves (is.at ∙ sym (get_or_read ste
 
 between_kept : (before now : MoveSteps) (k : MoveKinds) (step : MoveStep) → Grows NumberStep before.numbers.items now.numbers.items → Grows WideStep before.wides.items now.wides.items → Grows AnyNumberStep before.any_numbers.items now.any_numbers.items
     → Grows EditStep before.edits.items now.edits.items → Grows WideEditStep before.wide_edits.items now.wide_edits.items → Grows NumeralsStep before.numerals.items now.numerals.items
-    → Grows TextStep before.texts.items now.texts.items → IsStepBetween before k step → IsStepBetween now k step
-between_kept before now k (move_step.Number n) numbers wides any_numbers edits wide_edits numerals texts is = kept_at NumberStep (λ step. BetweenItems (MovesNumber step) k.sender k.receiver) before.numbers.items now.numbers.items n numbers is
-between_kept before now k (move_step.Wide n) numbers wides any_numbers edits wide_edits numerals texts is = kept_at WideStep (λ step. BetweenItems (MovesWide step) k.sender k.receiver) before.wides.items now.wides.items n wides is
-between_kept before now k (move_step.AnyNumber n) numbers wides any_numbers edits wide_edits numerals texts is = kept_at AnyNumberStep (λ step. BetweenItems (MovesAnyNumber step) k.sender k.receiver) before.any_numbers.items now.any_numbers.items n any_numbers is
-between_kept before now k (move_step.Edited n) numbers wides any_numbers edits wide_edits numerals texts is = kept_at EditStep (λ step. BetweenItems (MovesToEdited step) k.sender k.receiver) before.edits.items now.edits.items n edits is
-between_kept before now k (move_step.WideEdited n) numbers wides any_numbers edits wide_edits numerals texts is = kept_at WideEditStep (λ step. BetweenItems (MovesToWideEdited step) k.sender k.receiver) before.wide_edits.items now.wide_edits.items n wide_edits is
-between_kept before now k (move_step.Numerals n) numbers wides any_numbers edits wide_edits numerals texts is = kept_at NumeralsStep (λ step. BetweenItems (MovesToNumerals step) k.sender k.receiver) before.numerals.items now.numerals.items n numerals is
-between_kept before now k (move_step.Text n) numbers wides any_numbers edits wide_edits numerals texts is = kept_at TextStep (λ step. BetweenItems (MovesText step) k.sender k.receiver) before.texts.items now.texts.items n texts is
-between_kept before now k (move_step.Characters step) numbers wides any_numbers edits wide_edits numerals texts is = is
+    → Grows TextStep before.texts.items now.texts.items → Grows LongStep before.longs.items now.longs.items → IsStepBetween before k step → IsStepBetween now k step
+between_kept before now k (move_step.Number n) numbers wides any_numbers edits wide_edits numerals texts longs is = kept_at NumberStep (λ step. BetweenItems (MovesNumber step) k.sender k.receiver) before.numbers.items now.numbers.items n numbers is
+between_kept before now k (move_step.Wide n) numbers wides any_numbers edits wide_edits numerals texts longs is = kept_at WideStep (λ step. BetweenItems (MovesWide step) k.sender k.receiver) before.wides.items now.wides.items n wides is
+between_kept before now k (move_step.AnyNumber n) numbers wides any_numbers edits wide_edits numerals texts longs is = kept_at AnyNumberStep (λ step. BetweenItems (MovesAnyNumber step) k.sender k.receiver) before.any_numbers.items now.any_numbers.items n any_numbers is
+between_kept before now k (move_step.Edited n) numbers wides any_numbers edits wide_edits numerals texts longs is = kept_at EditStep (λ step. BetweenItems (MovesToEdited step) k.sender k.receiver) before.edits.items now.edits.items n edits is
+between_kept before now k (move_step.WideEdited n) numbers wides any_numbers edits wide_edits numerals texts longs is = kept_at WideEditStep (λ step. BetweenItems (MovesToWideEdited step) k.sender k.receiver) before.wide_edits.items now.wide_edits.items n wide_edits is
+between_kept before now k (move_step.Numerals n) numbers wides any_numbers edits wide_edits numerals texts longs is = kept_at NumeralsStep (λ step. BetweenItems (MovesToNumerals step) k.sender k.receiver) before.numerals.items now.numerals.items n numerals is
+between_kept before now k (move_step.Text n) numbers wides any_numbers edits wide_edits numerals texts longs is = kept_at TextStep (λ step. BetweenItems (MovesText step) k.sender k.receiver) before.texts.items now.texts.items n texts is
+between_kept before now k (move_step.Long n) numbers wides any_numbers edits wide_edits numerals texts longs is = kept_at LongStep (λ step. BetweenItems (MovesLong step) k.sender k.receiver) before.longs.items now.longs.items n longs is
+between_kept before now k (move_step.Characters step) numbers wides any_numbers edits wide_edits numerals texts longs is = is
 
 pub steps_kept : (before now : MoveSteps) → Grows NumberStep before.numbers.items now.numbers.items → Grows WideStep before.wides.items now.wides.items → Grows AnyNumberStep before.any_numbers.items now.any_numbers.items
     → Grows EditStep before.edits.items now.edits.items → Grows WideEditStep before.wide_edits.items now.wide_edits.items → Grows NumeralsStep before.numerals.items now.numerals.items
-    → Grows TextStep before.texts.items now.texts.items → KeepsSteps before now
-steps_kept before now numbers wides any_numbers edits wide_edits numerals texts k step is = record { occupied = is.occupied; between = between_kept before now k step numbers wides any_numbers edits wide_edits numerals texts is.between }
+    → Grows TextStep before.texts.items now.texts.items → Grows LongStep before.longs.items now.longs.items → KeepsSteps before now
+steps_kept before now numbers wides any_numbers edits wide_edits numerals texts longs k step is = record { occupied = is.occupied; between = between_kept before now k step numbers wides any_numbers edits wide_edits numerals texts longs is.between }
 
 -- ---- a step carried out
 
@@ -176,6 +179,11 @@ pub numerals_received : (k : MoveKinds) (step : NumeralsStep) (size : ℕ) (byte
     → size ≡ k.received → IsNumeralsCarriedOut step bytes size outcome → IsReceived k bytes outcome
 numerals_received k step size bytes outcome occupied between within same h =
     received_by (MovesToNumerals step) k size bytes outcome occupied between within same (λ reading from to is fits long. h from to is.1 fits long reading (suits from reading is.0))
+
+pub long_received : (k : MoveKinds) (step : LongStep) (size : ℕ) (bytes : List ℕ) (outcome : Option (List ℕ)) → AreOccupied k → BetweenItems (MovesLong step) k.sender k.receiver → k.sent ≤ length bytes
+    → size ≡ k.received → IsLongCarriedOut step bytes size outcome → IsReceived k bytes outcome
+long_received k step size bytes outcome occupied between within same h =
+    received_by (MovesLong step) k size bytes outcome occupied between within same (λ reading from to is fits long. h from to is.1 fits long reading (suits from reading is.0))
 
 pub text_received : (k : MoveKinds) (step : TextStep) (size : ℕ) (bytes : List ℕ) (outcome : Option (List ℕ)) → AreOccupied k → BetweenItems (MovesText step) k.sender k.receiver → k.sent ≤ length bytes
     → size ≡ k.received → IsTextCarriedOut step bytes size outcome → IsReceived k bytes outcome

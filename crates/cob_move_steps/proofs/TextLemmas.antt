@@ -195,7 +195,7 @@ numbered_at IsRight first (x ∷ xs) (suc i) d all lt =
     subst (λ k. IsRight k (get_or xs i d)) next (numbered_at IsRight (first + 1) xs i d all.1 (omega arith))
 
 -- one more behind the texts for so many zeros
-more_numbered : {A : Type 0} (IsRight : ℕ → A → Type 0) (zeros : ℕ) (before after : List A) (x : A) → length before ≡ zeros → HoldInTurn IsRight 0 before → IsRight zeros x → after ≡ before ++ x ∷ []
+pub more_numbered : {A : Type 0} (IsRight : ℕ → A → Type 0) (zeros : ℕ) (before after : List A) (x : A) → length before ≡ zeros → HoldInTurn IsRight 0 before → IsRight zeros x → after ≡ before ++ x ∷ []
     → (length after ≡ zeros + 1) × HoldInTurn IsRight 0 after
 more_numbered IsRight zeros before after x long all one is =
     let place : zeros ≡ 0 + length before = omega arith in (
@@ -211,7 +211,7 @@ pub wide_texts_more : (to : Item) (zeros : ℕ) (before after : List WideText) (
     → (length after ≡ zeros + 1) × AreWideTextsFor to 0 after
 wide_texts_more to zeros before after t long all one is = more_numbered (IsWideTextFor to) zeros before after t long all one is
 
-first_numbered : {A : Type 0} (IsRight : ℕ → A → Type 0) (xs : List A) (i : ℕ) (d : A) → HoldInTurn IsRight 0 xs → i < length xs → IsRight i (get_or xs i d)
+pub first_numbered : {A : Type 0} (IsRight : ℕ → A → Type 0) (xs : List A) (i : ℕ) (d : A) → HoldInTurn IsRight 0 xs → i < length xs → IsRight i (get_or xs i d)
 first_numbered IsRight xs i d all lt = let none : 0 + i ≡ i = omega arith in subst (λ k. IsRight k (get_or xs i d)) none (numbered_at IsRight 0 xs i d all lt)
 
 pub text_at : (to : Item) (ts : List LaneText) (i : ℕ) (d : LaneText) → AreTextsFor to 0 ts → i < length ts → IsTextFor to i (get_or ts i d)

@@ -9,10 +9,12 @@ use Rattle.cob_move_receive.specs.Received.{Received}
 use Rattle.cob_move_receive.specs.Sent.{Entry}
 use Rattle.cob_move_steps.specs.Edits.{IsEditStep, IsWideEditStep}
 use Rattle.cob_move_steps.specs.Ends.{IsAnyNumberStep}
+use Rattle.cob_move_steps.specs.Long.{IsLongStep}
 use Rattle.cob_move_steps.specs.Numerals.{HaveAnyShortNumbers, IsNumeralsStep}
 use Rattle.cob_move_steps.specs.Pool.{AreOccupied, BetweenItems, IsStepAt, MoveKinds}
 use Rattle.cob_move_steps.specs.declared.any_number_step.AnyNumberStep.{AnyNumberStep}
 use Rattle.cob_move_steps.specs.declared.edit_step.EditStep.{EditStep}
+use Rattle.cob_move_steps.specs.declared.long_step.LongStep.{LongStep}
 use Rattle.cob_move_steps.specs.declared.numerals_step.NumeralsStep.{NumeralsStep}
 use Rattle.cob_move_steps.specs.declared.pictured.PicturedStep.{PicturedStep}
 use Rattle.cob_move_steps.specs.declared.pictured.PicturedStep.TheVariants as pictured
@@ -39,12 +41,17 @@ MovesPicturedToWideEdited step from to = IsWideEditStep from to step
 abbrev pub MovesPicturedToNumerals : NumeralsStep → Item → Item → Type 0
 MovesPicturedToNumerals step from to = IsNumeralsStep from to step
 
+-- the step moves the number, of any number of digits, of one item to another
+abbrev pub MovesPicturedLong : LongStep → Item → Item → Type 0
+MovesPicturedLong step from to = IsLongStep from to step
+
 -- the step, one of these, is one between these kinds
 abbrev pub IsPicturedBetween : PicturedSteps → MoveKinds → PicturedStep → Type 0
 IsPicturedBetween steps k (pictured.Number number) = IsStepAt AnyNumberStep (λ step. BetweenItems (MovesPictured step) k.sender k.receiver) steps.numbers.items number
 IsPicturedBetween steps k (pictured.Edited number) = IsStepAt EditStep (λ step. BetweenItems (MovesPicturedToEdited step) k.sender k.receiver) steps.edits.items number
 IsPicturedBetween steps k (pictured.WideEdited number) = IsStepAt WideEditStep (λ step. BetweenItems (MovesPicturedToWideEdited step) k.sender k.receiver) steps.wide_edits.items number
 IsPicturedBetween steps k (pictured.Numerals number) = IsStepAt NumeralsStep (λ step. BetweenItems (MovesPicturedToNumerals step) k.sender k.receiver) steps.numerals.items number
+IsPicturedBetween steps k (pictured.Long number) = IsStepAt LongStep (λ step. BetweenItems (MovesPicturedLong step) k.sender k.receiver) steps.longs.items number
 
 -- The step, one of these, carries out the move of the sender, read as its picture says, to the receiver.
 pub record IsPicturedStep (steps : PicturedSteps) (k : MoveKinds) (step : PicturedStep) : Type 0 where
@@ -72,3 +79,4 @@ KeepsPictured before now = (k : MoveKinds) (step : PicturedStep) → IsPicturedS
 -- there is no step of a number
 abbrev pub HasNoPictured : PicturedSteps → Type 0
 HasNoPictured steps = (length steps.numbers.items ≡ 0) × (length steps.edits.items ≡ 0) × (length steps.wide_edits.items ≡ 0) × (length steps.numerals.items ≡ 0)
+    × (length steps.longs.items ≡ 0)

@@ -13,6 +13,7 @@ use Rattle.cob_move_steps.specs.Copies.{IsCharactersStep, gives_bytes}
 use Rattle.cob_move_steps.specs.Deedits.{IsTextStep, ReceivesNumber}
 use Rattle.cob_move_steps.specs.Edits.{IsEditStep, IsWideEditStep}
 use Rattle.cob_move_steps.specs.Ends.{IsAnyNumberStep}
+use Rattle.cob_move_steps.specs.Long.{IsLongStep}
 use Rattle.cob_move_steps.specs.Numerals.{HaveAnyShortNumbers, IsNumeralsStep}
 use Rattle.cob_move_steps.specs.Steps.{IsNumberStep}
 use Rattle.cob_move_steps.specs.Texts.{IsWideEditedItem}
@@ -20,6 +21,7 @@ use Rattle.cob_move_steps.specs.Wide.{IsWideStep}
 use Rattle.cob_move_steps.specs.declared.any_number_step.AnyNumberStep.{AnyNumberStep}
 use Rattle.cob_move_steps.specs.declared.characters_step.CharactersStep.{CharactersStep}
 use Rattle.cob_move_steps.specs.declared.edit_step.EditStep.{EditStep}
+use Rattle.cob_move_steps.specs.declared.long_step.LongStep.{LongStep}
 use Rattle.cob_move_steps.specs.declared.numerals_step.NumeralsStep.{NumeralsStep}
 use Rattle.cob_move_steps.specs.declared.pool.MoveStep.{MoveStep}
 use Rattle.cob_move_steps.specs.declared.pool.MoveStep.TheVariants as move_step
@@ -79,6 +81,10 @@ MovesToNumerals step from to = (is_read_whole (storage_kind from) ≡ false) × 
 abbrev pub MovesText : TextStep → Item → Item → Type 0
 MovesText step from to = IsTextStep from to step
 
+-- the step moves the number, of any number of digits, that an item gives, which is read in one way, to another
+abbrev pub MovesLong : LongStep → Item → Item → Type 0
+MovesLong step from to = (is_read_whole (storage_kind from) ≡ false) × IsLongStep from to step
+
 -- the step with this number among these is one that is meant
 pub record IsStepAt (T : Type 0) (moves : T → Type 0) (steps : List T) (number : ℕ) : Type 0 where
   pub step : T
@@ -95,6 +101,7 @@ IsStepBetween steps k (move_step.Edited number) = IsStepAt EditStep (λ step. Be
 IsStepBetween steps k (move_step.WideEdited number) = IsStepAt WideEditStep (λ step. BetweenItems (MovesToWideEdited step) k.sender k.receiver) steps.wide_edits.items number
 IsStepBetween steps k (move_step.Numerals number) = IsStepAt NumeralsStep (λ step. BetweenItems (MovesToNumerals step) k.sender k.receiver) steps.numerals.items number
 IsStepBetween steps k (move_step.Text number) = IsStepAt TextStep (λ step. BetweenItems (MovesText step) k.sender k.receiver) steps.texts.items number
+IsStepBetween steps k (move_step.Long number) = IsStepAt LongStep (λ step. BetweenItems (MovesLong step) k.sender k.receiver) steps.longs.items number
 IsStepBetween steps k (move_step.Characters step) = IsCharactersStep k.sender k.sent k.receiver step
 
 -- The step, one of these, carries out the move of the sender to the receiver.
@@ -143,3 +150,4 @@ KeepsSteps before now = (k : MoveKinds) (step : MoveStep) → IsMoveStep before 
 abbrev pub HasNoSteps : MoveSteps → Type 0
 HasNoSteps steps = (length steps.numbers.items ≡ 0) × (length steps.wides.items ≡ 0) × (length steps.any_numbers.items ≡ 0) × (length steps.edits.items ≡ 0)
     × (length steps.wide_edits.items ≡ 0) × (length steps.numerals.items ≡ 0) × (length steps.texts.items ≡ 0)
+    × (length steps.longs.items ≡ 0)

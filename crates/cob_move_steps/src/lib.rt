@@ -21,6 +21,8 @@
 //!   give none;
 //! - a number of at most sixteen digits to characters: [`NumeralsStep::prepare`] gives one wherever the receiver takes characters without
 //!   insertions, and writes the digits without the sign, with a zero for each P at the right;
+//! - any other number, of up to 31 digits: [`LongStep::prepare`] gives one wherever the sender is a number or at most 31 characters, and the receiver is a
+//!   number, or edits one in at most forty-eight bytes. It holds the number in two vectors;
 //! - characters without insertions, of a sender that gives its bytes as they are: [`CharactersStep::prepare`] gives one, and
 //!   [`ConstantStep::prepare`] that of a constant, whose bytes `receive` makes once. [`copy_all`] copies bytes.
 //!
@@ -36,7 +38,7 @@
 //! The clauses `step`, `must`, `kept` of `MoveSteps::prepare` and `gets`, `same` of `MoveSteps::run`, those of `PicturedSteps` for senders that are read
 //! as their pictures say, and those of `prepare` and `run` of each kind of step (`NumberStep`, `WideStep` for packed receivers of more than sixteen
 //! digits, `AnyNumberStep` for binary items and for characters that are a number, `EditStep` and `WideEditStep`, `TextStep` for a number that an edited
-//! item gives, `NumeralsStep` for a number that becomes characters, `CharactersStep`, `ConstantStep`): a step leaves what the rule of MOVE says
+//! item gives, `NumeralsStep` for a number that becomes characters, `LongStep` for a number of up to 31 digits, `CharactersStep`, `ConstantStep`): a step leaves what the rule of MOVE says
 //! (`Received`), for any bytes of the sender and any reading.
 #![tactic(auto)]
 
@@ -51,6 +53,12 @@ mod edit_running;
 mod edit_step;
 mod ends_preparing;
 mod ends_running;
+mod long_ends;
+mod long_preparing;
+mod long_running;
+mod long_step;
+mod long_text_writer;
+mod long_texts;
 mod number_ends;
 mod numerals_preparing;
 mod numerals_running;
@@ -80,6 +88,9 @@ pub use any_number_step::AnyNumberStep;
 pub use characters_step::CharactersStep;
 pub use constant_step::ConstantStep;
 pub use edit_step::EditStep;
+pub use long_ends::{LongReader, LongReceiver, LongWriter};
+pub use long_step::LongStep;
+pub use long_text_writer::LongTextWriter;
 pub use number_ends::{NumberReader, NumberWriter, ReceiverWriter};
 pub use numerals_step::NumeralsStep;
 pub use pictured::{PicturedStep, PicturedSteps};

@@ -1,13 +1,14 @@
 //! Steps of single moves whose senders are read as their pictures say.
 
 ghost use Rattle.std.specs.Prelude.{◌≡◌, ◌≤◌, false, length, IfOk, IfSome, IsSome};
-ghost use Rattle.cob_move_steps.specs.Pictured.{CarriesPicturedFromTo, CarriesPicturedItems, HasNoPictured, HavePicturedStep, IsPicturedStep, IsReceivedPictured, KeepsPictured, MovesPictured, MovesPicturedToEdited, MovesPicturedToNumerals, MovesPicturedToWideEdited};
+ghost use Rattle.cob_move_steps.specs.Pictured.{CarriesPicturedFromTo, CarriesPicturedItems, HasNoPictured, HavePicturedStep, IsPicturedStep, IsReceivedPictured, KeepsPictured, MovesPictured, MovesPicturedLong, MovesPicturedToEdited, MovesPicturedToNumerals, MovesPicturedToWideEdited};
 ghost use Rattle.cob_move_steps.specs.Numerals.{HaveAnyShortNumbers};
 ghost use Rattle.cob_move_steps.specs.Pool.{AreOccupied, MoveKinds};
 ghost use Rattle.cob_move_receive.specs.Received.{outcome};
 
 use crate::any_number_step::AnyNumberStep;
 use crate::edit_step::EditStep;
+use crate::long_step::LongStep;
 use crate::numerals_step::NumeralsStep;
 use crate::wide_edit_step::WideEditStep;
 use cob_copybook_tree::{Item, Kind};
@@ -25,6 +26,8 @@ pub enum PicturedStep {
     WideEdited(usize),
     /// That of a number to characters.
     Numerals(usize),
+    /// That of a number of any number of digits.
+    Long(usize),
 }
 
 /// Steps of single moves whose senders are read as their pictures say. They become more, and none of them changes.
@@ -35,6 +38,7 @@ pub struct PicturedSteps {
     pub(crate) edits: Vec<EditStep>,
     pub(crate) wide_edits: Vec<WideEditStep>,
     pub(crate) numerals: Vec<NumeralsStep>,
+    pub(crate) longs: Vec<LongStep>,
 }
 
 impl fmt::Debug for PicturedSteps {
@@ -42,9 +46,10 @@ impl fmt::Debug for PicturedSteps {
         let numbers = self.numbers.len();
         let edits = self.edits.len() + self.wide_edits.len();
         let numerals = self.numerals.len();
+        let longs = self.longs.len();
         write!(
             f,
-            "PicturedSteps {{ numbers: {numbers}, edits: {edits}, numerals: {numerals} }}"
+            "PicturedSteps {{ numbers: {numbers}, edits: {edits}, numerals: {numerals}, longs: {longs} }}"
         )
     }
 }
@@ -60,6 +65,7 @@ impl PicturedSteps {
             edits: Vec::new(alloc),
             wide_edits: Vec::new(alloc),
             numerals: Vec::new(alloc),
+            longs: Vec::new(alloc),
         }
     }
 
@@ -120,6 +126,20 @@ impl PicturedSteps {
         Ok(PicturedStep::Numerals(number))
     }
 
+    /// Puts the step of a number of any number of digits behind those so far.
+    ///
+    /// # Errors
+    ///
+    /// Where no memory is left.
+    fn put_long(&mut self, step: LongStep) -> Result<PicturedStep, AllocError>
+        ensures step { IfOk result (CarriesPicturedItems self.new (MovesPicturedLong step)) }
+        ensures kept { KeepsPictured self.old self.new }
+    {
+        let number = self.longs.len();
+        self.longs.push(step)?;
+        Ok(PicturedStep::Long(number))
+    }
+
     /// Makes the step of the move of one item to another ready.
     ///
     /// # Errors
@@ -140,8 +160,11 @@ impl PicturedSteps {
         if let Some(step) = WideEditStep::prepare(self.alloc, from, to)? {
             return Ok(Some(self.put_wide_edited(step)?));
         }
-        match NumeralsStep::prepare(from, to) {
-            Some(step) => Ok(Some(self.put_numerals(step)?)),
+        if let Some(step) = NumeralsStep::prepare(from, to) {
+            return Ok(Some(self.put_numerals(step)?));
+        }
+        match LongStep::prepare(self.alloc, from, to)? {
+            Some(step) => Ok(Some(self.put_long(step)?)),
             None => Ok(None),
         }
     }
@@ -202,6 +225,7 @@ impl PicturedSteps {
             PicturedStep::Edited(number) => self.edits[number].run(from, to),
             PicturedStep::WideEdited(number) => self.wide_edits[number].run(from, to),
             PicturedStep::Numerals(number) => self.numerals[number].run(from, to),
+            PicturedStep::Long(number) => self.longs[number].run(from, to),
         }
     }
 }

@@ -4,13 +4,14 @@ ghost use Rattle.std.specs.Prelude.{◌≡◌, ◌≤◌, false, length, Some, I
 ghost use Rattle.cob_move_steps.specs.Numerals.{HaveAnyShortNumbers};
 ghost use Rattle.cob_copybook_tree.specs.Items.{storage_kind};
 ghost use Rattle.cob_copybook_tree.specs.Storage.{is_read_whole};
-ghost use Rattle.cob_move_steps.specs.Pool.{AreOccupied, CarriesFromTo, CarriesItems, HasNoSteps, HaveShortNumbers, HaveStep, IsMoveStep, IsReceived, KeepsSteps, MoveKinds, MovesAnyNumber, MovesNumber, MovesText, MovesToEdited, MovesToNumerals, MovesToWideEdited, MovesWide, PutsCharacters};
+ghost use Rattle.cob_move_steps.specs.Pool.{AreOccupied, CarriesFromTo, CarriesItems, HasNoSteps, HaveShortNumbers, HaveStep, IsMoveStep, IsReceived, KeepsSteps, MoveKinds, MovesAnyNumber, MovesLong, MovesNumber, MovesText, MovesToEdited, MovesToNumerals, MovesToWideEdited, MovesWide, PutsCharacters};
 ghost use Rattle.cob_move_steps.specs.declared.pool.MoveStep.TheVariants.{Characters};
 ghost use Rattle.cob_move_receive.specs.Received.{outcome};
 
 use crate::any_number_step::AnyNumberStep;
 use crate::characters_step::CharactersStep;
 use crate::edit_step::EditStep;
+use crate::long_step::LongStep;
 use crate::numerals_step::NumeralsStep;
 use crate::step::NumberStep;
 use crate::text_step::TextStep;
@@ -37,6 +38,8 @@ pub enum MoveStep {
     Numerals(usize),
     /// That of the number of an edited item.
     Text(usize),
+    /// That of a number of any number of digits.
+    Long(usize),
     /// The step of characters, as it is.
     Characters(CharactersStep),
 }
@@ -52,6 +55,7 @@ pub struct MoveSteps {
     pub(crate) wide_edits: Vec<WideEditStep>,
     pub(crate) numerals: Vec<NumeralsStep>,
     pub(crate) texts: Vec<TextStep>,
+    pub(crate) longs: Vec<LongStep>,
 }
 
 impl fmt::Debug for MoveSteps {
@@ -62,9 +66,10 @@ impl fmt::Debug for MoveSteps {
         let edits = self.edits.len() + self.wide_edits.len();
         let numerals = self.numerals.len();
         let texts = self.texts.len();
+        let longs = self.longs.len();
         write!(
             f,
-            "MoveSteps {{ numbers: {numbers}, wides: {wides}, any_numbers: {any_numbers}, edits: {edits}, numerals: {numerals}, texts: {texts} }}"
+            "MoveSteps {{ numbers: {numbers}, wides: {wides}, any_numbers: {any_numbers}, edits: {edits}, numerals: {numerals}, texts: {texts}, longs: {longs} }}"
         )
     }
 }
@@ -83,6 +88,7 @@ impl MoveSteps {
             wide_edits: Vec::new(alloc),
             numerals: Vec::new(alloc),
             texts: Vec::new(alloc),
+            longs: Vec::new(alloc),
         }
     }
 
@@ -184,6 +190,20 @@ impl MoveSteps {
         Ok(MoveStep::Text(number))
     }
 
+    /// Puts the step of a number of any number of digits behind those so far.
+    ///
+    /// # Errors
+    ///
+    /// Where no memory is left.
+    fn put_long(&mut self, step: LongStep) -> Result<MoveStep, AllocError>
+        ensures step { IfOk result (CarriesItems self.new (MovesLong step)) }
+        ensures kept { KeepsSteps self.old self.new }
+    {
+        let number = self.longs.len();
+        self.longs.push(step)?;
+        Ok(MoveStep::Long(number))
+    }
+
     /// Makes the step of the move of one item to another ready, where the sender gives its number as one, or as characters.
     ///
     /// # Errors
@@ -211,8 +231,11 @@ impl MoveSteps {
         if let Some(step) = WideEditStep::prepare(self.alloc, from, to)? {
             return Ok(Some(self.put_wide_edited(step)?));
         }
-        match NumeralsStep::prepare(from, to) {
-            Some(step) => Ok(Some(self.put_numerals(step)?)),
+        if let Some(step) = NumeralsStep::prepare(from, to) {
+            return Ok(Some(self.put_numerals(step)?));
+        }
+        match LongStep::prepare(self.alloc, from, to)? {
+            Some(step) => Ok(Some(self.put_long(step)?)),
             None => Ok(None),
         }
     }
@@ -300,6 +323,7 @@ impl MoveSteps {
             MoveStep::WideEdited(number) => self.wide_edits[number].run(from, to),
             MoveStep::Numerals(number) => self.numerals[number].run(from, to),
             MoveStep::Text(number) => self.texts[number].run(from, to),
+            MoveStep::Long(number) => self.longs[number].run(from, to),
             MoveStep::Characters(step) => {
                 self.put_characters(step, from, to);
                 true

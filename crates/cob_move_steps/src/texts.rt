@@ -36,7 +36,7 @@ fn added_to(negative: bool, cell: TextCell) -> u8
 }
 
 /// The cell with this number of a row; behind the row stands the byte 0.
-fn cell_in(row: &[TextCell], at: usize) -> TextCell
+pub(crate) fn cell_in(row: &[TextCell], at: usize) -> TextCell
     ensures { result ≡ cell_in row.now at }
 {
     if at < row.len() {
@@ -60,8 +60,8 @@ fn picks_of(row: &[TextCell], start: usize) -> Picks
 }
 
 /// What is added to them in the text of a number that is negative or not.
-fn added_in(negative: bool, row: &[TextCell], start: usize) -> [u8; 16]
-    requires { start ≤ 16 }
+pub(crate) fn added_in(negative: bool, row: &[TextCell], start: usize) -> [u8; 16]
+    requires { start ≤ 32 }
     ensures each { (i : ℕ) → i < 16
         → slice_index result i ≡ added_to negative (cell_in row.now (start + i)) }
     ensures small { (i : ℕ) → i < 16 → added_to negative (cell_in row.now (start + i)) < 256 }

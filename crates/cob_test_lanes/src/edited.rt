@@ -84,6 +84,22 @@ pub fn long_kinds() -> [EditedKind; 18] {
     ]
 }
 
+/// Kinds of edited items of more than sixteen digits, or of more than thirty-two bytes.
+pub fn longest_kinds() -> [EditedKind; 10] {
+    [
+        edited("Z(16)9"),
+        edited("Z(3),Z(3),Z(3),Z(3),Z(3),ZZ9.99-"),
+        edited("9(16)V99-"),
+        blank_when_zero("$(17).99CR"),
+        edited("*(14).9(4)"),
+        edited("+(20).9(5)"),
+        edited("9(30)/9"),
+        blank_when_zero("Z(31)"),
+        edited("ZZZ,ZZZ,ZZZ,ZZZ,ZZZ,ZZZ,ZZZ,ZZZ,ZZ9.9(4)DB"),
+        edited("9(4)B9(4)B9(4)B9(4)/0000/0000/0000/0000/B9"),
+    ]
+}
+
 /// An item of a kind.
 pub fn item_of(kind: &EditedKind) -> Option<Item> {
     match Picture::read(kind.picture.as_bytes()) {

@@ -107,6 +107,13 @@ impl ItemKind {
         if self.is_separate() { 15 } else { 16 }
     }
 
+    /// The most digits of an item.
+    pub fn most_long_digits(&self) -> u32
+        ensures { result ≤ 31 }
+    {
+        if self.is_binary() { 18 } else { 31 }
+    }
+
     /// The most digits of an item of at most sixteen bytes.
     pub fn most_wide_digits(&self) -> u32
         ensures { result ≤ 31 }

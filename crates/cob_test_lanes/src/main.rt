@@ -2,8 +2,8 @@
 //!
 //! Numbers are moved between each two kinds of items, of each number of digits, and to edited items; characters between entries of each length;
 //! figurative constants to entries of each length; numbers of which an item has more than sixteen digits. At the end numbers are moved to edited
-//! items of more than sixteen bytes, from characters, from edited items and from bytes that are near their texts, and to characters. Scales, bytes
-//! and signs are drawn, the same in each run. A line tells how many moves were made, how many senders represented no number, how many moves had no
+//! items of more than sixteen bytes, from characters, from edited items and from bytes that are near their texts, and to characters; and last, numbers
+//! between each two kinds, of each number of digits up to 31, by steps of any number of digits. Scales, bytes and signs are drawn, the same in each run. A line tells how many moves were made, how many senders represented no number, how many moves had no
 //! step, and the sum. `tools/lane_sums` works the same out from the rules alone.
 #![tactic(auto)]
 
@@ -12,6 +12,7 @@ mod converted;
 mod draws;
 mod edited;
 mod kinds;
+mod long;
 mod moves;
 mod near;
 mod numbers;
@@ -26,8 +27,11 @@ use crate::converted::{
     try_edited_to_numbers,
 };
 use crate::draws::Draws;
-use crate::edited::{EditedKind, edited_kinds, long_kinds, try_all_edited, try_edited};
+use crate::edited::{
+    EditedKind, edited_kinds, long_kinds, longest_kinds, try_all_edited, try_edited,
+};
 use crate::kinds::{all_kinds, kinds};
+use crate::long::{try_long_characters, try_long_edited, try_long_kinds};
 use crate::near::try_near;
 use crate::numbers::{try_kinds, try_wide_kinds};
 use crate::shown::try_shown;
@@ -183,6 +187,32 @@ fn print_texts(rt: HostRuntime, draws: &mut Draws) -> io::Result<()> {
     print_shown(rt, draws)
 }
 
+/// Numbers of any number of digits.
+fn print_long_numbers(rt: HostRuntime, draws: &mut Draws) -> io::Result<()> {
+    let kinds = all_kinds();
+    for from in &kinds {
+        for to in &kinds {
+            let tally = try_long_kinds(rt.alloc(), from, to, draws)?;
+            print_tally(rt, from.name, to.name, &tally)?;
+        }
+    }
+    for to in &kinds {
+        let tally = try_long_characters(rt.alloc(), to, draws)?;
+        print_tally(rt, "characters", to.name, &tally)?;
+    }
+    for kinds in [
+        edited_kinds().as_slice(),
+        long_kinds().as_slice(),
+        longest_kinds().as_slice(),
+    ] {
+        for to in kinds {
+            let tally = try_long_edited(rt.alloc(), to, draws)?;
+            print_tally(rt, "numbers", to.picture, &tally)?;
+        }
+    }
+    Ok(())
+}
+
 fn main(rt: HostRuntime) -> io::Result<()> {
     let mut draws = Draws::new(1985);
     print_numbers(rt, &mut draws)?;
@@ -191,5 +221,6 @@ fn main(rt: HostRuntime) -> io::Result<()> {
     print_constants(rt)?;
     print_binary(rt, &mut draws)?;
     print_wide(rt, &mut draws)?;
-    print_texts(rt, &mut draws)
+    print_texts(rt, &mut draws)?;
+    print_long_numbers(rt, &mut draws)
 }

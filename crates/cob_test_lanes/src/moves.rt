@@ -4,7 +4,9 @@ ghost use Rattle.std.specs.Prelude.{◌≤◌, length};
 
 use crate::tally::Tally;
 use cob_copybook_tree::Item;
-use cob_move_steps::{AnyNumberStep, EditStep, NumberStep, TextStep, WideEditStep, WideStep};
+use cob_move_steps::{
+    AnyNumberStep, EditStep, LongStep, NumberStep, TextStep, WideEditStep, WideStep,
+};
 use std::alloc::{AllocError, Global};
 
 /// What stands in a receiver's bytes before the move.
@@ -86,6 +88,30 @@ pub fn tally_move(
     let mut bytes = [UNWRITTEN; 32];
     match moved(alloc, sender, receiver, record, &mut bytes[..size])? {
         Some(moved) => tally.count(moved, &bytes[..size]),
+        None => tally.count_none(),
+    }
+    Ok(())
+}
+
+/// Moves the number at the end of a record to a number by a step of any number of digits, and counts what came of it.
+pub fn tally_long_move(
+    alloc: Global,
+    sender: &Item,
+    receiver: &Item,
+    record: &[u8],
+    tally: &mut Tally,
+) -> Result<(), AllocError> {
+    let size = usize::from(receiver.size());
+    if size > 48 {
+        tally.count_none();
+        return Ok(());
+    }
+    let mut bytes = [UNWRITTEN; 48];
+    match LongStep::prepare(alloc, sender, receiver)? {
+        Some(step) => {
+            let moved = step.run(record, &mut bytes[..size]);
+            tally.count(moved, &bytes[..size]);
+        }
         None => tally.count_none(),
     }
     Ok(())

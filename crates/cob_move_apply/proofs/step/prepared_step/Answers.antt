@@ -26,3 +26,6 @@ returns-in-Numerals-clause-stands c = λ x r given on own is. is
 
 pub returns-in-Text-clause-stands : goal.returns-in-Text-clause-stands
 returns-in-Text-clause-stands c = λ x r given on own is. is
+
+pub returns-in-Long-clause-stands : goal.returns-in-Long-clause-stands
+returns-in-Long-clause-stands c = λ x r given on own is. is

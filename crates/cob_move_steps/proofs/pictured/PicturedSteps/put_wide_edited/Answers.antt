@@ -3,6 +3,7 @@ use Rattle.cob_move_steps.specs.Pictured.{MovesPicturedToWideEdited}
 use Rattle.cob_move_steps.specs.Pool.{BetweenItems}
 use Rattle.cob_move_steps.specs.declared.any_number_step.AnyNumberStep.{AnyNumberStep}
 use Rattle.cob_move_steps.specs.declared.edit_step.EditStep.{EditStep}
+use Rattle.cob_move_steps.specs.declared.long_step.LongStep.{LongStep}
 use Rattle.cob_move_steps.specs.declared.numerals_step.NumeralsStep.{NumeralsStep}
 use Rattle.cob_move_steps.specs.declared.wide_edit_step.WideEditStep.{WideEditStep}
 use Rattle.cob_move_steps.proofs.PicturedLemmas.{pictured_kept}
@@ -18,4 +19,4 @@ returns-clause-step c = λ k occupied moves. record {
 
 pub returns-clause-kept : goal.returns-clause-kept
 returns-clause-kept c =
-    pictured_kept c.args.self.now (record { alloc = c.args.self.now.alloc; numbers = c.args.self.now.numbers; edits = c.args.self.now.edits; wide_edits = c.push.new.self; numerals = c.args.self.now.numerals }) (as_before AnyNumberStep c.args.self.now.numbers.items) (as_before EditStep c.args.self.now.edits.items) (c.args.step ∷ [], c.in_ok-push.ensures.items) (as_before NumeralsStep c.args.self.now.numerals.items)
+    pictured_kept c.args.self.now (record { alloc = c.args.self.now.alloc; numbers = c.args.self.now.numbers; edits = c.args.self.now.edits; wide_edits = c.push.new.self; numerals = c.args.self.now.numerals; longs = c.args.self.now.longs }) (as_before AnyNumberStep c.args.self.now.numbers.items) (as_before EditStep c.args.self.now.edits.items) (c.args.step ∷ [], c.in_ok-push.ensures.items) (as_before NumeralsStep c.args.self.now.numerals.items) (as_before LongStep c.args.self.now.longs.items)

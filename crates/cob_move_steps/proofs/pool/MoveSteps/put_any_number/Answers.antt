@@ -2,6 +2,7 @@ use Rattle.std.proofs.Common.{[], ◌∷◌, arith}
 use Rattle.cob_move_steps.specs.Pool.{BetweenItems, MovesAnyNumber}
 use Rattle.cob_move_steps.specs.declared.any_number_step.AnyNumberStep.{AnyNumberStep}
 use Rattle.cob_move_steps.specs.declared.edit_step.EditStep.{EditStep}
+use Rattle.cob_move_steps.specs.declared.long_step.LongStep.{LongStep}
 use Rattle.cob_move_steps.specs.declared.numerals_step.NumeralsStep.{NumeralsStep}
 use Rattle.cob_move_steps.specs.declared.step.NumberStep.{NumberStep}
 use Rattle.cob_move_steps.specs.declared.text_step.TextStep.{TextStep}
@@ -19,5 +20,5 @@ returns-clause-step c = λ k occupied moves. record {
 
 pub returns-clause-kept : goal.returns-clause-kept
 returns-clause-kept c =
-    steps_kept c.args.self.now (record { alloc = c.args.self.now.alloc; numbers = c.args.self.now.numbers; wides = c.args.self.now.wides; any_numbers = c.push.new.self; edits = c.args.self.now.edits; wide_edits = c.args.self.now.wide_edits; numerals = c.args.self.now.numerals; texts = c.args.self.now.texts })
-    (as_before NumberStep c.args.self.now.numbers.items) (as_before WideStep c.args.self.now.wides.items) (c.args.step ∷ [], c.in_ok-push.ensures.items) (as_before EditStep c.args.self.now.edits.items) (as_before WideEditStep c.args.self.now.wide_edits.items) (as_before NumeralsStep c.args.self.now.numerals.items) (as_before TextStep c.args.self.now.texts.items)
+    steps_kept c.args.self.now (record { alloc = c.args.self.now.alloc; numbers = c.args.self.now.numbers; wides = c.args.self.now.wides; any_numbers = c.push.new.self; edits = c.args.self.now.edits; wide_edits = c.args.self.now.wide_edits; numerals = c.args.self.now.numerals; texts = c.args.self.now.texts; longs = c.args.self.now.longs })
+    (as_before NumberStep c.args.self.now.numbers.items) (as_before WideStep c.args.self.now.wides.items) (c.args.step ∷ [], c.in_ok-push.ensures.items) (as_before EditStep c.args.self.now.edits.items) (as_before WideEditStep c.args.self.now.wide_edits.items) (as_before NumeralsStep c.args.self.now.numerals.items) (as_before TextStep c.args.self.now.texts.items) (as_before LongStep c.args.self.now.longs.items)

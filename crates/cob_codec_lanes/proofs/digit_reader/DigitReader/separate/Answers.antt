@@ -1,0 +1,18 @@
+use Rattle.std.proofs.Common.{ℕ, ap, ◌∙◌}
+use Rattle.cob_codec_lanes.proofs.DigitKinds.{separate_digits}
+use Rattle.cob_codec_lanes.proofs.digit_reader.DigitReader.separate.Goals as goal
+
+pub returns : goal.returns
+returns c =
+    let s = c.args.shape.now in
+    let n : ℕ = c.from-count.result in
+    let is = c.with.ensures in
+    separate_digits n s.digits s.leading c.with.result c.from-count.ensures (record {
+      size_is = ap (λ d. d.size) is.digits;
+      first_is = ap (λ d. d.first) is.digits ∙ c.first_byte.ensures.byte;
+      count_is = ap (λ d. d.count) is.digits;
+      place_is = ap (λ d. d.place) is.digits ∙ c.own_sign_byte.ensures.byte;
+      free_is = is.free;
+      sign_is = is.sign;
+      signed_is = is.signed;
+    })

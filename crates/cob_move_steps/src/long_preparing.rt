@@ -1,0 +1,263 @@
+//! Steps of numbers of any number of digits, made ready.
+
+ghost use Rattle.std.specs.Prelude.{◌≡◌, ◌↔◌, ◌-◌, ◌≤◌, ◌≤ℤ◌, pos, ◌-ℤ◌, IfOk, IfSome, IsSome, IsTrue};
+ghost use Rattle.cob_picture.specs.Counts.{scale};
+ghost use Rattle.cob_copybook_tree.specs.declared.kinds.StorageKind.TheVariants.{Binary, Packed, Separate, Zoned};
+ghost use Rattle.cob_copybook_tree.specs.Items.{IsNumberItem, storage_kind};
+ghost use Rattle.cob_move_steps.specs.Ends.{item_digits};
+ghost use Rattle.cob_move_steps.specs.Long.{IsCharacterNumber, IsLongReaderFor, IsLongStep, IsLongReceiverFor, IsLongWriterFor, SendsLong};
+ghost use Rattle.cob_move_steps.specs.LongDigits.{last_count};
+
+use crate::ends_preparing::number_writer;
+use crate::long_ends::{LongReader, LongReceiver, LongWriter};
+use crate::long_step::LongStep;
+use crate::long_texts::long_text_writer;
+use cob_codec_lanes::{
+    DigitReader, DigitWriter, PairReader, Wanted, WideKeeper, WideWordReader, WideWordWriter,
+    WideWriter,
+};
+use cob_copybook_tree::{Item, StorageKind, is_number_item};
+use cob_picture::Category;
+use std::alloc::{AllocError, Global};
+
+/// Whether an item holds from 1 to 31 characters. Its picture has no point.
+fn is_character_number(item: &Item) -> bool
+    ensures { IsTrue result ↔ IsCharacterNumber item.now }
+{
+    matches!(item.picture.category(), Category::Alphanumeric)
+        && item.picture.scale() == 0
+        && item.size() > 0
+        && item.size() <= 31
+}
+
+/// What reads the numbers of zoned items.
+fn zoned_reader(item: &Item) -> LongReader
+    requires number { IsNumberItem item.now }
+    requires kind { storage_kind item.now ≡ Zoned }
+    ensures { IsLongReaderFor item.now result }
+{
+    let shape = item.shape();
+    if shape.digits < 16 {
+        LongReader::Lanes(PairReader::zoned(&shape))
+    } else {
+        LongReader::Digits(DigitReader::zoned(&shape))
+    }
+}
+
+/// What reads those of items with a separate sign.
+fn separate_reader(item: &Item) -> LongReader
+    requires number { IsNumberItem item.now }
+    requires kind { storage_kind item.now ≡ Separate }
+    ensures { IsLongReaderFor item.now result }
+{
+    let shape = item.shape();
+    if shape.digits < 16 {
+        LongReader::Lanes(PairReader::separate(&shape))
+    } else {
+        LongReader::Digits(DigitReader::separate(&shape))
+    }
+}
+
+/// What reads those of packed items.
+fn packed_reader(item: &Item) -> LongReader
+    requires number { IsNumberItem item.now }
+    requires kind { storage_kind item.now ≡ Packed }
+    ensures { IsLongReaderFor item.now result }
+{
+    LongReader::Lanes(PairReader::packed(&item.shape()))
+}
+
+/// What reads those of binary items.
+fn word_reader(item: &Item) -> LongReader
+    requires number { IsNumberItem item.now }
+    requires kind { storage_kind item.now ≡ Binary }
+    ensures { IsLongReaderFor item.now result }
+{
+    LongReader::Word(WideWordReader::of(&item.shape()))
+}
+
+/// What reads the numbers that an item's characters are.
+fn numeral_reader(item: &Item) -> LongReader
+    requires { IsCharacterNumber item.now }
+    ensures { IsLongReaderFor item.now result }
+{
+    let count = item.size() as u8;
+    if count < 16 {
+        LongReader::Lanes(PairReader::numerals(count))
+    } else {
+        LongReader::Digits(DigitReader::numerals(count))
+    }
+}
+
+/// What reads the numbers of a number's item.
+fn stored_reader(item: &Item) -> LongReader
+    requires { IsNumberItem item.now }
+    ensures { IsLongReaderFor item.now result }
+{
+    match item.storage_kind() {
+        StorageKind::Zoned => zoned_reader(item),
+        StorageKind::Separate => separate_reader(item),
+        StorageKind::Packed => packed_reader(item),
+        StorageKind::Binary => word_reader(item),
+    }
+}
+
+/// What reads the numbers that an item gives, as a number or as characters.
+fn long_reader(item: &Item) -> Option<LongReader>
+    ensures reader { IfSome result (IsLongReaderFor item.now) }
+    ensures sends { IfSome result (λ reader. SendsLong item.now) }
+    ensures must { SendsLong item.now → IsSome result }
+{
+    if is_number_item(item) {
+        Some(stored_reader(item))
+    } else if is_character_number(item) {
+        Some(numeral_reader(item))
+    } else {
+        None
+    }
+}
+
+/// What writes the numbers of zoned items of at least 16 digits.
+fn zoned_writer(item: &Item) -> Option<LongWriter>
+    requires number { IsNumberItem item.now }
+    requires kind { storage_kind item.now ≡ Zoned }
+    ensures { IfSome result (IsLongWriterFor item.now) }
+{
+    let shape = item.shape();
+    if shape.digits < 16 {
+        return None;
+    }
+    Some(LongWriter::Digits(DigitWriter::zoned(&shape)))
+}
+
+/// What writes those of items with a separate sign, of at least 16 digits.
+fn separate_writer(item: &Item) -> Option<LongWriter>
+    requires number { IsNumberItem item.now }
+    requires kind { storage_kind item.now ≡ Separate }
+    ensures { IfSome result (IsLongWriterFor item.now) }
+{
+    let shape = item.shape();
+    if shape.digits < 16 {
+        return None;
+    }
+    Some(LongWriter::Digits(DigitWriter::separate(&shape)))
+}
+
+/// What writes those of packed items of more than 16 digits.
+fn packed_writer(item: &Item) -> Option<LongWriter>
+    requires number { IsNumberItem item.now }
+    requires kind { storage_kind item.now ≡ Packed }
+    ensures { IfSome result (IsLongWriterFor item.now) }
+{
+    let shape = item.shape();
+    if shape.digits <= 16 {
+        return None;
+    }
+    Some(LongWriter::Packed(WideWriter::packed(&shape)))
+}
+
+/// What writes those of binary items of more than 16 digits.
+fn word_writer(item: &Item) -> Option<LongWriter>
+    requires number { IsNumberItem item.now }
+    requires kind { storage_kind item.now ≡ Binary }
+    ensures { IfSome result (IsLongWriterFor item.now) }
+{
+    let shape = item.shape();
+    if shape.digits <= 16 {
+        return None;
+    }
+    Some(LongWriter::Word(WideWordWriter::of(&shape)))
+}
+
+/// What writes the numbers of a number's item.
+fn long_writer(item: &Item) -> Option<LongWriter>
+    requires { IsNumberItem item.now }
+    ensures { IfSome result (IsLongWriterFor item.now) }
+{
+    if let Some(writer) = number_writer(item) {
+        return Some(LongWriter::Short(writer));
+    }
+    match item.storage_kind() {
+        StorageKind::Zoned => zoned_writer(item),
+        StorageKind::Separate => separate_writer(item),
+        StorageKind::Packed => packed_writer(item),
+        StorageKind::Binary => word_writer(item),
+    }
+}
+
+/// The last sixteen digits of a sender's number that a receiver has places for.
+fn last_wanted(sender: &Item, receiver: &Item) -> Wanted
+    ensures digits { result.digits ≡ last_count (item_digits receiver.now) }
+    ensures shift { result.shift
+        ≡ scale receiver.now.picture.positions -ℤ scale sender.now.picture.positions }
+    ensures most { result.shift ≤ℤ pos 100 }
+{
+    let shift = receiver.picture.scale() - sender.picture.scale();
+    let all = receiver.picture.digits();
+    let digits = if all < 16 { all } else { 16 };
+    Wanted { digits, shift }
+}
+
+/// Those in front of them.
+fn front_wanted(sender: &Item, receiver: &Item) -> Wanted
+    ensures digits { result.digits ≡ item_digits receiver.now - 16 }
+    ensures shift { result.shift
+        ≡ scale receiver.now.picture.positions -ℤ scale sender.now.picture.positions -ℤ pos 16 }
+    ensures most { result.shift ≤ℤ pos 100 }
+{
+    let shift = receiver.picture.scale() - sender.picture.scale() - 16;
+    let all = receiver.picture.digits();
+    let digits = if all < 16 { 0 } else { all - 16 };
+    Wanted { digits, shift }
+}
+
+/// What writes the number that a receiver gets.
+///
+/// # Errors
+///
+/// There is not enough memory.
+fn long_receiver(alloc: Global, receiver: &Item) -> Result<Option<LongReceiver>, AllocError>
+    ensures { IfOk result (λ writer. IfSome writer (IsLongReceiverFor receiver.now)) }
+{
+    if !is_number_item(receiver) {
+        return match long_text_writer(alloc, receiver)? {
+            Some(writer) => Ok(Some(LongReceiver::Text(writer))),
+            None => Ok(None),
+        };
+    }
+    match long_writer(receiver) {
+        Some(writer) => Ok(Some(LongReceiver::Number(writer))),
+        None => Ok(None),
+    }
+}
+
+impl LongStep {
+    /// The step of the move of one item to another. There is one where the sender is a number or holds at most 31 characters, and the receiver is
+    /// a number, or edits one in at most 48 bytes.
+    ///
+    /// # Errors
+    ///
+    /// There is not enough memory.
+    pub fn prepare(
+        alloc: Global,
+        sender: &Item,
+        receiver: &Item,
+    ) -> Result<Option<LongStep>, AllocError>
+        ensures { IfOk result (λ step. IfSome step (IsLongStep sender.now receiver.now)) }
+    {
+        let Some(reader) = long_reader(sender) else {
+            return Ok(None);
+        };
+        let Some(writer) = long_receiver(alloc, receiver)? else {
+            return Ok(None);
+        };
+        let front = WideKeeper::of(front_wanted(sender, receiver));
+        let back = WideKeeper::of(last_wanted(sender, receiver));
+        Ok(Some(LongStep {
+            reader,
+            front,
+            back,
+            writer,
+        }))
+    }
+}
