@@ -231,11 +231,12 @@ pub fn signed_record(
     alloc: Global,
     kind: &ItemKind,
     count: usize,
-    (code, sign): (u8, u8),
+    sign: (u8, u8),
     draws: &mut Draws,
 ) -> Result<Vec<u8>, AllocError>
     requires { count ≤ 31 }
 {
+    let (code, sign) = sign;
     let mut record = front(alloc, draws)?;
     let drawn = Drawn {
         digits: drawn_digits(draws, count),
