@@ -8,7 +8,7 @@ use crate::edited::{EditedKind, item_of};
 use crate::kinds::{ItemKind, all_kinds, edge_scales};
 use crate::moves::tally_long_move;
 use crate::numbers::{drawn_item, item_at};
-use crate::senders::{SIGNS, drawn_record, signed_record};
+use crate::senders::{SIGN_CODES, drawn_record, signed_record};
 use crate::tally::Tally;
 use crate::texts::drawn_text;
 use cob_copybook_tree::Item;
@@ -163,30 +163,9 @@ fn try_signs(
 ) -> Result<(), AllocError>
     requires { sent ≤ 31 }
 {
-    for sign in SIGNS {
-        let record = signed_record(alloc, from, sent as usize, sign, draws)?;
+    for code in SIGN_CODES {
+        let record = signed_record(alloc, from, sent as usize, code, draws)?;
         tally_pair(alloc, sender, receiver, record.as_slice(), tally)?;
-    }
-    Ok(())
-}
-
-/// Tries the moves of an item to those of a kind, of so many digits, at the edges.
-fn try_receivers(
-    alloc: Global,
-    from: &ItemKind,
-    sent: u32,
-    sender: &Option<Item>,
-    to: &ItemKind,
-    received: u32,
-    draws: &mut Draws,
-    tally: &mut Tally,
-) -> Result<(), AllocError>
-    requires sent { sent ≤ 31 }
-    requires received { received ≤ 31 }
-{
-    for scale in edge_scales(received) {
-        let receiver = item_at(alloc, to, received, scale)?;
-        try_signs(alloc, from, sent, sender, &receiver, draws, tally)?;
     }
     Ok(())
 }
@@ -205,7 +184,10 @@ pub fn try_long_edges(
         let received = to.long_digits(digits);
         for scale in edge_scales(sent) {
             let sender = item_at(alloc, from, sent, scale)?;
-            try_receivers(alloc, from, sent, &sender, to, received, draws, &mut tally)?;
+            for other in edge_scales(received) {
+                let receiver = item_at(alloc, to, received, other)?;
+                try_signs(alloc, from, sent, &sender, &receiver, draws, &mut tally)?;
+            }
         }
     }
     Ok(tally)

@@ -24,15 +24,8 @@ impl Drawn {
     }
 }
 
-/// The signs: the code of each in a zone or a half byte, and the byte that stands for it where it has one of its own.
-pub const SIGNS: [(u8, u8); 6] = [
-    (0xA, 0x4E),
-    (0xB, 0x60),
-    (0xC, 0x4E),
-    (0xD, 0x60),
-    (0xE, 0x4E),
-    (0xF, 0x4E),
-];
+/// The codes of signs.
+pub const SIGN_CODES: [u8; 6] = [0xA, 0xB, 0xC, 0xD, 0xE, 0xF];
 
 /// Digits: zeros alone, zeros before others, or any.
 fn drawn_digits(draws: &mut Draws, count: usize) -> [u8; 31]
@@ -226,23 +219,31 @@ pub fn front(alloc: Global, draws: &mut Draws) -> Result<Vec<u8>, AllocError> {
     Ok(bytes)
 }
 
-/// The bytes of a record up to those of an item at its end that has this sign.
+/// The byte of a sign of its own that has this code.
+fn own_sign_byte(code: u8) -> u8 {
+    if matches!(code, 0xB | 0xD) {
+        0x60
+    } else {
+        0x4E
+    }
+}
+
+/// The bytes of a record up to those of an item at its end whose sign has this code.
 pub fn signed_record(
     alloc: Global,
     kind: &ItemKind,
     count: usize,
-    sign: (u8, u8),
+    code: u8,
     draws: &mut Draws,
 ) -> Result<Vec<u8>, AllocError>
     requires { count ≤ 31 }
 {
-    let (code, sign) = sign;
     let mut record = front(alloc, draws)?;
     let drawn = Drawn {
         digits: drawn_digits(draws, count),
         count,
         code,
-        sign,
+        sign: own_sign_byte(code),
     };
     push_item(&mut record, kind, &drawn)?;
     Ok(record)
