@@ -4,11 +4,11 @@ use Rattle.cob_move_apply.proofs.ready.prepared_entry.Goals as goal
 
 pub prepare-requires : goal.prepare-requires
 prepare-requires c =
-    occupied (records_between c.args.both.now) c.args.sent.now c.args.receiver.now c.in-Some.places c.entry_kind-sends.result.now c.entry_kind-receives.result.now
+    occupied c.args.side (records_between c.args.both.now) c.args.sent.now c.args.receiver.now c.in-Some.places c.entry_kind-sends.result.now c.entry_kind-receives.result.now
     (c.records_are_sound.ensures c.args.both.now.input.now c.greatest.ensures.record) (c.records_are_sound.ensures c.args.both.now.output.now c.greatest-2.ensures.record) c.requires.sent c.requires.receiver c.in-Some.ensures c.entry_kind-sends.ensures c.entry_kind-receives.ensures
 
 pub returns-in-Some-2-clause-step : goal.returns-in-Some-2-clause-step
 returns-in-Some-2-clause-step c = λ x.
     let is = rw c.in-Some-2.is at c.in_ok-step.ensures.step in
-    prepared c.places_lie_in_storage.ensures (records_between c.args.both.now) c.prepare.new.self c.in-Some-2.step c.args.sent.now c.args.receiver.now c.in-Some.places
+    prepared c.places_lie_in_storage.ensures c.args.side (records_between c.args.both.now) c.prepare.new.self c.in-Some-2.step c.args.sent.now c.args.receiver.now c.in-Some.places
     c.entry_kind-sends.result.now c.entry_kind-receives.result.now x c.greatest.ensures.record c.requires.sent c.in-Some.ensures c.entry_kind-sends.ensures c.entry_kind-receives.ensures is
