@@ -300,6 +300,7 @@ pub(crate) fn within_step(one: PreparedMove) -> Step
         MoveStep::WideEdited(_) => Step::Within(one),
         MoveStep::Numerals(_) => Step::Within(one),
         MoveStep::Text(_) => Step::Within(one),
+        MoveStep::Long(_) => Step::Within(one),
         MoveStep::Characters(_) => Step::Within(one),
     }
 }
