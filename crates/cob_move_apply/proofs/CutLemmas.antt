@@ -10,7 +10,6 @@ use Rattle.cob_layout.specs.Laws.{OneOfNeeded}
 use Rattle.cob_layout.specs.Storage.{greatest_length}
 use Rattle.cob_layout.proofs.KeepLaw.{beside}
 use Rattle.cob_layout_places.specs.Counts.{tables_of}
-use Rattle.cob_layout_places.specs.declared.varying.Table.{Table}
 use Rattle.cob_move_data.specs.declared.operands.Side.TheVariants.{In, Out}
 use Rattle.cob_move_data.specs.declared.operands.Operand.{Operand}
 use Rattle.cob_move_data.specs.Moves.{Sender, Entry, Literal, Move, Records}

@@ -1,5 +1,5 @@
 -- Moves carried out one after another on storages that all have as many bytes.
-use Rattle.std.proofs.Common.{◌≡◌, ℕ, List, [], ◌∷◌, ◌++◌, length, refl, sym, ap, subst, ◌∙◌, inl, inr}
+use Rattle.std.proofs.Common.{◌≡◌, ℕ, List, [], ◌∷◌, ◌++◌, length, sym, ap, subst, ◌∙◌, inl, inr}
 use Rattle.cob_codec.specs.declared.reading.Reading.{Reading}
 use Rattle.cob_layout.specs.Fields.{field_of, with_field}
 use Rattle.cob_layout.specs.Storage.{greatest_length, IsStorage}

@@ -1,12 +1,15 @@
 -- Single moves that are made ready wherever their items stand.
-use Rattle.std.proofs.Common.{◌≡◌, ℕ, Bool, true, List, [], ◌∷◌, get_or, refl, sym, subst, inl, inr, Option, Some, None}
+use Rattle.std.proofs.Common.{◌≡◌, ℕ, Bool, true, false, List, [], ◌∷◌, get_or, refl, sym, ap, subst, ◌∙◌, inl, inr, Option, Some, None}
 use Rattle.cob_codec.specs.declared.reading.Reading.{Reading}
 use Rattle.cob_codec.specs.declared.reading.Reading.TheVariants.{Pictured, Whole}
 use Rattle.cob_copybook_tree.specs.declared.node.Kind.{Kind}
+use Rattle.cob_copybook_tree.specs.Forests.{Forest}
+use Rattle.cob_copybook_tree.specs.Nodes.{Resolved}
 use Rattle.cob_layout.specs.Fields.{field_of, with_field}
+use Rattle.cob_layout_places.specs.declared.reference.Ref.{Ref}
 use Rattle.cob_move_data.specs.declared.operands.Side.{Side}
 use Rattle.cob_move_data.specs.declared.operands.Side.TheVariants.{In}
-use Rattle.cob_move_data.specs.Moves.{Move, Records, operand_in, record_of}
+use Rattle.cob_move_data.specs.Moves.{IsOperand, Move, Records, operand_in, record_of}
 use Rattle.cob_move_steps.specs.Pool.{IsMoveStep, MoveKinds}
 use Rattle.cob_move_steps.specs.declared.pictured.PicturedStep.{PicturedStep}
 use Rattle.cob_move_steps.specs.declared.pictured.PicturedSteps.{PicturedSteps}
@@ -19,6 +22,8 @@ use Rattle.cob_move_receive.specs.Sent as sent
 use Rattle.cob_move_apply.specs.Applied.{Applied, Ending, IsMoved, content_at, storage_of}
 use Rattle.cob_move_apply.specs.Located.{stop_at}
 use Rattle.cob_move_apply.specs.Made.{IsMadePictured, IsMadeReady, StandAt}
+use Rattle.cob_move_apply.specs.Placed.{IsBasis}
+use Rattle.cob_move_apply.specs.Planned.{AlwaysLocated}
 use Rattle.cob_move_apply.specs.Steps.{CarriesAnywhere, CarriesLocated, CarriesPictured, GivesText, IsLocatedMove, IsReadyAnywhere, copied_move, serves}
 use Rattle.cob_move_apply.specs.Written.{received_at}
 use Rattle.cob_move_apply.specs.declared.step.LocatedMove.{LocatedMove}
@@ -29,6 +34,32 @@ use Rattle.cob_move_apply.specs.declared.stop.Stop.{Stop}
 use Rattle.cob_move_apply.specs.declared.stop.StopCause.TheVariants.{NoValue}
 use Rattle.cob_move_apply.proofs.PreparedLemmas.{kinds_of}
 use Rattle.cob_move_apply.proofs.StepLemmas.{made_one}
+
+-- ---- what is made ready
+
+-- one whose sender is of what a layout says that it is
+pub ready_anywhere : (side : Side) (r : Records) (t : Forest Resolved) (steps : MoveSteps) (pictured : PicturedSteps) (sent receiver : Ref) (one : LocatedMove) (k l : Kind) → t ≡ record_of r side → one.sent ≡ sent → one.receiver ≡ receiver
+    → IsOperand (record_of r side) (operand_in (record_of r side) sent) → IsOperand r.output (operand_in r.output receiver) → IsBasis t false (operand_in t sent) one.from
+    → IsBasis r.output true (operand_in r.output receiver) one.to → k ≡ (operand_in t sent).kind → l ≡ (operand_in r.output receiver).kind → CarriesLocated steps pictured k l one.step
+    → AlwaysLocated side r steps pictured one (λ reading. copied_move side reading r sent receiver ∷ [])
+ready_anywhere side r t steps pictured sent receiver one k l is sent_is receiver_is sending receiving from to k_is l_is carries =
+    let tree : Forest Resolved = record_of r side in
+    let sent_kind : k ≡ (operand_in tree sent).kind = k_is ∙ ap (λ (f : Forest Resolved). (operand_in f sent).kind) is in (
+      record {
+        sends = record {
+          operand = subst (λ (q : Ref). IsOperand tree (operand_in tree q)) (sym sent_is) sending;
+          basis = subst (λ (q : Ref). IsBasis tree false (operand_in tree q) one.from) (sym sent_is) (subst (λ (f : Forest Resolved). IsBasis f false (operand_in f sent) one.from) is from);
+        };
+        receives = record {
+          operand = subst (λ (q : Ref). IsOperand r.output (operand_in r.output q)) (sym receiver_is) receiving;
+          basis = subst (λ (q : Ref). IsBasis r.output true (operand_in r.output q) one.to) (sym receiver_is) to;
+        };
+        carries = subst (λ (q : Ref). CarriesLocated steps pictured (operand_in tree q).kind (operand_in r.output one.receiver).kind one.step) (sym sent_is)
+            (subst (λ (q : Ref). CarriesLocated steps pictured (operand_in tree sent).kind (operand_in r.output q).kind one.step) (sym receiver_is)
+            (subst (λ (x : Kind). CarriesLocated steps pictured x (operand_in r.output receiver).kind one.step) sent_kind (subst (λ (x : Kind). CarriesLocated steps pictured k x one.step) l_is carries)));
+      },
+      λ x. ap (λ (q : Ref). copied_move side x r q receiver ∷ []) (sym sent_is) ∙ ap (λ (q : Ref). copied_move side x r one.sent q ∷ []) (sym receiver_is),
+    )
 
 -- ---- what was carried out
 

@@ -1,5 +1,5 @@
 -- Which moves of an entry of the output record may be carried out as their single moves.
-use Rattle.std.specs.Prelude.{◌≡◌, ◌⊎◌, ℕ, ◌+◌, ◌≤◌, true, false, List, []}
+use Rattle.std.specs.Prelude.{◌≡◌, ◌⊎◌, ◌+◌, ◌≤◌, true, false, List, [], length}
 use Rattle.std.specs.List.{AllByRecursion}
 use Rattle.cob_copybook_tree.specs.Forests.{Forest}
 use Rattle.cob_copybook_tree.specs.Nodes.{Resolved}
@@ -25,6 +25,10 @@ pub record LeaveEntry (tree : Forest Resolved) (o : Operand) (os : List Operand)
   pub sends : IsFixed tree false o from
   pub leave : AllByRecursion (LeavesPlace tree from) os
   pub none : tables_of tree ≡ []
+
+-- a move of an entry of their record may be carried out as its single moves: there is one receiver, or they leave what it sends
+abbrev pub MayCutEntry : Forest Resolved → Operand → List Operand → Type 0
+MayCutEntry tree o os = (length os ≡ 1) ⊎ LeaveEntry tree o os
 
 -- receivers leave what a sender of their record gives
 abbrev pub LeaveSender : Records → Sender → List Operand → Type 0

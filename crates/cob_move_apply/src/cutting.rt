@@ -4,7 +4,7 @@ ghost use Rattle.std.specs.Prelude.{◌≡◌, map, not, IsTrue};
 ghost use Rattle.std.specs.List.{AllByRecursion};
 ghost use Rattle.cob_layout.specs.declared.fields.Place.{Place as PlaceOf};
 ghost use Rattle.cob_move_data.specs.Moves.{IsOperand, operand_in};
-ghost use Rattle.cob_move_apply.specs.Cut.{AreApart, LeavesPlace, LeaveEntry};
+ghost use Rattle.cob_move_apply.specs.Cut.{AreApart, LeavesPlace, LeaveEntry, MayCutEntry};
 
 use cob_layout::{Layout, Place, Ref};
 
@@ -30,7 +30,7 @@ fn leaves_place(from: Place, receiver: &Ref, output: &Layout) -> bool
 
 /// Whether receivers leave what an entry of their record sends: it stands at one place in every storage, each of them stands at another one apart from it,
 /// and no table of the record varies.
-pub(crate) fn leave_entry(sent: &Ref, receivers: &[Ref], output: &Layout) -> bool
+fn leave_entry(sent: &Ref, receivers: &[Ref], output: &Layout) -> bool
     requires sent { IsOperand output.now (operand_in output.now sent.now) }
     requires receivers { AllByRecursion (IsOperand output.now)
         (map (operand_in output.now) receivers.now) }
@@ -49,4 +49,18 @@ pub(crate) fn leave_entry(sent: &Ref, receivers: &[Ref], output: &Layout) -> boo
         }
     }
     true
+}
+
+/// Whether a move of an entry of the output record may be carried out as its single moves: there is one receiver, or they leave what it sends.
+pub(crate) fn may_cut_entry(sent: &Ref, receivers: &[Ref], output: &Layout) -> bool
+    requires sent { IsOperand output.now (operand_in output.now sent.now) }
+    requires receivers { AllByRecursion (IsOperand output.now)
+        (map (operand_in output.now) receivers.now) }
+    ensures { IsTrue result → MayCutEntry output.now (operand_in output.now sent.now)
+        (map (operand_in output.now) receivers.now) }
+{
+    if receivers.len() == 1 {
+        return true;
+    }
+    leave_entry(sent, receivers, output)
 }

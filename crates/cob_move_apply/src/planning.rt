@@ -26,7 +26,7 @@ ghost use Rattle.cob_move_steps.specs.Pictured.{KeepsPictured};
 ghost use Rattle.cob_move_steps.specs.Pool.{KeepsSteps};
 
 use crate::basis::entry_kind;
-use crate::cutting::leave_entry;
+use crate::cutting::may_cut_entry;
 use crate::pairs::entry_below;
 use crate::preparation::push_bases;
 use crate::ready::{
@@ -493,7 +493,7 @@ fn may_be_cut(given: &Sender, receivers: &[Ref], both: &Between<'_>) -> bool
     match given {
         Sender::Entry { side, entry } => match *side {
             Side::In => true,
-            Side::Out => receivers.len() == 1 || leave_entry(entry, receivers, both.output),
+            Side::Out => may_cut_entry(entry, receivers, both.output),
         },
         Sender::Constant(_) => true,
     }

@@ -287,9 +287,10 @@ fn located_entry(
     let sends = entry_kind(sending, sent);
     let receives = entry_kind(both.output, receiver);
     let step = located_step(sends, receives, prepared, pictured)?;
+    let from = basis_of(sending, sent, false);
     Ok(LocatedMove {
         sent: same_entry(sent),
-        from: basis_of(sending, sent, false),
+        from,
         receiver: same_entry(receiver),
         to: basis_of(both.output, receiver, true),
         step,

@@ -1,15 +1,21 @@
-use Rattle.std.proofs.Common.{◌∙◌, [], ◌∷◌, List, ap, arith, length, refl, subst, sym}
+use Rattle.std.proofs.Common.{◌∙◌, [], ◌∷◌, List, ap, arith, length, map, refl, subst, sym}
 use Rattle.std.proofs.lemmas.List.{length-map}
 use Rattle.std.proofs.lemmas.Result.{on_ok_weaker}
 use Rattle.cob_layout_places.specs.declared.reference.Ref.{Ref}
-use Rattle.cob_move_data.specs.Moves.{Records, move_by, operand_in}
+use Rattle.cob_move_data.specs.Moves.{IsMove, Records, move_by, operand_in, sender, sender_by}
 use Rattle.cob_move_apply.specs.Planned.{records_between}
-use Rattle.cob_move_apply.specs.Steps.{Gains, one_by_one}
+use Rattle.cob_move_apply.specs.Steps.{Gains, MayBeCut, one_by_one}
 use Rattle.cob_move_apply.proofs.CutLemmas.{cut_selves, cut_singles}
 use Rattle.cob_move_apply.proofs.InLemmas.{in_whole, move_with, none_left, some_left}
 use Rattle.cob_move_apply.proofs.JoinLemmas.{more_empty, more_unsteady, more_whole}
 use Rattle.cob_move_apply.proofs.planning.push_move.Goals.{else-may_be_cut-via-then-may_be_cut+else-not-is_empty, else-may_be_cut-via-else-may_be_cut}
 use Rattle.cob_move_apply.proofs.planning.push_move.Goals as goal
+
+pub may_be_cut-requires : goal.may_be_cut-requires
+may_be_cut-requires c =
+    let r : Records = records_between c.args.both.now in record {
+      legal = subst (λ (rs : List Ref). IsMove r (record { sender = sender r c.args.one.now.sender; receivers = map (operand_in r.output) rs })) (sym c.as_slice-receivers.ensures.value) c.requires.legal;
+    }
 
 pub returns-then-not-is_empty-clause-gains : goal.returns-then-not-is_empty-clause-gains
 returns-then-not-is_empty-clause-gains c =

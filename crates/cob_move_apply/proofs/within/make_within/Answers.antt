@@ -1,4 +1,4 @@
-use Rattle.std.proofs.Common.{◌≡◌, ◌+◌, ◌≤◌, ◌∙◌, Bool, ℕ, List, Ok, Err, ap, arith, length, sym, subst}
+use Rattle.std.proofs.Common.{◌≡◌, ◌∙◌, Bool, ℕ, List, Ok, Err, ap, arith, length, sym, subst}
 use Rattle.cob_move_data.specs.declared.operands.Side.TheVariants.{Out}
 use Rattle.cob_move_apply.specs.Applied.{done, stopped}
 use Rattle.cob_move_apply.specs.Located.{stop_at}

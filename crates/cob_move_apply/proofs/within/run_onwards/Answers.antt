@@ -1,4 +1,4 @@
-use Rattle.std.proofs.Common.{◌≡◌, ◌+◌, ◌≤◌, ◌∙◌, Bool, ℕ, List, Ok, ap, arith, length, sym, subst}
+use Rattle.std.proofs.Common.{Bool, ℕ, Ok, arith, subst}
 use Rattle.cob_move_data.specs.declared.operands.Side.TheVariants.{Out}
 use Rattle.cob_move_apply.specs.Applied.{done}
 use Rattle.cob_move_apply.specs.Made.{IsMadeReady}
