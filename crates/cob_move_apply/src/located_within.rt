@@ -134,9 +134,14 @@ fn run_there(
     let sent = places.from.length as usize;
     let start = places.to.offset as usize;
     let end = start + places.to.length as usize;
-    let taken = &space.content.as_slice()[..sent];
-    let to = &mut output[start..end];
-    if run_between_bytes(plan, one.step, &kinds, layouts.reading, taken, to) {
+    if run_between_bytes(
+        plan,
+        one.step,
+        &kinds,
+        layouts.reading,
+        &space.content.as_slice()[..sent],
+        &mut output[start..end],
+    ) {
         space.output.change_output(layouts, places.to);
         true
     } else {

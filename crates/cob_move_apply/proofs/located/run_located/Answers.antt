@@ -2,9 +2,15 @@ use Rattle.std.proofs.Common.{ℕ, Ok}
 use Rattle.cob_move_data.specs.declared.operands.Side.TheVariants.{In}
 use Rattle.cob_move_apply.specs.Applied.{done}
 use Rattle.cob_move_apply.specs.Surveyed.{records}
-use Rattle.cob_move_apply.proofs.LocatedLemmas.{applied_located}
+use Rattle.cob_move_apply.proofs.LocatedLemmas.{applied_located, the_located}
 use Rattle.cob_move_apply.proofs.SpendingLemmas.{located_step_spends}
 use Rattle.cob_move_apply.proofs.located.run_located.Goals as goal
+
+pub run_between-requires-clause-ready : goal.run_between-requires-clause-ready
+run_between-requires-clause-ready c =
+    let plan = c.args.plan.now in
+    let (ready, same) = the_located In c.args.layouts.now.reading (records c.args.layouts.now) plan.prepared plan.pictured plan.located.items c.args.number c.requires.step.0 c.index-one.result.now c.requires.step.1 c.index-one.ensures in
+    ready
 
 pub returns-clause-applied : goal.returns-clause-applied
 returns-clause-applied c = λ yes own is.

@@ -3,6 +3,7 @@ use Rattle.cob_move_data.specs.declared.operands.Operand.{Operand}
 use Rattle.cob_move_data.specs.declared.operands.Side.TheVariants.{Out}
 use Rattle.cob_move_receive.specs.Sent.{Occupies}
 use Rattle.cob_move_apply.specs.Located.{Located}
+use Rattle.cob_move_apply.proofs.SpentLemmas.{spent_behind}
 use Rattle.cob_move_apply.proofs.located_within.both_within.Goals as goal
 
 pub returns-clause-stand : goal.returns-clause-stand
@@ -16,3 +17,6 @@ returns-clause-stand c =
       within = c.in-Some-locate_if_there.ensures.fits;
       received = subst (λ (o : Operand). Occupies o.kind to.length) c.placed_operand-receiver.ensures.operand c.in-Some-locate_if_there.ensures.filled;
     }
+
+pub returns-clause-spends : goal.returns-clause-spends
+returns-clause-spends c = spent_behind c.args.layouts.now.output.now 0 _ _ _ c.in-Some.ensures.spends c.in-Some-locate_if_there.ensures.spends

@@ -85,6 +85,17 @@ returns-then-run_between_bytes-clause-space c =
       content = ap length (front_is c.args.space.now.content.len c.copy_field.new.content _ room) ∙ (c.copy_field.auto.content ∙ (ap length c.as_mut_slice.ensures.value ∙ c.requires.space.content));
     }
 
+pub returns-else-run_between_bytes-clause-space : goal.returns-else-run_between_bytes-clause-space
+returns-else-run_between_bytes-clause-space c =
+    let room : c.args.space.now.content.len ≡ length c.copy_field.new.content =
+    omega (arith, c.args.space.now.content.ok.0, c.copy_field.auto.content, ap length c.as_mut_slice.ensures.value) in
+    record {
+      surveyed_input = c.requires.space.surveyed_input;
+      surveyed_output = subst (λ (bytes : List ℕ). IsSurvey c.args.layouts.now.output.now bytes c.args.space.now.output)
+          (sym (put_back c.args.places.now.to c.args.output.now c.run_between_bytes.new.to (c.run_between_bytes.ensures.same c.if-run_between_bytes.false))) c.requires.space.surveyed_output;
+      content = ap length (front_is c.args.space.now.content.len c.copy_field.new.content _ room) ∙ (c.copy_field.auto.content ∙ (ap length c.as_mut_slice.ensures.value ∙ c.requires.space.content));
+    }
+
 pub returns-else-run_between_bytes-clause-same : goal.returns-else-run_between_bytes-clause-same
 returns-else-run_between_bytes-clause-same c = λ no.
     (put_back c.args.places.now.to c.args.output.now c.run_between_bytes.new.to (c.run_between_bytes.ensures.same c.if-run_between_bytes.false), spent_none c.args.layouts.now.output.now c.args.space.now.output)
