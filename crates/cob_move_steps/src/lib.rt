@@ -38,8 +38,8 @@
 //! The clauses `step`, `must`, `kept` of `MoveSteps::prepare` and `gets`, `same` of `MoveSteps::run`, those of `PicturedSteps` for senders that are read
 //! as their pictures say, and those of `prepare` and `run` of each kind of step (`NumberStep`, `WideStep` for packed receivers of more than sixteen
 //! digits, `AnyNumberStep` for binary items and for characters that are a number, `EditStep` and `WideEditStep`, `TextStep` for a number that an edited
-//! item gives, `NumeralsStep` for a number that becomes characters, `LongStep` for a number of up to 31 digits, `CharactersStep`, `ConstantStep`): a step
-//! leaves what the rule of MOVE says (`Received`), for any bytes of the sender and any reading.
+//! item gives, `NumeralsStep` for a number that becomes characters, `LongStep` for a number of up to 31 digits, `CharactersStep`, `ConstantStep`): a step leaves what the rule of MOVE says
+//! (`Received`), for any bytes of the sender and any reading.
 #![tactic(auto)]
 
 mod any_number_preparing;

@@ -171,8 +171,7 @@ impl PicturedSteps {
 
     /// Makes the step of the move of an entry, read as its picture says, to another ready, by what they describe and how many bytes they have.
     /// There is one where the sender gives a number of at most sixteen digits, and the receiver is one, edits one in at most thirty-two bytes, or
-    /// takes the digits of a number as characters. So there is where the number has up to 31 digits, and the receiver is a number, or edits one in
-    /// at most forty-eight bytes. The steps so far stay.
+    /// takes the digits of a number as characters. The steps so far stay.
     ///
     /// # Errors
     ///

@@ -265,8 +265,7 @@ impl MoveSteps {
     /// gives its bytes as characters, and the receiver takes them without insertions; and where the sender is read in one way and gives a number of at
     /// most sixteen digits, as a number or characters of at most sixteen bytes or an edited item of at most thirty-two, and the receiver is a
     /// number of at most sixteen digits of any kind of storage, edits one in at most thirty-two bytes, or takes the digits of a number as
-    /// characters. So there is where such a sender, but for an edited item, gives a number of up to 31 digits, and the receiver is a number, or
-    /// edits one in at most forty-eight bytes. The steps so far stay.
+    /// characters. The steps so far stay.
     ///
     /// # Errors
     ///
