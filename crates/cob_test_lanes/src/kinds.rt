@@ -109,9 +109,20 @@ impl ItemKind {
 
     /// The most digits of an item.
     pub fn most_long_digits(&self) -> u32
-        ensures { result ≤ 31 }
+        ensures some { 0 < result }
+        ensures most { result ≤ 31 }
     {
         if self.is_binary() { 18 } else { 31 }
+    }
+
+    /// So many digits, or the most that an item has.
+    pub fn long_digits(&self, digits: u32) -> u32
+        requires { 0 < digits }
+        ensures some { 0 < result }
+        ensures most { result ≤ 31 }
+    {
+        let most = self.most_long_digits();
+        if digits < most { digits } else { most }
     }
 
     /// The most digits of an item of at most sixteen bytes.
@@ -125,20 +136,26 @@ impl ItemKind {
     }
 }
 
+/// The scales at the edges of a picture of so many digits: none of them right of the point, all, half of them, and as many zeros of P as there may be
+/// at the right and at the left.
+pub fn edge_scales(digits: u32) -> [i32; 5]
+    requires { digits ≤ 31 }
+{
+    let places = 31 - digits;
+    [0, digits as i32, (digits / 2) as i32, -(places as i32), 31]
+}
+
 /// A scale of a picture of so many digits: one at an edge, or any.
 pub fn drawn_scale(draws: &mut Draws, digits: u32) -> i32
     requires some { 0 < digits }
     requires most { digits ≤ 31 }
 {
-    let places = 31 - digits;
-    match draws.below(6) {
-        0 => 0,
-        1 => digits as i32,
-        2 => (digits / 2) as i32,
-        3 => -(places as i32),
-        4 => 31,
-        _ => draws.below(places + 32) as i32 - places as i32,
+    let case = draws.below(6) as usize;
+    if case < 5 {
+        return edge_scales(digits)[case];
     }
+    let places = 31 - digits;
+    draws.below(places + 32) as i32 - places as i32
 }
 
 /// A scale at which at most sixteen of so many digits, and of those that P stands for at the right, are left of the point.

@@ -1,10 +1,12 @@
 //! Makes single moves by prepared steps, and prints sums of what the receivers hold.
 //!
 //! Numbers are moved between each two kinds of items, of each number of digits, and to edited items; characters between entries of each length;
-//! figurative constants to entries of each length; numbers of which an item has more than sixteen digits. At the end numbers are moved to edited
-//! items of more than sixteen bytes, from characters, from edited items and from bytes that are near their texts, and to characters; and last, numbers
-//! between each two kinds, of each number of digits up to 31, by steps of any number of digits. Scales, bytes and signs are drawn, the same in each run. A line tells how many moves were made, how many senders represented no number, how many moves had no
-//! step, and the sum. `tools/lane_sums` works the same out from the rules alone.
+//! figurative constants to entries of each length; numbers of which an item has more than sixteen digits. Then numbers are moved to edited items of
+//! more than sixteen bytes, from characters, from edited items and from bytes that are near their texts, and to characters. By steps of any number of
+//! digits numbers and characters of each length up to 31 are moved to each kind and to edited items; scales, bytes and signs are drawn, the same in
+//! each run. At the end the same steps move numbers between each two kinds, of each number of digits, at each two scales at the edges, with each sign.
+//! A line tells how many moves were made, how many senders represented no number, how many moves had no step, and the sum. `tools/lane_sums` works the
+//! same out from the rules alone.
 #![tactic(auto)]
 
 mod characters;
@@ -31,7 +33,9 @@ use crate::edited::{
     EditedKind, edited_kinds, long_kinds, longest_kinds, try_all_edited, try_edited,
 };
 use crate::kinds::{all_kinds, kinds};
-use crate::long::{try_long_characters, try_long_edited, try_long_kinds};
+use crate::long::{
+    try_long_characters, try_long_edges, try_long_edited, try_long_kinds, try_long_numerals,
+};
 use crate::near::try_near;
 use crate::numbers::{try_kinds, try_wide_kinds};
 use crate::shown::try_shown;
@@ -187,6 +191,29 @@ fn print_texts(rt: HostRuntime, draws: &mut Draws) -> io::Result<()> {
     print_shown(rt, draws)
 }
 
+/// Numbers and characters of any number of digits, edited.
+fn print_long_edited(rt: HostRuntime, kinds: &[EditedKind], draws: &mut Draws) -> io::Result<()> {
+    for to in kinds {
+        let tally = try_long_edited(rt.alloc(), to, draws)?;
+        print_tally(rt, "numbers", to.picture, &tally)?;
+        let tally = try_long_numerals(rt.alloc(), to, draws)?;
+        print_tally(rt, "characters", to.picture, &tally)?;
+    }
+    Ok(())
+}
+
+/// Numbers at the edges.
+fn print_edges(rt: HostRuntime, draws: &mut Draws) -> io::Result<()> {
+    let kinds = all_kinds();
+    for from in &kinds {
+        for to in &kinds {
+            let tally = try_long_edges(rt.alloc(), from, to, draws)?;
+            print_tally(rt, from.name, to.name, &tally)?;
+        }
+    }
+    Ok(())
+}
+
 /// Numbers of any number of digits.
 fn print_long_numbers(rt: HostRuntime, draws: &mut Draws) -> io::Result<()> {
     let kinds = all_kinds();
@@ -200,17 +227,10 @@ fn print_long_numbers(rt: HostRuntime, draws: &mut Draws) -> io::Result<()> {
         let tally = try_long_characters(rt.alloc(), to, draws)?;
         print_tally(rt, "characters", to.name, &tally)?;
     }
-    for kinds in [
-        edited_kinds().as_slice(),
-        long_kinds().as_slice(),
-        longest_kinds().as_slice(),
-    ] {
-        for to in kinds {
-            let tally = try_long_edited(rt.alloc(), to, draws)?;
-            print_tally(rt, "numbers", to.picture, &tally)?;
-        }
-    }
-    Ok(())
+    print_long_edited(rt, &edited_kinds(), draws)?;
+    print_long_edited(rt, &long_kinds(), draws)?;
+    print_long_edited(rt, &longest_kinds(), draws)?;
+    print_edges(rt, draws)
 }
 
 fn main(rt: HostRuntime) -> io::Result<()> {

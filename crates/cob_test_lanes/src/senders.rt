@@ -24,6 +24,16 @@ impl Drawn {
     }
 }
 
+/// The signs: the code of each in a zone or a half byte, and the byte that stands for it where it has one of its own.
+pub const SIGNS: [(u8, u8); 6] = [
+    (0xA, 0x4E),
+    (0xB, 0x60),
+    (0xC, 0x4E),
+    (0xD, 0x60),
+    (0xE, 0x4E),
+    (0xF, 0x4E),
+];
+
 /// Digits: zeros alone, zeros before others, or any.
 fn drawn_digits(draws: &mut Draws, count: usize) -> [u8; 31]
     requires { count ≤ 31 }
@@ -216,7 +226,28 @@ pub fn front(alloc: Global, draws: &mut Draws) -> Result<Vec<u8>, AllocError> {
     Ok(bytes)
 }
 
-/// The bytes of a record up to those of an item at its end.
+/// The bytes of a record up to those of an item at its end that has this sign.
+pub fn signed_record(
+    alloc: Global,
+    kind: &ItemKind,
+    count: usize,
+    (code, sign): (u8, u8),
+    draws: &mut Draws,
+) -> Result<Vec<u8>, AllocError>
+    requires { count ≤ 31 }
+{
+    let mut record = front(alloc, draws)?;
+    let drawn = Drawn {
+        digits: drawn_digits(draws, count),
+        count,
+        code,
+        sign,
+    };
+    push_item(&mut record, kind, &drawn)?;
+    Ok(record)
+}
+
+/// The bytes of a record up to those of an item at its end, with drawn digits and a drawn sign.
 pub fn drawn_record(
     alloc: Global,
     kind: &ItemKind,

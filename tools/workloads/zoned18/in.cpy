@@ -1,0 +1,21 @@
+       01  IN-REC.
+           05 A00 PIC S9(18).
+           05 A01 PIC S9(18).
+           05 A02 PIC S9(18).
+           05 A03 PIC S9(18).
+           05 A04 PIC S9(18).
+           05 A05 PIC S9(18).
+           05 A06 PIC S9(18).
+           05 A07 PIC S9(18).
+           05 A08 PIC S9(18).
+           05 A09 PIC S9(18).
+           05 A10 PIC S9(18).
+           05 A11 PIC S9(18).
+           05 A12 PIC S9(18).
+           05 A13 PIC S9(18).
+           05 A14 PIC S9(18).
+           05 A15 PIC S9(18).
+           05 A16 PIC S9(18).
+           05 A17 PIC S9(18).
+           05 A18 PIC S9(18).
+           05 A19 PIC S9(18).
