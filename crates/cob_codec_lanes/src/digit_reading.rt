@@ -11,12 +11,11 @@ use crate::digit_bounds::{digit_bounds, digit_lanes};
 use crate::digit_item::DigitItem;
 use crate::digit_reader::DigitReader;
 use crate::lanes::{are_bounded, lows, picked};
-use crate::readers::sign_place;
 use crate::reading::window_of;
 use crate::signs::{SignByte, is_minus, is_sign, meaning_by, table_start};
 use crate::wide_read::WideRead;
 use crate::writers::{first_byte, own_sign_byte};
-use cob_codec::Shape;
+use cob_codec::{Shape, sign_place};
 use std::simd::prelude::*;
 
 /// Whether bytes are digits, sixteen and sixteen behind them, and there is a sign.

@@ -9,9 +9,8 @@ ghost use Rattle.cob_codec_lanes.specs.Lanes.{AreTens};
 use crate::digit_item::DigitItem;
 use crate::digit_writer::DigitWriter;
 use crate::lanes::sums;
-use crate::readers::sign_place;
 use crate::writers::{ZONE, first_byte, own_sign_byte, sign_byte, sign_code};
-use cob_codec::Shape;
+use cob_codec::{Shape, sign_place};
 use std::simd::prelude::*;
 
 /// The characters of sixteen digits.
