@@ -20,7 +20,7 @@ all_of : (xs : List ℕ) → take (length xs) xs ≡ xs
 all_of xs = grind (arith, common_steps)
 
 -- a record that comes first is one that a reading gives
-reads_first : (form : Form) (greatest left : ℕ) (body bytes : List ℕ) (mid : ℕ) (more : List ℕ) → IsRecord form greatest body → ComesFirst form left body bytes mid more
+pub reads_first : (form : Form) (greatest left : ℕ) (body bytes : List ℕ) (mid : ℕ) (more : List ℕ) → IsRecord form greatest body → ComesFirst form left body bytes mid more
     → ReadsInForm form greatest left body (Ok (Some (length body))) mid bytes more
 reads_first Fixed greatest left body bytes mid more is (frame, same) = rw (all_of body) ((omega arith, is, frame), same)
 reads_first Variable greatest left body bytes mid more is (frame, same) = rw (all_of body) ((omega arith, is, frame), same)

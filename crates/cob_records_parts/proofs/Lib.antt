@@ -9,6 +9,7 @@ pub mod Foretelling
 pub mod GivenLaw
 pub mod Giving
 pub mod InFront
+pub mod MarkLaw
 pub mod Numbering
 pub mod RestLaw
 pub mod Resting

@@ -1,10 +1,11 @@
 -- What is still given of the chosen records of a stream, as a function of its bytes.
 use Rattle.std.specs.Prelude.{◌≡◌, ℕ, zero, suc, ◌+◌, ◌-◌, ◌<◌, ◌≤◌, false, if◌then◌else◌, List, [], ◌∷◌, ◌++◌, None, Some, Option, Ok, Err, Result}
+use Rattle.std.specs.List.{AllByRecursion}
 use Rattle.cob_limits.specs.Limits.{longest_record}
 use Rattle.cob_records.specs.Alone.{framed_alone}
 use Rattle.cob_records.specs.Device.{Told}
-use Rattle.cob_records.specs.Forms.{HasBlockSize}
-use Rattle.cob_records.specs.Frame.{is_read_failure}
+use Rattle.cob_records.specs.Forms.{Come, HasBlockSize}
+use Rattle.cob_records.specs.Frame.{IsRecord, is_read_failure}
 use Rattle.cob_records.specs.declared.records.Form.{Form}
 use Rattle.cob_records.specs.declared.records.RecordFault.{RecordFault}
 use Rattle.cob_records.specs.declared.records.RecordFault.TheVariants as fault
@@ -87,6 +88,12 @@ pub record GivenAreChosen : Type 0 where
   pub stopped : (form : Form) (greatest skip last : ℕ) (stop : Stopped) (chosen bytes rest : List ℕ) → HasBlockSize form → 0 < greatest → greatest ≤ longest_record
       → stop.number ≤ last → is_read_failure (Err stop.fault) ≡ false → HasStopped form greatest skip stop chosen bytes rest
       → given_of form greatest skip last 0 bytes ≡ chosen ++ fault_mark stop.fault
+
+-- Where a frame can't be read, what is given is not all records: a reading of it does not take the mark for one, nor end behind those before it.
+abbrev pub MarkEndsNothing : Type 0
+MarkEndsNothing = (form : Form) (greatest skip : ℕ) (stop : Stopped) (chosen bytes rest : List ℕ) (bodies : List (List ℕ)) → HasBlockSize form → 0 < greatest
+    → greatest ≤ longest_record → is_read_failure (Err stop.fault) ≡ false → HasStopped form greatest skip stop chosen bytes rest
+    → AllByRecursion (IsRecord form greatest) bodies → Come form 0 bodies (chosen ++ fault_mark stop.fault) 0 [] → ⊥
 
 -- ---- where a source that gives it stopped
 

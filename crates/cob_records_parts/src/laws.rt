@@ -1,7 +1,7 @@
 //! Laws of chosen records, each proved as the contract of a function that does nothing.
 
 ghost use Rattle.cob_records_parts.specs.Rests.{RestIsBehind};
-ghost use Rattle.cob_records_parts.specs.StillGiven.{GivenAreChosen};
+ghost use Rattle.cob_records_parts.specs.StillGiven.{GivenAreChosen, MarkEndsNothing};
 
 use crate::chosen::Chosen;
 use cob_records::Source;
@@ -17,3 +17,10 @@ pub fn rest_is_behind<R: Source>(_source: &Chosen<R>)
 pub fn given_are_chosen()
     ensures { GivenAreChosen }
 {}
+
+/// Where a frame can't be read, what is given is not all records: a reading of it does not take the mark for one.
+pub fn mark_ends_nothing()
+    ensures { MarkEndsNothing }
+{
+    cob_records::alone_is_one_record();
+}

@@ -31,6 +31,7 @@
 //!   of the record among all and why, as a reader of the whole stream would (`HasStopped`). A read of the source inside failed exactly where that is why.
 //! - Where the source inside tells its bytes, what it tells to come itself is a function of these (`given_of` of specs/StillGiven.antt): the chosen records,
 //!   each by itself, and behind them, where a frame can't be read, a mark of the fault, which is never given ([`given_are_chosen`]).
+//!   A reading of these bytes does not take the mark for a record: they are not all records ([`mark_ends_nothing`]).
 //! - [`Chosen::into_rest`] gives, where the chosen records are all that is left of the source inside, or its first bytes, just that ([`Rest`]), with nothing
 //!   between: in form f always, in form v where no number of records is asked for. These are the bytes behind the records that are passed over
 //!   ([`rest_is_behind`]).
@@ -50,12 +51,12 @@
 //! `part`), that nothing is in its buffer (`empty`), over what it is (`which`, `whole`). Inside the crate: a seek that fails opens nothing (`moved_to`),
 //! said of files that tell where they are. That the pieces are of nearly equal size, only rows show. Of `Chosen`, a source that gives the chosen records
 //! of another: the clauses of `new`, of its `read` and of `stopped`; of `choose`, of `StreamPart::jumped` and of `Chosen::into_rest`; those of `Rest`, a source
-//! that gives what is left of another, or its first bytes, and tells them; the laws `rest_is_behind` and `given_are_chosen`. Of `find_record`: the record
-//! with a number comes, or there are fewer, or a frame up to its own can't be read (`FindsNumbered`, specs/Numbering.antt). The words: what a `Chosen`
-//! tells to come (`chosen_coming`, specs/Comings.antt; `given_of`, specs/StillGiven.antt; `first_frame_in`, specs/Firsts.antt), which records have come
-//! and which of them are chosen (`HasCome`, `HasStopped`, specs/Choices.antt), what was given, a read, its end and its stop (`HasGiven`, `GivesBehind`,
-//! `IsDrained`, `StopsGiving`, specs/Gives.antt), a part behind whole records of one length (`IsBehindWhole`, specs/Parts.antt), chosen records that are
-//! all that is left or its first bytes (`rest_inside`, `IsGivenBehind`, specs/Rests.antt).
+//! that gives what is left of another, or its first bytes, and tells them; the laws `rest_is_behind`, `given_are_chosen` and `mark_ends_nothing`. Of
+//! `find_record`: the record with a number comes, or there are fewer, or a frame up to its own can't be read (`FindsNumbered`, specs/Numbering.antt). The
+//! words: what a `Chosen` tells to come (`chosen_coming`, specs/Comings.antt; `given_of`, specs/StillGiven.antt; `first_frame_in`, specs/Firsts.antt), which
+//! records have come and which of them are chosen (`HasCome`, `HasStopped`, specs/Choices.antt), what was given, a read, its end and its stop (`HasGiven`,
+//! `GivesBehind`, `IsDrained`, `StopsGiving`, specs/Gives.antt), a part behind whole records of one length (`IsBehindWhole`, specs/Parts.antt), chosen
+//! records that are all that is left or its first bytes (`rest_inside`, `IsGivenBehind`, specs/Rests.antt).
 #![tactic(auto)]
 
 mod ahead;
@@ -83,7 +84,7 @@ pub use chosen::Chosen;
 pub use files::{PartSource, open_part};
 pub use fixed::pieces_of_size;
 pub use incoming::{Incoming, choose};
-pub use laws::{given_are_chosen, rest_is_behind};
+pub use laws::{given_are_chosen, mark_ends_nothing, rest_is_behind};
 pub use numbered::{Numbered, find_record};
 pub use part::StreamPart;
 pub use piece::{Piece, PiecesFault};
