@@ -1,5 +1,5 @@
 -- The mark of a frame that can't be read is no whole frame: where it stands, the bytes are not all records.
-use Rattle.std.proofs.Common.{◌≡◌, ◌∙◌, ℕ, zero, suc, ◌+◌, ◌<◌, ◌≤◌, false, List, [], ◌∷◌, ◌++◌, length, drop, refl, sym, ap, subst, arith, append_assoc, Some, Ok, Err}
+use Rattle.std.proofs.Common.{◌≡◌, ◌∙◌, ℕ, zero, suc, ◌<◌, ◌≤◌, false, List, [], ◌∷◌, ◌++◌, length, drop, refl, sym, ap, subst, arith, append_assoc, Some, Ok, Err}
 use Rattle.std.proofs.Math.ListN.{length-append}
 use Rattle.std.specs.List.{AllByRecursion}
 use Rattle.cob_limits.specs.Limits.{longest_record}
@@ -10,10 +10,9 @@ use Rattle.cob_records.specs.declared.records.Form.{Form}
 use Rattle.cob_records.specs.declared.records.Form.TheVariants.{Fixed, Variable, Blocked}
 use Rattle.cob_records.specs.declared.records.RecordFault.{RecordFault}
 use Rattle.cob_records.specs.declared.records.RecordFault.TheVariants.{Truncated, ReadFailed}
-use Rattle.cob_records_parts.specs.Choices.{HasStopped, all_alone}
+use Rattle.cob_records_parts.specs.Choices.{all_alone}
 use Rattle.cob_records_parts.specs.Firsts.{First}
 use Rattle.cob_records_parts.specs.StillGiven.{MarkEndsNothing, fault_mark, fault_number}
-use Rattle.cob_records_parts.specs.declared.choice.Stopped.{Stopped}
 use Rattle.cob_records_parts.proofs.FirstLaw.{first_is}
 use Rattle.cob_records_parts.proofs.GivenLaw.{reads_first}
 
