@@ -2,8 +2,7 @@
 
 ghost use Rattle.std.specs.Prelude.{◌≡◌, ◌≤◌, false, length, IfOk, IfSome, IsSome};
 ghost use Rattle.cob_move_steps.specs.Pictured.{CarriesPicturedFromTo, CarriesPicturedItems, HasNoPictured, HavePicturedStep, IsPicturedStep, IsReceivedPictured, KeepsPictured, MovesPictured, MovesPicturedLong, MovesPicturedToEdited, MovesPicturedToNumerals, MovesPicturedToWideEdited};
-ghost use Rattle.cob_move_steps.specs.Numerals.{HaveAnyShortNumbers};
-ghost use Rattle.cob_move_steps.specs.Pool.{AreOccupied, MoveKinds};
+ghost use Rattle.cob_move_steps.specs.Pool.{AreOccupied, HaveNumberStep, MoveKinds};
 ghost use Rattle.cob_move_receive.specs.Received.{outcome};
 
 use crate::any_number_step::AnyNumberStep;
@@ -148,7 +147,7 @@ impl PicturedSteps {
     fn prepare_items(&mut self, from: &Item, to: &Item) -> Result<Option<PicturedStep>, AllocError>
         ensures step { IfOk result (λ found. IfSome found
             (CarriesPicturedFromTo self.new from.now to.now)) }
-        ensures must { HaveAnyShortNumbers from.now to.now → IfOk result (λ found. IsSome found) }
+        ensures must { HaveNumberStep from.now to.now → IfOk result (λ found. IsSome found) }
         ensures kept { KeepsPictured self.old self.new }
     {
         if let Some(step) = AnyNumberStep::prepare(from, to) {
