@@ -9,8 +9,8 @@ ghost use Rattle.cob_move_receive.specs.Sent.{Occupies};
 ghost use Rattle.cob_move_apply.specs.Located.{Located};
 
 use cob_layout::{Counts, Layout, Place, Ref};
-use cob_move_data::Side;
 use cob_move_apply::{Stop, stop_of};
+use cob_move_data::Side;
 
 /// The storage of the record of one side.
 #[derive(Clone, Copy)]

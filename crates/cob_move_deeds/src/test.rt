@@ -17,8 +17,8 @@ use crate::places::{Stored, locate};
 use cob_copybook_tree::Item;
 use cob_layout::{Counts, Kind, Layout, Place, Ref};
 use cob_layout_places::{Found, Table, count_at};
-use cob_move_data::Side;
 use cob_move_apply::{Stop, StopCause};
+use cob_move_data::Side;
 use std::alloc::{AllocError, Global};
 
 /// The layouts of both records.

@@ -1,0 +1,2 @@
+-- The heads of loops.
+use Rattle.std.proofs.Common.{◌≡◌, refl}

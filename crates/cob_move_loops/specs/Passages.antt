@@ -1,0 +1,95 @@
+-- What stands in a paragraph behind its heading: statements, with loops round them.
+use Rattle.std.specs.Prelude.{◌≡◌, ◌⊎◌, ℕ, zero, suc, ◌+◌, ◌<◌, ◌≤◌, codes, List, [], ◌∷◌, ◌++◌, length, Option, Some, None}
+use Rattle.std.specs.List.{AllByRecursion}
+use Rattle.cob_source.specs.Tokens.{Lexeme}
+use Rattle.cob_copybook_clauses.specs.Clauses.{IsWord}
+use Rattle.cob_copybook_clauses.specs.Terms.{word_class}
+use Rattle.cob_copybook_clauses.specs.declared.term.WordClass.TheVariants as term
+use Rattle.cob_move_loops.specs.declared.words.LoopWord.{LoopWord}
+use Rattle.cob_move_loops.specs.declared.words.LoopWord.TheVariants as loop
+use Rattle.cob_move_loops.specs.Words.{IsCounter, IsLoopWord, IsNoPeriod, IsNumber, IsOther, IsPeriod, LoopWordFirst, loop_word}
+
+-- a loop with a literal bound: its counter, the first number, how much is added from turn to turn, the name that is tested, and the number that it is not
+-- to pass
+pub record WrittenLoop : Type 0 where
+  pub counter : List ℕ
+  pub from : ℕ
+  pub by : ℕ
+  pub tested : List ℕ
+  pub bound : ℕ
+
+-- What stands in order: nothing; words of MOVE statements, and the others; CONTINUE, and the others; a loop with its statements, and the others.
+pub data Passage : Type 0 where
+  NoMore : Passage
+  Moves : List Lexeme → Passage → Passage
+  Pause : Passage → Passage
+  ALoop : WrittenLoop → Passage → Passage → Passage
+
+-- PERFORM VARYING and the counter
+abbrev pub IsVarying : List ℕ → List Lexeme → Type 0
+IsVarying name ws = (perform varying counter : Lexeme)
+    × IsLoopWord loop.Perform perform × IsWord (codes "VARYING") varying × IsCounter name counter × (ws ≡ perform ∷ varying ∷ counter ∷ [])
+
+-- FROM and BY with their numbers
+abbrev pub IsStepping : ℕ → ℕ → List Lexeme → Type 0
+IsStepping from by ws = (begins first adds step : Lexeme)
+    × IsWord (codes "FROM") begins × IsNumber from first × (word_class adds ≡ term.By) × IsNumber by step × (ws ≡ begins ∷ first ∷ adds ∷ step ∷ [])
+
+-- THAN doesn't come first
+abbrev pub NotThanFirst : List Lexeme → Type 0
+NotThanFirst [] = Unit {0}
+NotThanFirst (w ∷ ws) = IsWord (codes "THAN") w → ⊥
+
+-- GREATER, perhaps before THAN
+abbrev pub IsGreater : List Lexeme → Type 0
+IsGreater [] = ⊥
+IsGreater (greater ∷ []) = IsWord (codes "GREATER") greater
+IsGreater (greater ∷ than ∷ []) = IsWord (codes "GREATER") greater × IsWord (codes "THAN") than
+IsGreater (greater ∷ than ∷ w ∷ ws) = ⊥
+
+-- the sign >, or GREATER, which IS may stand before
+abbrev pub IsPastWord : List Lexeme → Type 0
+IsPastWord ws = ((sign : Lexeme) × IsWord (codes ">") sign × (ws ≡ sign ∷ []))
+    ⊎ (IsGreater ws ⊎ ((is : Lexeme) × (greater : List Lexeme) × (word_class is ≡ term.Is) × IsGreater greater × (ws ≡ is ∷ greater)))
+
+-- UNTIL and the test, whether the counter is past a number
+abbrev pub IsUntil : List ℕ → ℕ → List Lexeme → Type 0
+IsUntil name bound ws = (until counter number : Lexeme) × (past : List Lexeme)
+    × IsWord (codes "UNTIL") until × IsCounter name counter × IsPastWord past × IsNumber bound number × (ws ≡ until ∷ counter ∷ (past ++ number ∷ []))
+
+-- what stands before the statements of a loop
+abbrev pub IsHead : WrittenLoop → List Lexeme → Type 0
+IsHead l ws = (varying stepping until : List Lexeme)
+    × IsVarying l.counter varying × IsStepping l.from l.by stepping × IsUntil l.tested l.bound until × (ws ≡ varying ++ (stepping ++ until))
+
+-- words of MOVE statements: MOVE comes first, and no word of loops is among them
+abbrev pub IsRun : List Lexeme → Type 0
+IsRun [] = ⊥
+IsRun (w ∷ ws) = (word_class w ≡ term.Move) × AllByRecursion IsOther (w ∷ ws)
+
+-- So many loops are open behind words, where so many were before; none where an END-PERFORM ends none.
+abbrev pub open_behind : ℕ → List Lexeme → Option ℕ
+
+abbrev pub open_at : ℕ → Option LoopWord → List Lexeme → Option ℕ
+open_behind depth [] = Some depth
+open_behind depth (w ∷ ws) = open_at depth (loop_word w) ws
+open_at depth (Some loop.Perform) ws = open_behind (suc depth) ws
+open_at zero (Some loop.EndPerform) ws = None
+open_at (suc depth) (Some loop.EndPerform) ws = open_behind depth ws
+open_at depth other ws = open_behind depth ws
+
+-- the words of the statements in a loop: there is one, each PERFORM has its END-PERFORM, and no period stands among them
+pub record IsBody (ws : List Lexeme) : Type 0 where
+  pub some : 0 < length ws
+  pub closed : open_behind 0 ws ≡ Some 0
+  pub no_period : AllByRecursion IsNoPeriod ws
+
+-- Words say a passage. Behind CONTINUE and END-PERFORM periods may stand, outside of loops.
+abbrev pub IsPassage : Passage → List Lexeme → Type 0
+IsPassage NoMore ws = ws ≡ []
+IsPassage (Moves own more) ws = (rest : List Lexeme) × IsRun own × LoopWordFirst rest × (ws ≡ own ++ rest) × IsPassage more rest
+IsPassage (Pause more) ws = (pause : Lexeme) × (stops rest : List Lexeme)
+    × IsLoopWord loop.Continue pause × AllByRecursion IsPeriod stops × (ws ≡ pause ∷ (stops ++ rest)) × IsPassage more rest
+IsPassage (ALoop l body more) ws = (head own stops rest : List Lexeme) × (end : Lexeme)
+    × IsHead l head × IsBody own × IsPassage body own × IsLoopWord loop.EndPerform end × AllByRecursion IsPeriod stops
+    × (ws ≡ head ++ (own ++ end ∷ (stops ++ rest))) × IsPassage more rest

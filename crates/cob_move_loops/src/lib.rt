@@ -1,0 +1,13 @@
+//! Loops of a paragraph: its words cut at PERFORM and END-PERFORM, and written out turn by turn (ANSI X3.23-1985, Nucleus: the PERFORM statement, VARYING).
+//!
+//! # Where it is proved
+//!
+//! Which words a passage has.
+#![tactic(auto)]
+
+mod head;
+mod number;
+mod words;
+
+pub use head::Loop;
+pub use words::LoopWord;
