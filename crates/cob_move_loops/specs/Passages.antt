@@ -5,9 +5,10 @@ use Rattle.cob_source.specs.Tokens.{Lexeme}
 use Rattle.cob_copybook_clauses.specs.Clauses.{IsWord}
 use Rattle.cob_copybook_clauses.specs.Terms.{word_class}
 use Rattle.cob_copybook_clauses.specs.declared.term.WordClass.TheVariants as term
+use Rattle.cob_move_statements.specs.Statements.{IsPeriod, NoPeriod, first_line}
 use Rattle.cob_move_loops.specs.declared.words.LoopWord.{LoopWord}
 use Rattle.cob_move_loops.specs.declared.words.LoopWord.TheVariants as loop
-use Rattle.cob_move_loops.specs.Words.{IsCounter, IsLoopWord, IsNoPeriod, IsNumber, IsOther, IsPeriod, LoopWordFirst, loop_word}
+use Rattle.cob_move_loops.specs.Words.{IsCounter, IsLoopWord, IsNoPeriod, IsNumber, IsOther, LoopWordFirst, loop_word}
 
 -- a loop with a literal bound: its counter, the first number, how much is added from turn to turn, the name that is tested, and the number that it is not
 -- to pass
@@ -93,3 +94,25 @@ IsPassage (Pause more) ws = (pause : Lexeme) × (stops rest : List Lexeme)
 IsPassage (ALoop l body more) ws = (head own stops rest : List Lexeme) × (end : Lexeme)
     × IsHead l head × IsBody own × IsPassage body own × IsLoopWord loop.EndPerform end × AllByRecursion IsPeriod stops
     × (ws ≡ head ++ (own ++ end ∷ (stops ++ rest))) × IsPassage more rest
+
+-- What stands in front of a passage: words of MOVE statements, CONTINUE, or a loop with the words of its statements.
+pub data Front : Type 0 where
+  ARun : List Lexeme → Front
+  APause : Front
+  Looped : WrittenLoop → List Lexeme → Front
+
+-- It stands in front, with all periods behind it, before these words.
+abbrev pub FrontStands : Front → List Lexeme → List Lexeme → Type 0
+FrontStands (ARun own) words more = IsRun own × LoopWordFirst more × (words ≡ own ++ more)
+FrontStands APause words more = (pause : Lexeme) × (stops : List Lexeme)
+    × IsLoopWord loop.Continue pause × AllByRecursion IsPeriod stops × NoPeriod more × (words ≡ pause ∷ (stops ++ more))
+FrontStands (Looped l own) words more = (head stops : List Lexeme) × (end : Lexeme)
+    × IsHead l head × IsBody own × IsLoopWord loop.EndPerform end × AllByRecursion IsPeriod stops × NoPeriod more
+    × (words ≡ head ++ (own ++ end ∷ (stops ++ more)))
+
+-- Where words are no passage, and on which line: nothing stands in front that may, and this is the line there; or it is so within a loop in front, or
+-- behind what stands in front.
+pub data Breaks : List Lexeme → ℕ → Type 0 where
+  breaks_here : (ws : List Lexeme) (line : ℕ) → 0 < length ws → ((f : Front) (more : List Lexeme) → FrontStands f ws more → ⊥) → line ≡ first_line ws → Breaks ws line
+  breaks_within : (ws own more : List Lexeme) (l : WrittenLoop) (line : ℕ) → FrontStands (Looped l own) ws more → Breaks own line → Breaks ws line
+  breaks_behind : (ws more : List Lexeme) (f : Front) (line : ℕ) → FrontStands f ws more → Breaks more line → Breaks ws line

@@ -1,5 +1,5 @@
 -- What the readers of loops say of what they answer, and of the words that they leave.
-use Rattle.std.specs.Prelude.{◌≡◌, ◌⊎◌, ℕ, List, ◌∷◌, ◌++◌, Option, IsSomeAnd}
+use Rattle.std.specs.Prelude.{◌≡◌, ◌⊎◌, ℕ, List, ◌∷◌, ◌++◌, Option, Some, IsSomeAnd}
 use denote.Ref.{Bor}
 use Rattle.cob_source.specs.declared.token.Token.{Token}
 use Rattle.cob_source.specs.Tokens.{Lexeme, lexemes}
@@ -7,7 +7,11 @@ use Rattle.cob_copybook_clauses.specs.Reading.{NotFirstWord}
 use Rattle.cob_copybook_clauses.specs.Terms.{word_class}
 use Rattle.cob_copybook_clauses.specs.declared.term.WordClass.TheVariants as term
 use Rattle.cob_move_loops.specs.declared.head.Loop.{Loop}
-use Rattle.cob_move_loops.specs.Passages.{WrittenLoop}
+use Rattle.cob_move_loops.specs.declared.front.Item.{Item}
+use Rattle.cob_move_loops.specs.declared.front.Item.TheVariants as item
+use Rattle.cob_move_loops.specs.declared.words.LoopWord.TheVariants as loop
+use Rattle.cob_move_loops.specs.Words.{IsLoopWord}
+use Rattle.cob_move_loops.specs.Passages.{APause, ARun, Front, FrontStands, Looped, WrittenLoop, open_behind}
 
 -- a loop without where its texts lie in memory
 abbrev pub written_loop : Loop → WrittenLoop
@@ -25,3 +29,17 @@ AnswersTested answer text n more = IsSomeAnd answer (λ r. (r.0.now ≡ text) ×
 abbrev pub AfterIs : List Lexeme → List Lexeme → Type 0
 AfterIs words rest =
     ((is : Lexeme) × (word_class is ≡ term.Is) × (words ≡ is ∷ rest)) ⊎ ((rest ≡ words) × NotFirstWord term.Is words)
+
+-- what stands in front, without where it lies in memory
+abbrev pub front_of : Item → Front
+front_of (item.Run words) = ARun (lexemes words.now)
+front_of item.Pause = APause
+front_of (item.Loop head body) = Looped (written_loop head) (lexemes body.now)
+
+-- words stand in front in which as many loops are closed as are opened, and behind them an END-PERFORM, before these words
+abbrev pub ClosedInFront : List Lexeme → List Lexeme → List Lexeme → Type 0
+ClosedInFront own words more = (end : Lexeme) × (open_behind 0 own ≡ Some 0) × IsLoopWord loop.EndPerform end × (words ≡ own ++ end ∷ more)
+
+-- a reader answers what stands in front, and leaves the words behind it
+abbrev pub AnswersFront : Option (Item × Bor (List Token)) → Front → List Lexeme → Type 0
+AnswersFront answer f more = IsSomeAnd answer (λ r. (front_of r.0 ≡ f) × (lexemes r.1.now ≡ more))

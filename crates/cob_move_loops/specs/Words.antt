@@ -40,10 +40,6 @@ abbrev pub LoopWordFirst : List Lexeme → Type 0
 LoopWordFirst [] = Unit {0}
 LoopWordFirst (w ∷ ws) = IsOther w → ⊥
 
--- a period, before a space or the end of a line
-abbrev pub IsPeriod : Lexeme → Type 0
-IsPeriod w = w.kind ≡ kind.Stop
-
 -- no period
 abbrev pub IsNoPeriod : Lexeme → Type 0
 IsNoPeriod w = w.kind ≢ kind.Stop

@@ -1,0 +1,101 @@
+//! What stands in front of a passage.
+
+ghost use Rattle.std.specs.Prelude.{◌≡◌, ◌↔◌, ℕ, ◌<◌, ◌≤◌, ◌+◌, ◌∷◌, ◌++◌, List, length, Option, Some, None, IfNone, IfSome, IsFalse, IsSomeAnd, IsTrue};
+ghost use Rattle.std.specs.List.{AllByRecursion};
+ghost use Rattle.cob_source.specs.Tokens.{Lexeme, lexeme, lexemes};
+ghost use Rattle.cob_move_loops.specs.Words.{IsNoPeriod, IsOther, LoopWordFirst, loop_word};
+ghost use Rattle.cob_move_loops.specs.Passages.{APause, ARun, Front, FrontStands, IsBody, IsRun, Looped, WrittenLoop, open_at};
+ghost use Rattle.cob_move_loops.specs.Reading.{AnswersFront, ClosedInFront, front_of};
+
+use crate::head::{Loop, head_at};
+use crate::words::{LoopWord, behind_loop_word, loop_word};
+use cob_copybook_clauses::{WordClass, front, is_term};
+use cob_move_statements::behind_stops;
+use cob_source::{Token, TokenKind};
+
+/// What stands in front of a passage.
+pub(crate) enum Item<'a> {
+    /// Words of MOVE statements.
+    Run(&'a [Token]),
+    /// CONTINUE.
+    Pause,
+    /// A loop with the words of its statements.
+    Loop { head: Loop<'a>, body: &'a [Token] },
+}
+
+/// The words behind the one in front, if that is no word of loops.
+fn behind_other(words: &[Token]) -> Option<&[Token]>
+    ensures found { IfSome result (λ r. (w : Lexeme) × IsOther w
+        × (lexemes words.now ≡ w ∷ lexemes r.now)) }
+    ensures none { IfNone result (LoopWordFirst (lexemes words.now)) }
+{
+    let (first, more) = words.split_first()?;
+    match loop_word(first) {
+        Some(_) => None,
+        None => Some(more),
+    }
+}
+
+/// The words in front that are no words of loops, as many as there are, and what is behind them.
+fn others_at(words: &[Token]) -> (&[Token], &[Token])
+    ensures are { AllByRecursion IsOther (lexemes result.0.now) }
+    ensures found { lexemes words.now ≡ lexemes result.0.now ++ lexemes result.1.now }
+    ensures ends { LoopWordFirst (lexemes result.1.now) }
+{
+    let mut rest = words;
+    while let Some(more) = behind_other(rest) {
+        rest = more;
+    }
+    (front(words, rest.len()), rest)
+}
+
+/// Whether words of which none is a word of loops begin with MOVE.
+fn is_run(words: &[Token]) -> bool
+    requires { AllByRecursion IsOther (lexemes words.now) }
+    ensures { IsTrue result ↔ IsRun (lexemes words.now) }
+{
+    match words.split_first() {
+        Some((first, _)) => is_term(first, WordClass::Move),
+        None => false,
+    }
+}
+
+/// The words of MOVE statements in front, and what is behind them.
+fn run_at(words: &[Token]) -> Option<(Item<'_>, &[Token])>
+    ensures found { IfSome result
+        (λ r. FrontStands (front_of r.0) (lexemes words.now) (lexemes r.1.now)) }
+    ensures only { (own more : List Lexeme) → FrontStands (ARun own) (lexemes words.now) more
+        → AnswersFront result (ARun own) more }
+{
+    let (own, rest) = others_at(words);
+    if !is_run(own) {
+        return None;
+    }
+    Some((Item::Run(own), rest))
+}
+
+/// CONTINUE in front, and what is behind it and its periods.
+fn pause_at(words: &[Token]) -> Option<(Item<'_>, &[Token])>
+    ensures found { IfSome result
+        (λ r. FrontStands (front_of r.0) (lexemes words.now) (lexemes r.1.now)) }
+    ensures only { (more : List Lexeme) → FrontStands APause (lexemes words.now) more
+        → AnswersFront result APause more }
+{
+    let rest = behind_loop_word(words, LoopWord::Continue)?;
+    Some((Item::Pause, behind_stops(rest)))
+}
+
+/// How many loops are open behind a word; none where it ends one that is not there.
+fn depth_behind(depth: usize, word: Option<LoopWord>) -> Option<usize>
+    requires room { depth < 1_000_000_000_000 }
+    ensures some { IfSome result (λ d. (ws : List Lexeme)
+        → open_at depth word ws ≡ open_behind d ws) }
+    ensures none { IfNone result ((ws : List Lexeme) → open_at depth word ws ≡ None) }
+    ensures most { IfSome result (λ d. d ≤ depth + 1) }
+{
+    match word {
+        Some(LoopWord::Perform) => Some(depth + 1),
+        Some(LoopWord::EndPerform) => depth.checked_sub(1),
+        Some(LoopWord::Continue) | None => Some(depth),
+    }
+}
