@@ -11,7 +11,7 @@ use Rattle.cob_move_loops.specs.declared.front.Item.{Item}
 use Rattle.cob_move_loops.specs.declared.front.Item.TheVariants as item
 use Rattle.cob_move_loops.specs.declared.words.LoopWord.TheVariants as loop
 use Rattle.cob_move_loops.specs.Words.{IsLoopWord}
-use Rattle.cob_move_loops.specs.Passages.{APause, ARun, Front, FrontStands, Looped, WrittenLoop, open_behind}
+use Rattle.cob_move_loops.specs.Passages.{APause, ARun, Breaks, Front, FrontStands, IsPassage, Looped, Passage, WrittenLoop, open_behind}
 
 -- a loop without where its texts lie in memory
 abbrev pub written_loop : Loop → WrittenLoop
@@ -43,3 +43,15 @@ ClosedInFront own words more = (end : Lexeme) × (open_behind 0 own ≡ Some 0) 
 -- a reader answers what stands in front, and leaves the words behind it
 abbrev pub AnswersFront : Option (Item × Bor (List Token)) → Front → List Lexeme → Type 0
 AnswersFront answer f more = IsSomeAnd answer (λ r. (front_of r.0 ≡ f) × (lexemes r.1.now ≡ more))
+
+-- where a loop stands in front, its statements are a passage
+abbrev pub HasPassages : Front → Type 0
+HasPassages (ARun own) = Unit {0}
+HasPassages APause = Unit {0}
+HasPassages (Looped l own) = (p : Passage) × IsPassage p own
+
+-- a loop stands in front, and its statements are no passage, on this line
+abbrev pub BreaksWithin : Front → ℕ → Type 0
+BreaksWithin (ARun own) line = ⊥
+BreaksWithin APause line = ⊥
+BreaksWithin (Looped l own) line = Breaks own line

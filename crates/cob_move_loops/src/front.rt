@@ -4,7 +4,7 @@ ghost use Rattle.std.specs.Prelude.{◌≡◌, ◌↔◌, ℕ, ◌<◌, ◌≤�
 ghost use Rattle.std.specs.List.{AllByRecursion};
 ghost use Rattle.cob_source.specs.Tokens.{Lexeme, lexeme, lexemes};
 ghost use Rattle.cob_move_loops.specs.Words.{IsNoPeriod, IsOther, LoopWordFirst, loop_word};
-ghost use Rattle.cob_move_loops.specs.Passages.{APause, ARun, Front, FrontStands, IsBody, IsRun, Looped, WrittenLoop, open_at};
+ghost use Rattle.cob_move_loops.specs.Passages.{APause, ARun, Front, FrontStands, IsBody, IsRun, Looped, WrittenLoop, open_at, open_behind};
 ghost use Rattle.cob_move_loops.specs.Reading.{AnswersFront, ClosedInFront, front_of};
 
 use crate::head::{Loop, head_at};
@@ -97,5 +97,73 @@ fn depth_behind(depth: usize, word: Option<LoopWord>) -> Option<usize>
         Some(LoopWord::Perform) => Some(depth + 1),
         Some(LoopWord::EndPerform) => depth.checked_sub(1),
         Some(LoopWord::Continue) | None => Some(depth),
+    }
+}
+
+/// The words before the END-PERFORM that ends the loop in front, and what is behind it.
+fn body_at(words: &[Token]) -> Option<(&[Token], &[Token])>
+    ensures found { IfSome result
+        (λ r. ClosedInFront (lexemes r.0.now) (lexemes words.now) (lexemes r.1.now)) }
+    ensures only { (own more : List Lexeme) → ClosedInFront own (lexemes words.now) more
+        → IsSomeAnd result (λ r. (lexemes r.0.now ≡ own) × (lexemes r.1.now ≡ more)) }
+{
+    let mut depth = 0;
+    let mut rest = words;
+    while let Some((first, more)) = rest.split_first() {
+        match depth_behind(depth, loop_word(first)) {
+            Some(next) => {
+                depth = next;
+                rest = more;
+            }
+            None => return Some((front(words, rest.len()), more)),
+        }
+    }
+    None
+}
+
+/// Whether no period is among words.
+fn has_no_period(words: &[Token]) -> bool
+    ensures { IsTrue result ↔ AllByRecursion IsNoPeriod (lexemes words.now) }
+{
+    words.iter().all(|word| word.kind != TokenKind::Stop)
+}
+
+/// Whether words in which as many loops are closed as are opened may be the statements of a loop.
+fn is_body(words: &[Token]) -> bool
+    requires { open_behind 0 (lexemes words.now) ≡ Some 0 }
+    ensures { IsTrue result ↔ IsBody (lexemes words.now) }
+{
+    !words.is_empty() && has_no_period(words)
+}
+
+/// The loop in front, and what is behind it and its periods.
+fn loop_at(words: &[Token]) -> Option<(Item<'_>, &[Token])>
+    ensures found { IfSome result
+        (λ r. FrontStands (front_of r.0) (lexemes words.now) (lexemes r.1.now)) }
+    ensures only { (l : WrittenLoop) (own more : List Lexeme)
+        → FrontStands (Looped l own) (lexemes words.now) more
+        → AnswersFront result (Looped l own) more }
+{
+    let (head, inner) = head_at(words)?;
+    let (body, rest) = body_at(inner)?;
+    if !is_body(body) {
+        return None;
+    }
+    Some((Item::Loop { head, body }, behind_stops(rest)))
+}
+
+/// What stands in front of a passage, and what is behind it and its periods.
+pub(crate) fn item_at(words: &[Token]) -> Option<(Item<'_>, &[Token])>
+    ensures found { IfSome result
+        (λ r. FrontStands (front_of r.0) (lexemes words.now) (lexemes r.1.now)) }
+    ensures only { (f : Front) (more : List Lexeme) → FrontStands f (lexemes words.now) more
+        → AnswersFront result f more }
+{
+    let (first, _) = words.split_first()?;
+    match loop_word(first) {
+        None => run_at(words),
+        Some(LoopWord::Perform) => loop_at(words),
+        Some(LoopWord::Continue) => pause_at(words),
+        Some(LoopWord::EndPerform) => None,
     }
 }

@@ -5,9 +5,12 @@
 //! Which words a passage has.
 #![tactic(auto)]
 
+mod checking;
+mod front;
 mod head;
 mod number;
 mod words;
 
+pub use checking::check;
 pub use head::Loop;
 pub use words::LoopWord;
