@@ -1,1 +1,4 @@
+pub mod CutLemmas
 pub mod HeadLemmas
+pub mod PassageLemmas
+pub mod WritingLemmas

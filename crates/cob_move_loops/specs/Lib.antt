@@ -1,4 +1,5 @@
 pub mod Limits
 pub mod Words
 pub mod Passages
+pub mod Turns
 pub mod Reading

@@ -1,14 +1,13 @@
 -- What stands in a paragraph behind its heading: statements, with loops round them.
-use Rattle.std.specs.Prelude.{◌≡◌, ◌⊎◌, ℕ, zero, suc, ◌+◌, ◌<◌, ◌≤◌, codes, List, [], ◌∷◌, ◌++◌, length, Option, Some, None}
+use Rattle.std.specs.Prelude.{◌≡◌, ◌⊎◌, ℕ, ◌+◌, ◌-◌, ◌<◌, nat_lt, if◌then◌else◌, codes, List, [], ◌∷◌, ◌++◌, length, Option, Some, None}
 use Rattle.std.specs.List.{AllByRecursion}
 use Rattle.cob_source.specs.Tokens.{Lexeme}
 use Rattle.cob_copybook_clauses.specs.Clauses.{IsWord}
 use Rattle.cob_copybook_clauses.specs.Terms.{word_class}
 use Rattle.cob_copybook_clauses.specs.declared.term.WordClass.TheVariants as term
-use Rattle.cob_move_statements.specs.Statements.{IsPeriod, NoPeriod, first_line}
 use Rattle.cob_move_loops.specs.declared.words.LoopWord.{LoopWord}
 use Rattle.cob_move_loops.specs.declared.words.LoopWord.TheVariants as loop
-use Rattle.cob_move_loops.specs.Words.{IsCounter, IsLoopWord, IsNoPeriod, IsNumber, IsOther, LoopWordFirst, loop_word}
+use Rattle.cob_move_loops.specs.Words.{IsCounter, IsLoopWord, IsNoPeriod, IsNumber, IsOther, IsPeriod, LoopWordFirst, NoPeriod, first_line, loop_word}
 
 -- a loop with a literal bound: its counter, the first number, how much is added from turn to turn, the name that is tested, and the number that it is not
 -- to pass
@@ -68,21 +67,23 @@ abbrev pub IsRun : List Lexeme → Type 0
 IsRun [] = ⊥
 IsRun (w ∷ ws) = (word_class w ≡ term.Move) × AllByRecursion IsOther (w ∷ ws)
 
--- So many loops are open behind words, where so many were before; none where an END-PERFORM ends none.
-abbrev pub open_behind : ℕ → List Lexeme → Option ℕ
+-- How many loops are open behind a word, where so many were before; none where it is an END-PERFORM that ends no loop.
+abbrev pub open_by : Option LoopWord → Option ℕ → Option ℕ
+open_by word None = None
+open_by (Some loop.Perform) (Some depth) = Some (depth + 1)
+open_by (Some loop.EndPerform) (Some depth) = if nat_lt 0 depth then Some (depth - 1) else None
+open_by (Some loop.Continue) (Some depth) = Some depth
+open_by None (Some depth) = Some depth
 
-abbrev pub open_at : ℕ → Option LoopWord → List Lexeme → Option ℕ
-open_behind depth [] = Some depth
-open_behind depth (w ∷ ws) = open_at depth (loop_word w) ws
-open_at depth (Some loop.Perform) ws = open_behind (suc depth) ws
-open_at zero (Some loop.EndPerform) ws = None
-open_at (suc depth) (Some loop.EndPerform) ws = open_behind depth ws
-open_at depth other ws = open_behind depth ws
+-- how many are open behind words
+abbrev pub open_behind : Option ℕ → List Lexeme → Option ℕ
+open_behind depth [] = depth
+open_behind depth (w ∷ ws) = open_behind (open_by (loop_word w) depth) ws
 
 -- the words of the statements in a loop: there is one, each PERFORM has its END-PERFORM, and no period stands among them
 pub record IsBody (ws : List Lexeme) : Type 0 where
   pub some : 0 < length ws
-  pub closed : open_behind 0 ws ≡ Some 0
+  pub closed : open_behind (Some 0) ws ≡ Some 0
   pub no_period : AllByRecursion IsNoPeriod ws
 
 -- Words say a passage. Behind CONTINUE and END-PERFORM periods may stand, outside of loops.

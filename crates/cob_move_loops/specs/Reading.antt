@@ -1,5 +1,5 @@
 -- What the readers of loops say of what they answer, and of the words that they leave.
-use Rattle.std.specs.Prelude.{◌≡◌, ◌⊎◌, ℕ, List, ◌∷◌, ◌++◌, Option, Some, IsSomeAnd}
+use Rattle.std.specs.Prelude.{◌≡◌, ◌⊎◌, ℕ, false, List, [], ◌∷◌, ◌++◌, map, Option, Some, IsSomeAnd}
 use denote.Ref.{Bor}
 use Rattle.cob_source.specs.declared.token.Token.{Token}
 use Rattle.cob_source.specs.Tokens.{Lexeme, lexemes}
@@ -7,9 +7,12 @@ use Rattle.cob_copybook_clauses.specs.Reading.{NotFirstWord}
 use Rattle.cob_copybook_clauses.specs.Terms.{word_class}
 use Rattle.cob_copybook_clauses.specs.declared.term.WordClass.TheVariants as term
 use Rattle.cob_move_loops.specs.declared.head.Loop.{Loop}
+use Rattle.cob_move_loops.specs.declared.turn.Counter.{Counter}
+use Rattle.cob_move_loops.specs.declared.writing.Run.{Run}
 use Rattle.cob_move_loops.specs.declared.front.Item.{Item}
 use Rattle.cob_move_loops.specs.declared.front.Item.TheVariants as item
 use Rattle.cob_move_loops.specs.declared.words.LoopWord.TheVariants as loop
+use Rattle.cob_move_loops.specs.Turns.{Counted, counter_at, in_turn, turns, turns_of, written_out}
 use Rattle.cob_move_loops.specs.Words.{IsLoopWord}
 use Rattle.cob_move_loops.specs.Passages.{APause, ARun, Breaks, Front, FrontStands, IsPassage, Looped, Passage, WrittenLoop, open_behind}
 
@@ -38,7 +41,7 @@ front_of (item.Loop head body) = Looped (written_loop head) (lexemes body.now)
 
 -- words stand in front in which as many loops are closed as are opened, and behind them an END-PERFORM, before these words
 abbrev pub ClosedInFront : List Lexeme → List Lexeme → List Lexeme → Type 0
-ClosedInFront own words more = (end : Lexeme) × (open_behind 0 own ≡ Some 0) × IsLoopWord loop.EndPerform end × (words ≡ own ++ end ∷ more)
+ClosedInFront own words more = (end : Lexeme) × (open_behind (Some 0) own ≡ Some 0) × IsLoopWord loop.EndPerform end × (words ≡ own ++ end ∷ more)
 
 -- a reader answers what stands in front, and leaves the words behind it
 abbrev pub AnswersFront : Option (Item × Bor (List Token)) → Front → List Lexeme → Type 0
@@ -55,3 +58,27 @@ abbrev pub BreaksWithin : Front → ℕ → Type 0
 BreaksWithin (ARun own) line = ⊥
 BreaksWithin APause line = ⊥
 BreaksWithin (Looped l own) line = Breaks own line
+
+-- counters without where their names lie in memory
+abbrev pub counters : List Counter → List Counted
+counters cs = map (λ c. record { name = c.name.now; number = c.number }) cs
+
+-- the words of a run, as they are in its turn
+abbrev pub run_words : Run → List Lexeme
+run_words r = in_turn (counters r.turn.items) false 0 (lexemes r.words.now)
+
+-- those of several
+abbrev pub all_runs : List Run → List (List Lexeme)
+all_runs rs = map run_words rs
+
+-- where a loop stands in front, its statements are this passage
+abbrev pub Within : Front → Passage → Type 0
+Within (ARun own) p = Unit {0}
+Within APause p = Unit {0}
+Within (Looped l own) p = IsPassage p own
+
+-- what stands in front written out, where its statements, if it is a loop, are this passage
+abbrev pub written_front : List Counted → Front → Passage → List (List Lexeme)
+written_front ns (ARun own) p = in_turn ns false 0 own ∷ []
+written_front ns APause p = []
+written_front ns (Looped l own) p = turns (λ i. written_out (ns ++ counter_at l i ∷ []) p) l.by (turns_of l) l.from

@@ -40,6 +40,15 @@ abbrev pub LoopWordFirst : List Lexeme → Type 0
 LoopWordFirst [] = Unit {0}
 LoopWordFirst (w ∷ ws) = IsOther w → ⊥
 
+-- a period, before a space or the end of a line
+abbrev pub IsPeriod : Lexeme → Type 0
+IsPeriod w = w.kind ≡ kind.Stop
+
+-- no period comes first
+abbrev pub NoPeriod : List Lexeme → Type 0
+NoPeriod [] = Unit {0}
+NoPeriod (w ∷ ws) = IsPeriod w → ⊥
+
 -- no period
 abbrev pub IsNoPeriod : Lexeme → Type 0
 IsNoPeriod w = w.kind ≢ kind.Stop
@@ -55,3 +64,8 @@ pub record IsNumber (n : ℕ) (w : Lexeme) : Type 0 where
   pub word : w.kind ≡ kind.Word
   pub spelled : IsIntegerText most_counter_digits w.text n
   pub some : 0 < n
+
+-- the line of the first word, or 1 where there is none
+abbrev pub first_line : List Lexeme → ℕ
+first_line [] = 1
+first_line (w ∷ ws) = w.line

@@ -2,7 +2,7 @@
 
 ghost use Rattle.std.specs.Prelude.{◌≡◌, ℕ, ◌<◌, IfErr, OnOk, length, List};
 ghost use Rattle.cob_source.specs.Tokens.{lexemes};
-ghost use Rattle.cob_move_statements.specs.Statements.{first_line};
+ghost use Rattle.cob_move_loops.specs.Words.{first_line};
 ghost use Rattle.cob_move_loops.specs.Passages.{APause, ARun, Breaks, Front, IsPassage, Looped, Passage};
 ghost use Rattle.cob_move_loops.specs.Reading.{HasPassages, BreaksWithin, front_of};
 

@@ -3,14 +3,13 @@
 ghost use Rattle.std.specs.Prelude.{◌≡◌, ◌↔◌, ℕ, ◌<◌, ◌≤◌, ◌+◌, ◌∷◌, ◌++◌, List, length, Option, Some, None, IfNone, IfSome, IsFalse, IsSomeAnd, IsTrue};
 ghost use Rattle.std.specs.List.{AllByRecursion};
 ghost use Rattle.cob_source.specs.Tokens.{Lexeme, lexeme, lexemes};
-ghost use Rattle.cob_move_loops.specs.Words.{IsNoPeriod, IsOther, LoopWordFirst, loop_word};
-ghost use Rattle.cob_move_loops.specs.Passages.{APause, ARun, Front, FrontStands, IsBody, IsRun, Looped, WrittenLoop, open_at, open_behind};
+ghost use Rattle.cob_move_loops.specs.Words.{IsNoPeriod, IsOther, IsPeriod, LoopWordFirst, NoPeriod, loop_word};
+ghost use Rattle.cob_move_loops.specs.Passages.{APause, ARun, Front, FrontStands, IsBody, IsRun, Looped, WrittenLoop, open_behind, open_by};
 ghost use Rattle.cob_move_loops.specs.Reading.{AnswersFront, ClosedInFront, front_of};
 
 use crate::head::{Loop, head_at};
 use crate::words::{LoopWord, behind_loop_word, loop_word};
 use cob_copybook_clauses::{WordClass, front, is_term};
-use cob_move_statements::behind_stops;
 use cob_source::{Token, TokenKind};
 
 /// What stands in front of a passage.
@@ -21,6 +20,35 @@ pub(crate) enum Item<'a> {
     Pause,
     /// A loop with the words of its statements.
     Loop { head: Loop<'a>, body: &'a [Token] },
+}
+
+/// The words behind the period in front, if there is one.
+fn behind_stop(words: &[Token]) -> Option<&[Token]>
+    ensures found { IfSome result (λ r. (w : Lexeme) × IsPeriod w
+        × (lexemes words.now ≡ w ∷ lexemes r.now)) }
+    ensures only { (w : Lexeme) (more : List Lexeme) → IsPeriod w → lexemes words.now ≡ w ∷ more
+        → IsSomeAnd result (λ r. lexemes r.now ≡ more) }
+{
+    let (first, more) = words.split_first()?;
+    if first.kind != TokenKind::Stop {
+        return None;
+    }
+    Some(more)
+}
+
+/// The words behind the periods in front.
+fn behind_stops(words: &[Token]) -> &[Token]
+    ensures found { (stops : List Lexeme) × AllByRecursion IsPeriod stops
+        × (lexemes words.now ≡ stops ++ lexemes result.now) }
+    ensures only { (stops more : List Lexeme) → AllByRecursion IsPeriod stops → NoPeriod more
+        → lexemes words.now ≡ stops ++ more → lexemes result.now ≡ more }
+    ensures none { NoPeriod (lexemes result.now) }
+{
+    let mut rest = words;
+    while let Some(more) = behind_stop(rest) {
+        rest = more;
+    }
+    rest
 }
 
 /// The words behind the one in front, if that is no word of loops.
@@ -86,16 +114,14 @@ fn pause_at(words: &[Token]) -> Option<(Item<'_>, &[Token])>
 }
 
 /// How many loops are open behind a word; none where it ends one that is not there.
-fn depth_behind(depth: usize, word: Option<LoopWord>) -> Option<usize>
+fn depth_behind(depth: u64, word: Option<LoopWord>) -> Option<u64>
     requires room { depth < 1_000_000_000_000 }
-    ensures some { IfSome result (λ d. (ws : List Lexeme)
-        → open_at depth word ws ≡ open_behind d ws) }
-    ensures none { IfNone result ((ws : List Lexeme) → open_at depth word ws ≡ None) }
+    ensures value { result ≡ open_by word (Some depth) }
     ensures most { IfSome result (λ d. d ≤ depth + 1) }
 {
     match word {
         Some(LoopWord::Perform) => Some(depth + 1),
-        Some(LoopWord::EndPerform) => depth.checked_sub(1),
+        Some(LoopWord::EndPerform) => { if depth > 0 { Some(depth - 1) } else { None } }
         Some(LoopWord::Continue) | None => Some(depth),
     }
 }
@@ -107,7 +133,7 @@ fn body_at(words: &[Token]) -> Option<(&[Token], &[Token])>
     ensures only { (own more : List Lexeme) → ClosedInFront own (lexemes words.now) more
         → IsSomeAnd result (λ r. (lexemes r.0.now ≡ own) × (lexemes r.1.now ≡ more)) }
 {
-    let mut depth = 0;
+    let mut depth: u64 = 0;
     let mut rest = words;
     while let Some((first, more)) = rest.split_first() {
         match depth_behind(depth, loop_word(first)) {
@@ -130,7 +156,7 @@ fn has_no_period(words: &[Token]) -> bool
 
 /// Whether words in which as many loops are closed as are opened may be the statements of a loop.
 fn is_body(words: &[Token]) -> bool
-    requires { open_behind 0 (lexemes words.now) ≡ Some 0 }
+    requires { open_behind (Some 0) (lexemes words.now) ≡ Some 0 }
     ensures { IsTrue result ↔ IsBody (lexemes words.now) }
 {
     !words.is_empty() && has_no_period(words)

@@ -1,6 +1,6 @@
 //! The heads of loops.
 
-ghost use Rattle.std.specs.Prelude.{◌≡◌, ◌↔◌, ℕ, ◌∷◌, ◌++◌, List, IfSome, IsTrue};
+ghost use Rattle.std.specs.Prelude.{◌≡◌, ◌↔◌, ℕ, ◌<◌, ◌∷◌, ◌++◌, List, IfSome, IsTrue};
 ghost use Rattle.cob_copybook_clauses.specs.Clauses.{IsNameWord};
 ghost use Rattle.cob_copybook_clauses.specs.Reading.{Answers, AnswersText, EachCut, Leaves, StandInFront};
 ghost use Rattle.cob_source.specs.Tokens.{Lexeme, lexeme, lexemes};
@@ -22,6 +22,8 @@ pub struct Loop<'a> {
     pub by: u32,
     pub tested: &'a [u8],
     pub bound: u32,
+
+    pub ghost steps: { 0 < by },
 }
 
 /// Whether a word is a name that a counter may have.

@@ -9,8 +9,12 @@ mod checking;
 mod front;
 mod head;
 mod number;
+mod turn;
 mod words;
+mod writing;
 
 pub use checking::check;
 pub use head::Loop;
+pub use turn::{Counter, in_turn};
 pub use words::LoopWord;
+pub use writing::{Run, write_out};

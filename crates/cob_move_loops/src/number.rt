@@ -15,7 +15,7 @@ use cob_source::{Token, TokenKind};
 const MAX_COUNTER_DIGITS: usize = 9;
 
 /// The number that a text of one to nine digits spells.
-fn whole(text: &[u8]) -> Option<u32>
+pub(crate) fn whole(text: &[u8]) -> Option<u32>
     ensures found { IfSome result (λ n. IsIntegerText 9 text.now n) }
     ensures only { (n : ℕ) → IsIntegerText 9 text.now n → result ≡ Some n }
 {

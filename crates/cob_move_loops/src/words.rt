@@ -1,6 +1,6 @@
 //! The words of loops.
 
-ghost use Rattle.std.specs.Prelude.{◌≡◌, ◌↔◌, ◌∷◌, IfSome, IsSomeAnd, IsTrue, List};
+ghost use Rattle.std.specs.Prelude.{◌≡◌, ◌↔◌, ◌∷◌, IfSome, IsSomeAnd, IsTrue, List, Some};
 ghost use Rattle.cob_copybook_clauses.specs.Clauses.{IsWord};
 ghost use Rattle.cob_source.specs.Tokens.{Lexeme, lexeme, lexemes};
 ghost use Rattle.cob_move_loops.specs.Words.{loop_word, loop_word_in};
@@ -52,7 +52,7 @@ fn is_text(text: &[u8], other: &[u8]) -> bool
 }
 
 /// Whether a token is a word with this text.
-fn is_that_word(token: &Token, text: &[u8]) -> bool
+pub(crate) fn is_that_word(token: &Token, text: &[u8]) -> bool
     ensures { IsTrue result ↔ IsWord text.now (lexeme token.now) }
 {
     token.kind == TokenKind::Word && is_text(token.text.as_slice(), text)
@@ -72,6 +72,16 @@ pub(crate) fn behind_text<'a>(words: &'a [Token], text: &[u8]) -> Option<&'a [To
     Some(more)
 }
 
+/// Whether a token is this word of loops.
+fn is_loop_word(token: &Token, word: LoopWord) -> bool
+    ensures { IsTrue result ↔ loop_word (lexeme token.now) ≡ Some word }
+{
+    match loop_word(token) {
+        Some(found) => found == word,
+        None => false,
+    }
+}
+
 /// The words behind this word of loops, if it comes first.
 pub(crate) fn behind_loop_word(words: &[Token], word: LoopWord) -> Option<&[Token]>
     ensures found { IfSome result (λ r. (w : Lexeme) × (loop_word w ≡ Some word)
@@ -80,7 +90,7 @@ pub(crate) fn behind_loop_word(words: &[Token], word: LoopWord) -> Option<&[Toke
         → lexemes words.now ≡ w ∷ more → IsSomeAnd result (λ r. lexemes r.now ≡ more) }
 {
     let (first, more) = words.split_first()?;
-    if loop_word(first) != Some(word) {
+    if !is_loop_word(first, word) {
         return None;
     }
     Some(more)
