@@ -1,4 +1,6 @@
 pub mod CutLemmas
 pub mod HeadLemmas
+pub mod OneLemmas
 pub mod PassageLemmas
+pub mod TurnLemmas
 pub mod WritingLemmas

@@ -3,3 +3,4 @@ pub mod Words
 pub mod Passages
 pub mod Turns
 pub mod Reading
+pub mod Laws

@@ -33,7 +33,7 @@ IsVarying name ws = (perform varying counter : Lexeme)
 -- FROM and BY with their numbers
 abbrev pub IsStepping : ℕ → ℕ → List Lexeme → Type 0
 IsStepping from by ws = (begins first adds step : Lexeme)
-    × IsWord (codes "FROM") begins × IsNumber from first × (word_class adds ≡ term.By) × IsNumber by step × (ws ≡ begins ∷ first ∷ adds ∷ step ∷ [])
+    × IsWord (codes "FROM") begins × IsNumber from first × IsWord (codes "BY") adds × IsNumber by step × (ws ≡ begins ∷ first ∷ adds ∷ step ∷ [])
 
 -- THAN doesn't come first
 abbrev pub NotThanFirst : List Lexeme → Type 0
@@ -50,7 +50,7 @@ IsGreater (greater ∷ than ∷ w ∷ ws) = ⊥
 -- the sign >, or GREATER, which IS may stand before
 abbrev pub IsPastWord : List Lexeme → Type 0
 IsPastWord ws = ((sign : Lexeme) × IsWord (codes ">") sign × (ws ≡ sign ∷ []))
-    ⊎ (IsGreater ws ⊎ ((is : Lexeme) × (greater : List Lexeme) × (word_class is ≡ term.Is) × IsGreater greater × (ws ≡ is ∷ greater)))
+    ⊎ (IsGreater ws ⊎ ((is : Lexeme) × (greater : List Lexeme) × IsWord (codes "IS") is × IsGreater greater × (ws ≡ is ∷ greater)))
 
 -- UNTIL and the test, whether the counter is past a number
 abbrev pub IsUntil : List ℕ → ℕ → List Lexeme → Type 0

@@ -1,11 +1,9 @@
 -- What the readers of loops say of what they answer, and of the words that they leave.
-use Rattle.std.specs.Prelude.{◌≡◌, ◌⊎◌, ℕ, false, List, [], ◌∷◌, ◌++◌, map, Option, Some, IsSomeAnd}
+use Rattle.std.specs.Prelude.{◌≡◌, ◌⊎◌, ℕ, codes, false, List, [], ◌∷◌, ◌++◌, map, Option, Some, IsSomeAnd}
 use denote.Ref.{Bor}
 use Rattle.cob_source.specs.declared.token.Token.{Token}
 use Rattle.cob_source.specs.Tokens.{Lexeme, lexemes}
-use Rattle.cob_copybook_clauses.specs.Reading.{NotFirstWord}
-use Rattle.cob_copybook_clauses.specs.Terms.{word_class}
-use Rattle.cob_copybook_clauses.specs.declared.term.WordClass.TheVariants as term
+use Rattle.cob_copybook_clauses.specs.Clauses.{IsWord}
 use Rattle.cob_move_loops.specs.declared.head.Loop.{Loop}
 use Rattle.cob_move_loops.specs.declared.turn.Counter.{Counter}
 use Rattle.cob_move_loops.specs.declared.writing.Run.{Run}
@@ -31,7 +29,8 @@ AnswersTested answer text n more = IsSomeAnd answer (λ r. (r.0.now ≡ text) ×
 -- IS stands in front, before these words; or it doesn't, and they are all
 abbrev pub AfterIs : List Lexeme → List Lexeme → Type 0
 AfterIs words rest =
-    ((is : Lexeme) × (word_class is ≡ term.Is) × (words ≡ is ∷ rest)) ⊎ ((rest ≡ words) × NotFirstWord term.Is words)
+    ((is : Lexeme) × IsWord (codes "IS") is × (words ≡ is ∷ rest))
+    ⊎ ((rest ≡ words) × ((is : Lexeme) (more : List Lexeme) → IsWord (codes "IS") is → words ≡ is ∷ more → ⊥))
 
 -- what stands in front, without where it lies in memory
 abbrev pub front_of : Item → Front

@@ -10,7 +10,7 @@ ghost use Rattle.cob_move_loops.specs.Reading.{AfterIs, AnswersNumbers, AnswersT
 
 use crate::number::number_at;
 use crate::words::{LoopWord, behind_loop_word, behind_text, loop_word};
-use cob_copybook_clauses::{WordClass, behind, is_name_word};
+use cob_copybook_clauses::is_name_word;
 use cob_source::Token;
 
 /// What stands before the statements of a loop: its counter, the first number, how much is added from turn to turn, the name that is tested, and the
@@ -69,7 +69,7 @@ fn stepping_at(words: &[Token]) -> Option<(u32, u32, &[Token])>
 {
     let begun = behind_text(words, b"FROM")?;
     let (from, stepped) = number_at(begun)?;
-    let added = behind(stepped, WordClass::By)?;
+    let added = behind_text(stepped, b"BY")?;
     let (by, more) = number_at(added)?;
     Some((from, by, more))
 }
@@ -90,7 +90,7 @@ fn behind_greater(words: &[Token]) -> Option<&[Token]>
 fn skip_is(words: &[Token]) -> &[Token]
     ensures found { AfterIs (lexemes words.now) (lexemes result.now) }
 {
-    match behind(words, WordClass::Is) {
+    match behind_text(words, b"IS") {
         Some(more) => more,
         None => words,
     }

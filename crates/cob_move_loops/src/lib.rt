@@ -8,6 +8,7 @@
 mod checking;
 mod front;
 mod head;
+mod laws;
 mod number;
 mod turn;
 mod words;
@@ -15,6 +16,7 @@ mod writing;
 
 pub use checking::check;
 pub use head::Loop;
+pub use laws::{breaks_none, no_turn, one_passage};
 pub use turn::{Counter, in_turn};
 pub use words::LoopWord;
 pub use writing::{Run, write_out};
