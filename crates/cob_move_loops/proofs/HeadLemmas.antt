@@ -14,12 +14,13 @@ counter_one n m w v p q e = sym p.same ∙ ap (λ (k : Lexeme). k.text) e ∙ q.
 number_one : (n m : ℕ) (w v : Lexeme) → IsNumber n w → IsNumber m v → w ≡ v → n ≡ m
 number_one n m w v p q e = p.spelled.value ∙ ap (λ (k : Lexeme). number_of (digits_in k.text)) e ∙ sym q.spelled.value
 
-varying_one : (n m : List ℕ) (h k a b : List Lexeme) → IsVarying n h → IsVarying m k → h ++ a ≡ k ++ b → (n ≡ m) × (a ≡ b)
-varying_one n m h k a b (p, v, c, ip, iv, ic, e) (q, u, d, iq, iu, id, f) same =
+varying_one : (i j : ℕ) (n m : List ℕ) (h k a b : List Lexeme) → IsVarying i n h → IsVarying j m k → h ++ a ≡ k ++ b → (i ≡ j) × (n ≡ m) × (a ≡ b)
+varying_one i j n m h k a b (p, v, c, ip, il, iv, ic, e) (q, u, d, iq, jl, iu, id, f) same =
     let it : p ∷ v ∷ c ∷ a ≡ q ∷ u ∷ d ∷ b = sym (ap (λ (t : List Lexeme). t ++ a) e) ∙ same ∙ ap (λ (t : List Lexeme). t ++ b) f in
+    let perform : p ≡ q = cc in
     let counter : c ≡ d = cc in
     let tail : a ≡ b = cc in
-    (counter_one n m c d ic id counter, tail)
+    (il ∙ ap (λ (w : Lexeme). w.line) perform ∙ sym jl, counter_one n m c d ic id counter, tail)
 
 stepping_one : (i j m n : ℕ) (h k a b : List Lexeme) → IsStepping i j h → IsStepping m n k → h ++ a ≡ k ++ b → (i ≡ m) × (j ≡ n) × (a ≡ b)
 stepping_one i j m n h k a b (p, v, c, w, ip, iv, ic, iw, e) (q, u, d, x, iq, iu, id, ix, f) same =
@@ -120,7 +121,7 @@ pub head_one : (l m : WrittenLoop) (h k a b : List Lexeme) → IsHead l h → Is
 head_one l m h k a b (v, s, u, iv, is, iu, e) (w, t, x, iw, it, ix, f) same =
     let cut : v ++ (s ++ (u ++ a)) ≡ w ++ (t ++ (x ++ b)) =
     sym (head_split v s u a) ∙ sym (ap (λ (y : List Lexeme). y ++ a) e) ∙ same ∙ ap (λ (y : List Lexeme). y ++ b) f ∙ head_split w t x b in
-    let first = varying_one l.counter m.counter v w (s ++ (u ++ a)) (t ++ (x ++ b)) iv iw cut in
-    let second = stepping_one l.from l.by m.from m.by s t (u ++ a) (x ++ b) is it first.1 in
+    let first = varying_one l.line m.line l.counter m.counter v w (s ++ (u ++ a)) (t ++ (x ++ b)) iv iw cut in
+    let second = stepping_one l.from l.by m.from m.by s t (u ++ a) (x ++ b) is it first.2 in
     let third = until_one l.tested m.tested l.bound m.bound u x a b iu ix second.2 in
-    (λ i. record { counter = first.0 i; from = second.0 i; by = second.1 i; tested = third.0 i; bound = third.1 i }, third.2)
+    (λ i. record { line = first.0 i; counter = first.1 i; from = second.0 i; by = second.1 i; tested = third.0 i; bound = third.1 i }, third.2)

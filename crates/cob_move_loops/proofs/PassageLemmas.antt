@@ -29,7 +29,7 @@ run_no_period [] rest is = absurd is
 run_no_period (w ∷ own) rest is = λ stop. let never : term.Move ≡ term.Stop = sym is.0 ∙ ap (λ k. term_of_kind k w.text) stop in cc
 
 pub head_first : (l : WrittenLoop) (head : List Lexeme) → IsHead l head → (w : Lexeme) × (tail : List Lexeme) × IsLoopWord loop.Perform w × (head ≡ w ∷ tail)
-head_first l head (varying, stepping, until, (perform, named, counter, is, a, b, e), s, u, f) =
+head_first l head (varying, stepping, until, (perform, named, counter, is, at, a, b, e), s, u, f) =
     (perform, named ∷ counter ∷ (stepping ++ until), is, f ∙ ap (λ (t : List Lexeme). t ++ (stepping ++ until)) e)
 
 pub no_period : (p : Passage) (ws : List Lexeme) → IsPassage p ws → NoPeriod ws

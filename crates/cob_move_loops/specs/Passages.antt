@@ -9,9 +9,10 @@ use Rattle.cob_move_loops.specs.declared.words.LoopWord.{LoopWord}
 use Rattle.cob_move_loops.specs.declared.words.LoopWord.TheVariants as loop
 use Rattle.cob_move_loops.specs.Words.{IsCounter, IsLoopWord, IsNoPeriod, IsNumber, IsOther, IsPeriod, LoopWordFirst, NoPeriod, first_line, loop_word}
 
--- a loop with a literal bound: its counter, the first number, how much is added from turn to turn, the name that is tested, and the number that it is not
+-- a loop with a literal bound: its line, its counter, the first number, how much is added from turn to turn, the name that is tested, and the number that it is not
 -- to pass
 pub record WrittenLoop : Type 0 where
+  pub line : ℕ
   pub counter : List ℕ
   pub from : ℕ
   pub by : ℕ
@@ -25,10 +26,11 @@ pub data Passage : Type 0 where
   Pause : Passage → Passage
   ALoop : WrittenLoop → Passage → Passage → Passage
 
--- PERFORM VARYING and the counter
-abbrev pub IsVarying : List ℕ → List Lexeme → Type 0
-IsVarying name ws = (perform varying counter : Lexeme)
-    × IsLoopWord loop.Perform perform × IsWord (codes "VARYING") varying × IsCounter name counter × (ws ≡ perform ∷ varying ∷ counter ∷ [])
+-- PERFORM VARYING and the counter, on this line
+abbrev pub IsVarying : ℕ → List ℕ → List Lexeme → Type 0
+IsVarying line name ws = (perform varying counter : Lexeme)
+    × IsLoopWord loop.Perform perform × (line ≡ perform.line) × IsWord (codes "VARYING") varying × IsCounter name counter
+    × (ws ≡ perform ∷ varying ∷ counter ∷ [])
 
 -- FROM and BY with their numbers
 abbrev pub IsStepping : ℕ → ℕ → List Lexeme → Type 0
@@ -60,7 +62,7 @@ IsUntil name bound ws = (until counter number : Lexeme) × (past : List Lexeme)
 -- what stands before the statements of a loop
 abbrev pub IsHead : WrittenLoop → List Lexeme → Type 0
 IsHead l ws = (varying stepping until : List Lexeme)
-    × IsVarying l.counter varying × IsStepping l.from l.by stepping × IsUntil l.tested l.bound until × (ws ≡ varying ++ (stepping ++ until))
+    × IsVarying l.line l.counter varying × IsStepping l.from l.by stepping × IsUntil l.tested l.bound until × (ws ≡ varying ++ (stepping ++ until))
 
 -- words of MOVE statements: MOVE comes first, and no word of loops is among them
 abbrev pub IsRun : List Lexeme → Type 0

@@ -1,5 +1,5 @@
 -- What the readers of loops say of what they answer, and of the words that they leave.
-use Rattle.std.specs.Prelude.{◌≡◌, ◌⊎◌, ℕ, codes, false, List, [], ◌∷◌, ◌++◌, map, Option, Some, IsSomeAnd}
+use Rattle.std.specs.Prelude.{◌≡◌, ◌⊎◌, ℕ, ◌*◌, codes, false, List, [], ◌∷◌, ◌++◌, map, Option, Some, IsSomeAnd}
 use denote.Ref.{Bor}
 use Rattle.cob_source.specs.declared.token.Token.{Token}
 use Rattle.cob_source.specs.Tokens.{Lexeme, lexemes}
@@ -10,13 +10,18 @@ use Rattle.cob_move_loops.specs.declared.writing.Run.{Run}
 use Rattle.cob_move_loops.specs.declared.front.Item.{Item}
 use Rattle.cob_move_loops.specs.declared.front.Item.TheVariants as item
 use Rattle.cob_move_loops.specs.declared.words.LoopWord.TheVariants as loop
+use Rattle.cob_move_loops.specs.Few.{statements_in, statements_of}
 use Rattle.cob_move_loops.specs.Turns.{Counted, counter_at, in_turn, turns, turns_of, written_out}
 use Rattle.cob_move_loops.specs.Words.{IsLoopWord}
 use Rattle.cob_move_loops.specs.Passages.{APause, ARun, Breaks, Front, FrontStands, IsPassage, Looped, Passage, WrittenLoop, open_behind}
 
 -- a loop without where its texts lie in memory
 abbrev pub written_loop : Loop → WrittenLoop
-written_loop l = record { counter = l.counter.now; from = l.from; by = l.by; tested = l.tested.now; bound = l.bound }
+written_loop l = record { line = l.line; counter = l.counter.now; from = l.from; by = l.by; tested = l.tested.now; bound = l.bound }
+
+-- a reader answers a number and a text, and leaves these words
+abbrev pub AnswersNamed : Option (ℕ × Bor (List ℕ) × Bor (List Token)) → ℕ → List ℕ → List Lexeme → Type 0
+AnswersNamed answer n text more = IsSomeAnd answer (λ r. (r.0 ≡ n) × (r.1.now ≡ text) × (lexemes r.2.now ≡ more))
 
 -- a reader answers two numbers, and leaves these words
 abbrev pub AnswersNumbers : Option (ℕ × ℕ × Bor (List Token)) → ℕ → ℕ → List Lexeme → Type 0
@@ -81,3 +86,13 @@ abbrev pub written_front : List Counted → Front → Passage → List (List Lex
 written_front ns (ARun own) p = in_turn ns false 0 own ∷ []
 written_front ns APause p = []
 written_front ns (Looped l own) p = turns (λ i. written_out (ns ++ counter_at l i ∷ []) p) l.by (turns_of l) l.from
+
+-- the names of counters
+abbrev pub names_of : List Counter → List (List ℕ)
+names_of cs = map (λ c. c.name.now) cs
+
+-- the statements of what stands in front once it is written out, where its statements, if it is a loop, are this passage
+abbrev pub statements_front : Front → Passage → ℕ
+statements_front (ARun own) p = statements_in own
+statements_front APause p = 0
+statements_front (Looped l own) p = turns_of l * statements_of p

@@ -2,22 +2,12 @@
 
 ghost use Rattle.std.specs.Prelude.{◌≡◌, ℕ, ◌<◌, IfErr, OnOk, length, List};
 ghost use Rattle.cob_source.specs.Tokens.{lexemes};
-ghost use Rattle.cob_move_loops.specs.Words.{first_line};
 ghost use Rattle.cob_move_loops.specs.Passages.{APause, ARun, Breaks, Front, IsPassage, Looped, Passage};
 ghost use Rattle.cob_move_loops.specs.Reading.{HasPassages, BreaksWithin, front_of};
 
 use crate::front::{Item, item_at};
+use crate::words::line_of;
 use cob_source::Token;
-
-/// The line of the first word, or 1 where there is none.
-fn line_of(words: &[Token]) -> u32
-    ensures { result ≡ first_line (lexemes words.now) }
-{
-    match words.first() {
-        Some(first) => first.line,
-        None => 1,
-    }
-}
 
 /// Checks that the statements of what stands in front, if it is a loop, are a passage.
 ///

@@ -6,17 +6,18 @@ ghost use Rattle.cob_copybook_clauses.specs.Reading.{Answers, AnswersText, EachC
 ghost use Rattle.cob_source.specs.Tokens.{Lexeme, lexeme, lexemes};
 ghost use Rattle.cob_move_loops.specs.Words.{IsCounter, IsOther};
 ghost use Rattle.cob_move_loops.specs.Passages.{IsGreater, IsHead, IsPastWord, IsStepping, IsUntil, IsVarying, NotThanFirst, WrittenLoop};
-ghost use Rattle.cob_move_loops.specs.Reading.{AfterIs, AnswersNumbers, AnswersTested, written_loop};
+ghost use Rattle.cob_move_loops.specs.Reading.{AfterIs, AnswersNamed, AnswersNumbers, AnswersTested, written_loop};
 
 use crate::number::number_at;
-use crate::words::{LoopWord, behind_loop_word, behind_text, loop_word};
+use crate::words::{LoopWord, behind_loop_word, behind_text, line_of, loop_word};
 use cob_copybook_clauses::is_name_word;
 use cob_source::Token;
 
-/// What stands before the statements of a loop: its counter, the first number, how much is added from turn to turn, the name that is tested, and the
+/// What stands before the statements of a loop: its line, its counter, the first number, how much is added from turn to turn, the name that is tested, and the
 /// number that it is not to pass.
 #[derive(Clone, Copy)]
 pub struct Loop<'a> {
+    pub line: u32,
     pub counter: &'a [u8],
     pub from: u32,
     pub by: u32,
@@ -47,17 +48,17 @@ fn counter_at(words: &[Token]) -> Option<(&[u8], &[Token])>
     Some((first.text.as_slice(), more))
 }
 
-/// PERFORM VARYING and the counter in front, and what is behind them.
-fn varying_at(words: &[Token]) -> Option<(&[u8], &[Token])>
-    ensures found { IfSome result (λ r. StandInFront (IsVarying r.0.now) (lexemes words.now)
-        (lexemes r.1.now)) }
-    ensures only { (name : List ℕ) (ws more : List Lexeme) → IsVarying name ws
-        → lexemes words.now ≡ ws ++ more → AnswersText result name more }
+/// The line of PERFORM VARYING in front, the counter behind it, and what is behind that.
+fn varying_at(words: &[Token]) -> Option<(u32, &[u8], &[Token])>
+    ensures found { IfSome result (λ r. StandInFront (IsVarying r.0 r.1.now) (lexemes words.now)
+        (lexemes r.2.now)) }
+    ensures only { (line : ℕ) (name : List ℕ) (ws more : List Lexeme) → IsVarying line name ws
+        → lexemes words.now ≡ ws ++ more → AnswersNamed result line name more }
 {
     let performed = behind_loop_word(words, LoopWord::Perform)?;
     let varied = behind_text(performed, b"VARYING")?;
     let (name, more) = counter_at(varied)?;
-    Some((name, more))
+    Some((line_of(words), name, more))
 }
 
 /// FROM and BY in front with their numbers, and what is behind them.
@@ -129,11 +130,12 @@ pub(crate) fn head_at(words: &[Token]) -> Option<(Loop<'_>, &[Token])>
     ensures only { (l : WrittenLoop) (ws more : List Lexeme) → IsHead l ws
         → lexemes words.now ≡ ws ++ more → Answers written_loop result l more }
 {
-    let (counter, stepped) = varying_at(words)?;
+    let (line, counter, stepped) = varying_at(words)?;
     let (from, by, ended) = stepping_at(stepped)?;
     let (tested, bound, more) = until_at(ended)?;
     Some((
         Loop {
+            line,
             counter,
             from,
             by,

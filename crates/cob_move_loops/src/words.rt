@@ -3,7 +3,7 @@
 ghost use Rattle.std.specs.Prelude.{◌≡◌, ◌↔◌, ◌∷◌, IfSome, IsSomeAnd, IsTrue, List, Some};
 ghost use Rattle.cob_copybook_clauses.specs.Clauses.{IsWord};
 ghost use Rattle.cob_source.specs.Tokens.{Lexeme, lexeme, lexemes};
-ghost use Rattle.cob_move_loops.specs.Words.{loop_word, loop_word_in};
+ghost use Rattle.cob_move_loops.specs.Words.{first_line, loop_word, loop_word_in};
 
 use cob_source::{Token, TokenKind};
 
@@ -94,4 +94,14 @@ pub(crate) fn behind_loop_word(words: &[Token], word: LoopWord) -> Option<&[Toke
         return None;
     }
     Some(more)
+}
+
+/// The line of the first word, or 1 where there is none.
+pub(crate) fn line_of(words: &[Token]) -> u32
+    ensures { result ≡ first_line (lexemes words.now) }
+{
+    match words.first() {
+        Some(first) => first.line,
+        None => 1,
+    }
 }
