@@ -1,4 +1,6 @@
 pub mod CutLemmas
+pub mod FrontLemmas
+pub mod Fronts
 pub mod HeadLemmas
 pub mod OneLemmas
 pub mod PassageLemmas

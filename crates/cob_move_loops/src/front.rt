@@ -22,6 +22,13 @@ pub(crate) enum Item<'a> {
     Loop { head: Loop<'a>, body: &'a [Token] },
 }
 
+/// Whether a token is a period.
+fn is_stop(token: &Token) -> bool
+    ensures { IsTrue result ↔ IsPeriod (lexeme token.now) }
+{
+    token.kind == TokenKind::Stop
+}
+
 /// The words behind the period in front, if there is one.
 fn behind_stop(words: &[Token]) -> Option<&[Token]>
     ensures found { IfSome result (λ r. (w : Lexeme) × IsPeriod w
@@ -30,7 +37,7 @@ fn behind_stop(words: &[Token]) -> Option<&[Token]>
         → IsSomeAnd result (λ r. lexemes r.now ≡ more) }
 {
     let (first, more) = words.split_first()?;
-    if first.kind != TokenKind::Stop {
+    if !is_stop(first) {
         return None;
     }
     Some(more)
@@ -151,7 +158,7 @@ fn body_at(words: &[Token]) -> Option<(&[Token], &[Token])>
 fn has_no_period(words: &[Token]) -> bool
     ensures { IsTrue result ↔ AllByRecursion IsNoPeriod (lexemes words.now) }
 {
-    words.iter().all(|word| word.kind != TokenKind::Stop)
+    words.iter().all(|word| !is_stop(word))
 }
 
 /// Whether words in which as many loops are closed as are opened may be the statements of a loop.

@@ -1,6 +1,6 @@
 //! Numbers of loops.
 
-ghost use Rattle.std.specs.Prelude.{◌≡◌, ℕ, ◌≤◌, ◌∷◌, length, List, Some, IfSome, IsSomeAnd};
+ghost use Rattle.std.specs.Prelude.{◌≡◌, ◌↔◌, ℕ, ◌≤◌, ◌∷◌, length, List, Some, IfSome, IsTrue};
 ghost use Rattle.cob_copybook_entries.specs.Meaning.{IsIntegerText};
 ghost use Rattle.cob_copybook_clauses.specs.Reading.{Answers};
 ghost use Rattle.cob_decimal.specs.Decimal.{number_of as number_in};
@@ -38,12 +38,19 @@ fn number_of(text: &[u8]) -> u32
     number
 }
 
+/// Whether a token is a word.
+fn is_word(token: &Token) -> bool
+    ensures { IsTrue result ↔ (lexeme token.now).kind ≡ TokenKind.Word }
+{
+    token.kind == TokenKind::Word
+}
+
 /// The number that a word is, if it is one that a loop may have.
-fn number_in(token: &Token) -> Option<u32>
+fn number_of_word(token: &Token) -> Option<u32>
     ensures found { IfSome result (λ n. IsNumber n (lexeme token.now)) }
     ensures only { (n : ℕ) → IsNumber n (lexeme token.now) → result ≡ Some n }
 {
-    if token.kind != TokenKind::Word {
+    if !is_word(token) {
         return None;
     }
     let number = whole(token.text.as_slice())?;
@@ -61,6 +68,6 @@ pub(crate) fn number_at(words: &[Token]) -> Option<(u32, &[Token])>
         → lexemes words.now ≡ w ∷ more → Answers (λ m. m) result n more }
 {
     let (first, more) = words.split_first()?;
-    let number = number_in(first)?;
+    let number = number_of_word(first)?;
     Some((number, more))
 }

@@ -96,10 +96,10 @@ fn amount_in(token: &Token) -> Option<u32>
 fn shifted(sign: &[u8], number: u32, amount: u32) -> Option<u64>
     ensures { result ≡ shifted sign.now number amount }
 {
-    if sign == b"+" {
+    if sign == b"+".as_slice() {
         return Some(u64::from(number) + u64::from(amount));
     }
-    if sign == b"-" {
+    if sign == b"-".as_slice() {
         return Some(u64::from(number.saturating_sub(amount)));
     }
     None

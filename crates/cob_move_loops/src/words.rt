@@ -22,13 +22,13 @@ pub enum LoopWord {
 fn loop_word_in(text: &[u8]) -> Option<LoopWord>
     ensures { result ≡ loop_word_in text.now }
 {
-    if text == b"PERFORM" {
+    if text == b"PERFORM".as_slice() {
         return Some(LoopWord::Perform);
     }
-    if text == b"END-PERFORM" {
+    if text == b"END-PERFORM".as_slice() {
         return Some(LoopWord::EndPerform);
     }
-    if text == b"CONTINUE" {
+    if text == b"CONTINUE".as_slice() {
         return Some(LoopWord::Continue);
     }
     None
