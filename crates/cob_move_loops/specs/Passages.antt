@@ -9,8 +9,8 @@ use Rattle.cob_move_loops.specs.declared.words.LoopWord.{LoopWord}
 use Rattle.cob_move_loops.specs.declared.words.LoopWord.TheVariants as loop
 use Rattle.cob_move_loops.specs.Words.{IsCounter, IsLoopWord, IsNoPeriod, IsNumber, IsOther, IsPeriod, LoopWordFirst, NoPeriod, first_line, loop_word}
 
--- a loop with a literal bound: its line, its counter, the first number, how much is added from turn to turn, the name that is tested, and the number that it is not
--- to pass
+-- a loop with a literal bound: its line, its counter, the first number, how much is added from turn to turn, the name that is tested, and the number
+-- that it is not to pass
 pub record WrittenLoop : Type 0 where
   pub line : ℕ
   pub counter : List ℕ

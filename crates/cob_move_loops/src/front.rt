@@ -13,6 +13,7 @@ use cob_copybook_clauses::{WordClass, front, is_term};
 use cob_source::{Token, TokenKind};
 
 /// What stands in front of a passage.
+#[derive(Clone, Copy)]
 pub(crate) enum Item<'a> {
     /// Words of MOVE statements.
     Run(&'a [Token]),
