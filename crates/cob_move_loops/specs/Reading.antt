@@ -4,7 +4,7 @@ use denote.Ref.{Bor}
 use Rattle.cob_source.specs.declared.token.Token.{Token}
 use Rattle.cob_source.specs.Tokens.{Lexeme, lexemes}
 use Rattle.cob_copybook_clauses.specs.Clauses.{IsWord}
-use Rattle.cob_move_loops.specs.declared.head.Loop.{Loop}
+use Rattle.cob_move_loops.specs.declared.parts.Loop.{Loop}
 use Rattle.cob_move_loops.specs.declared.turn.Counter.{Counter}
 use Rattle.cob_move_loops.specs.declared.writing.Run.{Run}
 use Rattle.cob_move_loops.specs.declared.front.Item.{Item}

@@ -7,7 +7,8 @@ ghost use Rattle.cob_move_loops.specs.Words.{IsNoPeriod, IsOther, IsPeriod, Loop
 ghost use Rattle.cob_move_loops.specs.Passages.{APause, ARun, Front, FrontStands, IsBody, IsRun, Looped, WrittenLoop, open_behind, open_by};
 ghost use Rattle.cob_move_loops.specs.Reading.{AnswersFront, ClosedInFront, front_of};
 
-use crate::head::{Loop, head_at};
+use crate::head::head_at;
+use crate::parts::Loop;
 use crate::words::{LoopWord, behind_loop_word, loop_word};
 use cob_copybook_clauses::{WordClass, front, is_term};
 use cob_source::{Token, TokenKind};

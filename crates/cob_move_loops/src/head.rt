@@ -1,6 +1,6 @@
 //! The heads of loops.
 
-ghost use Rattle.std.specs.Prelude.{◌≡◌, ◌↔◌, ℕ, ◌<◌, ◌∷◌, ◌++◌, List, IfSome, IsTrue};
+ghost use Rattle.std.specs.Prelude.{◌≡◌, ◌↔◌, ℕ, ◌∷◌, ◌++◌, List, IfSome, IsTrue};
 ghost use Rattle.cob_copybook_clauses.specs.Clauses.{IsNameWord};
 ghost use Rattle.cob_copybook_clauses.specs.Reading.{Answers, AnswersText, EachCut, Leaves, StandInFront};
 ghost use Rattle.cob_source.specs.Tokens.{Lexeme, lexeme, lexemes};
@@ -9,23 +9,10 @@ ghost use Rattle.cob_move_loops.specs.Passages.{IsGreater, IsHead, IsPastWord, I
 ghost use Rattle.cob_move_loops.specs.Reading.{AfterIs, AnswersNamed, AnswersNumbers, AnswersTested, written_loop};
 
 use crate::number::number_at;
+use crate::parts::Loop;
 use crate::words::{LoopWord, behind_loop_word, behind_text, line_of, loop_word};
 use cob_copybook_clauses::is_name_word;
 use cob_source::Token;
-
-/// What stands before the statements of a loop: its line, its counter, the first number, how much is added from turn to turn, the name that is tested, and the
-/// number that it is not to pass.
-#[derive(Clone, Copy)]
-pub struct Loop<'a> {
-    pub line: u32,
-    pub counter: &'a [u8],
-    pub from: u32,
-    pub by: u32,
-    pub tested: &'a [u8],
-    pub bound: u32,
-
-    pub ghost steps: { 0 < by },
-}
 
 /// Whether a word is a name that a counter may have.
 fn is_counter(token: &Token) -> bool

@@ -10,13 +10,14 @@ mod front;
 mod head;
 mod laws;
 mod number;
+mod parts;
 mod turn;
 mod words;
 mod writing;
 
 pub use checking::check;
-pub use head::Loop;
 pub use laws::{breaks_none, no_turn, one_passage};
+pub use parts::Loop;
 pub use turn::{Counter, in_turn};
 pub use words::LoopWord;
 pub use writing::{Run, write_out};

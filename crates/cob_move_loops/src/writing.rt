@@ -7,7 +7,7 @@ ghost use Rattle.cob_move_loops.specs.Reading.{Within, all_runs, counters, front
 ghost use Rattle.cob_move_loops.specs.Turns.{counter_at, in_turn, turns, turns_of, written_out};
 
 use crate::front::{Item, item_at};
-use crate::head::Loop;
+use crate::parts::Loop;
 use crate::turn::Counter;
 use cob_source::Token;
 use std::alloc::{AllocError, Global};
