@@ -49,7 +49,7 @@ fn with_counter<'a>(
     turn: &[Counter<'a>],
     counter: Counter<'a>,
 ) -> Result<Vec<Counter<'a>>, AllocError>
-    ensures { IfOk result (λ made. made.items ≡ turn.now ++ counter ∷ []) }
+    ensures { IfOk result (λ made. made.items ≡ turn.now ++ counter.entry ∷ []) }
 {
     let mut made = Vec::with_capacity(alloc, turn.len())?;
     made.extend_from_slice(turn)?;
