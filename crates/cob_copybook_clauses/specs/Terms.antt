@@ -53,7 +53,7 @@ figurative_words =
 -- the words of a statement, and its brackets
 abbrev pub statement_words : List Keyword
 statement_words =
-    meaning (codes "MOVE") term.Move ∷ meaning (codes "CORRESPONDING") term.Corresponding ∷ meaning (codes "CORR") term.Corresponding
+    meaning (codes "MOVE") term.Move ∷ meaning (codes "CLEAR") term.Clear ∷ meaning (codes "CORRESPONDING") term.Corresponding ∷ meaning (codes "CORR") term.Corresponding
     ∷ meaning (codes "(") term.OpenBracket ∷ meaning (codes ")") term.CloseBracket
     ∷ []
 

@@ -77,6 +77,8 @@ pub enum WordClass {
     Filler,
     /// MOVE.
     Move,
+    /// CLEAR.
+    Clear,
     /// CORRESPONDING, CORR.
     Corresponding,
     /// An open bracket, a word of its own in a paragraph.
@@ -134,6 +136,7 @@ static KEYWORDS: [&[(&[u8], WordClass)]; 14] = [
         (b"SPACE", WordClass::Space),
         (b"ZEROS", WordClass::Zero),
         (b"QUOTE", WordClass::Quote),
+        (b"CLEAR", WordClass::Clear),
     ],
     &[
         (b"OCCURS", WordClass::Occurs),

@@ -3,6 +3,8 @@ use Rattle.std.specs.Prelude.{◌≡◌, ◌||◌, false, List, [], ◌∷◌, �
 use Rattle.std.specs.List.{AllByRecursion}
 use Rattle.cob_codec.specs.declared.reading.Reading.TheVariants.{Pictured}
 use Rattle.cob_copybook_entry.specs.Described.{PlainValue}
+use Rattle.cob_copybook_clauses.specs.Written.{Figure}
+use Rattle.cob_copybook_entry.specs.declared.kinds.Figurative.TheVariants.{Space}
 use Rattle.cob_copybook_entries.specs.Meaning.{IsConstantOf}
 use Rattle.cob_copybook_tree.specs.Forests.{Forest}
 use Rattle.cob_copybook_tree.specs.Nodes.{Resolved}
@@ -12,7 +14,7 @@ use Rattle.cob_move_data.specs.declared.operands.Operand.{Operand}
 use Rattle.cob_move_data.specs.Moves.{Sender, Entry, Literal, Move}
 use Rattle.cob_move_receive.specs.Table.{SenderKind, Entry as EntryOf, Literal as LiteralOf}
 use Rattle.cob_move_receive.specs.Refusals.{IsAllowed}
-use Rattle.cob_move_statements.specs.Written.{WrittenReference, WrittenSender, SentReference, SentConstant, WrittenAction, MoveTo, MoveCorresponding, WrittenStatement}
+use Rattle.cob_move_statements.specs.Written.{WrittenReference, WrittenSender, SentReference, SentConstant, WrittenAction, MoveTo, MoveCorresponding, Clear, WrittenStatement}
 use Rattle.cob_move_names.specs.Candidates.{Candidate, all_entries}
 use Rattle.cob_move_names.specs.References.{NamesOperand}
 use Rattle.cob_move.specs.declared.corresponding.TwoGroups.{TwoGroups}
@@ -68,10 +70,15 @@ pub record AreMovesOf (all : List Candidate) (input output : Forest Resolved) (f
   pub moves : ms ≡ map (pair_move groups) (pairs_of input output groups)
   pub allowed : AllByRecursion IsAllowedMove ms
 
--- What stands behind MOVE means these moves, where these entries of the two records may be named.
+-- CLEAR means what MOVE SPACE to its receivers means.
+abbrev pub spaces : WrittenSender
+spaces = SentConstant (Figure Space)
+
+-- What a statement does means these moves, where these entries of the two records may be named.
 abbrev pub IsMeaning : List Candidate → Forest Resolved → Forest Resolved → WrittenAction → List Move → Type 0
 IsMeaning all input output (MoveTo s rs) ms = (m : Move) × IsMoveOf all s rs m × (ms ≡ m ∷ [])
 IsMeaning all input output (MoveCorresponding from to) ms = AreMovesOf all input output from to ms
+IsMeaning all input output (Clear rs) ms = (m : Move) × IsMoveOf all spaces rs m × (ms ≡ m ∷ [])
 
 -- Statements mean their moves, one statement's behind another's.
 abbrev pub AreMeanings : List Candidate → Forest Resolved → Forest Resolved → List WrittenStatement → List Move → Type 0

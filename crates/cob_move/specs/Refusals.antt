@@ -15,14 +15,14 @@ use Rattle.cob_move_receive.specs.declared.refusals.Refusal.TheVariants as refus
 use Rattle.cob_move_statements.specs.declared.fault.MoveRule.{MoveRule}
 use Rattle.cob_move_statements.specs.declared.fault.MoveRule.TheVariants as rule
 use Rattle.cob_move_statements.specs.declared.fault.MoveFault.{MoveFault}
-use Rattle.cob_move_statements.specs.Written.{WrittenReference, WrittenSender, SentReference, SentConstant, WrittenAction, MoveTo, MoveCorresponding, WrittenStatement}
+use Rattle.cob_move_statements.specs.Written.{WrittenReference, WrittenSender, SentReference, SentConstant, WrittenAction, MoveTo, MoveCorresponding, Clear, WrittenStatement}
 use Rattle.cob_move_apply.specs.Some.{SomeOf}
 use Rattle.cob_move_names.specs.Candidates.{Candidate, all_entries}
 use Rattle.cob_move_names.specs.References.{NamesOperand, BreaksReference, BreaksReceiver}
 use Rattle.cob_move_names.specs.Between.{PairEnds, ends_of}
 use Rattle.cob_move_names.specs.Pairs.{AreOnce, Pair, is_elementary}
 use Rattle.cob_move.specs.declared.corresponding.TwoGroups.{TwoGroups}
-use Rattle.cob_move.specs.Meaning.{IsSenderOf, AreGroupsOf, kind_of_sender, pairs_of}
+use Rattle.cob_move.specs.Meaning.{IsSenderOf, AreGroupsOf, kind_of_sender, pairs_of, spaces}
 
 -- the reference that a sender is, if it is one
 abbrev pub sent_references : WrittenSender → List WrittenReference
@@ -38,16 +38,19 @@ constant_sent (SentConstant w) = Some w
 abbrev pub references : WrittenAction → List WrittenReference
 references (MoveTo s rs) = sent_references s ++ rs
 references (MoveCorresponding from to) = from ∷ to ∷ []
+references (Clear rs) = rs
 
 -- the references of a statement that receive
 abbrev pub receivers : WrittenAction → List WrittenReference
 receivers (MoveTo s rs) = rs
 receivers (MoveCorresponding from to) = to ∷ []
+receivers (Clear rs) = rs
 
 -- the constant that a statement sends, if it sends one
 abbrev pub sent_constant : WrittenAction → Option WrittenValue
 sent_constant (MoveTo s rs) = constant_sent s
 sent_constant (MoveCorresponding from to) = None
+sent_constant (Clear rs) = None
 
 -- A single move breaks a rule: the table of categories doesn't have it (M6), its literal isn't as the receiver asks (M7), or its sender is too
 -- long for a number (M10).
@@ -86,6 +89,7 @@ BreaksPair r p = BreaksBetween r (ends_of p)
 abbrev pub SomeBreak : MoveRule → List Candidate → Forest Resolved → Forest Resolved → WrittenAction → Type 0
 SomeBreak r all input output (MoveTo s rs) = (m : Sender) × IsSenderOf all s m × SomeOf (BreaksReceiving r all m) rs
 SomeBreak r all input output (MoveCorresponding from to) = (g : TwoGroups) × AreGroupsOf all from to g × SomeOf (BreaksPair r) (pairs_of input output g)
+SomeBreak r all input output (Clear rs) = (m : Sender) × IsSenderOf all spaces m × SomeOf (BreaksReceiving r all m) rs
 
 -- A reference names an item that is elementary.
 abbrev pub IsNoGroup : List Candidate → WrittenReference → Type 0
@@ -95,11 +99,13 @@ IsNoGroup all r = (side : Side) × (o : Operand) × NamesOperand all r side o ×
 abbrev pub LacksGroup : List Candidate → WrittenAction → Type 0
 LacksGroup all (MoveTo s rs) = ⊥
 LacksGroup all (MoveCorresponding from to) = IsNoGroup all from ⊎ IsNoGroup all to
+LacksGroup all (Clear rs) = ⊥
 
 -- CORRESPONDING has an entry in two of its pairs.
 abbrev pub PairsTwice : List Candidate → Forest Resolved → Forest Resolved → WrittenAction → Type 0
 PairsTwice all input output (MoveTo s rs) = ⊥
 PairsTwice all input output (MoveCorresponding from to) = (g : TwoGroups) × AreGroupsOf all from to g × (AreOnce (pairs_of input output g) → ⊥)
+PairsTwice all input output (Clear rs) = ⊥
 
 -- A statement breaks a rule. M1: a word that it sends is no numeric literal. M2, M3, M4: one of its references names no entry, or several, or its
 -- subscripts aren't those of the entry's tables. M5: a receiver stands in the input record. M6, M7, M10: one of its single moves isn't allowed;

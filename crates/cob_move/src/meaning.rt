@@ -25,13 +25,15 @@ use crate::corresponding::moves_of;
 use crate::entries::Entries;
 use crate::meaning_laws::{meant_break_no_rule, one_meant};
 use crate::single::move_of;
+use cob_copybook_clauses::ValueClause;
+use cob_copybook_entry::Figurative;
 use cob_layout::Layout;
 use cob_move_data::StatementMoves;
 use cob_move_names::{Correspondences, Names};
-use cob_move_statements::{Action, MoveFault, MoveRule, Statement};
+use cob_move_statements::{Action, MoveFault, MoveRule, Statement, StatementSender};
 use std::alloc::Global;
 
-/// The moves of what stands behind MOVE.
+/// The moves of what a statement does.
 ///
 /// # Errors
 ///
@@ -56,6 +58,11 @@ fn meaning_of(
         Action::Corresponding { from, to } => {
             let group = moves_of(alloc, entries, pairs, from, to)?;
             Ok(StatementMoves::Pairs(group))
+        }
+        Action::Clear { receivers } => {
+            let spaces = StatementSender::Constant(ValueClause::Figurative(Figurative::Space));
+            let single = move_of(alloc, entries, &spaces, receivers.as_slice())?;
+            Ok(StatementMoves::Single(single))
         }
     }
 }

@@ -14,11 +14,10 @@ ghost use Rattle.cob_source.specs.Tokens.{lexemes};
 
 use crate::entries::Entries;
 use crate::meaning::meanings_of;
-use cob_copybook_clauses::{WordClass, is_term};
 use cob_layout::Layout;
 use cob_move_data::StatementMoves;
 use cob_move_names::{Correspondences, Names};
-use cob_move_statements::{MoveFault, MoveRule, Statement, statements};
+use cob_move_statements::{MoveFault, MoveRule, Statement, begins_statement, statements};
 use cob_source::{SourceRule, Token, WordsAhead};
 use std::alloc::Global;
 
@@ -35,14 +34,11 @@ fn refused_memory() -> MoveFault
     }
 }
 
-/// Whether nothing comes first, or MOVE.
+/// Whether nothing comes first, or a verb.
 fn statements_follow(words: &[Token]) -> bool
     ensures { IsTrue result → FollowsStatements (lexemes words.now) }
 {
-    match words.split_first() {
-        Some((first, _)) => is_term(first, WordClass::Move),
-        None => true,
-    }
+    words.is_empty() || begins_statement(words)
 }
 
 /// Reads the words of the next piece in the place of those before, and answers whether more are left; None where the text breaks a rule.

@@ -1,9 +1,10 @@
 -- The words of a paragraph.
-use Rattle.std.specs.Prelude.{◌≡◌, ◌⊎◌, ℕ, ◌<◌, List, [], ◌∷◌, ◌++◌, length}
+use Rattle.std.specs.Prelude.{◌≡◌, ◌⊎◌, ℕ, Bool, true, false, ◌<◌, List, [], ◌∷◌, ◌++◌, length}
 use Rattle.std.specs.List.{AllByRecursion}
 use Rattle.cob_decimal.specs.Literals.{AreDigits, Literal}
 use Rattle.cob_source.specs.Tokens.{Lexeme}
 use Rattle.cob_source.specs.declared.token.TokenKind.TheVariants as kind
+use Rattle.cob_copybook_clauses.specs.declared.term.WordClass.{WordClass}
 use Rattle.cob_copybook_clauses.specs.declared.term.WordClass.TheVariants as term
 use Rattle.cob_copybook_clauses.specs.Terms.{word_class}
 use Rattle.cob_copybook_clauses.specs.Clauses.{AreQualifiers, IsConstant, IsNameWord}
@@ -12,7 +13,7 @@ use Rattle.cob_copybook_clauses.specs.Written.{WrittenValue, Word, Quoted, Figur
 use Rattle.cob_copybook_entries.specs.Parts.{IsLiteralOf}
 use Rattle.cob_move_statements.specs.declared.fault.MoveRule.{MoveRule}
 use Rattle.cob_move_statements.specs.declared.fault.MoveRule.TheVariants as rule
-use Rattle.cob_move_statements.specs.Written.{word_texts, WrittenReference, WrittenSender, SentReference, SentConstant, WrittenAction, MoveTo, MoveCorresponding, WrittenStatement}
+use Rattle.cob_move_statements.specs.Written.{word_texts, WrittenReference, WrittenSender, SentReference, SentConstant, WrittenAction, MoveTo, MoveCorresponding, Clear, WrittenStatement}
 
 -- pieces one behind another, each of which is so
 abbrev pub Several : {V : Type 0} → (V → List Lexeme → Type 0) → List V → List Lexeme → Type 0
@@ -79,7 +80,8 @@ abbrev pub IsWrittenSender : WrittenSender → List Lexeme → Type 0
 IsWrittenSender (SentReference r) ws = IsReference r ws
 IsWrittenSender (SentConstant c) ws = IsConstant c ws × IsLiteralOrFigurative c × NoName ws
 
--- what stands behind MOVE: a sender, TO, and a reference or more; or CORRESPONDING, a reference, TO, and a reference
+-- what stands behind the verb: of MOVE a sender, TO, and a reference or more, or CORRESPONDING, a reference, TO, and a reference; of CLEAR a reference
+-- or more
 abbrev pub IsAction : WrittenAction → List Lexeme → Type 0
 IsAction (MoveTo s rs) ws = (sender receivers : List Lexeme) × (between : Lexeme)
     × IsWrittenSender s sender × (word_class between ≡ term.To) × (0 < length rs) × Several IsReference rs receivers
@@ -87,15 +89,28 @@ IsAction (MoveTo s rs) ws = (sender receivers : List Lexeme) × (between : Lexem
 IsAction (MoveCorresponding from to) ws = (corresponding between : Lexeme) × (sender receiver : List Lexeme)
     × (word_class corresponding ≡ term.Corresponding) × IsReference from sender × (word_class between ≡ term.To) × IsReference to receiver
     × (ws ≡ corresponding ∷ (sender ++ between ∷ receiver))
+IsAction (Clear rs) ws = (0 < length rs) × Several IsReference rs ws
 
--- a statement: MOVE, and what stands behind it
+-- the verb of a statement
+abbrev pub verb_of : WrittenAction → WordClass
+verb_of (MoveTo s rs) = term.Move
+verb_of (MoveCorresponding from to) = term.Move
+verb_of (Clear rs) = term.Clear
+
+-- a word is a verb
+abbrev pub is_verb : WordClass → Bool
+is_verb term.Move = true
+is_verb term.Clear = true
+is_verb other = false
+
+-- a statement: its verb, and what stands behind it
 pub record IsStatement (s : WrittenStatement) (ws : List Lexeme) : Type 0 where
-  pub move : Lexeme
+  pub verb : Lexeme
   pub behind : List Lexeme
-  pub is : word_class move ≡ term.Move
-  pub line : s.line ≡ move.line
+  pub is : word_class verb ≡ verb_of s.action
+  pub line : s.line ≡ verb.line
   pub acts : IsAction s.action behind
-  pub words : ws ≡ move ∷ behind
+  pub words : ws ≡ verb ∷ behind
 
 -- a period, before a space or the end of a line
 abbrev pub IsPeriod : Lexeme → Type 0
@@ -106,15 +121,20 @@ abbrev pub NoPeriod : List Lexeme → Type 0
 NoPeriod [] = Unit {0}
 NoPeriod (w ∷ ws) = IsPeriod w → ⊥
 
--- nothing, a period or MOVE may follow a statement
+-- a verb comes first
+abbrev pub BeginsStatement : List Lexeme → Type 0
+BeginsStatement [] = ⊥
+BeginsStatement (w ∷ ws) = is_verb (word_class w) ≡ true
+
+-- nothing, a period or a verb may follow a statement
 abbrev pub EndsStatement : List Lexeme → Type 0
 EndsStatement [] = Unit {0}
-EndsStatement (w ∷ ws) = IsPeriod w ⊎ (word_class w ≡ term.Move)
+EndsStatement (w ∷ ws) = IsPeriod w ⊎ (is_verb (word_class w) ≡ true)
 
--- what may follow a statement and the periods behind it: nothing, or MOVE
+-- what may follow a statement and the periods behind it: nothing, or a verb
 abbrev pub FollowsStatements : List Lexeme → Type 0
 FollowsStatements [] = Unit {0}
-FollowsStatements (w ∷ ws) = word_class w ≡ term.Move
+FollowsStatements (w ∷ ws) = is_verb (word_class w) ≡ true
 
 -- nothing may follow
 abbrev pub IsEnd : List Lexeme → Type 0

@@ -20,10 +20,11 @@ pub data WrittenSender : Type 0 where
   SentReference : WrittenReference → WrittenSender
   SentConstant : WrittenValue → WrittenSender
 
--- what stands behind MOVE: a sender and its receivers, or CORRESPONDING and two references
+-- what a statement does: MOVE with a sender and its receivers, or with CORRESPONDING and two references; CLEAR with its receivers
 pub data WrittenAction : Type 0 where
   MoveTo : WrittenSender → List WrittenReference → WrittenAction
   MoveCorresponding : WrittenReference → WrittenReference → WrittenAction
+  Clear : List WrittenReference → WrittenAction
 
 -- a statement, and the line of its first word
 pub record WrittenStatement : Type 0 where
@@ -47,10 +48,11 @@ abbrev pub written_sender : StatementSender → WrittenSender
 written_sender (sender.Reference r) = SentReference (written_reference r)
 written_sender (sender.Constant c) = SentConstant (written_value c)
 
--- what stands behind MOVE, likewise
+-- what a statement does, likewise
 abbrev pub written_action : Action → WrittenAction
 written_action (action.Move s rs) = MoveTo (written_sender s) (written_references rs.items)
 written_action (action.Corresponding from to) = MoveCorresponding (written_reference from) (written_reference to)
+written_action (action.Clear rs) = Clear (written_references rs.items)
 
 -- a statement, likewise
 abbrev pub written_statement : Statement → WrittenStatement

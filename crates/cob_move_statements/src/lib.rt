@@ -29,5 +29,5 @@ mod subscripts;
 
 pub use fault::{MoveFault, MoveRule};
 pub use laws::one_list_of_statements;
-pub use paragraph::statements;
+pub use paragraph::{begins_statement, statements};
 pub use parts::{Action, Reference, Statement, StatementSender};

@@ -21,6 +21,7 @@ ghost use Rattle.cob_move_statements.specs.Written.{WrittenStatement, written_st
 ghost use Rattle.cob_copybook_clauses.specs.Reading.{Answers, EachCut, Leaves, StandInFront};
 ghost use Rattle.cob_move_statements.specs.Reading.{IsOrLacksMemory, OkAnswers, Refused};
 ghost use Rattle.cob_move_statements.specs.Statements.{
+  BeginsStatement,
   EndsReferences,
   EndsStatement,
   IsBody,
@@ -38,10 +39,10 @@ ghost use Rattle.cob_move_statements.specs.Statements.{
   first_line,
 };
 
-use crate::actions::action_at;
+use crate::actions::{action_at, is_verb};
 use crate::fault::{MoveFault, MoveRule};
 use crate::parts::Statement;
-use cob_copybook_clauses::{WordClass, is_name_word, is_term};
+use cob_copybook_clauses::{is_name_word, word_class};
 use cob_source::{Token, TokenKind};
 use std::alloc::{AllocError, Global};
 
@@ -81,18 +82,14 @@ fn behind_stops(words: &[Token]) -> &[Token]
     rest
 }
 
-/// The line of the MOVE in front, and what is behind it.
-fn move_line_at(words: &[Token]) -> Option<(u32, &[Token])>
-    ensures found { IfSome result (λ r. (w : Lexeme) × (word_class w ≡ term.Move) × (r.0 ≡ w.line)
-        × (lexemes words.now ≡ w ∷ lexemes r.1.now)) }
-    ensures only { (w : Lexeme) (more : List Lexeme) → word_class w ≡ term.Move
-        → lexemes words.now ≡ w ∷ more → Answers (λ line. line) result w.line more }
+/// Whether a verb comes first.
+pub fn begins_statement(words: &[Token]) -> bool
+    ensures { IsTrue result ↔ BeginsStatement (lexemes words.now) }
 {
-    let (first, more) = words.split_first()?;
-    if !is_term(first, WordClass::Move) {
-        return None;
+    match words.split_first() {
+        Some((first, _)) => is_verb(word_class(first)),
+        None => false,
     }
-    Some((first.line, more))
 }
 
 /// The statement in front, and what is behind it.
@@ -109,12 +106,13 @@ fn statement_at(
     ensures only { (x : WrittenStatement) → EachCut (IsStatement x) EndsReferences
         (lexemes words.now) (OkAnswers written_statement result x) }
 {
-    let Some((line, moved)) = move_line_at(words) else {
+    let Some((first, behind)) = words.split_first() else {
         return Ok(None);
     };
-    let Some((action, more)) = action_at(alloc, moved)? else {
+    let Some((action, more)) = action_at(alloc, word_class(first), behind)? else {
         return Ok(None);
     };
+    let line = first.line;
     Ok(Some((Statement { line, action }, more)))
 }
 
@@ -123,7 +121,7 @@ fn ends_statement(words: &[Token]) -> bool
     ensures { IsTrue result ↔ EndsStatement (lexemes words.now) }
 {
     match words.split_first() {
-        Some((first, _)) => is_stop(first) || is_term(first, WordClass::Move),
+        Some((first, _)) => is_stop(first) || is_verb(word_class(first)),
         None => true,
     }
 }

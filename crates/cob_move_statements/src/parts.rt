@@ -18,7 +18,7 @@ pub enum StatementSender<'a> {
     Constant(ValueClause<'a>),
 }
 
-/// What stands behind MOVE, as it is written.
+/// What a statement does, as it is written.
 #[derive(Drop)]
 pub enum Action<'a> {
     /// A sender and its receivers.
@@ -30,6 +30,10 @@ pub enum Action<'a> {
     Corresponding {
         from: Reference<'a>,
         to: Reference<'a>,
+    },
+    /// CLEAR and its receivers.
+    Clear {
+        receivers: Vec<Reference<'a>>,
     },
 }
 
