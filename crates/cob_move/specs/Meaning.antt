@@ -2,9 +2,12 @@
 use Rattle.std.specs.Prelude.{◌≡◌, ◌||◌, false, List, [], ◌∷◌, ◌++◌, map}
 use Rattle.std.specs.List.{AllByRecursion}
 use Rattle.cob_codec.specs.declared.reading.Reading.TheVariants.{Pictured}
-use Rattle.cob_copybook_entry.specs.Described.{PlainValue}
-use Rattle.cob_copybook_clauses.specs.Written.{Figure}
+use Rattle.cob_copybook_entry.specs.Described.{PlainValue, Figure}
+use Rattle.cob_copybook_entry.specs.declared.kinds.Figurative.{Figurative}
 use Rattle.cob_copybook_entry.specs.declared.kinds.Figurative.TheVariants.{Space}
+use Rattle.cob_copybook_tree.specs.declared.node.Kind.{Kind}
+use Rattle.cob_copybook_tree.specs.declared.node.Kind.TheVariants.{Group, Item}
+use Rattle.cob_move_initial.specs.Values.{figurative_for}
 use Rattle.cob_copybook_entries.specs.Meaning.{IsConstantOf}
 use Rattle.cob_copybook_tree.specs.Forests.{Forest}
 use Rattle.cob_copybook_tree.specs.Nodes.{Resolved}
@@ -70,15 +73,23 @@ pub record AreMovesOf (all : List Candidate) (input output : Forest Resolved) (f
   pub moves : ms ≡ map (pair_move groups) (pairs_of input output groups)
   pub allowed : AllByRecursion IsAllowedMove ms
 
--- CLEAR means what MOVE SPACE to its receivers means.
-abbrev pub spaces : WrittenSender
-spaces = SentConstant (Figure Space)
+-- ZERO for what shows a number, and SPACE for all else
+abbrev pub blank_of : Kind → Figurative
+blank_of Group = Space
+blank_of (Item i) = figurative_for i
+
+-- CLEAR means a move of ZERO or SPACE to each of its receivers, which is allowed.
+abbrev pub AreCleared : List Candidate → List WrittenReference → List Move → Type 0
+AreCleared all [] ms = ms ≡ []
+AreCleared all (r ∷ rs) ms = (o : Operand) × (more : List Move) × NamesOperand all r Out o
+    × IsAllowed (LiteralOf (Figure (blank_of o.kind))) o.kind × AreCleared all rs more
+    × (ms ≡ record { sender = Literal (Figure (blank_of o.kind)); receivers = o ∷ [] } ∷ more)
 
 -- What a statement does means these moves, where these entries of the two records may be named.
 abbrev pub IsMeaning : List Candidate → Forest Resolved → Forest Resolved → WrittenAction → List Move → Type 0
 IsMeaning all input output (MoveTo s rs) ms = (m : Move) × IsMoveOf all s rs m × (ms ≡ m ∷ [])
 IsMeaning all input output (MoveCorresponding from to) ms = AreMovesOf all input output from to ms
-IsMeaning all input output (Clear rs) ms = (m : Move) × IsMoveOf all spaces rs m × (ms ≡ m ∷ [])
+IsMeaning all input output (Clear rs) ms = AreCleared all rs ms
 
 -- Statements mean their moves, one statement's behind another's.
 abbrev pub AreMeanings : List Candidate → Forest Resolved → Forest Resolved → List WrittenStatement → List Move → Type 0

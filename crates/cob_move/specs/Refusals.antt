@@ -9,7 +9,8 @@ use Rattle.cob_move_data.specs.declared.operands.Side.{Side}
 use Rattle.cob_move_data.specs.declared.operands.Side.TheVariants.{Out}
 use Rattle.cob_move_data.specs.declared.operands.Operand.{Operand}
 use Rattle.cob_move_data.specs.Moves.{Sender}
-use Rattle.cob_move_receive.specs.Table.{SenderKind, Entry as EntryOf}
+use Rattle.cob_copybook_entry.specs.Described.{Figure}
+use Rattle.cob_move_receive.specs.Table.{SenderKind, Entry as EntryOf, Literal as LiteralOf}
 use Rattle.cob_move_receive.specs.Refusals.{is_refused}
 use Rattle.cob_move_receive.specs.declared.refusals.Refusal.TheVariants as refusal
 use Rattle.cob_move_statements.specs.declared.fault.MoveRule.{MoveRule}
@@ -22,7 +23,7 @@ use Rattle.cob_move_names.specs.References.{NamesOperand, BreaksReference, Break
 use Rattle.cob_move_names.specs.Between.{PairEnds, ends_of}
 use Rattle.cob_move_names.specs.Pairs.{AreOnce, Pair, is_elementary}
 use Rattle.cob_move.specs.declared.corresponding.TwoGroups.{TwoGroups}
-use Rattle.cob_move.specs.Meaning.{IsSenderOf, AreGroupsOf, kind_of_sender, pairs_of, spaces}
+use Rattle.cob_move.specs.Meaning.{IsSenderOf, AreGroupsOf, blank_of, kind_of_sender, pairs_of}
 
 -- the reference that a sender is, if it is one
 abbrev pub sent_references : WrittenSender → List WrittenReference
@@ -85,11 +86,15 @@ BreaksBetween r e = BreaksMove r (EntryOf e.from.kind) e.to.kind
 abbrev pub BreaksPair : MoveRule → Pair → Type 0
 BreaksPair r p = BreaksBetween r (ends_of p)
 
+-- A reference names an operand of the output record, to which the move of ZERO or SPACE breaks the rule.
+abbrev pub BreaksClearing : MoveRule → List Candidate → WrittenReference → Type 0
+BreaksClearing r all w = (o : Operand) × NamesOperand all w Out o × BreaksMove r (LiteralOf (Figure (blank_of o.kind))) o.kind
+
 -- One of the single moves of a statement breaks the rule.
 abbrev pub SomeBreak : MoveRule → List Candidate → Forest Resolved → Forest Resolved → WrittenAction → Type 0
 SomeBreak r all input output (MoveTo s rs) = (m : Sender) × IsSenderOf all s m × SomeOf (BreaksReceiving r all m) rs
 SomeBreak r all input output (MoveCorresponding from to) = (g : TwoGroups) × AreGroupsOf all from to g × SomeOf (BreaksPair r) (pairs_of input output g)
-SomeBreak r all input output (Clear rs) = (m : Sender) × IsSenderOf all spaces m × SomeOf (BreaksReceiving r all m) rs
+SomeBreak r all input output (Clear rs) = SomeOf (BreaksClearing r all) rs
 
 -- A reference names an item that is elementary.
 abbrev pub IsNoGroup : List Candidate → WrittenReference → Type 0

@@ -43,6 +43,7 @@
 //! The clauses `found`, `only`, `fault` of `all_meant` and of `Paragraph::read`, those of `Paragraph::with_reading`; its laws.
 #![tactic(auto)]
 
+mod clearing;
 mod corresponding;
 mod entries;
 mod laws;

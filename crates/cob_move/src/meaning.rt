@@ -21,16 +21,15 @@ ghost use Rattle.cob_move_statements.specs.Written.{
   written_statements,
 };
 
+use crate::clearing::cleared;
 use crate::corresponding::moves_of;
 use crate::entries::Entries;
 use crate::meaning_laws::{meant_break_no_rule, one_meant};
 use crate::single::move_of;
-use cob_copybook_clauses::ValueClause;
-use cob_copybook_entry::Figurative;
 use cob_layout::Layout;
 use cob_move_data::StatementMoves;
 use cob_move_names::{Correspondences, Names};
-use cob_move_statements::{Action, MoveFault, MoveRule, Statement, StatementSender};
+use cob_move_statements::{Action, MoveFault, MoveRule, Statement};
 use std::alloc::Global;
 
 /// The moves of what a statement does.
@@ -60,9 +59,8 @@ fn meaning_of(
             Ok(StatementMoves::Pairs(group))
         }
         Action::Clear { receivers } => {
-            let spaces = StatementSender::Constant(ValueClause::Figurative(Figurative::Space));
-            let single = move_of(alloc, entries, &spaces, receivers.as_slice())?;
-            Ok(StatementMoves::Single(single))
+            let list = cleared(alloc, entries, receivers.as_slice())?;
+            Ok(StatementMoves::Each(list))
         }
     }
 }

@@ -3,15 +3,16 @@ use Rattle.std.specs.Prelude.{◌≡◌, ◌⊎◌, ℕ, ◌+◌, ◌<◌, ◌�
 use Rattle.cob_codec.specs.declared.reading.Reading.{Reading}
 use Rattle.cob_codec.specs.declared.reading.Reading.TheVariants.{Pictured, Whole}
 use Rattle.cob_copybook_tree.specs.declared.node.Kind.{Kind}
-use Rattle.cob_copybook_entry.specs.Described.{PlainValue}
+use Rattle.cob_copybook_entry.specs.Described.{PlainValue, Figure}
+use Rattle.cob_copybook_entry.specs.declared.kinds.Figurative.TheVariants.{Space}
 use Rattle.cob_move_data.specs.declared.operands.Side.TheVariants.{In, Out}
 use Rattle.cob_move_data.specs.declared.operands.Operand.{Operand}
 use Rattle.cob_move_data.specs.declared.operands.Move as code_move
 use Rattle.cob_move_data.specs.declared.operands.NumberedPair.{NumberedPair}
 use Rattle.cob_move_data.specs.declared.operands.PairMoves.{PairMoves}
 use Rattle.cob_move_data.specs.declared.operands.StatementMoves.{StatementMoves}
-use Rattle.cob_move_data.specs.declared.operands.StatementMoves.TheVariants.{Single, Pairs}
-use Rattle.cob_move_data.specs.Moves.{Move, Records, Sender, Entry, Literal, numbered_move_by, operand_in, sender_by}
+use Rattle.cob_move_data.specs.declared.operands.StatementMoves.TheVariants.{Single, Pairs, Each}
+use Rattle.cob_move_data.specs.Moves.{Move, Records, Sender, Entry, Literal, move_to_one_by, numbered_move_by, operand_in, sender_by}
 use Rattle.cob_layout_places.specs.declared.reference.Ref.{Ref}
 use Rattle.cob_move_apply.specs.Placed.{IsPlaced, IsPlacedMove}
 use Rattle.cob_move_apply.specs.Written.{AreCopied, IsFixedConstant, IsFixedMove}
@@ -60,15 +61,21 @@ abbrev pub with_some : Reading → Records → code_move.Move → (first count :
 with_some reading r m first count =
     record { sender = sender_by reading r m.sender; receivers = map (operand_in r.output) (take count (drop first m.receivers.items)) }
 
--- the move that a part of a statement's moves is: one with some of the receivers, or that of one pair
+-- a move that moves nothing
+abbrev pub no_move : Move
+no_move = record { sender = Literal (Figure Space); receivers = [] }
+
+-- the move that a part of a statement's moves is: one with some of the receivers, or that of one pair, or one of those to one receiver each
 abbrev pub part_of : Reading → Records → StatementMoves → (first count : ℕ) → Move
 part_of reading r (Single m) first count = with_some reading r m first count
 part_of reading r (Pairs g) first count = numbered_move_by reading r g (pair_at g first)
+part_of reading r (Each ms) first count = get_or (map (move_to_one_by reading r) ms.items) first no_move
 
 -- a statement's moves have this part
 abbrev pub HasPart : StatementMoves → (first count : ℕ) → Type 0
 HasPart (Single m) first count = first + count ≤ length m.receivers.items
 HasPart (Pairs g) first count = (first < length g.pairs.items) × (count ≡ 1)
+HasPart (Each ms) first count = (first < length ms.items) × (count ≡ 1)
 
 -- the bases of a move's operands stand at the front of these
 abbrev pub BeginsWith : Records → Move → List Basis → Type 0

@@ -27,6 +27,7 @@ use cob_codec::Reading;
 use cob_layout::one_outcome_of_counts;
 use cob_move_data::StatementMoves;
 use cob_move_steps::MoveStep;
+use std::slice;
 
 /// Carries out a part of the moves of a statement.
 ///
@@ -78,6 +79,22 @@ fn make_part(
             let pair = &group.pairs[first];
             let both = &own[..1 + count];
             make_pair_move(group, pair, both, layouts, input, output, space)
+        }
+        StatementMoves::Each(list) => {
+            let one = &list[first];
+            let receivers = PlacedReceivers {
+                entries: slice::from_ref(&one.receiver),
+                bases: &own[1..1 + count],
+            };
+            make_move(
+                &one.sender,
+                own[0],
+                &receivers,
+                layouts,
+                input,
+                output,
+                space,
+            )
         }
     }
 }

@@ -31,6 +31,7 @@ fn single_moves_in(one: &StatementMoves) -> usize
     match one {
         StatementMoves::Single(single) => single.receivers.len(),
         StatementMoves::Pairs(group) => group.pairs.len(),
+        StatementMoves::Each(list) => list.len(),
     }
 }
 

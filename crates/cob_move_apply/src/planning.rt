@@ -16,7 +16,7 @@ ghost use Rattle.cob_move_data.specs.Moves.{
   statement_moves,
 };
 ghost use Rattle.cob_move_data.specs.declared.operands.StatementMoves.{StatementMoves as Said};
-ghost use Rattle.cob_move_data.specs.declared.operands.StatementMoves.TheVariants.{Pairs, Single};
+ghost use Rattle.cob_move_data.specs.declared.operands.StatementMoves.TheVariants.{Each, Pairs, Single};
 ghost use Rattle.cob_move_apply.specs.Joined.{begun, copy_ends, neither_varies};
 ghost use Rattle.cob_move_apply.specs.Planned.{AlwaysCopied, AlwaysGains, AlwaysGainsCut, AlwaysLocated, AlwaysLocatedConstant, AlwaysMore, AreBetween, AreReadyAs, AreWithinLongest, HasOneMore, HasOneMoveMore, IsPartIn, IsPictured, IsReady, IsStatementAt, copied_by, counted_steps, entry_alone, last_step_ends, pair_alone, part_alone, records_between, single_alone, step_count, step_ends};
 ghost use Rattle.cob_move_apply.specs.Planning.{CountsSteps, GainsAny, GainsStatement, HasPartMore, IsPlanFor, MoreByStatement, StepTakesCopy, StepsTakeCopy, entry_copy, move_alone, moves_alone, single_copy, singles_alone};
@@ -36,7 +36,7 @@ use crate::step::{
     both_copies, part_of, prepared_step,
 };
 use cob_layout::{Layout, Ref, places_lie_in_storage, records_are_sound, tables};
-use cob_move_data::{Move, PairMoves, Sender, Side, StatementMoves};
+use cob_move_data::{Move, MoveToOne, PairMoves, Sender, Side, StatementMoves};
 use cob_move_receive::copies_bytes;
 use cob_move_steps::{MoveSteps, PicturedSteps};
 use std::alloc::{AllocError, Global};
@@ -554,6 +554,39 @@ fn push_pairs(
     Ok(())
 }
 
+/// Puts the steps of moves to one receiver each behind those so far.
+///
+/// # Errors
+///
+/// Where no memory is left.
+fn push_each(
+    given: &[StatementMoves],
+    number: usize,
+    list: &Vec<MoveToOne>,
+    both: &Between<'_>,
+    plan: &mut Plan,
+) -> Result<(), AllocError>
+    requires both { AreBetween both.now }
+    requires at { IsStatementAt given.now number (Each list.now) }
+    requires moves { AreMoves (records_between both.now)
+        (statement_moves (records_between both.now) (Each list.now)) }
+    ensures gains { OnOk result (AlwaysGains both.now given.now
+        (moves_alone both.now (Each list.now)) plan.old plan.new) }
+    ensures more { OnOk result (AlwaysMore both.now (moves_alone both.now (Each list.now))
+        plan.old.steps.items plan.new.steps.items) }
+{
+    for (first, one) in list.iter().enumerate() {
+        let part = StatementPart {
+            statement: number,
+            first,
+            sender: &one.sender,
+            receivers: slice::from_ref(&one.receiver),
+        };
+        push_single(given, &part, both, plan)?;
+    }
+    Ok(())
+}
+
 /// Puts the steps of a statement's moves behind those so far.
 ///
 /// # Errors
@@ -576,6 +609,7 @@ fn push_statement(
     match &given[number] {
         StatementMoves::Single(single) => push_move(given, number, single, both, plan),
         StatementMoves::Pairs(group) => push_pairs(given, number, group, both, plan),
+        StatementMoves::Each(list) => push_each(given, number, list, both, plan),
     }
 }
 

@@ -17,10 +17,11 @@ use Rattle.cob_move_data.specs.declared.operands.Operand.{Operand}
 use Rattle.cob_move_data.specs.declared.operands.Sender as code
 use Rattle.cob_move_data.specs.declared.operands.Sender.TheVariants as code_sender
 use Rattle.cob_move_data.specs.declared.operands.Move as code_move
+use Rattle.cob_move_data.specs.declared.operands.MoveToOne.{MoveToOne}
 use Rattle.cob_move_data.specs.declared.operands.NumberedPair.{NumberedPair}
 use Rattle.cob_move_data.specs.declared.operands.PairMoves.{PairMoves}
 use Rattle.cob_move_data.specs.declared.operands.StatementMoves.{StatementMoves}
-use Rattle.cob_move_data.specs.declared.operands.StatementMoves.TheVariants.{Single, Pairs}
+use Rattle.cob_move_data.specs.declared.operands.StatementMoves.TheVariants.{Single, Pairs, Each}
 
 -- what is moved: an entry of one of the records, and how it is read where it is a binary item; or a literal or figurative constant
 pub data Sender : Type 0 where
@@ -83,10 +84,15 @@ numbered_move_by reading records g p = record {
 abbrev pub numbered_move : Records → PairMoves → NumberedPair → Move
 numbered_move records g p = numbered_move_by Pictured records g p
 
+-- the move to one receiver, its sender read so
+abbrev pub move_to_one_by : Reading → Records → MoveToOne → Move
+move_to_one_by reading records m = record { sender = sender_by reading records m.sender; receivers = operand_in records.output m.receiver ∷ [] }
+
 -- the moves of one statement, their senders read so
 abbrev pub statement_moves_by : Reading → Records → StatementMoves → List Move
 statement_moves_by reading records (Single m) = move_by reading records m ∷ []
 statement_moves_by reading records (Pairs g) = map (numbered_move_by reading records g) g.pairs.items
+statement_moves_by reading records (Each ms) = map (move_to_one_by reading records) ms.items
 
 -- the same, read as their pictures say
 abbrev pub statement_moves : Records → StatementMoves → List Move

@@ -7,6 +7,7 @@ use Rattle.cob_copybook_tree.specs.Nodes.{Resolved}
 use Rattle.cob_layout_places.specs.Cover.{Occurrence}
 use Rattle.cob_move_data.specs.Moves.{Move, Records, Sender, moves_by, operand_in, record_of}
 use Rattle.cob_move_data.specs.Moves as between
+use Rattle.cob_move_data.specs.declared.operands.MoveToOne.{MoveToOne}
 use Rattle.cob_move_data.specs.declared.operands.NumberedPair.{NumberedPair}
 use Rattle.cob_move_data.specs.declared.operands.Operand.{Operand}
 use Rattle.cob_move_data.specs.declared.operands.PairMoves.{PairMoves}
@@ -14,7 +15,7 @@ use Rattle.cob_move_data.specs.declared.operands.Sender as code
 use Rattle.cob_move_data.specs.declared.operands.Sender.TheVariants as code_sender
 use Rattle.cob_move_data.specs.declared.operands.Side.{Side}
 use Rattle.cob_move_data.specs.declared.operands.StatementMoves.{StatementMoves}
-use Rattle.cob_move_data.specs.declared.operands.StatementMoves.TheVariants.{Single, Pairs}
+use Rattle.cob_move_data.specs.declared.operands.StatementMoves.TheVariants.{Single, Pairs, Each}
 use Rattle.cob_layout_places.specs.declared.reference.Ref.{Ref}
 use Rattle.cob_move_data.specs.declared.single.Element.{Element}
 use Rattle.cob_move_data.specs.declared.single.Sent.{Sent}
@@ -80,10 +81,19 @@ single_of_pair statement g p = record {
   receiver = occurrence p.to g.to.subscripts.items;
 }
 
+-- what a move to one receiver sends
+abbrev pub sent_to_one : MoveToOne → PlainSent
+sent_to_one m = sent_by_sender m.sender
+
+-- its single move
+abbrev pub single_to_one : ℕ → MoveToOne → PlainSingle
+single_to_one statement m = single_to statement (sent_to_one m) m.receiver
+
 -- the single moves of the statement with this place
 abbrev pub statement_singles : ℕ → StatementMoves → List PlainSingle
 statement_singles statement (Single m) = map (single_to statement (sent_by_sender m.sender)) m.receivers.items
 statement_singles statement (Pairs g) = map (single_of_pair statement g) g.pairs.items
+statement_singles statement (Each ms) = map (single_to_one statement) ms.items
 
 -- the single moves of statements, one statement's behind another's, where the first one has this place
 abbrev pub placed_singles : ℕ → List StatementMoves → List PlainSingle
@@ -105,6 +115,7 @@ singles_behind statement taken (s ∷ ss) = drop taken (statement_singles statem
 abbrev pub statement_senders : StatementMoves → List PlainSent
 statement_senders (Single m) = sent_by_sender m.sender ∷ []
 statement_senders (Pairs g) = map (sent_by_pair g) g.pairs.items
+statement_senders (Each ms) = map sent_to_one ms.items
 
 -- what the moves of a paragraph's statements send, in their order
 abbrev pub senders_of : List StatementMoves → List PlainSent

@@ -28,7 +28,9 @@ mod single;
 mod singles;
 
 pub use laws::{senders_of_moves, singles_of_moves};
-pub use operands::{Move, NumberedPair, Operand, PairMoves, Sender, Side, StatementMoves};
+pub use operands::{
+    Move, MoveToOne, NumberedPair, Operand, PairMoves, Sender, Side, StatementMoves,
+};
 pub use senders::Senders;
 pub use single::{Element, Sent, SingleMove, single_at};
 pub use singles::Singles;

@@ -55,6 +55,13 @@ pub struct PairMoves {
     pub pairs: Vec<NumberedPair>,
 }
 
+/// A sender, and the one entry of the output record that receives it.
+#[derive(Drop)]
+pub struct MoveToOne {
+    pub sender: Sender,
+    pub receiver: Ref,
+}
+
 /// The moves of one statement.
 #[derive(Drop)]
 pub enum StatementMoves {
@@ -62,4 +69,6 @@ pub enum StatementMoves {
     Single(Move),
     /// A move for each pair of two groups.
     Pairs(PairMoves),
+    /// Moves of any senders, each to one receiver.
+    Each(Vec<MoveToOne>),
 }

@@ -1,9 +1,9 @@
 //! A single move: what is sent, and one occurrence that receives it.
 
 ghost use Rattle.std.specs.Prelude.{◌≡◌, ◌∷◌, [], map, option_map, slice_get};
-ghost use Rattle.cob_move_data.specs.Singles.{occurrence_by, plain_element, plain_sent, plain_single, sent_by_pair, sent_by_sender, single_of_pair, single_to, statement_senders, statement_singles};
+ghost use Rattle.cob_move_data.specs.Singles.{occurrence_by, plain_element, plain_sent, plain_single, sent_by_pair, sent_by_sender, sent_to_one, single_of_pair, single_to, single_to_one, statement_senders, statement_singles};
 
-use crate::operands::{Move, NumberedPair, PairMoves, Sender, Side, StatementMoves};
+use crate::operands::{Move, MoveToOne, NumberedPair, PairMoves, Sender, Side, StatementMoves};
 use cob_copybook_tree::Value;
 use cob_layout_places::Ref;
 
@@ -116,6 +116,19 @@ fn single_of_group<'a>(
     Some(single_of_pair(statement, group, pair))
 }
 
+/// The single move with this number, from 0, of a list of them in the statement with this place.
+fn single_of_each<'a>(
+    statement: usize,
+    list: &'a [MoveToOne],
+    number: usize,
+) -> Option<SingleMove<'a>>
+    ensures { option_map plain_single result
+        ≡ slice_get (map (single_to_one statement) list.now) number }
+{
+    let one = list.get(number)?;
+    Some(single_to(statement, &one.sender, &one.receiver))
+}
+
 /// The single move with this number, from 0, of the statement with this place.
 pub fn single_at<'a>(
     statement: usize,
@@ -128,6 +141,7 @@ pub fn single_at<'a>(
     match moves {
         StatementMoves::Single(one) => single_of_move(statement, one, number),
         StatementMoves::Pairs(group) => single_of_group(statement, group, number),
+        StatementMoves::Each(list) => single_of_each(statement, list.as_slice(), number),
     }
 }
 
@@ -150,6 +164,14 @@ fn sender_of_group(group: &PairMoves, number: usize) -> Option<Sent<'_>>
     Some(sent_of_pair(group, pair))
 }
 
+/// What the move with this number, from 0, of a list of moves to one receiver each sends.
+fn sender_of_each(list: &[MoveToOne], number: usize) -> Option<Sent<'_>>
+    ensures { option_map plain_sent result ≡ slice_get (map sent_to_one list.now) number }
+{
+    let one = list.get(number)?;
+    Some(sent_of(&one.sender))
+}
+
 /// What the move with this number, from 0, of a statement sends.
 pub(crate) fn sender_at(moves: &StatementMoves, number: usize) -> Option<Sent<'_>>
     ensures { option_map plain_sent result ≡ slice_get (statement_senders moves.now) number }
@@ -157,5 +179,6 @@ pub(crate) fn sender_at(moves: &StatementMoves, number: usize) -> Option<Sent<'_
     match moves {
         StatementMoves::Single(one) => sender_of_move(one, number),
         StatementMoves::Pairs(group) => sender_of_group(group, number),
+        StatementMoves::Each(list) => sender_of_each(list.as_slice(), number),
     }
 }

@@ -8,10 +8,11 @@ use Rattle.cob_layout.specs.Fields.{with_field}
 use Rattle.cob_layout_places.specs.declared.reference.Ref.{Ref}
 use Rattle.cob_move_data.specs.declared.operands.Sender as code
 use Rattle.cob_move_data.specs.declared.operands.Sender.TheVariants as code_sender
+use Rattle.cob_move_data.specs.declared.operands.MoveToOne.{MoveToOne}
 use Rattle.cob_move_data.specs.declared.operands.NumberedPair.{NumberedPair}
 use Rattle.cob_move_data.specs.declared.operands.PairMoves.{PairMoves}
 use Rattle.cob_move_data.specs.declared.operands.StatementMoves.{StatementMoves}
-use Rattle.cob_move_data.specs.declared.operands.StatementMoves.TheVariants.{Single as SingleMoves, Pairs}
+use Rattle.cob_move_data.specs.declared.operands.StatementMoves.TheVariants.{Single as SingleMoves, Pairs, Each}
 use Rattle.cob_move_data.specs.declared.operands.Side.TheVariants.{Out}
 use Rattle.cob_move_data.specs.Moves.{Move, Records, Sender, entry_below, operand_in, sender_by}
 use Rattle.cob_move_receive.specs.Received.{Received}
@@ -46,10 +47,16 @@ abbrev pub numbered_of_pairs : ℕ → PairMoves → ℕ → List NumberedPair �
 numbered_of_pairs n g k [] = []
 numbered_of_pairs n g k (p ∷ ps) = numbered_of_pair n g k p ∷ numbered_of_pairs n g (k + 1) ps
 
+-- moves to one receiver each, which are numbered from there
+abbrev pub numbered_each : ℕ → ℕ → List MoveToOne → List NumberedMove
+numbered_each n k [] = []
+numbered_each n k (m ∷ ms) = record { statement = n; pair = k; sender = m.sender; receivers = m.receiver ∷ [] } ∷ numbered_each n (k + 1) ms
+
 -- the moves of a statement
 abbrev pub numbered_of_statement : ℕ → StatementMoves → List NumberedMove
 numbered_of_statement n (SingleMoves m) = record { statement = n; pair = 0; sender = m.sender; receivers = m.receivers.items } ∷ []
 numbered_of_statement n (Pairs g) = numbered_of_pairs n g 0 g.pairs.items
+numbered_of_statement n (Each ms) = numbered_each n 0 ms.items
 
 -- the moves of statements, which are numbered from there
 abbrev pub numbered_moves : ℕ → List StatementMoves → List NumberedMove

@@ -4,6 +4,7 @@ ghost use Rattle.std.specs.Prelude.{◌≡◌, length, map};
 ghost use Rattle.cob_layout.specs.Sound.{IsSound};
 ghost use Rattle.cob_layout.specs.Storage.{greatest_length, IsStorage};
 ghost use Rattle.cob_move_data.specs.Moves.{AreMoves, IsMove, entry_below, numbered_move_by, statement_moves_by};
+ghost use Rattle.cob_move_data.specs.declared.operands.StatementMoves.TheVariants.{Each};
 ghost use Rattle.cob_report_explain.specs.Each.{each_ending};
 ghost use Rattle.cob_report_explain.specs.Room.{HasEachRoom};
 ghost use Rattle.cob_report_explain.specs.Seen.{SeesGroup, SeesPair, SeesStatement, moves_of_group, records_of_layouts};
@@ -13,7 +14,7 @@ use crate::senders::walk_move;
 use crate::single::{MoveParts, MoveStop};
 use crate::watcher::Watcher;
 use cob_move_apply::entry_below;
-use cob_move_data::{NumberedPair, PairMoves, Sender, StatementMoves};
+use cob_move_data::{MoveToOne, NumberedPair, PairMoves, Sender, StatementMoves};
 use std::slice;
 
 /// Carries out the move of the pair of two groups with this number, and hands its single move out.
@@ -91,6 +92,43 @@ fn walk_pairs<W: Watcher>(
     Ok(())
 }
 
+/// Carries out moves to one receiver each, and hands each single move out.
+///
+/// # Errors
+///
+/// The first thing missing. The storage is as the moves before left it then.
+fn walk_each<W: Watcher>(
+    layouts: &RecordLayouts<'_>,
+    statement: usize,
+    list: &Vec<MoveToOne>,
+    input: &[u8],
+    output: &mut [u8],
+    room: &mut EachRoom,
+    watcher: &mut W,
+) -> Result<(), MoveStop>
+    requires in_sound { IsSound layouts.now.input.now }
+    requires out_sound { IsSound layouts.now.output.now }
+    requires moves { AreMoves (records_of_layouts layouts.now) (statement_moves_by
+        layouts.now.reading (records_of_layouts layouts.now) (Each list.now)) }
+    requires input { IsStorage layouts.now.input.now input.now }
+    requires output { length output.old ≡ greatest_length layouts.now.output.now }
+    requires room { HasEachRoom (records_of_layouts layouts.now) room.old }
+    ensures seen { SeesStatement layouts.now statement (Each list.now) input.now output.old
+        (each_ending result output.new) (W.seen watcher.old) (W.seen watcher.new) }
+    ensures room { HasEachRoom (records_of_layouts layouts.now) room.new }
+{
+    for (index, one) in list.iter().enumerate() {
+        let parts = MoveParts {
+            statement,
+            pair: index,
+            sender: &one.sender,
+            receivers: slice::from_ref(&one.receiver),
+        };
+        walk_move(layouts, &parts, input, output, room, watcher)?;
+    }
+    Ok(())
+}
+
 /// Carries out the moves of the statement with this number, and hands each single move out.
 ///
 /// # Errors
@@ -128,6 +166,9 @@ pub(crate) fn walk_statement<W: Watcher>(
         }
         StatementMoves::Pairs(group) => {
             walk_pairs(layouts, statement, group, input, output, room, watcher)
+        }
+        StatementMoves::Each(list) => {
+            walk_each(layouts, statement, list, input, output, room, watcher)
         }
     }
 }
