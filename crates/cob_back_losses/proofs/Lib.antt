@@ -4,3 +4,4 @@ pub mod KeepingLemmas
 pub mod NumberLemmas
 pub mod MovedLemmas
 pub mod CoveredLemmas
+pub mod ReceivedLemmas

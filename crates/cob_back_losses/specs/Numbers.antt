@@ -1,6 +1,7 @@
 -- What a move of bytes that keeps its description does to numbers.
 use Rattle.std.specs.Prelude.{◌≡◌, ◌+◌, ◌<◌, ◌≤◌, ℕ, Bool, false, List, length, Some, IsSomeAnd, IsTrue, MatchBool}
 use Rattle.std.specs.List.{slice_get}
+use Rattle.cob_codec.specs.declared.reading.Reading.{Reading}
 use Rattle.cob_cp037.specs.Named.{zero_byte}
 use Rattle.cob_picture.specs.Counts.{digits, size}
 use Rattle.cob_copybook_tree.specs.declared.node.Item.{Item}
@@ -9,6 +10,8 @@ use Rattle.cob_copybook_tree.specs.Nodes.{Resolved}
 use Rattle.cob_copybook_tree.specs.Items.{IsNumberItem, Represents}
 use Rattle.cob_copybook_tree.specs.Lengths.{item_size}
 use Rattle.cob_layout_places.specs.Counts.{bytes_at}
+use Rattle.cob_move_receive.specs.Received.{Received}
+use Rattle.cob_move_receive.specs.Sent.{Entry}
 use Rattle.cob_back_losses.specs.Bytes.{ItemByte, element_bytes}
 use Rattle.cob_back_losses.specs.Keeping.{Element, KeepsDescription, moves_bytes}
 use Rattle.cob_back_losses.specs.Senses.{is_plain_digits}
@@ -55,6 +58,11 @@ pub record IsKeptNumber (items : List ItemByte) (bytes got : List ℕ) (from : �
 pub record GetsBytes (bytes got : List ℕ) (room : ℕ) : Type 0 where
   pub long : length got ≡ room
   pub same : (at : ℕ) → at < length bytes → at < room → slice_get got at ≡ slice_get bytes at
+
+-- The rule of MOVE gives a receiver just that where a group is on either side.
+abbrev pub ReceivesBytes : Type 0
+ReceivesBytes = (t to : Tree Resolved) (reading : Reading) (bytes got : List ℕ) (room : ℕ) → IsTrue (moves_bytes (Element t) to)
+    → Received (Entry t.top.kind bytes reading) to.top.kind room (Some got) → GetsBytes bytes got room
 
 -- Where a move of bytes keeps its description, and each item of the sender that is a number holds one, so does each of the receiver that nothing covers. Its
 -- picture has a byte for each digit, as each picture of a number has.

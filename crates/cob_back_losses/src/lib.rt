@@ -39,7 +39,8 @@
 //! - the law [`keeps_numbers`] says what that is worth (`KeepsNumbers` of specs/Numbers.antt): where a move of bytes keeps its description, and each item of
 //!   the sender that is a number holds one, each such item of the receiver that nothing covers represents a number. It has the bytes that were sent there, and
 //!   where it is no plain digits they are those of an item of the same description. The sender's plain digits must be their characters, as they are written: a
-//!   last digit in zone C is read as a plus, and would stand amid the digits of a longer item.
+//!   last digit in zone C is read as a plus, and would stand amid the digits of a longer item. That the receiver has the bytes that were sent is what the rule
+//!   of MOVE says there, by the law [`receives_bytes`] (`ReceivesBytes`).
 //!
 //! Time and memory grow with the bytes of the receiver.
 //!
@@ -62,8 +63,8 @@
 //!
 //! Of `losses_of`: exactly whether a move may lose a digit before the point, one behind it, a character, a sign (`LosesBefore`, `LosesBehind`,
 //! `LosesCharacters`, `LosesSign`); of `description_lost`: the first byte of a receiver that is not described as what it gets, or that each is, both ways
-//! (`TellsFirstUnkept`); the law `keeps_numbers`, that a move of bytes that keeps its description keeps the numbers of its receiver (`KeepsNumbers`); of
-//! `descriptions_lost`: the same of each single move of a paragraph, in their order, of the bytes that no later one covers (`TellsEach`).
+//! (`TellsFirstUnkept`); the law `keeps_numbers`, that a move of bytes that keeps its description keeps the numbers of its receiver (`KeepsNumbers`), and
+//! `receives_bytes`, that by the rule of MOVE it gets the bytes that are sent (`ReceivesBytes`); of `descriptions_lost`: the same of each single move of a paragraph, in their order, of the bytes that no later one covers (`TellsEach`).
 #![tactic(auto)]
 
 mod bytes;
@@ -83,7 +84,7 @@ mod words;
 
 pub use keeping::{Gets, JudgedSent, Unkept};
 pub use later::place_of;
-pub use laws::keeps_numbers;
+pub use laws::{keeps_numbers, receives_bytes};
 pub use losses::{Losses, losses_of};
 pub use lost::{description_lost, description_lost_among};
 pub use paragraph::descriptions_lost;

@@ -10,7 +10,7 @@ use Rattle.cob_codec.proofs.PackedLemmas.{all_but_last}
 use Rattle.cob_codec.proofs.ZonedLaws.{zoned_digit}
 use Rattle.cob_codec_lanes.specs.Readers.{AreNumeralsOf}
 use Rattle.cob_codec_lanes.specs.Signs.{byte_meaning, own_meaning}
-use Rattle.cob_codec_lanes.specs.DigitItems.{AreDigitBytes, IsDigitReaderOf, digits_from}
+use Rattle.cob_codec_lanes.specs.DigitItems.{AreSignedDigitBytes, IsDigitReaderOf, digits_from}
 use Rattle.cob_codec_lanes.specs.Windows.{first_byte, own_sign_byte}
 use Rattle.cob_codec_lanes.specs.declared.signs.SignByte.{SignByte}
 use Rattle.cob_codec_lanes.specs.declared.signs.SignByte.TheVariants.{Own, Zone}
@@ -34,7 +34,7 @@ pub record ArePlaced (first count place free : ℕ) (sign : SignByte) (signed : 
   pub zones : (k : ℕ) → k < count → first + k ≢ free → get_or bytes (first + k) 0 / 16 ≡ 15
   pub said : byte_meaning sign signed (get_or bytes place 0) ≡ Some minus
 
-to_placed : (size first count place free : ℕ) (sign : SignByte) (signed : Bool) (r : DigitReader) (bytes : List ℕ) (minus : Bool) → ReadsDigits size first count place free sign signed r → AreDigitBytes r bytes minus
+to_placed : (size first count place free : ℕ) (sign : SignByte) (signed : Bool) (r : DigitReader) (bytes : List ℕ) (minus : Bool) → ReadsDigits size first count place free sign signed r → AreSignedDigitBytes r bytes minus
     → ArePlaced first count place free sign signed bytes minus
 to_placed size first count place free sign signed r bytes minus f d = record {
   low = λ k lt. subst (λ n. get_or bytes (n + k) 0 % 16 < 10) f.first_is (d.low k (omega (arith, f.count_is)));
@@ -43,7 +43,7 @@ to_placed size first count place free sign signed r bytes minus f d = record {
 }
 
 from_placed : (size first count place free : ℕ) (sign : SignByte) (signed : Bool) (r : DigitReader) (bytes : List ℕ) (minus : Bool) → ReadsDigits size first count place free sign signed r
-    → ArePlaced first count place free sign signed bytes minus → AreDigitBytes r bytes minus
+    → ArePlaced first count place free sign signed bytes minus → AreSignedDigitBytes r bytes minus
 from_placed size first count place free sign signed r bytes minus f p = record {
   low = λ k lt. subst (λ n. get_or bytes (n + k) 0 % 16 < 10) (sym f.first_is) (p.low k (omega (arith, f.count_is)));
   zones = λ k lt other. subst (λ n. get_or bytes (n + k) 0 / 16 ≡ 15) (sym f.first_is) (p.zones k (omega (arith, f.count_is)) (λ e. other (omega (arith, f.first_is, f.free_is))));

@@ -9,7 +9,7 @@ use Rattle.cob_codec_lanes.specs.Lanes.{AreBounded, picked_at}
 use Rattle.cob_codec_lanes.specs.Windows.{last_bytes, padded_window}
 use Rattle.cob_codec_lanes.specs.Signs.{byte_meaning, is_some, number_meaning}
 use Rattle.cob_codec_lanes.specs.DigitLanes.{AreDigitBounds, digit_lane, has_digit, lane_byte, least_zone, most_digit}
-use Rattle.cob_codec_lanes.specs.DigitItems.{AreDigitBytes, AreDigitsRead, IsDigitReaderOf, digits_from}
+use Rattle.cob_codec_lanes.specs.DigitItems.{AreDigitsRead, AreSignedDigitBytes, IsDigitReaderOf, digits_from}
 use Rattle.cob_codec_lanes.specs.Wide.{AreHeldWide, IsWideRead}
 use Rattle.cob_codec_lanes.specs.declared.lanes.Bounds.{Bounds}
 use Rattle.cob_codec_lanes.specs.declared.digit_reader.DigitReader.{DigitReader}
@@ -191,7 +191,7 @@ bounds_of_lanes first count free a b front back long x y small least low = (
 
 pub bytes_from_lanes : (r : DigitReader) (item front back : List ℕ) (minus : Bool) → AreDigitBounds r.digits.first r.digits.count r.free 0 r.front → AreDigitBounds r.digits.first r.digits.count r.free 16 r.back
     → AreItemLanes r.digits.first r.digits.count item front back → AreBothBounded r.front r.back front back
-    → byte_meaning r.sign r.signed (get_or item r.digits.place 0) ≡ Some minus → AreDigitBytes r item minus
+    → byte_meaning r.sign r.signed (get_or item r.digits.place 0) ≡ Some minus → AreSignedDigitBytes r item minus
 bytes_from_lanes r item front back minus x y lanes within sign =
     let first : ℕ = r.digits.first in
     let count : ℕ = r.digits.count in
@@ -213,7 +213,7 @@ bytes_from_lanes r item front back minus x y lanes within sign =
     }
 
 pub lanes_from_bytes : (r : DigitReader) (item front back : List ℕ) (minus : Bool) → AreDigitBounds r.digits.first r.digits.count r.free 0 r.front → AreDigitBounds r.digits.first r.digits.count r.free 16 r.back
-    → AreItemLanes r.digits.first r.digits.count item front back → AreDigitBytes r item minus → AreBothBounded r.front r.back front back
+    → AreItemLanes r.digits.first r.digits.count item front back → AreSignedDigitBytes r item minus → AreBothBounded r.front r.back front back
 lanes_from_bytes r item front back minus x y lanes d =
     let first : ℕ = r.digits.first in
     let count : ℕ = r.digits.count in
@@ -334,7 +334,7 @@ read_item r bytes front back lower a b signed is_number minus m within enough x 
 
 -- ---- what was read is a number of the item, or that it is none
 
-valid_digits : (r : DigitReader) (item : List ℕ) (minus : Bool) → r.digits.first + r.digits.count ≤ length item → AreDigitBytes r item minus → IsDigits (digits_from r.digits.first r.digits.count item)
+valid_digits : (r : DigitReader) (item : List ℕ) (minus : Bool) → r.digits.first + r.digits.count ≤ length item → AreSignedDigitBytes r item minus → IsDigits (digits_from r.digits.first r.digits.count item)
 valid_digits r item minus within d =
     let many : length (digits_from r.digits.first r.digits.count item) ≡ r.digits.count = digits_long r.digits.first r.digits.count item within in
     all_digits (digits_from r.digits.first r.digits.count item) (λ k lt.
@@ -350,7 +350,7 @@ digits_read represents size r bytes front back is_number minus is enough within 
     let inside : r.digits.first + r.digits.count ≤ length item = omega (arith, is.bytes) in
     record {
       number = λ e.
-          let d : AreDigitBytes r item minus = subst (λ xs. AreDigitBytes r xs minus) same (read.number e) in
+          let d : AreSignedDigitBytes r item minus = subst (λ xs. AreSignedDigitBytes r xs minus) same (read.number e) in
           let ds : List ℕ = digits_from r.digits.first r.digits.count item in
           let valid : IsDigits ds = valid_digits r item minus inside d in
           let signed : IsSigned minus ds (minus && ltb 0 (number_of ds)) = signed_as minus (number_of ds) in
@@ -364,5 +364,5 @@ digits_read represents size r bytes front back is_number minus is enough within 
           };
       nothing = λ e negative digits there.
           let passed = is.passes item negative digits long there in
-          read.nothing e passed.0 (subst (λ xs. AreDigitBytes r xs passed.0) (sym same) passed.1);
+          read.nothing e passed.0 (subst (λ xs. AreSignedDigitBytes r xs passed.0) (sym same) passed.1);
     }

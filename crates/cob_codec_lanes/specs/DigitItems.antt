@@ -17,7 +17,7 @@ digits_from first count bytes = map low_digit (take count (drop first bytes))
 
 -- The bytes are those of an item: digits stand where it has them, in zone F but for one byte that may have any, and the sign's byte is a sign,
 -- minus or not.
-pub record AreDigitBytes (r : DigitReader) (bytes : List ℕ) (minus : Bool) : Type 0 where
+pub record AreSignedDigitBytes (r : DigitReader) (bytes : List ℕ) (minus : Bool) : Type 0 where
   pub low : (k : ℕ) → k < r.digits.count → slice_index bytes (r.digits.first + k) % 16 < 10
   pub zones : (k : ℕ) → k < r.digits.count → r.digits.first + k ≢ r.free → slice_index bytes (r.digits.first + k) / 16 ≡ 15
   pub sign : byte_meaning r.sign r.signed (slice_index bytes r.digits.place) ≡ Some minus
@@ -25,15 +25,15 @@ pub record AreDigitBytes (r : DigitReader) (bytes : List ℕ) (minus : Bool) : T
 -- The reader reads items of so many bytes: those that are digits and a sign represent the number of these, and those that represent a number are.
 pub record IsDigitReaderOf (represents : List ℕ → Bool → List ℕ → Type 0) (size : ℕ) (r : DigitReader) : Type 0 where
   pub bytes : r.digits.size ≡ size
-  pub reads : (bytes : List ℕ) (minus negative : Bool) → length bytes ≡ size → AreDigitBytes r bytes minus
+  pub reads : (bytes : List ℕ) (minus negative : Bool) → length bytes ≡ size → AreSignedDigitBytes r bytes minus
       → IsDigits (digits_from r.digits.first r.digits.count bytes) → IsSigned minus (digits_from r.digits.first r.digits.count bytes) negative
       → represents bytes negative (digits_from r.digits.first r.digits.count bytes)
-  pub passes : (bytes : List ℕ) (negative : Bool) (digits : List ℕ) → length bytes ≡ size → represents bytes negative digits → (minus : Bool) × AreDigitBytes r bytes minus
+  pub passes : (bytes : List ℕ) (negative : Bool) (digits : List ℕ) → length bytes ≡ size → represents bytes negative digits → (minus : Bool) × AreSignedDigitBytes r bytes minus
 
 -- What was read of the item at the end of bytes: whether its bytes are digits and a sign, and the digits in two vectors.
 pub record AreDigitsRead (r : DigitReader) (bytes : List ℕ) (is_number minus : Bool) (front back : List ℕ) : Type 0 where
-  pub number : is_number ≡ true → AreDigitBytes r (last_bytes r.digits.size bytes) minus
-  pub nothing : is_number ≡ false → (m : Bool) → ¬ AreDigitBytes r (last_bytes r.digits.size bytes) m
+  pub number : is_number ≡ true → AreSignedDigitBytes r (last_bytes r.digits.size bytes) minus
+  pub nothing : is_number ≡ false → (m : Bool) → ¬ AreSignedDigitBytes r (last_bytes r.digits.size bytes) m
   pub held : is_number ≡ true → AreHeldWide (number_of (digits_from r.digits.first r.digits.count (last_bytes r.digits.size bytes))) front back
 
 -- ---- what is written

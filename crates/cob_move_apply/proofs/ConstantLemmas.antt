@@ -35,6 +35,7 @@ use Rattle.cob_move_apply.proofs.StepLemmas.{made_one}
 -- the single move of a constant to an operand that stands at its place in every storage ends with what the receiver gets
 fixed_constant : (r : Records) (to : Place) (constant : PlainValue) (q : Operand) → IsFixed r.output true q to → IsFixedConstant r to constant q.kind (alone (Literal constant) q ∷ [])
 fixed_constant r to constant q gets = record {
+  single = (alone (Literal constant) q, refl);
   within = gets.within;
   ends = λ input before written received.
       let after : List ℕ = with_field before to written in

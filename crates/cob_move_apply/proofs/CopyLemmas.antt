@@ -19,14 +19,15 @@ use Rattle.cob_move_data.specs.Moves.{Entry, IsOperand, Move, Records}
 use Rattle.cob_move_receive.specs.Copying.{CopiesBytes}
 use Rattle.cob_move_receive.specs.Received.{Received}
 use Rattle.cob_move_receive.specs.Sent as sent
-use Rattle.cob_move_apply.specs.Applied.{Applied, content_at, done}
+use Rattle.cob_move_apply.specs.Applied.{content_at, done}
+use Rattle.cob_move_apply.specs.InPlace.{AppliedInPlace}
 use Rattle.cob_move_apply.specs.Placed.{IsFixed}
 use Rattle.cob_move_apply.specs.Surveyed.{IsSurvey}
 use Rattle.cob_move_apply.specs.Written.{AreCopied, IsBoth, LeavesCounts}
 use Rattle.cob_move_apply.specs.declared.survey.Survey.{Survey}
 use Rattle.cob_layout.specs.declared.counts.StoredCount.{StoredCount}
 use Rattle.cob_layout.specs.Kept.{AreKeptOf, IsKeptAs}
-use Rattle.cob_move_apply.proofs.CutLemmas.{applied_both}
+use Rattle.cob_move_apply.proofs.InPlaceLemmas.{in_place_both}
 
 -- ---- bytes
 
@@ -129,8 +130,8 @@ copied_both r from to next_from next_to both_from both_to ms ns reads writes one
             let at_once : with_field mid next_to y ≡ with_field before both_to (field_of both_from input) =
             both_written to next_to both_to before x y writes (omega (arith, within)) long
             ∙ ap (λ t. with_field before both_to t) (sym (both_fields from next_from both_from input reads)) in
-            subst (λ (s : List ℕ). Applied r (ms ++ ns) input before (done s)) at_once
-            (applied_both r ms ns input before mid (done (with_field mid next_to y)) (one.are.written input before is size) (other.are.written input mid is mid_size)));
+            subst (λ (s : List ℕ). AppliedInPlace r (ms ++ ns) input before (done s)) at_once
+            (in_place_both r ms ns input before mid (done (with_field mid next_to y)) (one.are.written input before is size) (other.are.written input mid is mid_size)));
       };
     }
 
@@ -151,7 +152,12 @@ copied_one law r from to reading o q described operand sends gets leaves same co
         let received : Received (sent.Entry o.kind bytes reading) q.kind to.length (Some bytes) =
         subst (λ (n : ℕ). Received (sent.Entry o.kind bytes reading) q.kind n (Some bytes)) long (copies reading bytes) in
         let after : List ℕ = with_field before to bytes in
-        inl (after, inl (content_at In reading o input from, (from, sends.place In input, refl), inl (after, (to, bytes, gets.place Out before, received, refl), refl)), refl));
+        inl (
+          after,
+          as_many_with to before bytes (omega (arith, size, gets.within)) long,
+          inl (content_at In reading o input from, (from, sends.place In input, refl), inl (after, (to, bytes, gets.place Out before, received, refl), refl)),
+          refl,
+        ));
   };
 }
   where

@@ -8,6 +8,7 @@ pub mod SeenLemmas
 pub mod CountLemmas
 pub mod ReadingLemmas
 pub mod CutLemmas
+pub mod InPlaceLemmas
 pub mod CopyLemmas
 pub mod PlainLemmas
 pub mod JoinLemmas
@@ -23,5 +24,6 @@ pub mod MetLemmas
 pub mod SpentLemmas
 pub mod FindLemmas
 pub mod SpendingLemmas
+pub mod WithinLemmas
 pub use Rattle.cob_layout.proofs.EntryNoRule
 pub use Rattle.cob_layout.proofs.EntryOneList

@@ -4,13 +4,17 @@ use Rattle.std.proofs.lemmas.List.{drop_all}
 use Rattle.cob_copybook_tree.specs.Forests.{Forest}
 use Rattle.cob_copybook_tree.specs.Nodes.{Resolved}
 use Rattle.cob_layout.specs.declared.fields.Place.{Place}
+use Rattle.cob_layout.specs.Kept.{IsIn}
 use Rattle.cob_layout.specs.Laws.{OneOfNeeded}
+use Rattle.cob_layout_places.specs.Counts.{tables_of}
+use Rattle.cob_layout_places.specs.declared.varying.Table.{Table}
 use Rattle.cob_move_data.specs.declared.operands.Operand.{Operand}
-use Rattle.cob_move_data.specs.declared.operands.Side.TheVariants.{Out}
-use Rattle.cob_move_data.specs.Moves.{Sender, Move, Records}
+use Rattle.cob_move_data.specs.declared.operands.Side.TheVariants.{In, Out}
+use Rattle.cob_move_data.specs.Moves.{Entry, Literal, Sender, Move, Records}
 use Rattle.cob_move_apply.specs.Applied.{AllGet, Applied, Content, Gets, Gives, done}
 use Rattle.cob_move_apply.specs.Located.{Located}
-use Rattle.cob_move_apply.specs.Met.{HaveMet, ReceiverMet, ReceiversMet}
+use Rattle.cob_move_apply.specs.Cut.{LeaveSender}
+use Rattle.cob_move_apply.specs.Met.{HaveMet, MeetsItem, ReceiverMet, ReceiversMet}
 use Rattle.cob_move_apply.specs.Spent.{PlaceMet}
 use Rattle.cob_move_apply.specs.Steps.{AreMovesCut, AreReceived, IsMoveCut, SendsTheSame}
 use Rattle.cob_move_apply.proofs.CutLemmas.{gives_on}
@@ -123,8 +127,35 @@ parts_met law r s (p ∷ ps) os content rest input first before n steady gives (
     (with_others r.output content p.receivers before n (λ b k. HaveMet r (ps ++ rest) input b k) (λ b k. ReceiversMet r.output content others b k them)
     (λ b k h. parts_met law r s ps others content rest input first b k steady gives more h) now))
 
+-- where no table varies, no place meets the item of a count
+nowhere_met : (t : Forest Resolved) (before : List ℕ) (p : Place) → tables_of t ≡ [] → MeetsItem t before p → ⊥
+nowhere_met t before p none (x, item, is, at, meets) = subst (λ (xs : List Table). IsIn x xs) none is
+
+no_receiver_met : (t : Forest Resolved) (o : Operand) (before : List ℕ) (n : ℕ) → tables_of t ≡ [] → ReceiverMet t o before n → n ≡ 0
+no_receiver_met t o before n none (inl zero) = zero
+no_receiver_met t o before n none (inr (one, (p, at, meets))) = absurd (nowhere_met t before p none meets)
+
+no_receivers_met : (t : Forest Resolved) (content : Content) (os : List Operand) (before : List ℕ) (n : ℕ) (others : List ℕ → ℕ → Type 0) → tables_of t ≡ [] → ((b : List ℕ) (k : ℕ) → others b k → k ≡ 0)
+    → ReceiversMet t content os before n others → n ≡ 0
+no_receivers_met t content [] before n others none so h = so before n h
+no_receivers_met t content (o ∷ os) before n others none so (inl zero) = zero
+no_receivers_met t content (o ∷ os) before n others none so (inr (after, own, rest, sum, gets, met, more)) =
+    omega (arith, sum, no_receiver_met t o before own none met, no_receivers_met t content os after rest others none so more)
+
+none_have_met : (r : Records) (ms : List Move) (input before : List ℕ) (n : ℕ) → tables_of r.output ≡ [] → HaveMet r ms input before n → n ≡ 0
+none_have_met r [] input before n none h = h
+none_have_met r (m ∷ ms) input before n none (inl zero) = zero
+none_have_met r (m ∷ ms) input before n none (inr (content, gives, met)) =
+    no_receivers_met r.output content m.receivers before n (λ b k. HaveMet r ms input b k) none (λ b k h. none_have_met r ms input b k none h) met
+
+-- a record whose entry receivers leave has no table that varies
+no_tables : (r : Records) (s : Sender) (os : List Operand) → LeaveSender r s os → tables_of r.output ≡ []
+no_tables r (Entry In reading o) os leave = absurd leave
+no_tables r (Entry Out reading o) os leave = leave.none
+no_tables r (Literal c) os leave = absurd leave
+
 move_met : OneOfNeeded → (r : Records) (m : Move) (own rest ms : List Move) (input before : List ℕ) (n : ℕ) → ((b : List ℕ) (k : ℕ) → HaveMet r rest input b k → HaveMet r ms input b k)
-    → IsMoveCut m own → HaveMet r (own ++ rest) input before n → HaveMet r (m ∷ ms) input before n
+    → IsMoveCut r m own → HaveMet r (own ++ rest) input before n → HaveMet r (m ∷ ms) input before n
 move_met law r m [] rest ms input before n so h met = absurd h
 move_met law r m (p ∷ ps) rest ms input before n so h (inl none) = inl none
 move_met law r m (p ∷ ps) rest ms input before n so (inl (same, none)) (inr (content, gave, met)) =
@@ -135,7 +166,9 @@ move_met law r m (p ∷ ps) rest ms input before n so (inl (same, none)) (inr (c
       with_others r.output content p.receivers before n (λ b k. HaveMet r (ps ++ rest) input b k) (λ b k. HaveMet r ms input b k)
           (λ b k h. so b k (subst (λ (xs : List Move). HaveMet r (xs ++ rest) input b k) none h)) met,
     ))
-move_met law r m (p ∷ ps) rest ms input before n so (inr (steady, are)) (inr (content, gave, met)) =
+move_met law r m (p ∷ ps) rest ms input before n so (inr (inr (leave, same))) met =
+    inl (none_have_met r ((p ∷ ps) ++ rest) input before n (no_tables r m.sender m.receivers leave) met)
+move_met law r m (p ∷ ps) rest ms input before n so (inr (inl (steady, are))) (inr (content, gave, met)) =
     let gives : Gives r m.sender input before (Ok content) = subst (λ (q : Sender). Gives r q input before (Ok content)) are.0 gave in
     inr (
       content,
@@ -145,7 +178,7 @@ move_met law r m (p ∷ ps) rest ms input before n so (inr (steady, are)) (inr (
     )
 
 -- what met of parts met of the moves that are cut into them
-pub cut_met : OneOfNeeded → (r : Records) (ms parts : List Move) (input before : List ℕ) (n : ℕ) → AreMovesCut ms parts → HaveMet r parts input before n → HaveMet r ms input before n
+pub cut_met : OneOfNeeded → (r : Records) (ms parts : List Move) (input before : List ℕ) (n : ℕ) → AreMovesCut r ms parts → HaveMet r parts input before n → HaveMet r ms input before n
 cut_met law r [] parts input before n none h = subst (λ (ps : List Move). HaveMet r ps input before n) none h
 cut_met law r (m ∷ ms) parts input before n (own, rest, cut, one, more) h =
     move_met law r m own rest ms input before n (λ b k met. cut_met law r ms rest input b k more met) one

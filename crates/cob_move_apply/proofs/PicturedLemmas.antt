@@ -35,15 +35,15 @@ use Rattle.cob_move_apply.proofs.ReceiverLemmas.{put_is}
 use borrow.Rule.Slice.PartMut.{put_mid}
 
 pub pictured : LieInStorage → (r : Records) (steps : PicturedSteps) (step : PicturedStep) (sent receiver : Ref) (p : MovePlaces) (k l : Kind) → IsRecordDescription r.input → IsOperand r.input (operand_in r.input sent)
-    → AreFixedPlaces r sent receiver p
+    → AreFixedPlaces In r sent receiver p
     → k ≡ (operand_in r.input sent).kind → l ≡ (operand_in r.output receiver).kind → IsPicturedStep steps (kinds_of k l p.from p.to) step
-    → IsPicturedMove r steps (record { places = p; step = step }) (copied_move Pictured r sent receiver ∷ [])
+    → IsPicturedMove r steps (record { places = p; step = step }) (copied_move In Pictured r sent receiver ∷ [])
 pictured law r steps step sent receiver p k l described operand stand k_is l_is is =
     let o : Operand = operand_in r.input sent in
     let q : Operand = operand_in r.output receiver in (
       kinds_of o.kind q.kind p.from p.to,
       subst (λ (x : Kind). IsPicturedStep steps (kinds_of x q.kind p.from p.to) step) k_is (subst (λ (x : Kind). IsPicturedStep steps (kinds_of k x p.from p.to) step) l_is is),
-      fixed_move law r p Pictured o q described operand (fixed r.input false o p.from stand.sends_by_none stand.sends stand.sends_within) (fixed r.output true q p.to stand.receives_by_none stand.receives stand.receives_within),
+      fixed_move law In r p Pictured o q described operand (fixed r.input false o p.from stand.sends_by_none stand.sends stand.sends_within) (fixed r.output true q p.to stand.receives_by_none stand.receives stand.receives_within),
     )
 
 -- ---- what was carried out
@@ -97,9 +97,9 @@ pub pictured_step : (x : Reading) (r : Records) (given : List StatementMoves) (b
     → (k : MoveKinds) × IsPicturedStep steps k q.step × HasPlaces q.places k
 pictured_step x r given bases steps q p m e (part, so) = let (k, step_is, move) = so e in (k, step_is, move.places)
 
-pub pictured_reads : (x : Reading) (r : Records) (given : List StatementMoves) (bases : List Basis) (steps : PicturedSteps) (q : PicturedMove) (p : Part) (m : Move) (input : List ℕ) → x ≡ Pictured → IsPicturedPart x r given bases steps q p m
-    → IsStorage r.input input → q.places.from.offset + q.places.from.length ≤ length input
-pictured_reads x r given bases steps q p m input e (part, so) is = let (k, step_is, move) = so e in move.reads input is
+pub pictured_reads : (x : Reading) (r : Records) (given : List StatementMoves) (bases : List Basis) (steps : PicturedSteps) (q : PicturedMove) (p : Part) (m : Move) (input before : List ℕ) → x ≡ Pictured → IsPicturedPart x r given bases steps q p m
+    → IsStorage r.input input → length before ≡ greatest_length r.output → q.places.from.offset + q.places.from.length ≤ length input
+pictured_reads x r given bases steps q p m input before e (part, so) is size = let (k, step_is, move) = so e in move.reads input before is size
 
 pub pictured_within : (x : Reading) (r : Records) (given : List StatementMoves) (bases : List Basis) (steps : PicturedSteps) (q : PicturedMove) (p : Part) (m : Move) → x ≡ Pictured → IsPicturedPart x r given bases steps q p m
     → q.places.to.offset + q.places.to.length ≤ greatest_length r.output

@@ -27,7 +27,7 @@ both : (a b : Bool) → (a && b) ≡ true → (a ≡ true) × (b ≡ true)
 both true b e = (refl, e)
 both false b e = absurd (cc)
 
-none_of : (xs : List Table) → (length xs == 0) ≡ true → xs ≡ []
+pub none_of : (xs : List Table) → (length xs == 0) ≡ true → xs ≡ []
 none_of [] e = refl
 none_of (x ∷ xs) e = absurd (omega (arith, eqb-true _ _ e))
 
@@ -40,7 +40,7 @@ neither r e =
 pub copied : LieInStorage → (r : Records) (sent receiver : Ref) (from to : Place) (k l : Kind) (reading : Reading) → IsRecordDescription r.input → neither_varies r ≡ true → IsOperand r.input (operand_in r.input sent)
     → ReadsNone r.input sent.node false → placed_under (greatest_counts r.input) r.input sent ≡ Some (Ok from) → from.offset + from.length ≤ greatest_length r.input
     → ReadsNone r.output receiver.node true → placed_under (greatest_counts r.output) r.output receiver ≡ Some (Ok to) → to.offset + to.length ≤ greatest_length r.output
-    → from.length ≡ to.length → k ≡ (operand_in r.input sent).kind → l ≡ (operand_in r.output receiver).kind → CopiesBytes k l → AreCopied r from to (copied_move reading r sent receiver ∷ [])
+    → from.length ≡ to.length → k ≡ (operand_in r.input sent).kind → l ≡ (operand_in r.output receiver).kind → CopiesBytes k l → AreCopied r from to (copied_move In reading r sent receiver ∷ [])
 copied law r sent receiver from to k l reading described none operand reads sends from_fits leaves gets to_fits same k_is l_is copies =
     copied_one law r from to reading (operand_in r.input sent) (operand_in r.output receiver) described operand
     (fixed r.input false (operand_in r.input sent) from reads sends from_fits) (fixed r.output true (operand_in r.output receiver) to leaves gets to_fits)

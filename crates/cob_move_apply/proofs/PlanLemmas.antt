@@ -6,10 +6,12 @@ use Rattle.cob_codec.specs.declared.reading.Reading.{Reading}
 use Rattle.cob_codec.specs.declared.reading.Reading.TheVariants.{Pictured}
 use Rattle.cob_move_data.specs.declared.operands.Operand.{Operand}
 use Rattle.cob_move_data.specs.declared.operands.PairMoves.{PairMoves}
+use Rattle.cob_move_data.specs.declared.operands.Side.{Side}
+use Rattle.cob_move_data.specs.declared.operands.Side.TheVariants.{In, Out}
 use Rattle.cob_move_data.specs.declared.operands.StatementMoves.{StatementMoves}
-use Rattle.cob_move_data.specs.Moves.{Move, Records, Sender, moves_by, numbered_move_by, operand_in, statement_moves_by}
+use Rattle.cob_move_data.specs.Moves.{Move, Records, Sender, moves_by, numbered_move_by, operand_in, record_of, statement_moves_by}
 use Rattle.cob_move_apply.specs.Placed.{IsPlaced, IsPlacedMove}
-use Rattle.cob_move_apply.specs.Steps.{AreMovesCut, AreSteps, BeginsWith, CarriesLocated, Gains, GainsCut, IsMoveOfPart, IsOfConstant, IsPicturedMove, IsReadyAnywhere, IsReadyConstant, IsStep, StandFor, Support, WritesFor, alone, constant_move, copied_move, pair_at, singles, support_of}
+use Rattle.cob_move_apply.specs.Steps.{AreMovesCut, AreSteps, BeginsWith, CarriesLocated, Gains, GainsCut, IsMoveOfPart, IsOfConstant, IsPicturedMove, IsLocatedMove, IsReadyAnywhere, IsReadyConstant, IsStep, StandFor, Support, WritesFor, alone, constant_move, copied_move, pair_at, singles, support_of}
 use Rattle.cob_copybook_tree.specs.declared.node.Kind.{Kind}
 use Rattle.cob_copybook_entry.specs.Described.{PlainValue}
 use Rattle.cob_move_steps.specs.Copies.{IsConstantStep}
@@ -68,6 +70,7 @@ pub record Grows (a b : Support) : Type 0 where
   pub constants : IsLonger ConstantStep a.constants b.constants
   pub located : IsLonger LocatedMove a.located b.located
   pub located_constants : IsLonger LocatedConstant a.located_constants b.located_constants
+  pub within : IsLonger LocatedMove a.within b.within
 
 -- what is meant of a step is more
 step_as : (T : Type 0) (holds also : T → Type 0) (steps : List T) (n : ℕ) → ((s : T) → holds s → also s) → IsStepAt T holds steps n → IsStepAt T also steps n
@@ -80,13 +83,14 @@ carries_still before now old new s t (located_step.Always step) kept pictured ca
     kept (record { sender = s; sent = sent; receiver = t; received = received }) step (carries sent received has gets)
 carries_still before now old new s t (located_step.Pictured step) kept pictured carries = λ sent received has gets.
     pictured (record { sender = s; sent = sent; receiver = t; received = received }) step (carries sent received has gets)
+carries_still before now old new s t located_step.Rule kept pictured carries = tt
 
 -- a move that was made ready wherever its items stand, where the steps became more
-ready_still : (r : Records) (a b : Support) (p : LocatedMove) → Grows a b → IsReadyAnywhere r a.prepared a.pictured p → IsReadyAnywhere r b.prepared b.pictured p
-ready_still r a b p more ready = record {
+ready_still : (side : Side) (r : Records) (a b : Support) (p : LocatedMove) → Grows a b → IsReadyAnywhere side r a.prepared a.pictured p → IsReadyAnywhere side r b.prepared b.pictured p
+ready_still side r a b p more ready = record {
   sends = ready.sends;
   receives = ready.receives;
-  carries = carries_still a.prepared b.prepared a.pictured b.pictured (operand_in r.input p.sent).kind (operand_in r.output p.receiver).kind p.step more.prepared more.pictured ready.carries;
+  carries = carries_still a.prepared b.prepared a.pictured b.pictured (operand_in (record_of r side) p.sent).kind (operand_in r.output p.receiver).kind p.step more.prepared more.pictured ready.carries;
 }
 
 -- the move of a constant that was, where what writes constants became more
@@ -95,6 +99,15 @@ constant_still r a b constant p more ready = record {
   receives = ready.receives;
   writes = kept_at ConstantStep (WritesFor constant (operand_in r.output p.receiver).kind) a.constants b.constants p.number more.constants ready.writes;
 }
+
+-- the one that has a number, where there became more of them
+located_still : (side : Side) (x : Reading) (r : Records) (a b : Support) (number : ℕ) (own : List Move) (before now : List LocatedMove) → Grows a b → IsLonger LocatedMove before now
+    → IsLocatedMove side x r a.prepared a.pictured before number own → IsLocatedMove side x r b.prepared b.pictured now number own
+located_still side x r a b number own before now more longer is =
+    step_as LocatedMove (λ p. IsReadyAnywhere side r a.prepared a.pictured p × (own ≡ copied_move side x r p.sent p.receiver ∷ []))
+    (λ p. IsReadyAnywhere side r b.prepared b.pictured p × (own ≡ copied_move side x r p.sent p.receiver ∷ [])) now number
+    (λ p (ready, same). (ready_still side r a b p more ready, same))
+    (kept_at LocatedMove (λ p. IsReadyAnywhere side r a.prepared a.pictured p × (own ≡ copied_move side x r p.sent p.receiver ∷ [])) before now number longer is)
 
 step_still : (x : Reading) (r : Records) (given : List StatementMoves) (a b : Support) (s : Step) (own : List Move) → Grows a b → IsStep x r given a s own → IsStep x r given b s own
 step_still x r given a b (step.Part p) own more (m, is, part) =
@@ -115,15 +128,16 @@ step_still x r given a b (step.Pictured q p) own more (m, is, (part, so)) = (
 )
 step_still x r given a b (step.Constant c) own more (constant, to, at, fixed) =
     (constant, to, kept_at ConstantStep (λ step. IsConstantStep constant to c.to.length step) a.constants b.constants c.number more.constants at, fixed)
-step_still x r given a b (step.Located number) own more is =
-    step_as LocatedMove (λ p. IsReadyAnywhere r a.prepared a.pictured p × (own ≡ copied_move x r p.sent p.receiver ∷ [])) (λ p. IsReadyAnywhere r b.prepared b.pictured p × (own ≡ copied_move x r p.sent p.receiver ∷ [])) b.located number
-    (λ p (ready, same). (ready_still r a b p more ready, same))
-    (kept_at LocatedMove (λ p. IsReadyAnywhere r a.prepared a.pictured p × (own ≡ copied_move x r p.sent p.receiver ∷ [])) a.located b.located number more.located is)
+step_still x r given a b (step.Located number) own more is = located_still In x r a b number own a.located b.located more more.located is
 step_still x r given a b (step.LocatedConstant number) own more is =
     step_as LocatedConstant (IsOfConstant r a.constants own) (IsOfConstant r b.constants own) b.located_constants number
     (λ p (constant, ready, same). (constant, constant_still r a b constant p more ready, same))
     (kept_at LocatedConstant (IsOfConstant r a.constants own) a.located_constants b.located_constants number more.located_constants is)
 step_still x r given a b (step.Copy places) own more h = h
+step_still x r given a b (step.Within p) own more (k, is, fixed) = (k, more.prepared k p.step is, fixed)
+step_still x r given a b (step.WithinNumber p) own more ((k, is, fixed), before) = ((k, more.prepared k (move_step.Number p.number) is, fixed), before)
+step_still x r given a b (step.WithinEdited p) own more ((k, is, fixed), before) = ((k, more.prepared k (move_step.Edited p.number) is, fixed), before)
+step_still x r given a b (step.LocatedWithin number) own more is = located_still Out x r a b number own a.within b.within more more.within is
 
 steps_still : (x : Reading) (r : Records) (given : List StatementMoves) (a b : Support) (ss : List Step) (parts : List Move) → Grows a b
     → AreSteps x r given a ss parts → AreSteps x r given b ss parts
@@ -174,53 +188,74 @@ by_more x r given a b old new s parts own more is one are =
     (step_behind x r given b old s parts own (steps_still x r given a b old parts more are) one)
 
 -- a part behind steps, whose bases are put behind the bases
-pub by_part : (x : Reading) (r : Records) (given : List StatementMoves) (prepared : MoveSteps) (pictured : PicturedSteps) (constants : List ConstantStep) (located : List LocatedMove) (located_constants : List LocatedConstant) (old_bases new_bases own : List Basis) (old new : List Step) (p : Part) (m : Move) (parts : List Move)
+pub by_part : (x : Reading) (r : Records) (given : List StatementMoves) (prepared : MoveSteps) (pictured : PicturedSteps) (constants : List ConstantStep) (located : List LocatedMove) (located_constants : List LocatedConstant) (within : List LocatedMove) (old_bases new_bases own : List Basis) (old new : List Step) (p : Part) (m : Move) (parts : List Move)
     → new_bases ≡ old_bases ++ own → new ≡ old ++ step.Part p ∷ [] → IsMoveOfPart x r given (old_bases ++ own) p m
-    → AreSteps x r given (record { bases = old_bases; prepared = prepared; pictured = pictured; constants = constants; located = located; located_constants = located_constants }) old parts
-    → AreSteps x r given (record { bases = new_bases; prepared = prepared; pictured = pictured; constants = constants; located = located; located_constants = located_constants }) new (parts ++ m ∷ [])
-by_part x r given prepared pictured constants located located_constants old_bases new_bases own old new p m parts grown is part are =
-    by_more x r given (record { bases = old_bases; prepared = prepared; pictured = pictured; constants = constants; located = located; located_constants = located_constants }) (record { bases = new_bases; prepared = prepared; pictured = pictured; constants = constants; located = located; located_constants = located_constants }) old new (step.Part p) parts (m ∷ [])
-    (record { more = own; bases = grown; prepared = λ k t h. h; pictured = λ k t h. h; constants = as_before ConstantStep constants; located = as_before LocatedMove located; located_constants = as_before LocatedConstant located_constants }) is (m, refl, subst (λ (bs : List Basis). IsMoveOfPart x r given bs p m) (sym grown) part) are
+    → AreSteps x r given (record { bases = old_bases; prepared = prepared; pictured = pictured; constants = constants; located = located; located_constants = located_constants; within = within }) old parts
+    → AreSteps x r given (record { bases = new_bases; prepared = prepared; pictured = pictured; constants = constants; located = located; located_constants = located_constants; within = within }) new (parts ++ m ∷ [])
+by_part x r given prepared pictured constants located located_constants within old_bases new_bases own old new p m parts grown is part are =
+    by_more x r given (record { bases = old_bases; prepared = prepared; pictured = pictured; constants = constants; located = located; located_constants = located_constants; within = within }) (record { bases = new_bases; prepared = prepared; pictured = pictured; constants = constants; located = located; located_constants = located_constants; within = within }) old new (step.Part p) parts (m ∷ [])
+    (record { more = own; bases = grown; prepared = λ k t h. h; pictured = λ k t h. h; constants = as_before ConstantStep constants; located = as_before LocatedMove located; located_constants = as_before LocatedConstant located_constants; within = as_before LocatedMove within }) is (m, refl, subst (λ (bs : List Basis). IsMoveOfPart x r given bs p m) (sym grown) part) are
 
 -- the same, where the part was made ready for senders that are read as their pictures say
-pub by_pictured : (x : Reading) (r : Records) (given : List StatementMoves) (prepared : MoveSteps) (pictured : PicturedSteps) (constants : List ConstantStep) (located : List LocatedMove) (located_constants : List LocatedConstant) (old_bases new_bases own : List Basis) (old new : List Step) (q : PicturedMove) (p : Part) (m : Move)
+pub by_pictured : (x : Reading) (r : Records) (given : List StatementMoves) (prepared : MoveSteps) (pictured : PicturedSteps) (constants : List ConstantStep) (located : List LocatedMove) (located_constants : List LocatedConstant) (within : List LocatedMove) (old_bases new_bases own : List Basis) (old new : List Step) (q : PicturedMove) (p : Part) (m : Move)
     (parts : List Move) → new_bases ≡ old_bases ++ own → new ≡ old ++ step.Pictured q p ∷ [] → IsMoveOfPart x r given (old_bases ++ own) p m → (x ≡ Pictured → IsPicturedMove r pictured q (m ∷ []))
-    → AreSteps x r given (record { bases = old_bases; prepared = prepared; pictured = pictured; constants = constants; located = located; located_constants = located_constants }) old parts
-    → AreSteps x r given (record { bases = new_bases; prepared = prepared; pictured = pictured; constants = constants; located = located; located_constants = located_constants }) new (parts ++ m ∷ [])
-by_pictured x r given prepared pictured constants located located_constants old_bases new_bases own old new q p m parts grown is part so are =
-    by_more x r given (record { bases = old_bases; prepared = prepared; pictured = pictured; constants = constants; located = located; located_constants = located_constants }) (record { bases = new_bases; prepared = prepared; pictured = pictured; constants = constants; located = located; located_constants = located_constants }) old new (step.Pictured q p) parts (m ∷ [])
-    (record { more = own; bases = grown; prepared = λ k t h. h; pictured = λ k t h. h; constants = as_before ConstantStep constants; located = as_before LocatedMove located; located_constants = as_before LocatedConstant located_constants }) is
+    → AreSteps x r given (record { bases = old_bases; prepared = prepared; pictured = pictured; constants = constants; located = located; located_constants = located_constants; within = within }) old parts
+    → AreSteps x r given (record { bases = new_bases; prepared = prepared; pictured = pictured; constants = constants; located = located; located_constants = located_constants; within = within }) new (parts ++ m ∷ [])
+by_pictured x r given prepared pictured constants located located_constants within old_bases new_bases own old new q p m parts grown is part so are =
+    by_more x r given (record { bases = old_bases; prepared = prepared; pictured = pictured; constants = constants; located = located; located_constants = located_constants; within = within }) (record { bases = new_bases; prepared = prepared; pictured = pictured; constants = constants; located = located; located_constants = located_constants; within = within }) old new (step.Pictured q p) parts (m ∷ [])
+    (record { more = own; bases = grown; prepared = λ k t h. h; pictured = λ k t h. h; constants = as_before ConstantStep constants; located = as_before LocatedMove located; located_constants = as_before LocatedConstant located_constants; within = as_before LocatedMove within }) is
     (m, refl, (subst (λ (bs : List Basis). IsMoveOfPart x r given bs p m) (sym grown) part, so)) are
 
 -- the move of a constant that was made ready behind steps
-pub by_constant : (x : Reading) (r : Records) (given : List StatementMoves) (bases : List Basis) (prepared : MoveSteps) (pictured : PicturedSteps) (located : List LocatedMove) (located_constants : List LocatedConstant) (before now : List ConstantStep) (written : ConstantStep) (old new : List Step)
+pub by_constant : (x : Reading) (r : Records) (given : List StatementMoves) (bases : List Basis) (prepared : MoveSteps) (pictured : PicturedSteps) (located : List LocatedMove) (located_constants : List LocatedConstant) (within : List LocatedMove) (before now : List ConstantStep) (written : ConstantStep) (old new : List Step)
     (c : ConstantMove) (constant : PlainValue) (to : Kind) (parts own : List Move) → now ≡ before ++ written ∷ [] → c.number ≡ length before → IsConstantStep constant to c.to.length written → IsFixedConstant r c.to constant to own
-    → new ≡ old ++ step.Constant c ∷ [] → AreSteps x r given (record { bases = bases; prepared = prepared; pictured = pictured; constants = before; located = located; located_constants = located_constants }) old parts
-    → AreSteps x r given (record { bases = bases; prepared = prepared; pictured = pictured; constants = now; located = located; located_constants = located_constants }) new (parts ++ own)
-by_constant x r given bases prepared pictured located located_constants before now written old new c constant to parts own grown here writes fixed is are =
-    by_more x r given (record { bases = bases; prepared = prepared; pictured = pictured; constants = before; located = located; located_constants = located_constants }) (record { bases = bases; prepared = prepared; pictured = pictured; constants = now; located = located; located_constants = located_constants }) old new (step.Constant c) parts own
-    (record { more = []; bases = sym (append-nil bases); prepared = λ k t h. h; pictured = λ k t h. h; constants = (written ∷ [], grown); located = as_before LocatedMove located; located_constants = as_before LocatedConstant located_constants }) is
+    → new ≡ old ++ step.Constant c ∷ [] → AreSteps x r given (record { bases = bases; prepared = prepared; pictured = pictured; constants = before; located = located; located_constants = located_constants; within = within }) old parts
+    → AreSteps x r given (record { bases = bases; prepared = prepared; pictured = pictured; constants = now; located = located; located_constants = located_constants; within = within }) new (parts ++ own)
+by_constant x r given bases prepared pictured located located_constants within before now written old new c constant to parts own grown here writes fixed is are =
+    by_more x r given (record { bases = bases; prepared = prepared; pictured = pictured; constants = before; located = located; located_constants = located_constants; within = within }) (record { bases = bases; prepared = prepared; pictured = pictured; constants = now; located = located; located_constants = located_constants; within = within }) old new (step.Constant c) parts own
+    (record { more = []; bases = sym (append-nil bases); prepared = λ k t h. h; pictured = λ k t h. h; constants = (written ∷ [], grown); located = as_before LocatedMove located; located_constants = as_before LocatedConstant located_constants; within = as_before LocatedMove within }) is
     (constant, to, put_at ConstantStep (λ step. IsConstantStep constant to c.to.length step) before now written c.number grown here writes, fixed) are
 
 -- a move that was made ready wherever its items stand behind steps
-pub by_located : (x : Reading) (r : Records) (given : List StatementMoves) (bases : List Basis) (prepared : MoveSteps) (pictured : PicturedSteps) (constants : List ConstantStep) (located_constants : List LocatedConstant) (before now : List LocatedMove) (one : LocatedMove) (old new : List Step)
-    (number : ℕ) (parts own : List Move) → now ≡ before ++ one ∷ [] → number ≡ length before → IsReadyAnywhere r prepared pictured one → own ≡ copied_move x r one.sent one.receiver ∷ []
-    → new ≡ old ++ step.Located number ∷ [] → AreSteps x r given (record { bases = bases; prepared = prepared; pictured = pictured; constants = constants; located = before; located_constants = located_constants }) old parts
-    → AreSteps x r given (record { bases = bases; prepared = prepared; pictured = pictured; constants = constants; located = now; located_constants = located_constants }) new (parts ++ own)
-by_located x r given bases prepared pictured constants located_constants before now one old new number parts own grown here ready same is are =
-    by_more x r given (record { bases = bases; prepared = prepared; pictured = pictured; constants = constants; located = before; located_constants = located_constants }) (record { bases = bases; prepared = prepared; pictured = pictured; constants = constants; located = now; located_constants = located_constants }) old new (step.Located number) parts own
-    (record { more = []; bases = sym (append-nil bases); prepared = λ k t h. h; pictured = λ k t h. h; constants = as_before ConstantStep constants; located = (one ∷ [], grown); located_constants = as_before LocatedConstant located_constants }) is
-    (put_at LocatedMove (λ p. IsReadyAnywhere r prepared pictured p × (own ≡ copied_move x r p.sent p.receiver ∷ [])) before now one number grown here (ready, same)) are
+pub by_located : (x : Reading) (r : Records) (given : List StatementMoves) (bases : List Basis) (prepared : MoveSteps) (pictured : PicturedSteps) (constants : List ConstantStep) (located_constants : List LocatedConstant) (within before now : List LocatedMove) (one : LocatedMove) (old new : List Step)
+    (number : ℕ) (parts own : List Move) → now ≡ before ++ one ∷ [] → number ≡ length before → IsReadyAnywhere In r prepared pictured one → own ≡ copied_move In x r one.sent one.receiver ∷ []
+    → new ≡ old ++ step.Located number ∷ [] → AreSteps x r given (record { bases = bases; prepared = prepared; pictured = pictured; constants = constants; located = before; located_constants = located_constants; within = within }) old parts
+    → AreSteps x r given (record { bases = bases; prepared = prepared; pictured = pictured; constants = constants; located = now; located_constants = located_constants; within = within }) new (parts ++ own)
+by_located x r given bases prepared pictured constants located_constants within before now one old new number parts own grown here ready same is are =
+    by_more x r given (record { bases = bases; prepared = prepared; pictured = pictured; constants = constants; located = before; located_constants = located_constants; within = within }) (record { bases = bases; prepared = prepared; pictured = pictured; constants = constants; located = now; located_constants = located_constants; within = within }) old new (step.Located number) parts own
+    (record { more = []; bases = sym (append-nil bases); prepared = λ k t h. h; pictured = λ k t h. h; constants = as_before ConstantStep constants; located = (one ∷ [], grown); located_constants = as_before LocatedConstant located_constants; within = as_before LocatedMove within }) is
+    (put_at LocatedMove (λ p. IsReadyAnywhere In r prepared pictured p × (own ≡ copied_move In x r p.sent p.receiver ∷ [])) before now one number grown here (ready, same)) are
+
+-- the same of one within the output record
+pub by_located_within : (x : Reading) (r : Records) (given : List StatementMoves) (bases : List Basis) (prepared : MoveSteps) (pictured : PicturedSteps) (constants : List ConstantStep) (located : List LocatedMove) (located_constants : List LocatedConstant)
+    (before now : List LocatedMove) (one : LocatedMove) (old new : List Step) (number : ℕ) (parts own : List Move) → now ≡ before ++ one ∷ [] → number ≡ length before → IsReadyAnywhere Out r prepared pictured one
+    → own ≡ copied_move Out x r one.sent one.receiver ∷ [] → new ≡ old ++ step.LocatedWithin number ∷ []
+    → AreSteps x r given (record { bases = bases; prepared = prepared; pictured = pictured; constants = constants; located = located; located_constants = located_constants; within = before }) old parts
+    → AreSteps x r given (record { bases = bases; prepared = prepared; pictured = pictured; constants = constants; located = located; located_constants = located_constants; within = now }) new (parts ++ own)
+by_located_within x r given bases prepared pictured constants located located_constants before now one old new number parts own grown here ready same is are =
+    by_more x r given (record { bases = bases; prepared = prepared; pictured = pictured; constants = constants; located = located; located_constants = located_constants; within = before })
+    (record { bases = bases; prepared = prepared; pictured = pictured; constants = constants; located = located; located_constants = located_constants; within = now }) old new (step.LocatedWithin number) parts own
+    (record {
+      more = [];
+      bases = sym (append-nil bases);
+      prepared = λ k t h. h;
+      pictured = λ k t h. h;
+      constants = as_before ConstantStep constants;
+      located = as_before LocatedMove located;
+      located_constants = as_before LocatedConstant located_constants;
+      within = (one ∷ [], grown);
+    }) is
+    (put_at LocatedMove (λ p. IsReadyAnywhere Out r prepared pictured p × (own ≡ copied_move Out x r p.sent p.receiver ∷ [])) before now one number grown here (ready, same)) are
 
 -- the move of a constant that was made ready wherever its receiver stands behind steps
-pub by_located_constant : (x : Reading) (r : Records) (given : List StatementMoves) (bases : List Basis) (prepared : MoveSteps) (pictured : PicturedSteps) (located : List LocatedMove) (few many : List ConstantStep) (written : ConstantStep)
+pub by_located_constant : (x : Reading) (r : Records) (given : List StatementMoves) (bases : List Basis) (prepared : MoveSteps) (pictured : PicturedSteps) (located within : List LocatedMove) (few many : List ConstantStep) (written : ConstantStep)
     (before now : List LocatedConstant) (one : LocatedConstant) (constant : PlainValue) (old new : List Step) (number : ℕ) (parts own : List Move) → many ≡ few ++ written ∷ [] → one.number ≡ length few → now ≡ before ++ one ∷ [] → number ≡ length before
     → IsPlaced r.output true (operand_in r.output one.receiver) one.to → WritesFor constant (operand_in r.output one.receiver).kind written → own ≡ constant_move r constant one.receiver ∷ []
-    → new ≡ old ++ step.LocatedConstant number ∷ [] → AreSteps x r given (record { bases = bases; prepared = prepared; pictured = pictured; constants = few; located = located; located_constants = before }) old parts
-    → AreSteps x r given (record { bases = bases; prepared = prepared; pictured = pictured; constants = many; located = located; located_constants = now }) new (parts ++ own)
-by_located_constant x r given bases prepared pictured located few many written before now one constant old new number parts own longer there grown here placed writes same is are =
-    by_more x r given (record { bases = bases; prepared = prepared; pictured = pictured; constants = few; located = located; located_constants = before }) (record { bases = bases; prepared = prepared; pictured = pictured; constants = many; located = located; located_constants = now }) old new (step.LocatedConstant number) parts own
-    (record { more = []; bases = sym (append-nil bases); prepared = λ k t h. h; pictured = λ k t h. h; constants = (written ∷ [], longer); located = as_before LocatedMove located; located_constants = (one ∷ [], grown) }) is
+    → new ≡ old ++ step.LocatedConstant number ∷ [] → AreSteps x r given (record { bases = bases; prepared = prepared; pictured = pictured; constants = few; located = located; located_constants = before; within = within }) old parts
+    → AreSteps x r given (record { bases = bases; prepared = prepared; pictured = pictured; constants = many; located = located; located_constants = now; within = within }) new (parts ++ own)
+by_located_constant x r given bases prepared pictured located within few many written before now one constant old new number parts own longer there grown here placed writes same is are =
+    by_more x r given (record { bases = bases; prepared = prepared; pictured = pictured; constants = few; located = located; located_constants = before; within = within }) (record { bases = bases; prepared = prepared; pictured = pictured; constants = many; located = located; located_constants = now; within = within }) old new (step.LocatedConstant number) parts own
+    (record { more = []; bases = sym (append-nil bases); prepared = λ k t h. h; pictured = λ k t h. h; constants = (written ∷ [], longer); located = as_before LocatedMove located; located_constants = (one ∷ [], grown); within = as_before LocatedMove within }) is
     (put_at LocatedConstant (IsOfConstant r many own) before now one number grown here
     (constant, record { receives = placed; writes = put_at ConstantStep (WritesFor constant (operand_in r.output one.receiver).kind) few many written one.number longer there writes }, same)) are
 
@@ -243,18 +278,19 @@ gains_as x r given ms ns a b is f = subst (λ (xs : List Move). Gains x r given 
 
 -- steps that were made ready came to what steps rest on
 pub gains_more : (x : Reading) (r : Records) (given : List StatementMoves) (ms : List Move) (a b c : Plan) → b.steps.items ≡ a.steps.items → b.bases.items ≡ a.bases.items → KeepsSteps a.prepared b.prepared
-    → KeepsPictured a.pictured b.pictured → b.constants.items ≡ a.constants.items → b.located.items ≡ a.located.items → b.located_constants.items ≡ a.located_constants.items → Gains x r given ms b c → Gains x r given ms a c
-gains_more x r given ms a b c same bases kept pictured constants located located_constants g parts are =
+    → KeepsPictured a.pictured b.pictured → b.constants.items ≡ a.constants.items → b.located.items ≡ a.located.items → b.located_constants.items ≡ a.located_constants.items
+    → b.within.items ≡ a.within.items → Gains x r given ms b c → Gains x r given ms a c
+gains_more x r given ms a b c same bases kept pictured constants located located_constants within g parts are =
     g parts (subst (λ (ss : List Step). AreSteps x r given (support_of b) ss parts) (sym same)
-    (steps_still x r given (support_of a) (support_of b) a.steps.items parts (record { more = []; bases = bases ∙ sym (append-nil a.bases.items); prepared = kept; pictured = pictured; constants = ([], constants ∙ sym (append-nil a.constants.items)); located = ([], located ∙ sym (append-nil a.located.items)); located_constants = ([], located_constants ∙ sym (append-nil a.located_constants.items)) }) are))
+    (steps_still x r given (support_of a) (support_of b) a.steps.items parts (record { more = []; bases = bases ∙ sym (append-nil a.bases.items); prepared = kept; pictured = pictured; constants = ([], constants ∙ sym (append-nil a.constants.items)); located = ([], located ∙ sym (append-nil a.located.items)); located_constants = ([], located_constants ∙ sym (append-nil a.located_constants.items)); within = ([], within ∙ sym (append-nil a.within.items)) }) are))
 
 -- a single move that was made ready behind steps
-pub by_prepared : (x : Reading) (r : Records) (given : List StatementMoves) (bases : List Basis) (pictured : PicturedSteps) (constants : List ConstantStep) (located : List LocatedMove) (located_constants : List LocatedConstant) (before now : MoveSteps) (old new : List Step) (s : Step) (parts own : List Move)
-    → KeepsSteps before now → new ≡ old ++ s ∷ [] → IsStep x r given (record { bases = bases; prepared = now; pictured = pictured; constants = constants; located = located; located_constants = located_constants }) s own
-    → AreSteps x r given (record { bases = bases; prepared = before; pictured = pictured; constants = constants; located = located; located_constants = located_constants }) old parts → AreSteps x r given (record { bases = bases; prepared = now; pictured = pictured; constants = constants; located = located; located_constants = located_constants }) new (parts ++ own)
-by_prepared x r given bases pictured constants located located_constants before now old new s parts own kept is made are =
-    by_more x r given (record { bases = bases; prepared = before; pictured = pictured; constants = constants; located = located; located_constants = located_constants }) (record { bases = bases; prepared = now; pictured = pictured; constants = constants; located = located; located_constants = located_constants }) old new s parts own
-    (record { more = []; bases = sym (append-nil bases); prepared = kept; pictured = λ k t h. h; constants = as_before ConstantStep constants; located = as_before LocatedMove located; located_constants = as_before LocatedConstant located_constants }) is made are
+pub by_prepared : (x : Reading) (r : Records) (given : List StatementMoves) (bases : List Basis) (pictured : PicturedSteps) (constants : List ConstantStep) (located : List LocatedMove) (located_constants : List LocatedConstant) (within : List LocatedMove) (before now : MoveSteps) (old new : List Step) (s : Step) (parts own : List Move)
+    → KeepsSteps before now → new ≡ old ++ s ∷ [] → IsStep x r given (record { bases = bases; prepared = now; pictured = pictured; constants = constants; located = located; located_constants = located_constants; within = within }) s own
+    → AreSteps x r given (record { bases = bases; prepared = before; pictured = pictured; constants = constants; located = located; located_constants = located_constants; within = within }) old parts → AreSteps x r given (record { bases = bases; prepared = now; pictured = pictured; constants = constants; located = located; located_constants = located_constants; within = within }) new (parts ++ own)
+by_prepared x r given bases pictured constants located located_constants within before now old new s parts own kept is made are =
+    by_more x r given (record { bases = bases; prepared = before; pictured = pictured; constants = constants; located = located; located_constants = located_constants; within = within }) (record { bases = bases; prepared = now; pictured = pictured; constants = constants; located = located; located_constants = located_constants; within = within }) old new s parts own
+    (record { more = []; bases = sym (append-nil bases); prepared = kept; pictured = λ k t h. h; constants = as_before ConstantStep constants; located = as_before LocatedMove located; located_constants = as_before LocatedConstant located_constants; within = as_before LocatedMove within }) is made are
 
 singles_next : (s : Sender) (os : List Operand) (i : ℕ) (o : Operand) → i < length os → o ≡ get_or os i o → singles s (take i os) ++ alone s o ∷ [] ≡ singles s (take (i + 1) os)
 singles_next s os i o lt is =
@@ -318,7 +354,7 @@ some_statement (s ∷ ss) (suc n) lt = some_statement ss n (omega (arith, lt))
 pub stand_more : (x : Reading) (r : Records) (ss : List StatementMoves) (i : ℕ) (s : StatementMoves) (b c : Plan) → i < length ss → s ≡ get_or ss i s
     → StandFor x r ss b.steps.items (support_of b) (moves_by x r (take i ss)) → GainsCut x r ss (statement_moves_by x r s) b c → StandFor x r ss c.steps.items (support_of c) (moves_by x r (take (i + 1) ss))
 stand_more x r ss i s b c lt is (parts, are, cut) (own, more, g) =
-    (parts ++ own, g parts are, subst (λ (ms : List Move). AreMovesCut ms (parts ++ own)) (statement_next x r ss i s lt is) (cut_both (moves_by x r (take i ss)) (statement_moves_by x r s) parts own cut more))
+    (parts ++ own, g parts are, subst (λ (ms : List Move). AreMovesCut r ms (parts ++ own)) (statement_next x r ss i s lt is) (cut_both r (moves_by x r (take i ss)) (statement_moves_by x r s) parts own cut more))
 
 pub stand_all : (x : Reading) (r : Records) (ss : List StatementMoves) (i : ℕ) (steps : List Step) (on : Support) → length ss ≤ i → StandFor x r ss steps on (moves_by x r (take i ss)) → StandFor x r ss steps on (moves_by x r ss)
 stand_all x r ss i steps on past h = subst (λ (ts : List StatementMoves). StandFor x r ss steps on (moves_by x r ts)) (take_all i ss past) h

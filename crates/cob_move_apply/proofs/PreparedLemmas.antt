@@ -9,23 +9,24 @@ use Rattle.cob_layout.specs.Fields.{field_of, with_field}
 use Rattle.cob_layout.specs.Laws.{LieInStorage}
 use Rattle.cob_layout.specs.Sound.{IsSound}
 use Rattle.cob_layout.specs.Storage.{IsStorage}
+use Rattle.cob_move_data.specs.declared.operands.Side.{Side}
 use Rattle.cob_move_data.specs.declared.operands.Side.TheVariants.{In, Out}
 use Rattle.cob_move_data.specs.declared.operands.Operand.{Operand}
 use Rattle.cob_layout_places.specs.declared.reference.Ref.{Ref}
-use Rattle.cob_move_data.specs.Moves.{Entry, IsOperand, Records, operand_in}
+use Rattle.cob_move_data.specs.Moves.{Entry, IsOperand, Records, operand_in, record_of}
 use Rattle.cob_move_steps.specs.Pool.{AreOccupied, IsMoveStep, IsReceived, MoveKinds}
 use Rattle.cob_move_steps.specs.declared.pool.MoveStep.{MoveStep}
 use Rattle.cob_move_steps.specs.declared.pool.MoveSteps.{MoveSteps}
 use Rattle.cob_move_receive.specs.Received.{Received, outcome}
 use Rattle.cob_move_receive.specs.Sent as sent
-use Rattle.cob_move_apply.specs.Applied.{Applied, content_at, done, stopped}
+use Rattle.cob_move_apply.specs.Applied.{Applied, content_at, done, stopped, storage_of}
 use Rattle.cob_move_apply.specs.Located.{stop_at}
 use Rattle.cob_move_apply.specs.Made.{IsMadeReady}
 use Rattle.cob_move_apply.specs.Met.{HaveMet}
 use Rattle.cob_move_apply.specs.Placed.{IsFixed}
 use Rattle.cob_move_apply.specs.Planned.{AreFixedPlaces}
 use Rattle.cob_move_apply.specs.Steps.{IsPreparedMove, alone, copied_move}
-use Rattle.cob_move_apply.specs.Written.{HasPlaces, IsFixedMove, IsReceivedFrom, received_at}
+use Rattle.cob_move_apply.specs.Written.{HasPlaces, IsFixedMove, IsReceivedFrom, LiesInRecord, received_at}
 use Rattle.cob_move_apply.specs.declared.step.MovePlaces.{MovePlaces}
 use Rattle.cob_move_apply.specs.declared.step.PreparedMove.{PreparedMove}
 use Rattle.cob_move_apply.specs.declared.stop.Stop.{Stop}
@@ -41,55 +42,61 @@ abbrev pub kinds_of : Kind → Kind → Place → Place → MoveKinds
 kinds_of s t from to = record { sender = s; sent = from.length; receiver = t; received = to.length }
 
 -- a single move between operands that stand at their places in every storage ends with what the receiver gets, or at the sender
-move_ends : (r : Records) (p : MovePlaces) (reading : Reading) (o q : Operand) → IsFixed r.input false o p.from → IsFixed r.output true q p.to
-    → (input before : List ℕ) (outcome : Option (List ℕ)) → Received (sent.Entry o.kind (field_of p.from input) reading) q.kind p.to.length outcome
-    → Applied r (alone (Entry In reading o) q ∷ []) input before (received_at p before outcome)
-move_ends r p reading o q sends gets input before (Some bytes) received =
+move_ends : (side : Side) (r : Records) (p : MovePlaces) (reading : Reading) (o q : Operand) → IsFixed (record_of r side) false o p.from → IsFixed r.output true q p.to
+    → (input before : List ℕ) (outcome : Option (List ℕ)) → Received (sent.Entry o.kind (field_of p.from (storage_of side input before)) reading) q.kind p.to.length outcome
+    → Applied r (alone (Entry side reading o) q ∷ []) input before (received_at side p before outcome)
+move_ends side r p reading o q sends gets input before (Some bytes) received =
+    let source : List ℕ = storage_of side input before in
     let after : List ℕ = with_field before p.to bytes in
-    inl (after, inl (content_at In reading o input p.from, (p.from, sends.place In input, refl), inl (after, (p.to, bytes, gets.place Out before, received, refl), refl)), refl)
-move_ends r p reading o q sends gets input before None received =
-    let stop : Stop = stop_at In p.from.offset NoValue in
-    inr (stop, before, inl (content_at In reading o input p.from, (p.from, sends.place In input, refl), inr (stop, inr (p.to, gets.place Out before, received, refl), refl)), refl)
+    inl (after, inl (content_at side reading o source p.from, (p.from, sends.place side source, refl), inl (after, (p.to, bytes, gets.place Out before, received, refl), refl)), refl)
+move_ends side r p reading o q sends gets input before None received =
+    let source : List ℕ = storage_of side input before in
+    let stop : Stop = stop_at side p.from.offset NoValue in
+    inr (stop, before, inl (content_at side reading o source p.from, (p.from, sends.place side source, refl), inr (stop, inr (p.to, gets.place Out before, received, refl), refl)), refl)
 
-pub fixed_move : LieInStorage → (r : Records) (p : MovePlaces) (reading : Reading) (o q : Operand) → IsRecordDescription r.input → IsOperand r.input o → IsFixed r.input false o p.from → IsFixed r.output true q p.to
-    → IsFixedMove reading r p (kinds_of o.kind q.kind p.from p.to) (alone (Entry In reading o) q ∷ [])
-fixed_move law r p reading o q described operand sends gets = record {
+-- the place of a sender that stands there in every storage lies within each
+lies_within : LieInStorage → (side : Side) (r : Records) (p : Place) (o : Operand) → IsRecordDescription (record_of r side) → IsOperand (record_of r side) o → IsFixed (record_of r side) false o p → LiesInRecord side r p
+lies_within law In r p o described operand sends input before is size =
+    let (counts, needs, stands) = sends.place In input in
+    law r.input input counts o.entry.node o.entry.subscripts.items p described is operand.refers needs stands
+lies_within law Out r p o described operand sends input before is size = omega (arith, size, sends.within)
+
+pub fixed_move : LieInStorage → (side : Side) (r : Records) (p : MovePlaces) (reading : Reading) (o q : Operand) → IsRecordDescription (record_of r side) → IsOperand (record_of r side) o → IsFixed (record_of r side) false o p.from
+    → IsFixed r.output true q p.to → IsFixedMove side reading r p (kinds_of o.kind q.kind p.from p.to) (alone (Entry side reading o) q ∷ [])
+fixed_move law side r p reading o q described operand sends gets = record {
+  single = (alone (Entry side reading o) q, refl);
   places = record { sent = refl; received = refl };
-  reads = reach;
+  reads = lies_within law side r p.from o described operand sends;
   within = gets.within;
-  ends = λ input before outcome is size received. move_ends r p reading o q sends gets input before outcome received;
+  ends = λ input before outcome is size received. move_ends side r p reading o q sends gets input before outcome received;
   meets = λ input before bytes met rest others received one more.
       inr (
-        content_at In reading o input p.from,
-        (p.from, sends.place In input, refl),
-        met_one r.output (content_at In reading o input p.from) q [] before (with_field before p.to bytes) met rest (λ now n. HaveMet r others input now n)
+        content_at side reading o (storage_of side input before) p.from,
+        (p.from, sends.place side (storage_of side input before), refl),
+        met_one r.output (content_at side reading o (storage_of side input before) p.from) q [] before (with_field before p.to bytes) met rest (λ now n. HaveMet r others input now n)
             (p.to, bytes, gets.place Out before, received, refl) (met_there r.output q before p.to met (gets.place Out before) one) more,
       );
 }
-  where
-    reach : (input : List ℕ) → IsStorage r.input input → p.from.offset + p.from.length ≤ length input
-    reach input is =
-        let (counts, needs, stands) = sends.place In input in
-        law r.input input counts o.entry.node o.entry.subscripts.items p.from described is operand.refers needs stands
 
-pub prepared : LieInStorage → (r : Records) (steps : MoveSteps) (step : MoveStep) (sent receiver : Ref) (p : MovePlaces) (k l : Kind) (reading : Reading) → IsRecordDescription r.input → IsOperand r.input (operand_in r.input sent)
-    → AreFixedPlaces r sent receiver p
-    → k ≡ (operand_in r.input sent).kind → l ≡ (operand_in r.output receiver).kind → IsMoveStep steps (kinds_of k l p.from p.to) step
-    → IsPreparedMove reading r steps (record { places = p; step = step }) (copied_move reading r sent receiver ∷ [])
-prepared law r steps step sent receiver p k l reading described operand stand k_is l_is is =
-    let o : Operand = operand_in r.input sent in
+pub prepared : LieInStorage → (side : Side) (r : Records) (steps : MoveSteps) (step : MoveStep) (sent receiver : Ref) (p : MovePlaces) (k l : Kind) (reading : Reading) → IsRecordDescription (record_of r side)
+    → IsOperand (record_of r side) (operand_in (record_of r side) sent) → AreFixedPlaces side r sent receiver p
+    → k ≡ (operand_in (record_of r side) sent).kind → l ≡ (operand_in r.output receiver).kind → IsMoveStep steps (kinds_of k l p.from p.to) step
+    → IsPreparedMove side reading r steps (record { places = p; step = step }) (copied_move side reading r sent receiver ∷ [])
+prepared law side r steps step sent receiver p k l reading described operand stand k_is l_is is =
+    let o : Operand = operand_in (record_of r side) sent in
     let q : Operand = operand_in r.output receiver in (
       kinds_of o.kind q.kind p.from p.to,
       subst (λ (x : Kind). IsMoveStep steps (kinds_of x q.kind p.from p.to) step) k_is (subst (λ (x : Kind). IsMoveStep steps (kinds_of k x p.from p.to) step) l_is is),
-      fixed_move law r p reading o q described operand (fixed r.input false o p.from stand.sends_by_none stand.sends stand.sends_within) (fixed r.output true q p.to stand.receives_by_none stand.receives stand.receives_within),
+      fixed_move law side r p reading o q described operand (fixed (record_of r side) false o p.from stand.sends_by_none stand.sends stand.sends_within)
+          (fixed r.output true q p.to stand.receives_by_none stand.receives stand.receives_within),
     )
 
 -- both have their bytes
-pub occupied : (r : Records) (sent receiver : Ref) (p : MovePlaces) (k l : Kind) → IsSound r.input → IsSound r.output → IsOperand r.input (operand_in r.input sent) → IsOperand r.output (operand_in r.output receiver)
-    → AreFixedPlaces r sent receiver p
-    → k ≡ (operand_in r.input sent).kind → l ≡ (operand_in r.output receiver).kind → AreOccupied (kinds_of k l p.from p.to)
-occupied r sent receiver p k l in_sound out_sound sending receiving stand k_is l_is = record {
-  sender = filled r.input sent.node (greatest_counts r.input) sent.subscripts.items k p.from in_sound (sending.is ∙ ap (λ (x : Kind). Some x) (sym k_is)) stand.sends;
+pub occupied : (side : Side) (r : Records) (sent receiver : Ref) (p : MovePlaces) (k l : Kind) → IsSound (record_of r side) → IsSound r.output → IsOperand (record_of r side) (operand_in (record_of r side) sent)
+    → IsOperand r.output (operand_in r.output receiver) → AreFixedPlaces side r sent receiver p
+    → k ≡ (operand_in (record_of r side) sent).kind → l ≡ (operand_in r.output receiver).kind → AreOccupied (kinds_of k l p.from p.to)
+occupied side r sent receiver p k l in_sound out_sound sending receiving stand k_is l_is = record {
+  sender = filled (record_of r side) sent.node (greatest_counts (record_of r side)) sent.subscripts.items k p.from in_sound (sending.is ∙ ap (λ (x : Kind). Some x) (sym k_is)) stand.sends;
   receiver = filled r.output receiver.node (greatest_counts r.output) receiver.subscripts.items l p.to out_sound (receiving.is ∙ ap (λ (x : Kind). Some x) (sym l_is)) stand.receives;
 }
 
@@ -113,7 +120,7 @@ ends_there p bytes within =
 abbrev pub IsAnswered : PreparedMove → MoveSteps → List ℕ → ℕ → Option (List ℕ) → Type 0
 IsAnswered p steps bytes n outcome = (k : MoveKinds) → IsMoveStep steps k p.step → k.sent ≤ length bytes → n ≡ k.received → IsReceived k bytes outcome
 
-answered : (p : PreparedMove) (steps : MoveSteps) (input : List ℕ) (n : ℕ) (outcome : Option (List ℕ)) (k : MoveKinds) → p.places.from.offset + p.places.from.length ≤ length input → n ≡ p.places.to.length
+pub answered : (p : PreparedMove) (steps : MoveSteps) (input : List ℕ) (n : ℕ) (outcome : Option (List ℕ)) (k : MoveKinds) → p.places.from.offset + p.places.from.length ≤ length input → n ≡ p.places.to.length
     → IsAnswered p steps (take (p.places.from.offset + p.places.from.length) input) n outcome → IsMoveStep steps k p.step → HasPlaces p.places k → IsReceivedFrom p.places k input outcome
 answered p steps input n outcome k within size gets is has reading =
     let bytes : List ℕ = take (p.places.from.offset + p.places.from.length) input in
@@ -123,7 +130,7 @@ answered p steps input n outcome k within size gets is has reading =
 
 pub made : (p : PreparedMove) (steps : MoveSteps) (input before new : List ℕ) (n : ℕ) (b : Bool) → p.places.from.offset + p.places.from.length ≤ length input → n ≡ p.places.to.length → b ≡ true
     → IsAnswered p steps (take (p.places.from.offset + p.places.from.length) input) n (outcome b new)
-    → IsMadeReady p steps input before (done (put_mid p.places.to.offset (p.places.to.offset + p.places.to.length - p.places.to.offset) before new))
+    → IsMadeReady In p steps input before (done (put_mid p.places.to.offset (p.places.to.offset + p.places.to.length - p.places.to.offset) before new))
 made p steps input before new n b within size there gets k is has = (
   Some new,
   answered p steps input n (Some new) k within size (subst (λ (x : Bool). IsAnswered p steps (take (p.places.from.offset + p.places.from.length) input) n (outcome x new)) there gets) is has,
@@ -141,7 +148,7 @@ put_back p before new same =
 pub not_made : (p : PreparedMove) (steps : MoveSteps) (input before new : List ℕ) (n : ℕ) (b : Bool) → p.places.from.offset + p.places.from.length ≤ length input → n ≡ p.places.to.length → b ≡ false
     → IsAnswered p steps (take (p.places.from.offset + p.places.from.length) input) n (outcome b new)
     → (b ≡ false → new ≡ take (p.places.to.offset + p.places.to.length - p.places.to.offset) (drop p.places.to.offset before))
-    → IsMadeReady p steps input before (stopped (stop_at In p.places.from.offset NoValue) (put_mid p.places.to.offset (p.places.to.offset + p.places.to.length - p.places.to.offset) before new))
+    → IsMadeReady In p steps input before (stopped (stop_at In p.places.from.offset NoValue) (put_mid p.places.to.offset (p.places.to.offset + p.places.to.length - p.places.to.offset) before new))
 not_made p steps input before new n b within size there gets same k is has = (
   None,
   answered p steps input n None k within size (subst (λ (x : Bool). IsAnswered p steps (take (p.places.from.offset + p.places.from.length) input) n (outcome x new)) there gets) is has,

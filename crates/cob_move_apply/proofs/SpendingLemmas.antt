@@ -126,77 +126,77 @@ spends_as r m n input before result after old new same h = subst (λ (k : Move).
 -- ---- a move that was made ready
 
 -- what the receiver of a move that was made ready got
-made_bytes : (p : MovePlaces) (before after : List ℕ) (outcome : Option (List ℕ)) → done after ≡ received_at p before outcome → (bytes : List ℕ) × (outcome ≡ Some bytes) × (with_field before p.to bytes ≡ after)
-made_bytes p before after (Some bytes) same = (bytes, refl, sym (ap (λ (e : Ending). e.storage) same))
-made_bytes p before after None same = absurd (stop_of after before _ same)
+pub made_bytes : (side : Side) (p : MovePlaces) (before after : List ℕ) (outcome : Option (List ℕ)) → done after ≡ received_at side p before outcome → (bytes : List ℕ) × (outcome ≡ Some bytes) × (with_field before p.to bytes ≡ after)
+made_bytes side p before after (Some bytes) same = (bytes, refl, sym (ap (λ (e : Ending). e.storage) same))
+made_bytes side p before after None same = absurd (stop_of after before _ same)
 
 -- between places where both items stand
-located_met : (r : Records) (x : Reading) (one : LocatedMove) (p : MovePlaces) (input before after : List ℕ) (outcome : Option (List ℕ)) (met : ℕ) → StandAt r one input before p
-    → Received (sent.Entry (operand_in r.input one.sent).kind (field_of p.from input) x) (operand_in r.output one.receiver).kind p.to.length outcome → done after ≡ received_at p before outcome
-    → PlaceMet r.output before p.to met → (ms : List Move) (rest : ℕ) → HaveMet r ms input after rest → HaveMet r (copied_move x r one.sent one.receiver ∷ ms) input before (met + rest)
-located_met r x one p input before after (Some bytes) met stand received same meets ms rest h =
-    let content : Content = content_at In x (operand_in r.input one.sent) input p.from in
+pub located_met : (side : Side) (r : Records) (x : Reading) (one : LocatedMove) (p : MovePlaces) (input before after : List ℕ) (outcome : Option (List ℕ)) (met : ℕ) → StandAt side r one input before p
+    → Received (sent.Entry (operand_in (record_of r side) one.sent).kind (field_of p.from (storage_of side input before)) x) (operand_in r.output one.receiver).kind p.to.length outcome → done after ≡ received_at side p before outcome
+    → PlaceMet r.output before p.to met → (ms : List Move) (rest : ℕ) → HaveMet r ms input after rest → HaveMet r (copied_move side x r one.sent one.receiver ∷ ms) input before (met + rest)
+located_met side r x one p input before after (Some bytes) met stand received same meets ms rest h =
+    let content : Content = content_at side x (operand_in (record_of r side) one.sent) (storage_of side input before) p.from in
     inr (
       content,
       (p.from, stand.sends, refl),
       met_one r.output content (operand_in r.output one.receiver) [] before after met rest (λ b n. HaveMet r ms input b n)
           (p.to, bytes, stand.receives, received, ap (λ (e : Ending). e.storage) same) (met_there r.output (operand_in r.output one.receiver) before p.to met stand.receives meets) h,
     )
-located_met r x one p input before after None met stand received same meets ms rest h = absurd (stop_of after before _ same)
+located_met side r x one p input before after None met stand received same meets ms rest h = absurd (stop_of after before _ same)
 
-there_spends : {A : Type 0} (r : Records) (x : Reading) (steps : MoveSteps) (one : LocatedMove) (step : MoveStep) (p : MovePlaces) (input before : List ℕ) (result : Result A Stop) (after : List ℕ) (old mid new : Survey)
-    → StandAt r one input before p → IsMoveStep steps (kinds_of (operand_in r.input one.sent).kind (operand_in r.output one.receiver).kind p.from p.to) step
-    → IsMadeReady (record { places = p; step = step }) steps input before (ending result after) → IsSpent r.output 0 old mid → WriteSpends r.output before p.to result mid new
-    → MovesSpend r (copied_move x r one.sent one.receiver ∷ []) input before result after old new
-there_spends r x steps one step p input before (Ok a) after old mid new stand is made first (met, meets, then) =
-    let k : MoveKinds = kinds_of (operand_in r.input one.sent).kind (operand_in r.output one.receiver).kind p.from p.to in
+there_spends : {A : Type 0} (side : Side) (r : Records) (x : Reading) (steps : MoveSteps) (one : LocatedMove) (step : MoveStep) (p : MovePlaces) (input before : List ℕ) (result : Result A Stop) (after : List ℕ) (old mid new : Survey)
+    → StandAt side r one input before p → IsMoveStep steps (kinds_of (operand_in (record_of r side) one.sent).kind (operand_in r.output one.receiver).kind p.from p.to) step
+    → IsMadeReady side (record { places = p; step = step }) steps (storage_of side input before) before (ending result after) → IsSpent r.output 0 old mid → WriteSpends r.output before p.to result mid new
+    → MovesSpend r (copied_move side x r one.sent one.receiver ∷ []) input before result after old new
+there_spends side r x steps one step p input before (Ok a) after old mid new stand is made first (met, meets, then) =
+    let k : MoveKinds = kinds_of (operand_in (record_of r side) one.sent).kind (operand_in r.output one.receiver).kind p.from p.to in
     let (outcome, received, same) = made k is (record { sent = refl; received = refl }) in
-    (met, located_met r x one p input before after outcome met stand (received x) same meets, spent_behind r.output met old mid new first then)
-there_spends r x steps one step p input before (Err stop) after old mid new stand is made first then =
-    stopped_spends r (copied_move x r one.sent one.receiver ∷ []) input before old new (at_stop r.output 0 old new (spent_behind r.output 0 old mid new first then))
+    (met, located_met side r x one p input before after outcome met stand (received x) same meets, spent_behind r.output met old mid new first then)
+there_spends side r x steps one step p input before (Err stop) after old mid new stand is made first then =
+    stopped_spends r (copied_move side x r one.sent one.receiver ∷ []) input before old new (at_stop r.output 0 old new (spent_behind r.output 0 old mid new first then))
 
-pub always_spends : {A : Type 0} (r : Records) (x : Reading) (steps : MoveSteps) (one : LocatedMove) (step : MoveStep) (p : MovePlaces) (input before : List ℕ) (result : Result A Stop) (after : List ℕ) (old mid new : Survey)
-    → StandAt r one input before p → CarriesAnywhere steps (operand_in r.input one.sent).kind (operand_in r.output one.receiver).kind step
-    → IsMadeReady (record { places = p; step = step }) steps input before (ending result after) → IsSpent r.output 0 old mid → WriteSpends r.output before p.to result mid new
-    → MovesSpend r (copied_move x r one.sent one.receiver ∷ []) input before result after old new
-always_spends r x steps one step p input before result after old mid new stand carries made first then =
-    there_spends r x steps one step p input before result after old mid new stand (carries p.from.length p.to.length stand.sent stand.received) made first then
+pub always_spends : {A : Type 0} (side : Side) (r : Records) (x : Reading) (steps : MoveSteps) (one : LocatedMove) (step : MoveStep) (p : MovePlaces) (input before : List ℕ) (result : Result A Stop) (after : List ℕ) (old mid new : Survey)
+    → StandAt side r one input before p → CarriesAnywhere steps (operand_in (record_of r side) one.sent).kind (operand_in r.output one.receiver).kind step
+    → IsMadeReady side (record { places = p; step = step }) steps (storage_of side input before) before (ending result after) → IsSpent r.output 0 old mid → WriteSpends r.output before p.to result mid new
+    → MovesSpend r (copied_move side x r one.sent one.receiver ∷ []) input before result after old new
+always_spends side r x steps one step p input before result after old mid new stand carries made first then =
+    there_spends side r x steps one step p input before result after old mid new stand (carries p.from.length p.to.length stand.sent stand.received) made first then
 
-pub characters_spend : {A : Type 0} (r : Records) (x : Reading) (steps : MoveSteps) (one : LocatedMove) (right : Bool) (p : MovePlaces) (input before : List ℕ) (result : Result A Stop) (after : List ℕ) (old mid new : Survey)
-    → StandAt r one input before p → GivesText (operand_in r.input one.sent).kind (operand_in r.output one.receiver).kind right
-    → IsMadeReady (record { places = p; step = characters_at p right }) steps input before (ending result after) → IsSpent r.output 0 old mid → WriteSpends r.output before p.to result mid new
-    → MovesSpend r (copied_move x r one.sent one.receiver ∷ []) input before result after old new
-characters_spend r x steps one right p input before result after old mid new stand gives made first then =
-    there_spends r x steps one (characters_at p right) p input before result after old mid new stand (characters_there r steps one right p input before stand gives) made first then
+pub characters_spend : {A : Type 0} (side : Side) (r : Records) (x : Reading) (steps : MoveSteps) (one : LocatedMove) (right : Bool) (p : MovePlaces) (input before : List ℕ) (result : Result A Stop) (after : List ℕ) (old mid new : Survey)
+    → StandAt side r one input before p → GivesText (operand_in (record_of r side) one.sent).kind (operand_in r.output one.receiver).kind right
+    → IsMadeReady side (record { places = p; step = characters_at p right }) steps (storage_of side input before) before (ending result after) → IsSpent r.output 0 old mid → WriteSpends r.output before p.to result mid new
+    → MovesSpend r (copied_move side x r one.sent one.receiver ∷ []) input before result after old new
+characters_spend side r x steps one right p input before result after old mid new stand gives made first then =
+    there_spends side r x steps one (characters_at p right) p input before result after old mid new stand (characters_there side r steps one right p input before stand gives) made first then
 
 pub pictured_spends : {A : Type 0} (r : Records) (x : Reading) (steps : PicturedSteps) (one : LocatedMove) (step : PicturedStep) (p : MovePlaces) (input before : List ℕ) (result : Result A Stop) (after : List ℕ) (old mid new : Survey)
-    → x ≡ Pictured → StandAt r one input before p → CarriesPictured steps (operand_in r.input one.sent).kind (operand_in r.output one.receiver).kind step
+    → x ≡ Pictured → StandAt In r one input before p → CarriesPictured steps (operand_in r.input one.sent).kind (operand_in r.output one.receiver).kind step
     → IsMadePictured (record { places = p; step = step }) steps input before (ending result after) → IsSpent r.output 0 old mid → WriteSpends r.output before p.to result mid new
-    → MovesSpend r (copied_move x r one.sent one.receiver ∷ []) input before result after old new
+    → MovesSpend r (copied_move In x r one.sent one.receiver ∷ []) input before result after old new
 pictured_spends r x steps one step p input before (Ok a) after old mid new read stand carries made first (met, meets, then) =
     let k : MoveKinds = kinds_of (operand_in r.input one.sent).kind (operand_in r.output one.receiver).kind p.from p.to in
     let (outcome, received, same) = made k (carries p.from.length p.to.length stand.sent stand.received) (record { sent = refl; received = refl }) in (
       met,
-      located_met r x one p input before after outcome met stand
+      located_met In r x one p input before after outcome met stand
           (subst (λ (y : Reading). Received (sent.Entry k.sender (field_of p.from input) y) k.receiver k.received outcome) (sym read) received) same meets,
       spent_behind r.output met old mid new first then,
     )
 pictured_spends r x steps one step p input before (Err stop) after old mid new read stand carries made first then =
-    stopped_spends r (copied_move x r one.sent one.receiver ∷ []) input before old new (at_stop r.output 0 old new (spent_behind r.output 0 old mid new first then))
+    stopped_spends r (copied_move In x r one.sent one.receiver ∷ []) input before old new (at_stop r.output 0 old new (spent_behind r.output 0 old mid new first then))
 
 -- between places that are the same in every storage
-pub prepared_spends : {A : Type 0} (x : Reading) (r : Records) (steps : MoveSteps) (p : PreparedMove) (own : List Move) (input before : List ℕ) (result : Result A Stop) (after : List ℕ) (old new : Survey)
-    → IsMadeReady p steps input before (ending result after) → WriteSpends r.output before p.places.to result old new → IsPreparedMove x r steps p own → MovesSpend r own input before result after old new
-prepared_spends x r steps p own input before (Ok a) after old new made (met, meets, spent) (k, is, fixed) =
+pub prepared_spends : {A : Type 0} (side : Side) (x : Reading) (r : Records) (steps : MoveSteps) (p : PreparedMove) (own : List Move) (input before : List ℕ) (result : Result A Stop) (after : List ℕ) (old new : Survey)
+    → IsMadeReady side p steps (storage_of side input before) before (ending result after) → WriteSpends r.output before p.places.to result old new → IsPreparedMove side x r steps p own → MovesSpend r own input before result after old new
+prepared_spends side x r steps p own input before (Ok a) after old new made (met, meets, spent) (k, is, fixed) =
     let (outcome, received, same) = made k is fixed.places in
-    let (bytes, some, written) = made_bytes p.places before after outcome same in (
+    let (bytes, some, written) = made_bytes side p.places before after outcome same in (
       met,
       λ ms rest h. fixed.meets input before bytes met rest ms
-          (subst (λ (o : Option (List ℕ)). Received (sent.Entry k.sender (field_of p.places.from input) x) k.receiver k.received o) some (received x)) meets
+          (subst (λ (o : Option (List ℕ)). Received (sent.Entry k.sender (field_of p.places.from (storage_of side input before)) x) k.receiver k.received o) some (received x)) meets
           (subst (λ (b : List ℕ). HaveMet r ms input b rest) (sym written) h),
       spent,
     )
-prepared_spends x r steps p own input before (Err stop) after old new made spent is = stopped_spends r own input before old new (at_stop r.output 0 old new spent)
+prepared_spends side x r steps p own input before (Err stop) after old new made spent is = stopped_spends r own input before old new (at_stop r.output 0 old new spent)
 
 pub part_spends : {A : Type 0} (x : Reading) (r : Records) (given : List StatementMoves) (bases : List Basis) (steps : PicturedSteps) (q : PicturedMove) (p : Part) (m : Move) (input before : List ℕ) (result : Result A Stop) (after : List ℕ)
     (old new : Survey) → x ≡ Pictured → IsMadePictured q steps input before (ending result after) → WriteSpends r.output before q.places.to result old new → IsPicturedPart x r given bases steps q p m
@@ -204,7 +204,7 @@ pub part_spends : {A : Type 0} (x : Reading) (r : Records) (given : List Stateme
 part_spends x r given bases steps q p m input before (Ok a) after old new e made (met, meets, spent) (part, so) =
     let (k, is, fixed) = so e in
     let (outcome, received, same) = made k is fixed.places in
-    let (bytes, some, written) = made_bytes q.places before after outcome same in (
+    let (bytes, some, written) = made_bytes In q.places before after outcome same in (
       met,
       λ ms rest h. fixed.meets input before bytes met rest ms
           (subst (λ (o : Option (List ℕ)). Received (sent.Entry k.sender (field_of q.places.from input) Pictured) k.receiver k.received o) some received) meets
@@ -258,11 +258,11 @@ pair_is x r g pair from to tos sent received one =
 
 -- ---- the one that has a number
 
-pub located_step_spends : {A : Type 0} (x : Reading) (r : Records) (steps : MoveSteps) (pictured : PicturedSteps) (located : List LocatedMove) (number : ℕ) (own : List Move) (one : LocatedMove) (input before : List ℕ)
-    (result : Result A Stop) (after : List ℕ) (old new : Survey) → IsLocatedMove x r steps pictured located number own → one ≡ get_or located number one
-    → MovesSpend r (copied_move x r one.sent one.receiver ∷ []) input before result after old new → MovesSpend r own input before result after old new
-located_step_spends x r steps pictured located number own one input before result after old new is at h =
-    let (ready, same) = the_located x r steps pictured located number own one is at in
+pub located_step_spends : {A : Type 0} (side : Side) (x : Reading) (r : Records) (steps : MoveSteps) (pictured : PicturedSteps) (located : List LocatedMove) (number : ℕ) (own : List Move) (one : LocatedMove) (input before : List ℕ)
+    (result : Result A Stop) (after : List ℕ) (old new : Survey) → IsLocatedMove side x r steps pictured located number own → one ≡ get_or located number one
+    → MovesSpend r (copied_move side x r one.sent one.receiver ∷ []) input before result after old new → MovesSpend r own input before result after old new
+located_step_spends side x r steps pictured located number own one input before result after old new is at h =
+    let (ready, same) = the_located side x r steps pictured located number own one is at in
     subst (λ (ms : List Move). MovesSpend r ms input before result after old new) (sym same) h
 
 -- ---- steps in order

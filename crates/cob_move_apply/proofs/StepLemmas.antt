@@ -7,9 +7,11 @@ use Rattle.cob_copybook_entry.specs.Described.{PlainValue}
 use Rattle.cob_layout.specs.Fields.{field_of, with_field}
 use Rattle.cob_layout.specs.Laws.{OneOfNeeded}
 use Rattle.cob_layout.specs.Storage.{greatest_length, IsStorage}
+use Rattle.cob_move_data.specs.declared.operands.Side.{Side}
 use Rattle.cob_move_data.specs.declared.operands.StatementMoves.{StatementMoves}
 use Rattle.cob_move_data.specs.Moves.{Move, Records, moves_by}
-use Rattle.cob_move_apply.specs.Applied.{Applied, Ending, IsMoved, done, stopped}
+use Rattle.cob_move_apply.specs.Applied.{Applied, Ending, IsMoved, OneEnding, done, stopped, storage_of}
+use Rattle.cob_move_apply.specs.InPlace.{AppliedInPlace}
 use Rattle.cob_move_apply.specs.Made.{IsMadeConstant, IsMadeReady}
 use Rattle.cob_move_apply.specs.Steps.{AreSteps, IsConstantAt, IsMoveOfPart, IsPicturedPart, IsPreparedMove, IsStep, StandFor, Support}
 use Rattle.cob_move_apply.specs.Going.{Left}
@@ -27,11 +29,12 @@ use Rattle.cob_move_apply.specs.declared.step.Step.TheVariants as step
 use Rattle.cob_move_apply.specs.declared.stop.Stop.{Stop}
 use Rattle.cob_move_apply.specs.declared.workspace.Workspace.{Workspace}
 use Rattle.cob_move_apply.proofs.CopyLemmas.{survey_left}
-use Rattle.cob_move_apply.proofs.CutLemmas.{applied_both, applied_stopped, cut_moves}
+use Rattle.cob_move_apply.proofs.CutLemmas.{cut_moves}
+use Rattle.cob_move_apply.proofs.InPlaceLemmas.{applied_of, in_place_both, in_place_stopped, step_in_place}
 
-pub left_all : OneOfNeeded → (x : Reading) (r : Records) (given : List StatementMoves) (steps : List Step) (on : Support) (input before : List ℕ)
+pub left_all : OneOfNeeded → (x : Reading) (r : Records) (given : List StatementMoves) (steps : List Step) (on : Support) (input before : List ℕ) → length before ≡ greatest_length r.output
     → StandFor x r given steps on (moves_by x r given) → Left x r given steps on 0 input before before
-left_all law x r given steps on input before (parts, are, cut) = (parts, are, λ end h. cut_moves law r (moves_by x r given) parts input before end cut h)
+left_all law x r given steps on input before long (parts, are, cut) = (parts, are, λ end h. cut_moves law r (moves_by x r given) parts input before end long cut h)
 
 pub left_same : (x : Reading) (r : Records) (given : List StatementMoves) (steps : List Step) (on : Support) (i : ℕ) (input before now same : List ℕ) → same ≡ now
     → Left x r given steps on i input before now → Left x r given steps on i input before same
@@ -43,7 +46,7 @@ pub record Next (x : Reading) (r : Records) (given : List StatementMoves) (steps
   pub more : List Move
   pub is : IsStep x r given on s own
   pub others : AreSteps x r given on (drop (i + 1) steps) more
-  pub so : (end : Ending) → Applied r (own ++ more) input now end → Applied r (moves_by x r given) input before end
+  pub so : (end : Ending) → AppliedInPlace r (own ++ more) input now end → Applied r (moves_by x r given) input before end
 
 pub next_step : (x : Reading) (r : Records) (given : List StatementMoves) (steps : List Step) (on : Support) (i : ℕ) (s d : Step) (input before now : List ℕ) → i < length steps → get_or steps i d ≡ s
     → Left x r given steps on i input before now → Next x r given steps on i s input before now
@@ -54,18 +57,25 @@ next_step x r given steps on i s d input before now lt is (rest, are, so) =
       more = more;
       is = one;
       others = others;
-      so = λ end h. so end (subst (λ (ps : List Move). Applied r ps input now end) (sym cut) h);
+      so = λ end h. so end (subst (λ (ps : List Move). AppliedInPlace r ps input now end) (sym cut) h);
     }
 
 -- ---- a step carried out
 
-pub left_made : (x : Reading) (r : Records) (given : List StatementMoves) (steps : List Step) (on : Support) (i : ℕ) (s : Step) (input before now after : List ℕ)
-    → Next x r given steps on i s input before now → ((own : List Move) → IsStep x r given on s own → Applied r own input now (done after)) → Left x r given steps on (i + 1) input before after
-left_made x r given steps on i s input before now after n made = (n.more, n.others, λ end h. n.so end (applied_both r n.own n.more input now after end (made n.own n.is) h))
+pub left_made : OneEnding → (x : Reading) (r : Records) (given : List StatementMoves) (steps : List Step) (on : Support) (i : ℕ) (s : Step) (input before now after : List ℕ) → IsStorage r.input input
+    → length now ≡ greatest_length r.output → length after ≡ length now → Next x r given steps on i s input before now
+    → ((own : List Move) → IsStep x r given on s own → Applied r own input now (done after)) → Left x r given steps on (i + 1) input before after
+left_made law x r given steps on i s input before now after is long size n made = (
+  n.more,
+  n.others,
+  λ end h. n.so end (in_place_both r n.own n.more input now after end (step_in_place law x r given on s n.own input now (done after) is long size n.is (made n.own n.is)) h),
+)
 
-pub stopped_made : (x : Reading) (r : Records) (given : List StatementMoves) (steps : List Step) (on : Support) (i : ℕ) (s : Step) (input before now after : List ℕ) (stop : Stop)
-    → Next x r given steps on i s input before now → ((own : List Move) → IsStep x r given on s own → Applied r own input now (stopped stop after)) → Applied r (moves_by x r given) input before (stopped stop after)
-stopped_made x r given steps on i s input before now after stop n made = n.so (stopped stop after) (applied_stopped r n.own n.more input now after stop (made n.own n.is))
+pub stopped_made : OneEnding → (x : Reading) (r : Records) (given : List StatementMoves) (steps : List Step) (on : Support) (i : ℕ) (s : Step) (input before now after : List ℕ) (stop : Stop) → IsStorage r.input input
+    → length now ≡ greatest_length r.output → length after ≡ length now → Next x r given steps on i s input before now
+    → ((own : List Move) → IsStep x r given on s own → Applied r own input now (stopped stop after)) → Applied r (moves_by x r given) input before (stopped stop after)
+stopped_made law x r given steps on i s input before now after stop is long size n made =
+    n.so (stopped stop after) (in_place_stopped r n.own n.more input now after stop (step_in_place law x r given on s n.own input now (stopped stop after) is long size n.is (made n.own n.is)))
 
 -- ---- a part
 
@@ -85,19 +95,20 @@ made_part x r given on p own input now end moved (m, same, part) = made_one r ow
 
 -- ---- a single move that was made ready
 
-pub the_prepared : (x : Reading) (r : Records) (steps : MoveSteps) (p : PreparedMove) (own : List Move) → IsPreparedMove x r steps p own → (k : MoveKinds) × IsMoveStep steps k p.step × HasPlaces p.places k
-the_prepared x r steps p own (k, is, fixed) = (k, is, fixed.places)
+pub the_prepared : (side : Side) (x : Reading) (r : Records) (steps : MoveSteps) (p : PreparedMove) (own : List Move) → IsPreparedMove side x r steps p own → (k : MoveKinds) × IsMoveStep steps k p.step × HasPlaces p.places k
+the_prepared side x r steps p own (k, is, fixed) = (k, is, fixed.places)
 
-pub prepared_reads : (x : Reading) (r : Records) (steps : MoveSteps) (p : PreparedMove) (own : List Move) (input : List ℕ)
-    → IsPreparedMove x r steps p own → IsStorage r.input input → p.places.from.offset + p.places.from.length ≤ length input
-prepared_reads x r steps p own input (k, step_is, fixed) is = fixed.reads input is
+pub prepared_reads : (side : Side) (x : Reading) (r : Records) (steps : MoveSteps) (p : PreparedMove) (own : List Move) (input now : List ℕ) → IsPreparedMove side x r steps p own
+    → IsStorage r.input input → length now ≡ greatest_length r.output → p.places.from.offset + p.places.from.length ≤ length (storage_of side input now)
+prepared_reads side x r steps p own input now (k, step_is, fixed) is size = fixed.reads input now is size
 
-pub prepared_within : (x : Reading) (r : Records) (steps : MoveSteps) (p : PreparedMove) (own : List Move) → IsPreparedMove x r steps p own → p.places.to.offset + p.places.to.length ≤ greatest_length r.output
-prepared_within x r steps p own (k, step_is, fixed) = fixed.within
+pub prepared_within : (side : Side) (x : Reading) (r : Records) (steps : MoveSteps) (p : PreparedMove) (own : List Move) → IsPreparedMove side x r steps p own
+    → p.places.to.offset + p.places.to.length ≤ greatest_length r.output
+prepared_within side x r steps p own (k, step_is, fixed) = fixed.within
 
-pub made_prepared : (x : Reading) (r : Records) (steps : MoveSteps) (p : PreparedMove) (own : List Move) (input now : List ℕ) (end : Ending)
-    → IsStorage r.input input → length now ≡ greatest_length r.output → IsMadeReady p steps input now end → IsPreparedMove x r steps p own → Applied r own input now end
-made_prepared x r steps p own input now end is size made (k, step_is, fixed) =
+pub made_prepared : (side : Side) (x : Reading) (r : Records) (steps : MoveSteps) (p : PreparedMove) (own : List Move) (input now : List ℕ) (end : Ending)
+    → IsStorage r.input input → length now ≡ greatest_length r.output → IsMadeReady side p steps (storage_of side input now) now end → IsPreparedMove side x r steps p own → Applied r own input now end
+made_prepared side x r steps p own input now end is size made (k, step_is, fixed) =
     let (outcome, received, same) = made k step_is fixed.places in
     subst (λ (e : Ending). Applied r own input now e) (sym same) (fixed.ends input now outcome is size (received x))
 
@@ -137,7 +148,7 @@ copy_within x r given on c own copied = copied.are.within
 
 pub made_copy : (x : Reading) (r : Records) (given : List StatementMoves) (on : Support) (c : MovePlaces) (own : List Move) (input now after : List ℕ)
     → IsStorage r.input input → length now ≡ greatest_length r.output → after ≡ with_field now c.to (field_of c.from input) → IsStep x r given on (step.Copy c) own → Applied r own input now (done after)
-made_copy x r given on c own input now after is size written copied = subst (λ (s : List ℕ). Applied r own input now (done s)) (sym written) (copied.are.written input now is size)
+made_copy x r given on c own input now after is size written copied = subst (λ (s : List ℕ). Applied r own input now (done s)) (sym written) (applied_of r own input now (done (with_field now c.to (field_of c.from input))) (copied.are.written input now is size))
 
 pub space_copy : (x : Reading) (r : Records) (given : List StatementMoves) (on : Support) (c : MovePlaces) (own : List Move) (input now after : List ℕ) (w : Workspace)
     → IsStorage r.input input → length now ≡ greatest_length r.output → after ≡ with_field now c.to (field_of c.from input)
@@ -155,4 +166,4 @@ pub left_none : (x : Reading) (r : Records) (given : List StatementMoves) (steps
     → Left x r given steps on i input before now → Applied r (moves_by x r given) input before (done now)
 left_none x r given steps on i input before now past (rest, are, so) =
     let none : rest ≡ [] = subst (λ (ss : List Step). AreSteps x r given on ss rest) (drop_all i steps past) are in
-    so (done now) (subst (λ (ps : List Move). Applied r ps input now (done now)) (sym none) refl)
+    so (done now) (subst (λ (ps : List Move). AppliedInPlace r ps input now (done now)) (sym none) refl)

@@ -5,6 +5,7 @@ use Rattle.cob_move_data.specs.declared.operands.StatementMoves.{StatementMoves}
 use Rattle.cob_layout_places.specs.Counts.{tables_of}
 use Rattle.cob_move_data.specs.Moves.{Move, Records, moves_by}
 use Rattle.cob_move_apply.specs.Applied.{Applied, Ending}
+use Rattle.cob_move_apply.specs.InPlace.{AppliedInPlace}
 use Rattle.cob_move_apply.specs.Met.{HaveMet}
 use Rattle.cob_move_apply.specs.Spent.{allowed, kept_of}
 use Rattle.cob_move_apply.specs.Steps.{AreSteps, Support}
@@ -15,7 +16,7 @@ use Rattle.cob_move_apply.specs.declared.survey.Survey.{Survey}
 abbrev pub Left : Reading → Records → List StatementMoves → List Step → Support → ℕ → List ℕ → List ℕ → List ℕ → Type 0
 Left x r given steps on i input before now =
     (rest : List Move) × AreSteps x r given on (drop i steps) rest
-    × ((end : Ending) → Applied r rest input now end → Applied r (moves_by x r given) input before end)
+    × ((end : Ending) → AppliedInPlace r rest input now end → Applied r (moves_by x r given) input before end)
 
 -- However many receivers of the moves of the steps from place i on meet the item of a count of the storage now, those of all moves do, of the storage before,
 -- with those that met one so far; and no more counts were read than are kept, but for those that are allowed for these.

@@ -5,6 +5,8 @@ pub mod Room
 pub mod Placed
 pub mod Seen
 pub mod Told
+pub mod InPlace
+pub mod Cut
 pub mod Written
 pub mod Joined
 pub mod Steps

@@ -11,9 +11,11 @@ use Rattle.cob_layout.specs.Placed.{placed_under}
 use Rattle.cob_layout.specs.Storage.{greatest_length}
 use Rattle.cob_move_data.specs.declared.operands.PairMoves.{PairMoves}
 use Rattle.cob_move_data.specs.declared.operands.Sender as code_sender
+use Rattle.cob_move_data.specs.declared.operands.Side.{Side}
+use Rattle.cob_move_data.specs.declared.operands.Side.TheVariants.{In, Out}
 use Rattle.cob_move_data.specs.declared.operands.StatementMoves.{StatementMoves}
 use Rattle.cob_layout_places.specs.declared.reference.Ref.{Ref}
-use Rattle.cob_move_data.specs.Moves.{Literal, IsMove, Move, Records, numbered_move_by, operand_in, sender, sender_by}
+use Rattle.cob_move_data.specs.Moves.{Literal, IsMove, Move, Records, numbered_move_by, operand_in, record_of, sender, sender_by}
 use Rattle.cob_move_apply.specs.Joined.{CopyEnds, begun, copies_of, copy_ends, last_end, neither_varies, steps_behind}
 use Rattle.cob_move_apply.specs.Steps.{Gains, GainsCut, HasPart, IsPicturedMove, IsPreparedMove, IsReadyAnywhere, WritesFor, alone, constant_move, copied_move, pair_at, part_of}
 use Rattle.cob_move_apply.specs.Placed.{IsPlaced}
@@ -59,11 +61,11 @@ pub record IsPartIn (r : Records) (given : List StatementMoves) (p : StatementPa
   pub is : (reading : Reading) → meant reading r p ≡ part_of reading r statement p.first (length p.receivers.now)
   pub move : IsMove r (record { sender = sender r p.sender.now; receivers = map (operand_in r.output) p.receivers.now })
 
--- both entries stand at these places in every storage of their records
-pub record AreFixedPlaces (r : Records) (sent receiver : Ref) (p : MovePlaces) : Type 0 where
-  pub sends_by_none : ReadsNone r.input sent.node false
-  pub sends : placed_under (greatest_counts r.input) r.input sent ≡ Some (Ok p.from)
-  pub sends_within : p.from.offset + p.from.length ≤ greatest_length r.input
+-- both entries, the sender of the record of a side, stand at these places in every storage of their records
+pub record AreFixedPlaces (side : Side) (r : Records) (sent receiver : Ref) (p : MovePlaces) : Type 0 where
+  pub sends_by_none : ReadsNone (record_of r side) sent.node false
+  pub sends : placed_under (greatest_counts (record_of r side)) (record_of r side) sent ≡ Some (Ok p.from)
+  pub sends_within : p.from.offset + p.from.length ≤ greatest_length (record_of r side)
   pub receives_by_none : ReadsNone r.output receiver.node true
   pub receives : placed_under (greatest_counts r.output) r.output receiver ≡ Some (Ok p.to)
   pub receives_within : p.to.offset + p.to.length ≤ greatest_length r.output
@@ -87,6 +89,10 @@ step_count (step.Constant c) = 1
 step_count (step.Located number) = 1
 step_count (step.LocatedConstant number) = 1
 step_count (step.Copy c) = 1
+step_count (step.Within p) = 1
+step_count (step.WithinNumber p) = 1
+step_count (step.WithinEdited p) = 1
+step_count (step.LocatedWithin number) = 1
 
 -- for how many these are
 abbrev pub counted_steps : List Step → ℕ
@@ -107,6 +113,10 @@ step_ends (step.Constant c) = None
 step_ends (step.Located number) = None
 step_ends (step.LocatedConstant number) = None
 step_ends (step.Copy c) = Some (copy_ends c)
+step_ends (step.Within p) = None
+step_ends (step.WithinNumber p) = None
+step_ends (step.WithinEdited p) = None
+step_ends (step.LocatedWithin number) = None
 
 -- where the last of these steps ends, if it is a copy
 abbrev pub last_step_ends : List Step → Option CopyEnds
@@ -148,9 +158,9 @@ pair_alone b g number reading = numbered_move_by reading (records_between b) g (
 abbrev pub single_alone : Between → code_sender.Sender → Ref → Reading → List Move
 single_alone b s receiver reading = alone (sender_by reading (records_between b) s) (operand_in b.output.now receiver) ∷ []
 
--- the single move of an entry of the input record, by itself
-abbrev pub entry_alone : Between → Ref → Ref → Reading → List Move
-entry_alone b sent receiver reading = copied_move reading (records_between b) sent receiver ∷ []
+-- the single move of an entry of the record of a side, by itself
+abbrev pub entry_alone : Side → Between → Ref → Ref → Reading → List Move
+entry_alone side b sent receiver reading = copied_move side reading (records_between b) sent receiver ∷ []
 
 -- the single move of a constant, by itself
 abbrev pub constant_alone : Between → Value → Ref → Reading → List Move
@@ -172,17 +182,18 @@ AlwaysMore b ms before now = (reading : Reading) → AreMore (records_between b)
 abbrev pub AlwaysCopied : Between → MovePlaces → (Reading → List Move) → Type 0
 AlwaysCopied b c ms = (reading : Reading) → AreCopied (records_between b) c.from c.to (ms reading)
 
--- Whatever the reading, moves are a single one that was made ready so, by one of these steps.
-abbrev pub AlwaysPrepared : Between → MoveSteps → PreparedMove → (Reading → List Move) → Type 0
-AlwaysPrepared b steps p ms = (reading : Reading) → IsPreparedMove reading (records_between b) steps p (ms reading)
+-- Whatever the reading, moves are a single one of an entry of the record of a side that was made ready so, by one of these steps.
+abbrev pub AlwaysPrepared : Side → Between → MoveSteps → PreparedMove → (Reading → List Move) → Type 0
+AlwaysPrepared side b steps p ms = (reading : Reading) → IsPreparedMove side reading (records_between b) steps p (ms reading)
 
 -- Where senders are read as their pictures say, moves are a single one that was made ready so, by one of these steps.
 abbrev pub IsPictured : Between → PicturedSteps → PicturedMove → (Reading → List Move) → Type 0
 IsPictured b steps p ms = IsPicturedMove (records_between b) steps p (ms Pictured)
 
--- Whatever the reading, moves are a single one that was made ready so wherever its items stand, by one of these steps.
-abbrev pub AlwaysLocated : Records → MoveSteps → PicturedSteps → LocatedMove → (Reading → List Move) → Type 0
-AlwaysLocated r steps pictured p ms = IsReadyAnywhere r steps pictured p × ((reading : Reading) → ms reading ≡ copied_move reading r p.sent p.receiver ∷ [])
+-- Whatever the reading, moves are a single one of an entry of the record of a side that was made ready so wherever its items stand, by one of these steps.
+abbrev pub AlwaysLocated : Side → Records → MoveSteps → PicturedSteps → LocatedMove → (Reading → List Move) → Type 0
+AlwaysLocated side r steps pictured p ms =
+    IsReadyAnywhere side r steps pictured p × ((reading : Reading) → ms reading ≡ copied_move side reading r p.sent p.receiver ∷ [])
 
 -- Whatever the reading, moves are a single one of a constant that was made ready so.
 abbrev pub IsReady : Records → ReadyConstant → (Reading → List Move) → Type 0
@@ -197,11 +208,13 @@ AlwaysLocatedConstant r one ms = (constant : PlainValue) × IsPlaced r.output tr
 -- Whatever the reading, moves are a single one that was made ready so, by one of these steps where it needs one.
 abbrev pub AreReadyAs : Between → MoveSteps → PicturedSteps → Ready → (Reading → List Move) → Type 0
 AreReadyAs b steps pictured (ready.Copy places) ms = AlwaysCopied b places ms × AreWithinLongest places
-AreReadyAs b steps pictured (ready.Prepared one) ms = AlwaysPrepared b steps one ms
+AreReadyAs b steps pictured (ready.Prepared one) ms = AlwaysPrepared In b steps one ms
 AreReadyAs b steps pictured (ready.Pictured one) ms = IsPictured b pictured one ms
 AreReadyAs b steps pictured (ready.Constant one) ms = IsReady (records_between b) one ms
-AreReadyAs b steps pictured (ready.Located one) ms = AlwaysLocated (records_between b) steps pictured one ms
+AreReadyAs b steps pictured (ready.Located one) ms = AlwaysLocated In (records_between b) steps pictured one ms
 AreReadyAs b steps pictured (ready.LocatedConstant one) ms = AlwaysLocatedConstant (records_between b) one ms
+AreReadyAs b steps pictured (ready.Within one) ms = AlwaysPrepared Out b steps one ms
+AreReadyAs b steps pictured (ready.LocatedWithin one) ms = AlwaysLocated Out (records_between b) steps pictured one ms
 AreReadyAs b steps pictured ready.Nothing ms = Unit {0}
 
 -- the places between which bytes are copied where that was made ready
@@ -212,4 +225,6 @@ copied_by (ready.Pictured one) = None
 copied_by (ready.Constant one) = None
 copied_by (ready.Located one) = None
 copied_by (ready.LocatedConstant one) = None
+copied_by (ready.Within one) = None
+copied_by (ready.LocatedWithin one) = None
 copied_by ready.Nothing = None

@@ -3,6 +3,7 @@ use Rattle.std.specs.Prelude.{◌≡◌, ℕ, List, [], ◌∷◌, ◌++◌, Opt
 use Rattle.cob_codec.specs.declared.reading.Reading.{Reading}
 use Rattle.cob_move_data.specs.declared.operands.Move as code_move
 use Rattle.cob_move_data.specs.declared.operands.Sender as code_sender
+use Rattle.cob_move_data.specs.declared.operands.Side.{Side}
 use Rattle.cob_move_data.specs.declared.operands.Side.TheVariants.{In}
 use Rattle.cob_move_data.specs.declared.operands.StatementMoves.{StatementMoves}
 use Rattle.cob_layout_places.specs.declared.reference.Ref.{Ref}
@@ -73,9 +74,9 @@ abbrev pub MoreByStatement : Between → List StatementMoves → ℕ → (before
 MoreByStatement b given number before now = (reading : Reading) (s : StatementMoves) → IsStatementAt given number s
     → AreMore (records_between b) (moves_alone b s reading) before now
 
--- Whatever the reading, a single move was made ready so between two records wherever its items stand.
-abbrev pub IsLocatedBetween : Between → MoveSteps → PicturedSteps → (Reading → List Move) → LocatedMove → Type 0
-IsLocatedBetween b steps pictured ms p = AlwaysLocated (records_between b) steps pictured p ms
+-- Whatever the reading, a single move of an entry of the record of a side was made ready so wherever its items stand.
+abbrev pub IsLocatedBetween : Side → Between → MoveSteps → PicturedSteps → (Reading → List Move) → LocatedMove → Type 0
+IsLocatedBetween side b steps pictured ms p = AlwaysLocated side (records_between b) steps pictured p ms
 
 -- Whatever the reading, a single move of a constant was made ready so between two records wherever its receiver stands.
 abbrev pub IsLocatedConstantBetween : Between → (Reading → List Move) → ReadyLocatedConstant → Type 0

@@ -5,14 +5,15 @@ use Rattle.cob_move_data.specs.declared.operands.NumberedPair.{NumberedPair}
 use Rattle.cob_move_data.specs.declared.operands.PairMoves.{PairMoves}
 use Rattle.cob_move_data.specs.declared.operands.Sender as code_sender
 use Rattle.cob_move_data.specs.declared.operands.Side.{Side}
+use Rattle.cob_move_data.specs.declared.operands.Side.TheVariants.{In, Out}
 use Rattle.cob_move_data.specs.declared.operands.StatementMoves.{StatementMoves}
-use Rattle.cob_move_data.specs.Moves.{Entry, Move, Sender, moves_by, numbered_move_by, operand_in, sender_by}
+use Rattle.cob_move_data.specs.Moves.{Entry, Move, Sender, moves_by, numbered_move_by, operand_in, record_of, sender_by}
 use Rattle.cob_move_steps.specs.declared.pool.MoveStep.{MoveStep}
 use Rattle.cob_move_apply.specs.Applied.{Applied, Ending, IsMoved}
 use Rattle.cob_move_apply.specs.Going.{IsBounded, Left, SpentSteps}
 use Rattle.cob_move_apply.specs.Seen.{entry_sent, operand_of, receivers_in}
 use Rattle.cob_move_apply.specs.Spent.{HaveSpent, IsSpent, MovesSpend}
-use Rattle.cob_move_apply.specs.Steps.{CarriesLocated, IsLocatedConstant, IsLocatedMove, IsMoveOfPart, IsPicturedPart, IsPreparedMove, IsStep, StandFor, WritesAnywhere, constant_move, copied_move, support_of}
+use Rattle.cob_move_apply.specs.Steps.{IsLocatedConstant, IsLocatedMove, IsMoveOfPart, IsPicturedPart, IsPreparedMove, IsStep, StandFor, WritesAnywhere, constant_move, copied_move, support_of}
 use Rattle.cob_move_apply.specs.Surveyed.{records}
 use Rattle.cob_move_apply.specs.declared.basis.Basis.{Basis}
 use Rattle.cob_move_apply.specs.declared.basis.PlacedOperand.{PlacedOperand}
@@ -52,9 +53,9 @@ sender_move l given receivers = sent_to l (sender_by l.reading (records l) given
 abbrev pub move_of_pair : Layouts → PairMoves → NumberedPair → Move
 move_of_pair l group pair = numbered_move_by l.reading (records l) group pair
 
--- the single move that was made ready wherever its items stand
-abbrev pub located_move : Layouts → LocatedMove → Move
-located_move l one = copied_move l.reading (records l) one.sent one.receiver
+-- the single move of an entry of the record of a side that was made ready wherever its items stand
+abbrev pub located_move : Side → Layouts → LocatedMove → Move
+located_move side l one = copied_move side l.reading (records l) one.sent one.receiver
 
 -- all moves of statements
 abbrev pub all_moves : Layouts → List StatementMoves → List Move
@@ -70,13 +71,17 @@ PartMeans given bases part l m = IsMoveOfPart l.reading (records l) given bases 
 abbrev pub PicturedMeans : List StatementMoves → Plan → PicturedMove → Part → Layouts → Move → Type 0
 PicturedMeans given plan one part l m = IsPicturedPart l.reading (records l) given plan.bases.items plan.pictured one part m
 
--- a single move that was made ready between these places, which this step carries out, means these
-abbrev pub PreparedMeans : Plan → MovePlaces → MoveStep → Layouts → List Move → Type 0
-PreparedMeans plan places step l own = IsPreparedMove l.reading (records l) plan.prepared (record { places = places; step = step }) own
+-- a single move of an entry of the record of a side that was made ready between these places, which this step carries out, means these
+abbrev pub PreparedMeans : Side → Plan → MovePlaces → MoveStep → Layouts → List Move → Type 0
+PreparedMeans side plan places step l own = IsPreparedMove side l.reading (records l) plan.prepared (record { places = places; step = step }) own
 
 -- the single move with this number that was made ready wherever its items stand means these
 abbrev pub LocatedMeans : Plan → ℕ → Layouts → List Move → Type 0
-LocatedMeans plan number l own = IsLocatedMove l.reading (records l) plan.prepared plan.pictured plan.located.items number own
+LocatedMeans plan number l own = IsLocatedMove In l.reading (records l) plan.prepared plan.pictured plan.located.items number own
+
+-- so does that of an entry of the output record
+abbrev pub LocatedWithinMeans : Plan → ℕ → Layouts → List Move → Type 0
+LocatedWithinMeans plan number l own = IsLocatedMove Out l.reading (records l) plan.prepared plan.pictured plan.within.items number own
 
 -- so does that of a constant
 abbrev pub LocatedConstantMeans : Plan → ℕ → Layouts → List Move → Type 0
@@ -85,11 +90,6 @@ LocatedConstantMeans plan number l own = IsLocatedConstant (records l) plan.cons
 -- a step of a plan means these
 abbrev pub StepMeans : List StatementMoves → Plan → Step → Layouts → List Move → Type 0
 StepMeans given plan step l own = IsStep l.reading (records l) given (support_of plan) step own
-
--- what carries out a single move that was made ready wherever its items stand does so between what these describe
-abbrev pub CarriesBetween : Plan → LocatedMove → Layouts → Type 0
-CarriesBetween plan one l =
-    CarriesLocated plan.prepared plan.pictured (operand_in l.input.now one.sent).kind (operand_in l.output.now one.receiver).kind one.step
 
 -- a plan writes the constant wherever its receiver stands
 abbrev pub WritesConstant : Plan → LocatedConstant → Layouts → PlainValue → Type 0

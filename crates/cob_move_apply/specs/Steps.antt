@@ -4,6 +4,7 @@ use Rattle.cob_codec.specs.declared.reading.Reading.{Reading}
 use Rattle.cob_codec.specs.declared.reading.Reading.TheVariants.{Pictured, Whole}
 use Rattle.cob_copybook_tree.specs.declared.node.Kind.{Kind}
 use Rattle.cob_copybook_entry.specs.Described.{PlainValue}
+use Rattle.cob_move_data.specs.declared.operands.Side.{Side}
 use Rattle.cob_move_data.specs.declared.operands.Side.TheVariants.{In, Out}
 use Rattle.cob_move_data.specs.declared.operands.Operand.{Operand}
 use Rattle.cob_move_data.specs.declared.operands.Move as code_move
@@ -11,8 +12,9 @@ use Rattle.cob_move_data.specs.declared.operands.NumberedPair.{NumberedPair}
 use Rattle.cob_move_data.specs.declared.operands.PairMoves.{PairMoves}
 use Rattle.cob_move_data.specs.declared.operands.StatementMoves.{StatementMoves}
 use Rattle.cob_move_data.specs.declared.operands.StatementMoves.TheVariants.{Single, Pairs}
-use Rattle.cob_move_data.specs.Moves.{Move, Records, Sender, Entry, Literal, numbered_move_by, operand_in, sender_by}
+use Rattle.cob_move_data.specs.Moves.{Move, Records, Sender, Entry, Literal, numbered_move_by, operand_in, record_of, sender_by}
 use Rattle.cob_layout_places.specs.declared.reference.Ref.{Ref}
+use Rattle.cob_move_apply.specs.Cut.{LeaveSender}
 use Rattle.cob_move_apply.specs.Placed.{IsPlaced, IsPlacedMove}
 use Rattle.cob_move_apply.specs.Written.{AreCopied, IsFixedConstant, IsFixedMove}
 use Rattle.cob_move_receive.specs.Sent.{Occupies}
@@ -31,6 +33,7 @@ use Rattle.cob_move_apply.specs.declared.step.LocatedConstant.{LocatedConstant}
 use Rattle.cob_move_apply.specs.declared.step.LocatedMove.{LocatedMove}
 use Rattle.cob_move_apply.specs.declared.step.LocatedStep.{LocatedStep}
 use Rattle.cob_move_apply.specs.declared.step.LocatedStep.TheVariants as located_step
+use Rattle.cob_move_apply.specs.declared.step.MovePlaces.{MovePlaces}
 use Rattle.cob_move_apply.specs.declared.step.NumberedMove.{NumberedMove}
 use Rattle.cob_move_apply.specs.declared.step.Part.{Part}
 use Rattle.cob_move_apply.specs.declared.step.PicturedMove.{PicturedMove}
@@ -43,9 +46,9 @@ use Rattle.cob_move_apply.specs.declared.step.Step.TheVariants as step
 abbrev pub alone : Sender → Operand → Move
 alone s o = record { sender = s; receivers = o ∷ [] }
 
--- the move of an entry of the input record to one of the output record
-abbrev pub copied_move : Reading → Records → Ref → Ref → Move
-copied_move reading r sent receiver = alone (Entry In reading (operand_in r.input sent)) (operand_in r.output receiver)
+-- the move of an entry of the record of a side to one of the output record
+abbrev pub copied_move : Side → Reading → Records → Ref → Ref → Move
+copied_move side reading r sent receiver = alone (Entry side reading (operand_in (record_of r side) sent)) (operand_in r.output receiver)
 
 -- the move of a constant to an entry of the output record
 abbrev pub constant_move : Records → PlainValue → Ref → Move
@@ -85,7 +88,7 @@ pub record IsMoveOfPart (reading : Reading) (r : Records) (given : List Statemen
   pub placed : BeginsWith r m (drop p.base bases)
 
 -- what steps rest on: the bases of the operands of parts, and the single moves that were made ready, whatever the reading or as pictures say, and the
--- constants, and those that were made ready wherever their items stand, of entries and of constants
+-- constants, and those that were made ready wherever their items stand, of entries and of constants, and those of entries of the output record
 pub record Support : Type 0 where
   pub bases : List Basis
   pub prepared : MoveSteps
@@ -93,18 +96,19 @@ pub record Support : Type 0 where
   pub constants : List ConstantStep
   pub located : List LocatedMove
   pub located_constants : List LocatedConstant
+  pub within : List LocatedMove
 
 -- what the steps of a plan rest on
 abbrev pub support_of : Plan → Support
-support_of plan = record { bases = plan.bases.items; prepared = plan.prepared; pictured = plan.pictured; constants = plan.constants.items; located = plan.located.items; located_constants = plan.located_constants.items }
+support_of plan = record { bases = plan.bases.items; prepared = plan.prepared; pictured = plan.pictured; constants = plan.constants.items; located = plan.located.items; located_constants = plan.located_constants.items; within = plan.within.items }
 
--- these are a single move that was made ready so, by one of these steps
-abbrev pub IsPreparedMove : Reading → Records → MoveSteps → PreparedMove → List Move → Type 0
-IsPreparedMove reading r steps p own = (k : MoveKinds) × IsMoveStep steps k p.step × IsFixedMove reading r p.places k own
+-- these are a single move of an entry of the record of a side that was made ready so, by one of these steps
+abbrev pub IsPreparedMove : Side → Reading → Records → MoveSteps → PreparedMove → List Move → Type 0
+IsPreparedMove side reading r steps p own = (k : MoveKinds) × IsMoveStep steps k p.step × IsFixedMove side reading r p.places k own
 
 -- these, their sender read as its picture says, are a single move that was made ready so, by one of these steps
 abbrev pub IsPicturedMove : Records → PicturedSteps → PicturedMove → List Move → Type 0
-IsPicturedMove r steps p own = (k : MoveKinds) × IsPicturedStep steps k p.step × IsFixedMove Pictured r p.places k own
+IsPicturedMove r steps p own = (k : MoveKinds) × IsPicturedStep steps k p.step × IsFixedMove In Pictured r p.places k own
 
 -- a move is a part of a statement's moves, and where senders are read as their pictures say it was made ready so
 abbrev pub IsPicturedPart : Reading → Records → List StatementMoves → List Basis → PicturedSteps → PicturedMove → Part → Move → Type 0
@@ -132,11 +136,12 @@ CarriesPictured steps sender receiver s = (sent received : ℕ) → Occupies sen
 abbrev pub GivesText : (sender receiver : Kind) → Bool → Type 0
 GivesText sender receiver right = (gives_bytes sender receiver ≡ true) × (right ≡ stands_right sender receiver)
 
--- so does this one, as characters, or whatever the reading or as pictures say
+-- so does this one, as characters, or whatever the reading or as pictures say; the rule of MOVE itself carries out the moves between any
 abbrev pub CarriesLocated : MoveSteps → PicturedSteps → (sender receiver : Kind) → LocatedStep → Type 0
 CarriesLocated steps pictured sender receiver (located_step.Characters right) = GivesText sender receiver right
 CarriesLocated steps pictured sender receiver (located_step.Always s) = CarriesAnywhere steps sender receiver s
 CarriesLocated steps pictured sender receiver (located_step.Pictured s) = CarriesPictured pictured sender receiver s
+CarriesLocated steps pictured sender receiver located_step.Rule = Unit {0}
 
 -- the step carries its moves out where senders are read so
 abbrev pub serves : LocatedStep → Reading → Bool
@@ -144,17 +149,19 @@ serves (located_step.Characters right) reading = true
 serves (located_step.Always s) reading = true
 serves (located_step.Pictured s) Pictured = true
 serves (located_step.Pictured s) Whole = false
+serves located_step.Rule reading = true
 
--- a move was made ready so: what is noted of either place is what this may rest on, and the step, one of these, carries the move out wherever they stand
-pub record IsReadyAnywhere (r : Records) (steps : MoveSteps) (pictured : PicturedSteps) (p : LocatedMove) : Type 0 where
-  pub sends : IsPlaced r.input false (operand_in r.input p.sent) p.from
+-- a move of an entry of the record of a side was made ready so: what is noted of either place is what this may rest on, and the step, one of these, carries the
+-- move out wherever they stand
+pub record IsReadyAnywhere (side : Side) (r : Records) (steps : MoveSteps) (pictured : PicturedSteps) (p : LocatedMove) : Type 0 where
+  pub sends : IsPlaced (record_of r side) false (operand_in (record_of r side) p.sent) p.from
   pub receives : IsPlaced r.output true (operand_in r.output p.receiver) p.to
-  pub carries : CarriesLocated steps pictured (operand_in r.input p.sent).kind (operand_in r.output p.receiver).kind p.step
+  pub carries : CarriesLocated steps pictured (operand_in (record_of r side) p.sent).kind (operand_in r.output p.receiver).kind p.step
 
 -- these are the single move with this number among some that were made ready wherever their items stand, by one of these steps
-abbrev pub IsLocatedMove : Reading → Records → MoveSteps → PicturedSteps → List LocatedMove → ℕ → List Move → Type 0
-IsLocatedMove reading r steps pictured located number own =
-    IsStepAt LocatedMove (λ p. IsReadyAnywhere r steps pictured p × (own ≡ copied_move reading r p.sent p.receiver ∷ [])) located number
+abbrev pub IsLocatedMove : Side → Reading → Records → MoveSteps → PicturedSteps → List LocatedMove → ℕ → List Move → Type 0
+IsLocatedMove side reading r steps pictured located number own =
+    IsStepAt LocatedMove (λ p. IsReadyAnywhere side r steps pictured p × (own ≡ copied_move side reading r p.sent p.receiver ∷ [])) located number
 
 -- the step writes the constant to such a receiver, whatever place it fills
 abbrev pub WritesFor : PlainValue → Kind → ConstantStep → Type 0
@@ -177,30 +184,44 @@ IsOfConstant r steps own p = (constant : PlainValue) × IsReadyConstant r steps 
 abbrev pub IsLocatedConstant : Records → List ConstantStep → List LocatedConstant → ℕ → List Move → Type 0
 IsLocatedConstant r steps located number own = IsStepAt LocatedConstant (IsOfConstant r steps own) located number
 
+-- the bytes of the sender end before those of the receiver begin
+abbrev pub StandsBefore : MovePlaces → Type 0
+StandsBefore p = p.from.offset + p.from.length ≤ p.to.offset
+
 -- the move that the step of this number, of a kind, carries out
 abbrev pub numbered_step : (ℕ → MoveStep) → NumberedMove → PreparedMove
 numbered_step kind p = record { places = p.places; step = kind p.number }
 
 -- a step stands for these moves: for one part, for a single move that was made ready, of one of the kinds that have a step of their own or of another kind,
--- whatever the reading or as pictures say, or of a constant, or wherever its items stand, of an entry or of a constant, or for those that are a copy
+-- whatever the reading or as pictures say, or of a constant, or wherever its items stand, of an entry or of a constant, or for those that are a copy, or for a
+-- single move within the output record that was made ready, between fixed places, the sender's before the receiver's where the step says so, or wherever these are
 abbrev pub IsStep : Reading → Records → List StatementMoves → Support → Step → List Move → Type 0
 IsStep reading r given on (step.Part p) own = (m : Move) × (own ≡ m ∷ []) × IsMoveOfPart reading r given on.bases p m
-IsStep reading r given on (step.Number p) own = IsPreparedMove reading r on.prepared (numbered_step move_step.Number p) own
-IsStep reading r given on (step.Wide p) own = IsPreparedMove reading r on.prepared (numbered_step move_step.Wide p) own
-IsStep reading r given on (step.AnyNumber p) own = IsPreparedMove reading r on.prepared (numbered_step move_step.AnyNumber p) own
-IsStep reading r given on (step.Edited p) own = IsPreparedMove reading r on.prepared (numbered_step move_step.Edited p) own
-IsStep reading r given on (step.Characters p) own = IsPreparedMove reading r on.prepared (record { places = p.places; step = move_step.Characters p.step }) own
-IsStep reading r given on (step.Prepared p) own = IsPreparedMove reading r on.prepared p own
+IsStep reading r given on (step.Number p) own = IsPreparedMove In reading r on.prepared (numbered_step move_step.Number p) own
+IsStep reading r given on (step.Wide p) own = IsPreparedMove In reading r on.prepared (numbered_step move_step.Wide p) own
+IsStep reading r given on (step.AnyNumber p) own = IsPreparedMove In reading r on.prepared (numbered_step move_step.AnyNumber p) own
+IsStep reading r given on (step.Edited p) own = IsPreparedMove In reading r on.prepared (numbered_step move_step.Edited p) own
+IsStep reading r given on (step.Characters p) own = IsPreparedMove In reading r on.prepared (record { places = p.places; step = move_step.Characters p.step }) own
+IsStep reading r given on (step.Prepared p) own = IsPreparedMove In reading r on.prepared p own
 IsStep reading r given on (step.Pictured q p) own = (m : Move) × (own ≡ m ∷ []) × IsPicturedPart reading r given on.bases on.pictured q p m
 IsStep reading r given on (step.Constant c) own = IsConstantMove r on.constants c own
-IsStep reading r given on (step.Located number) own = IsLocatedMove reading r on.prepared on.pictured on.located number own
+IsStep reading r given on (step.Located number) own = IsLocatedMove In reading r on.prepared on.pictured on.located number own
 IsStep reading r given on (step.LocatedConstant number) own = IsLocatedConstant r on.constants on.located_constants number own
 IsStep reading r given on (step.Copy places) own = AreCopied r places.from places.to own
+IsStep reading r given on (step.Within p) own = IsPreparedMove Out reading r on.prepared p own
+IsStep reading r given on (step.WithinNumber p) own = IsPreparedMove Out reading r on.prepared (numbered_step move_step.Number p) own × StandsBefore p.places
+IsStep reading r given on (step.WithinEdited p) own = IsPreparedMove Out reading r on.prepared (numbered_step move_step.Edited p) own × StandsBefore p.places
+IsStep reading r given on (step.LocatedWithin number) own = IsLocatedMove Out reading r on.prepared on.pictured on.within number own
 
 -- the step stands for what a single move stands for that was made ready
 abbrev pub StandsForPrepared : PreparedMove → Step → Type 0
 StandsForPrepared p s = (reading : Reading) (r : Records) (given : List StatementMoves) (on : Support) (own : List Move)
-    → IsPreparedMove reading r on.prepared p own → IsStep reading r given on s own
+    → IsPreparedMove In reading r on.prepared p own → IsStep reading r given on s own
+
+-- so it does for one within the output record
+abbrev pub StandsForWithin : PreparedMove → Step → Type 0
+StandsForWithin p s = (reading : Reading) (r : Records) (given : List StatementMoves) (on : Support) (own : List Move)
+    → IsPreparedMove Out reading r on.prepared p own → IsStep reading r given on s own
 
 -- steps stand for these moves, one step's behind another's
 abbrev pub AreSteps : Reading → Records → List StatementMoves → Support → List Step → List Move → Type 0
@@ -227,19 +248,24 @@ SendsTheSame (Entry In reading o) = Unit {0}
 SendsTheSame (Entry Out reading o) = ⊥
 SendsTheSame (Literal c) = Unit {0}
 
--- A move is cut into these: it is one, or what it sends is the same before and behind each receiver.
-abbrev pub IsMoveCut : Move → List Move → Type 0
-IsMoveCut m [] = ⊥
-IsMoveCut m (p ∷ ps) = ((p ≡ m) × (ps ≡ [])) ⊎ (SendsTheSame m.sender × AreReceived m.sender (p ∷ ps) m.receivers)
+-- A move may be carried out as its single moves: what it sends is the same before and behind each receiver, it has one, or they leave what it sends.
+abbrev pub MayBeCut : Records → Sender → List Operand → Type 0
+MayBeCut r s os = SendsTheSame s ⊎ ((length os ≡ 1) ⊎ LeaveSender r s os)
+
+-- A move is cut into these: it is one, or what it sends is the same before and behind each receiver; or they are its single moves, and leave what it sends.
+abbrev pub IsMoveCut : Records → Move → List Move → Type 0
+IsMoveCut r m [] = ⊥
+IsMoveCut r m (p ∷ ps) = ((p ≡ m) × (ps ≡ []))
+    ⊎ ((SendsTheSame m.sender × AreReceived m.sender (p ∷ ps) m.receivers) ⊎ (LeaveSender r m.sender m.receivers × (p ∷ ps ≡ one_by_one m)))
 
 -- moves are cut into these, one move's behind another's
-abbrev pub AreMovesCut : List Move → List Move → Type 0
-AreMovesCut [] parts = parts ≡ []
-AreMovesCut (m ∷ ms) parts = (own rest : List Move) × (parts ≡ own ++ rest) × IsMoveCut m own × AreMovesCut ms rest
+abbrev pub AreMovesCut : Records → List Move → List Move → Type 0
+AreMovesCut r [] parts = parts ≡ []
+AreMovesCut r (m ∷ ms) parts = (own rest : List Move) × (parts ≡ own ++ rest) × IsMoveCut r m own × AreMovesCut r ms rest
 
 -- Steps stand for moves: for those into which these are cut.
 abbrev pub StandFor : Reading → Records → List StatementMoves → List Step → Support → List Move → Type 0
-StandFor reading r given steps on ms = (parts : List Move) × AreSteps reading r given on steps parts × AreMovesCut ms parts
+StandFor reading r given steps on ms = (parts : List Move) × AreSteps reading r given on steps parts × AreMovesCut r ms parts
 
 -- a plan became another, with steps for these moves behind those before
 abbrev pub Gains : Reading → Records → List StatementMoves → List Move → (before now : Plan) → Type 0
@@ -249,4 +275,4 @@ Gains reading r given own before now =
 
 -- a plan became another, with steps for what these moves are cut into behind those before
 abbrev pub GainsCut : Reading → Records → List StatementMoves → List Move → (before now : Plan) → Type 0
-GainsCut reading r given ms before now = (own : List Move) × AreMovesCut ms own × Gains reading r given own before now
+GainsCut reading r given ms before now = (own : List Move) × AreMovesCut r ms own × Gains reading r given own before now

@@ -4,6 +4,7 @@ ghost use Rattle.std.specs.Prelude.{◌≡◌, ◌+◌, ◌≤◌, ℕ, List, fa
 ghost use Rattle.cob_layout.specs.Sound.{IsSound};
 ghost use Rattle.cob_layout.specs.Standing.{KeepsOf};
 ghost use Rattle.cob_layout.specs.Storage.{greatest_length, IsStorage};
+ghost use Rattle.cob_move_data.specs.declared.operands.Side.TheVariants.{In};
 ghost use Rattle.cob_move_data.specs.Moves.{Move as Meant};
 ghost use Rattle.cob_move_apply.specs.Applied.{Applied, ending};
 ghost use Rattle.cob_move_apply.specs.Going.{Left, IsBounded};
@@ -13,8 +14,10 @@ ghost use Rattle.cob_move_apply.specs.Surveyed.{HasSpace, IsWorkspace, records};
 
 use crate::basis::{Basis, PlacedReceivers};
 use crate::constant::{make_constant, make_located_constant, run_located_constant};
+use crate::laws::one_ending;
 use crate::layouts::Layouts;
 use crate::located::{make_located, run_located};
+use crate::located_within::make_located_within;
 use crate::pairs::make_pair_move;
 use crate::pictured::run_pictured;
 use crate::prepared::make_prepared;
@@ -22,6 +25,7 @@ use crate::running::run_step;
 use crate::senders::make_move;
 use crate::step::{MovePlaces, Part, PicturedMove, Plan, Step, copy_across};
 use crate::stop::Stop;
+use crate::within::make_within;
 use crate::workspace::Workspace;
 use cob_codec::Reading;
 use cob_layout::one_outcome_of_counts;
@@ -134,14 +138,14 @@ pub(crate) fn make_single(
     output: &mut [u8],
     space: &mut Workspace,
 ) -> Result<(), Stop>
-    requires step { (own : List Meant) × PreparedMeans plan.now places.now step layouts.now own }
+    requires step { (own : List Meant) × PreparedMeans In plan.now places.now step layouts.now own }
     requires input { IsStorage layouts.now.input.now input.now }
     requires output { length output.old ≡ greatest_length layouts.now.output.now }
     requires space { IsWorkspace (records layouts.now) input.now output.old space.old }
-    ensures applied { AnyEnd (PreparedMeans plan.now places.now step) layouts.now input.now
+    ensures applied { AnyEnd (PreparedMeans In plan.now places.now step) layouts.now input.now
         output.old (ending result output.new) }
     ensures space { IsWorkspace (records layouts.now) input.now output.new space.new }
-    ensures spends { AnySpend (PreparedMeans plan.now places.now step) layouts.now input.now
+    ensures spends { AnySpend (PreparedMeans In plan.now places.now step) layouts.now input.now
         output.old result output.new space.old space.new }
     ensures same { OnErr result ((output.new ≡ output.old) × (space.new ≡ space.old)) }
 {
@@ -163,14 +167,14 @@ fn make_one(
     output: &mut [u8],
     space: &mut Workspace,
 ) -> Result<(), Stop>
-    requires step { (own : List Meant) × PreparedMeans plan.now places.now step layouts.now own }
+    requires step { (own : List Meant) × PreparedMeans In plan.now places.now step layouts.now own }
     requires input { IsStorage layouts.now.input.now input.now }
     requires output { length output.old ≡ greatest_length layouts.now.output.now }
     requires space { IsWorkspace (records layouts.now) input.now output.old space.old }
-    ensures applied { AnyEnd (PreparedMeans plan.now places.now step) layouts.now input.now
+    ensures applied { AnyEnd (PreparedMeans In plan.now places.now step) layouts.now input.now
         output.old (ending result output.new) }
     ensures space { IsWorkspace (records layouts.now) input.now output.new space.new }
-    ensures spends { AnySpend (PreparedMeans plan.now places.now step) layouts.now input.now
+    ensures spends { AnySpend (PreparedMeans In plan.now places.now step) layouts.now input.now
         output.old result output.new space.old space.new }
 {
     make_single(plan, places, step, layouts, input, output, space)
@@ -247,6 +251,20 @@ fn make_step(
             copy_across(*places, input, output);
             Ok(())
         }
+        Step::Within(one) => {
+            make_within(plan, &one.places, one.step, layouts, input, output, space)
+        }
+        Step::WithinNumber(one) => {
+            let step = MoveStep::Number(one.number);
+            make_within(plan, &one.places, step, layouts, input, output, space)
+        }
+        Step::WithinEdited(one) => {
+            let step = MoveStep::Edited(one.number);
+            make_within(plan, &one.places, step, layouts, input, output, space)
+        }
+        Step::LocatedWithin(number) => {
+            make_located_within(plan, *number, layouts, input, output, space)
+        }
     }
 }
 
@@ -274,6 +292,7 @@ fn run_located_steps<'a>(
         output.new space.old space.new }
     ensures fewer { length result.now ≤ length steps.now }
 {
+    one_ending();
     let mut left = steps;
     while let Some((step, next)) = left.split_first() {
         let Step::Located(number) = step else {
@@ -313,6 +332,7 @@ fn run_placed_steps<'a, const VARIES: bool>(
         output.new space.old space.new }
     ensures fewer { length result.now ≤ length steps.now }
 {
+    one_ending();
     let mut rest = steps;
     while let Some((step, behind)) = rest.split_first() {
         if !run_step::<VARIES>(plan, step, layouts, input, output, space) {
@@ -428,6 +448,7 @@ fn apply_steps(
     ensures reads { StepsAreBounded given.now plan.now steps.now layouts.now input.now output.old
         space.old space.new }
 {
+    one_ending();
     let mut rest = steps;
     while let Some((step, behind)) = rest.split_first() {
         make_step(given, plan, step, layouts, input, output, space)?;

@@ -19,8 +19,11 @@
 //! are read as their pictures say; so is a single move of a constant to such a place (`IsFixedConstant`), and one of an entry to another where a count
 //! decides a place: an item has as many bytes wherever it stands, and characters are as many as there are, so only the two places are found as the move is
 //! carried out (`IsLocatedMove`), and only that of the receiver where a constant is moved to an item behind a table (`IsLocatedConstant`); a part of a
-//! statement's moves is looked at as it is carried out. Only moves whose sender no receiver changes are cut into their single moves (`IsMoveCut`), so that
-//! what the steps make of a storage is what the moves make. One jump finds what carries out a step of one of the commoner kinds; the prepared moves of all
+//! statement's moves is looked at as it is carried out. Single moves within the output record are made ready in the same words, with the side of their
+//! sender: its bytes are those of the storage before the move. They are read where they stand, where the receiver shares none of them, and taken first where
+//! it may. Only moves whose sender no receiver changes are cut into their single moves (`IsMoveCut`), so that what the steps make of a storage is what the
+//! moves make: those of the input record and of constants, those of one receiver, and those of an entry of the output record where each receiver stands apart
+//! from it, wherever the counts put either (`LeaveEntry`). One jump finds what carries out a step of one of the commoner kinds; the prepared moves of all
 //! other kinds (`Prepared` of step.rt) are found by one more, and the moves between items whose places are found as they are carried out have a loop of
 //! their own.
 //!
@@ -44,9 +47,11 @@
 mod application;
 mod basis;
 mod constant;
+mod cutting;
 mod laws;
 mod layouts;
 mod located;
+mod located_within;
 mod moves;
 mod pairs;
 mod pictured;
@@ -56,12 +61,14 @@ mod preparation;
 mod prepared;
 mod ready;
 mod receivers;
+mod rule;
 mod running;
 mod scratch;
 mod senders;
 mod step;
 mod stop;
 mod survey;
+mod within;
 mod workspace;
 
 pub use basis::entry_kind;

@@ -3,33 +3,35 @@
 ghost use Rattle.std.specs.Prelude.{◌≡◌, false, length, true, IfSome, IsTrue, List};
 ghost use Rattle.cob_layout.specs.Sound.{IsSound};
 ghost use Rattle.cob_layout.specs.Storage.{greatest_length, IsStorage};
-ghost use Rattle.cob_move_data.specs.Moves.{Move as Meant, operand_in};
+ghost use Rattle.cob_move_data.specs.declared.operands.Side.TheVariants.{In};
+ghost use Rattle.cob_move_data.specs.Moves.{IsOperand, Move as Meant, operand_in, record_of};
 ghost use Rattle.cob_move_apply.specs.Applied.{IsMoved, done, ending};
 ghost use Rattle.cob_move_apply.specs.Made.{StandAt};
 ghost use Rattle.cob_move_apply.specs.Placed.{IsPlaced};
-ghost use Rattle.cob_move_apply.specs.Promised.{AnyEnd, AnyHaveSpent, AnySpend, CarriesBetween, LocatedMeans, MoveHasSpent, MoveSpends, located_move};
+ghost use Rattle.cob_move_apply.specs.Promised.{AnyEnd, AnyHaveSpent, AnySpend, LocatedMeans, MoveHasSpent, MoveSpends, located_move};
 ghost use Rattle.cob_move_apply.specs.Spent.{IsSpent};
-ghost use Rattle.cob_move_apply.specs.Steps.{serves};
+ghost use Rattle.cob_move_apply.specs.Steps.{IsReadyAnywhere, serves};
 ghost use Rattle.cob_move_apply.specs.Surveyed.{IsWorkspace, records};
 
-use crate::basis::{PlacedReceivers, SentEntry, placed_operand};
+use crate::basis::{PlacedReceivers, SentEntry, entry_kind, placed_operand};
 use crate::layouts::Layouts;
 use crate::pictured::run_pictured;
 use crate::places::{Stored, locate_if_there};
 use crate::prepared::{make_characters, make_prepared};
+use crate::rule::{Kinds, receive_by_rule};
 use crate::senders::move_entry;
 use crate::step::{LocatedMove, LocatedStep, MovePlaces, PicturedMove, Plan};
 use crate::stop::Stop;
 use crate::workspace::Workspace;
 use cob_codec::Reading;
-use cob_layout::places_lie_in_storage;
+use cob_layout::{field, places_lie_in_storage};
 use cob_move_data::Side;
 use cob_move_steps::CharactersStep;
 use std::slice;
 
 /// Whether a step carries its moves out where senders are read so.
 #[inline(always)]
-fn serves(step: LocatedStep, reading: Reading) -> bool
+pub(crate) fn serves(step: LocatedStep, reading: Reading) -> bool
     ensures { result ≡ serves step reading }
 {
     match step {
@@ -39,6 +41,7 @@ fn serves(step: LocatedStep, reading: Reading) -> bool
             Reading::Pictured => true,
             Reading::Whole => false,
         },
+        LocatedStep::Rule => true,
     }
 }
 
@@ -59,7 +62,8 @@ fn both_places(
         (operand_in layouts.now.output.now one.now.receiver) one.now.to }
     requires input { IsStorage layouts.now.input.now input.now }
     requires space { IsWorkspace (records layouts.now) input.now output.now space.old }
-    ensures stand { IfSome result (StandAt (records layouts.now) one.now input.now output.now) }
+    ensures stand { IfSome result (StandAt In (records layouts.now) one.now input.now
+        output.now) }
     ensures space { IsWorkspace (records layouts.now) input.now output.now space.new }
     ensures spends { IsSpent layouts.now.output.now 0 space.old.output space.new.output }
 {
@@ -86,6 +90,48 @@ fn both_places(
     Some(MovePlaces { from, to })
 }
 
+/// Carries out a move between the places where its sender and its receiver stand by the rule of MOVE. False where a value of the sender is missing: all is as it was
+/// then.
+#[inline(always)]
+fn run_by_rule(
+    one: &LocatedMove,
+    places: &MovePlaces,
+    layouts: &Layouts<'_>,
+    input: &[u8],
+    output: &mut [u8],
+    space: &mut Workspace,
+) -> bool
+    requires in_sound { IsSound layouts.now.input.now }
+    requires out_sound { IsSound layouts.now.output.now }
+    requires sends { IsOperand layouts.now.input.now
+        (operand_in layouts.now.input.now one.now.sent) }
+    requires receives { IsOperand layouts.now.output.now
+        (operand_in layouts.now.output.now one.now.receiver) }
+    requires stand { StandAt In (records layouts.now) one.now input.now output.old places.now }
+    requires output { length output.old ≡ greatest_length layouts.now.output.now }
+    requires space { IsWorkspace (records layouts.now) input.now output.old space.old }
+    ensures moved { IsTrue result → IsMoved (records layouts.now)
+        (located_move In layouts.now one.now) input.now output.old (done output.new) }
+    ensures space { IsWorkspace (records layouts.now) input.now output.new space.new }
+    ensures spends { IsTrue result → MoveHasSpent layouts.now
+        (located_move In layouts.now one.now) input.now output.old output.new space.old
+        space.new }
+    ensures same { result ≡ false → (output.new ≡ output.old) × (space.new ≡ space.old) }
+{
+    let sender = entry_kind(layouts.input, &one.sent);
+    let receiver = entry_kind(layouts.output, &one.receiver);
+    let kinds = Kinds { sender, receiver };
+    let start = places.to.offset as usize;
+    let end = start + places.to.length as usize;
+    let sent = field(input, places.from);
+    if receive_by_rule(&kinds, layouts.reading, sent, &mut output[start..end]) {
+        space.output.change_output(layouts, places.to);
+        true
+    } else {
+        false
+    }
+}
+
 /// Carries out a move between the places where its sender and its receiver stand. False where a value of the sender is missing: all is as it was then.
 #[inline(always)]
 fn run_between(
@@ -97,16 +143,20 @@ fn run_between(
     output: &mut [u8],
     space: &mut Workspace,
 ) -> bool
-    requires carries { CarriesBetween plan.now one.now layouts.now }
+    requires in_sound { IsSound layouts.now.input.now }
+    requires out_sound { IsSound layouts.now.output.now }
+    requires ready { IsReadyAnywhere In (records layouts.now) plan.now.prepared plan.now.pictured
+        one.now }
     requires serves { serves one.now.step layouts.now.reading ≡ true }
-    requires stand { StandAt (records layouts.now) one.now input.now output.old places.now }
+    requires stand { StandAt In (records layouts.now) one.now input.now output.old places.now }
     requires output { length output.old ≡ greatest_length layouts.now.output.now }
     requires space { IsWorkspace (records layouts.now) input.now output.old space.old }
-    ensures moved { IsTrue result → IsMoved (records layouts.now) (located_move layouts.now one.now)
-        input.now output.old (done output.new) }
+    ensures moved { IsTrue result → IsMoved (records layouts.now)
+        (located_move In layouts.now one.now) input.now output.old (done output.new) }
     ensures space { IsWorkspace (records layouts.now) input.now output.new space.new }
-    ensures spends { IsTrue result → MoveHasSpent layouts.now (located_move layouts.now one.now)
-        input.now output.old output.new space.old space.new }
+    ensures spends { IsTrue result → MoveHasSpent layouts.now
+        (located_move In layouts.now one.now) input.now output.old output.new space.old
+        space.new }
     ensures same { result ≡ false → (output.new ≡ output.old) × (space.new ≡ space.old) }
 {
     let prepared = &plan.prepared;
@@ -133,6 +183,7 @@ fn run_between(
                 Err(_) => false,
             }
         }
+        LocatedStep::Rule => run_by_rule(one, places, layouts, input, output, space),
     }
 }
 
@@ -176,7 +227,8 @@ pub(crate) fn run_located(
 /// # Errors
 ///
 /// The first thing missing: a place of the sender, one of the receiver, a value of the sender. The storage is as it was then.
-fn move_unready(
+pub(crate) fn move_unready(
+    side: Side,
     one: &LocatedMove,
     layouts: &Layouts<'_>,
     input: &[u8],
@@ -185,21 +237,21 @@ fn move_unready(
 ) -> Result<(), Stop>
     requires in_sound { IsSound layouts.now.input.now }
     requires out_sound { IsSound layouts.now.output.now }
-    requires sends { IsPlaced layouts.now.input.now false
-        (operand_in layouts.now.input.now one.now.sent) one.now.from }
+    requires sends { IsPlaced (record_of (records layouts.now) side) false
+        (operand_in (record_of (records layouts.now) side) one.now.sent) one.now.from }
     requires receives { IsPlaced layouts.now.output.now true
         (operand_in layouts.now.output.now one.now.receiver) one.now.to }
     requires input { IsStorage layouts.now.input.now input.now }
     requires output { length output.old ≡ greatest_length layouts.now.output.now }
     requires space { IsWorkspace (records layouts.now) input.now output.old space.old }
-    ensures moved { IsMoved (records layouts.now) (located_move layouts.now one.now) input.now
+    ensures moved { IsMoved (records layouts.now) (located_move side layouts.now one.now) input.now
         output.old (ending result output.new) }
     ensures space { IsWorkspace (records layouts.now) input.now output.new space.new }
-    ensures spends { MoveSpends layouts.now (located_move layouts.now one.now) input.now output.old
-        result output.new space.old space.new }
+    ensures spends { MoveSpends layouts.now (located_move side layouts.now one.now) input.now
+        output.old result output.new space.old space.new }
 {
     let sent = SentEntry {
-        side: Side::In,
+        side,
         entry: &one.sent,
         basis: one.from,
     };
@@ -238,5 +290,5 @@ pub(crate) fn make_located(
         output.new space.old space.new }
 {
     let one = &plan.located[number];
-    move_unready(one, layouts, input, output, space)
+    move_unready(Side::In, one, layouts, input, output, space)
 }

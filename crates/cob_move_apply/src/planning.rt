@@ -1,6 +1,6 @@
 //! Plans: the steps that stand for moves, made before a record comes. Plain copies that meet on both sides are one step.
 
-ghost use Rattle.std.specs.Prelude.{◌≡◌, ◌<◌, ◌+◌, length, true, IfNone, IfOk, IfSome, IsFalse, OnOk, IsTrue, Some};
+ghost use Rattle.std.specs.Prelude.{◌≡◌, ◌<◌, ◌+◌, length, map, true, IfNone, IfOk, IfSome, IsFalse, OnOk, IsTrue, Some};
 ghost use Rattle.cob_codec.specs.declared.reading.Reading.{Reading};
 ghost use Rattle.cob_move_data.specs.Moves.{
   AreMoves,
@@ -15,25 +15,27 @@ ghost use Rattle.cob_move_data.specs.Moves.{
   sender_by,
   statement_moves,
 };
+ghost use Rattle.cob_move_data.specs.declared.operands.Side.TheVariants.{In, Out};
 ghost use Rattle.cob_move_data.specs.declared.operands.StatementMoves.{StatementMoves as Said};
 ghost use Rattle.cob_move_data.specs.declared.operands.StatementMoves.TheVariants.{Pairs, Single};
 ghost use Rattle.cob_move_apply.specs.Joined.{begun, copy_ends, neither_varies};
 ghost use Rattle.cob_move_apply.specs.Planned.{AlwaysCopied, AlwaysGains, AlwaysGainsCut, AlwaysLocated, AlwaysLocatedConstant, AlwaysMore, AreBetween, AreReadyAs, AreWithinLongest, HasOneMore, HasOneMoveMore, IsPartIn, IsPictured, IsReady, IsStatementAt, copied_by, counted_steps, entry_alone, last_step_ends, pair_alone, part_alone, records_between, single_alone, step_count, step_ends};
 ghost use Rattle.cob_move_apply.specs.Planning.{CountsSteps, GainsAny, GainsStatement, HasPartMore, IsPlanFor, MoreByStatement, StepTakesCopy, StepsTakeCopy, entry_copy, move_alone, moves_alone, single_copy, singles_alone};
-ghost use Rattle.cob_move_apply.specs.Steps.{IsPreparedMove, SendsTheSame, alone, pair_at};
+ghost use Rattle.cob_move_apply.specs.Steps.{IsPreparedMove, MayBeCut, SendsTheSame, alone, pair_at};
 ghost use Rattle.cob_move_steps.specs.Pictured.{KeepsPictured};
 ghost use Rattle.cob_move_steps.specs.Pool.{KeepsSteps};
 
 use crate::basis::entry_kind;
+use crate::cutting::may_cut_entry;
 use crate::pairs::entry_below;
 use crate::preparation::push_bases;
 use crate::ready::{
     Ready, ReadyConstant, ReadyLocatedConstant, constant_of, located_constant_of, located_of,
-    pictured_of, prepared_of,
+    pictured_of, prepared_of, within_of,
 };
 use crate::step::{
     ConstantMove, LocatedConstant, LocatedMove, MovePlaces, PicturedMove, Plan, PreparedMove, Step,
-    both_copies, part_of, prepared_step,
+    both_copies, part_of, prepared_step, within_step,
 };
 use cob_layout::{Layout, Ref, places_lie_in_storage, records_are_sound, tables};
 use cob_move_data::{Move, PairMoves, Sender, Side, StatementMoves};
@@ -83,7 +85,7 @@ fn plain_copy(sent: &Ref, receiver: &Ref, both: &Between<'_>) -> Option<MovePlac
     requires receiver { IsOperand both.now.output.now
         (operand_in both.now.output.now receiver.now) }
     ensures copied { IfSome result (λ c. AlwaysCopied both.now c
-        (entry_alone both.now sent.now receiver.now)) }
+        (entry_alone In both.now sent.now receiver.now)) }
     ensures short { IfSome result AreWithinLongest }
     ensures value { (reading : Reading) → result ≡ entry_copy both.now sent.now receiver.now
         reading }
@@ -141,6 +143,8 @@ fn joined(last: Step, places: MovePlaces) -> Option<Step>
         Step::Located(_) | Step::LocatedConstant(_) => None,
         Step::Number(_) | Step::Wide(_) | Step::AnyNumber(_) => None,
         Step::Edited(_) | Step::Characters(_) | Step::Prepared(_) => None,
+        Step::Within(_) | Step::WithinNumber(_) | Step::WithinEdited(_) => None,
+        Step::LocatedWithin(_) => None,
         Step::Copy(front) => Some(Step::Copy(both_copies(front, places)?)),
     }
 }
@@ -207,8 +211,8 @@ fn push_part(
 /// Where no memory is left.
 fn push_prepared(one: PreparedMove, plan: &mut Plan) -> Result<(), AllocError>
     ensures gains { OnOk result (GainsAny
-        (λ r ms. (reading : Reading) → IsPreparedMove reading r plan.old.prepared one (ms reading))
-        plan.old plan.new) }
+        (λ r ms. (reading : Reading) → IsPreparedMove In reading r plan.old.prepared one
+        (ms reading)) plan.old plan.new) }
     ensures added { OnOk result (HasOneMore plan.old.steps.items plan.new.steps.items) }
 {
     plan.steps.push(prepared_step(one))?;
@@ -238,8 +242,8 @@ fn push_constant(one: ReadyConstant, plan: &mut Plan) -> Result<(), AllocError>
 ///
 /// Where no memory is left.
 fn push_located(one: LocatedMove, plan: &mut Plan) -> Result<(), AllocError>
-    ensures gains { OnOk result (GainsAny (λ r. AlwaysLocated r plan.old.prepared plan.old.pictured
-        one) plan.old plan.new) }
+    ensures gains { OnOk result (GainsAny (λ r. AlwaysLocated In r plan.old.prepared
+        plan.old.pictured one) plan.old plan.new) }
     ensures added { OnOk result (HasOneMore plan.old.steps.items plan.new.steps.items) }
 {
     let number = plan.located.len();
@@ -266,6 +270,37 @@ fn push_located_constant(one: ReadyLocatedConstant, plan: &mut Plan) -> Result<(
         number: written,
     })?;
     plan.steps.push(Step::LocatedConstant(number))?;
+    Ok(())
+}
+
+/// Puts the step of a single move that was made ready between fixed places of the output record behind those so far.
+///
+/// # Errors
+///
+/// Where no memory is left.
+fn push_within(one: PreparedMove, plan: &mut Plan) -> Result<(), AllocError>
+    ensures gains { OnOk result (GainsAny
+        (λ r ms. (reading : Reading) → IsPreparedMove Out reading r plan.old.prepared one
+        (ms reading)) plan.old plan.new) }
+    ensures added { OnOk result (HasOneMore plan.old.steps.items plan.new.steps.items) }
+{
+    plan.steps.push(within_step(one))?;
+    Ok(())
+}
+
+/// Puts the step of a single move that was made ready wherever its items stand in the output record behind those so far.
+///
+/// # Errors
+///
+/// Where no memory is left.
+fn push_located_within(one: LocatedMove, plan: &mut Plan) -> Result<(), AllocError>
+    ensures gains { OnOk result (GainsAny (λ r. AlwaysLocated Out r plan.old.prepared
+        plan.old.pictured one) plan.old plan.new) }
+    ensures added { OnOk result (HasOneMore plan.old.steps.items plan.new.steps.items) }
+{
+    let number = plan.within.len();
+    plan.within.push(one)?;
+    plan.steps.push(Step::LocatedWithin(number))?;
     Ok(())
 }
 
@@ -301,7 +336,8 @@ fn push_pictured(
 }
 
 /// What is made ready of a single move, the first of these that carries it out: a copy of bytes, a step at fixed places whatever the reading, one where senders
-/// are read as their pictures say, a constant at a fixed place, a step wherever its items stand, a constant wherever its receiver stands.
+/// are read as their pictures say, a constant at a fixed place, a step wherever its items stand, a constant wherever its receiver stands, a step between places
+/// of the output record.
 ///
 /// # Errors
 ///
@@ -342,7 +378,7 @@ fn ready_of(
     if let Some(one) = located_constant_of(given, receiver, both)? {
         return Ok(Ready::LocatedConstant(one));
     }
-    Ok(Ready::Nothing)
+    within_of(given, receiver, both, prepared, pictured)
 }
 
 /// Puts the step of a single move behind those so far, by what was made ready of it.
@@ -373,6 +409,8 @@ fn push_ready(
         Ready::Constant(one) => push_constant(one, plan),
         Ready::Located(one) => push_located(one, plan),
         Ready::LocatedConstant(one) => push_located_constant(one, plan),
+        Ready::Within(one) => push_within(one, plan),
+        Ready::LocatedWithin(one) => push_located_within(one, plan),
         Ready::Nothing => push_part(given, part, both, plan),
     }
 }
@@ -440,23 +478,28 @@ fn push_singles(
     Ok(())
 }
 
-/// Whether what a sender gives is the same before and behind each receiver.
-fn is_steady(given: &Sender) -> bool
-    ensures yes { (reading : Reading) (r : Records)
-        → IsTrue result → SendsTheSame (sender_by reading r given.now) }
+/// Whether a move may be carried out as its single moves: what it sends stays the same before and behind each receiver, or there is one receiver.
+fn may_be_cut(given: &Sender, receivers: &[Ref], both: &Between<'_>) -> bool
+    requires legal { IsMove (records_between both.now) (record {
+      sender = sender (records_between both.now) given.now;
+      receivers = map (operand_in both.now.output.now) receivers.now;
+    }) }
+    ensures yes { (reading : Reading) → IsTrue result → MayBeCut (records_between both.now)
+        (sender_by reading (records_between both.now) given.now)
+        (map (operand_in both.now.output.now) receivers.now) }
     ensures only { (reading : Reading) (r : Records)
         → IsFalse result → SendsTheSame (sender_by reading r given.now) → ⊥ }
 {
-    !matches!(
-        given,
-        Sender::Entry {
-            side: Side::Out,
-            ..
-        }
-    )
+    match given {
+        Sender::Entry { side, entry } => match *side {
+            Side::In => true,
+            Side::Out => may_cut_entry(entry, receivers, both.output),
+        },
+        Sender::Constant(_) => true,
+    }
 }
 
-/// Puts the steps of a move behind those so far: of its single moves where what it sends stays the same, and else one of the whole.
+/// Puts the steps of a move behind those so far: of its single moves where it may be carried out so, and else one of the whole.
 ///
 /// # Errors
 ///
@@ -476,14 +519,15 @@ fn push_move(
     ensures more { OnOk result (AlwaysMore both.now (move_alone both.now one.now)
         plan.old.steps.items plan.new.steps.items) }
 {
-    if is_steady(&one.sender) && !one.receivers.is_empty() {
+    let receivers = one.receivers.as_slice();
+    if may_be_cut(&one.sender, receivers, both) && !one.receivers.is_empty() {
         return push_singles(given, number, one, both, plan);
     }
     let part = StatementPart {
         statement: number,
         first: 0,
         sender: &one.sender,
-        receivers: one.receivers.as_slice(),
+        receivers,
     };
     push_part(given, &part, both, plan)
 }
@@ -611,6 +655,7 @@ pub(crate) fn plan_of(
         constants: Vec::new(alloc),
         located: Vec::new(alloc),
         located_constants: Vec::new(alloc),
+        within: Vec::new(alloc),
     };
     for number in 0..given.len() {
         push_statement(given, number, &both, &mut plan)?;

@@ -2,6 +2,7 @@
 
 ghost use Rattle.std.specs.Prelude.{◌≡◌, ◌+◌, ◌≤◌, length, OnErr};
 ghost use Rattle.cob_layout.specs.Storage.{greatest_length};
+ghost use Rattle.cob_move_data.specs.declared.operands.Side.TheVariants.{In};
 ghost use Rattle.cob_move_apply.specs.Applied.{done, ending};
 ghost use Rattle.cob_move_apply.specs.Spent.{PlaceSpends, WriteSpends};
 ghost use Rattle.cob_move_apply.specs.Surveyed.{IsWorkspace, records};
@@ -38,7 +39,7 @@ pub(crate) fn make_prepared(
         ≤ greatest_length layouts.now.output.now }
     requires output { length output.old ≡ greatest_length layouts.now.output.now }
     requires space { IsWorkspace (records layouts.now) input.now output.old space.old }
-    ensures made { IsMadeReady (record { places = places.now; step = step }) prepared.now
+    ensures made { IsMadeReady In (record { places = places.now; step = step }) prepared.now
         input.now output.old (ending result output.new) }
     ensures space { IsWorkspace (records layouts.now) input.now output.new space.new }
     ensures spends { WriteSpends layouts.now.output.now output.old places.now.to result
@@ -91,7 +92,7 @@ pub(crate) fn make_characters(
         ≤ greatest_length layouts.now.output.now }
     requires output { length output.old ≡ greatest_length layouts.now.output.now }
     requires space { IsWorkspace (records layouts.now) input.now output.old space.old }
-    ensures made { IsMadeReady (record { places = places.now; step = Characters step })
+    ensures made { IsMadeReady In (record { places = places.now; step = Characters step })
         prepared.now input.now output.old (done output.new) }
     ensures space { IsWorkspace (records layouts.now) input.now output.new space.new }
     ensures spends { PlaceSpends layouts.now.output.now output.old places.now.to

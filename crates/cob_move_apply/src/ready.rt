@@ -1,10 +1,11 @@
 //! Single moves made ready, before a record comes.
 
-ghost use Rattle.std.specs.Prelude.{IfOk, IfSome};
+ghost use Rattle.std.specs.Prelude.{◌≡◌, IfOk, IfSome, None};
 ghost use Rattle.cob_copybook_entry.specs.Described.{plain_value};
 ghost use Rattle.cob_layout.specs.Sound.{IsStorableKind};
-ghost use Rattle.cob_move_data.specs.Moves.{IsMove, IsOperand, operand_in, sender};
-ghost use Rattle.cob_move_apply.specs.Planned.{AlwaysPrepared, AreFixedPlaces, IsPictured, IsReady, constant_alone, entry_alone, records_between, single_alone};
+ghost use Rattle.cob_move_data.specs.declared.operands.Side.TheVariants.{In, Out};
+ghost use Rattle.cob_move_data.specs.Moves.{IsMove, IsOperand, operand_in, record_of, sender};
+ghost use Rattle.cob_move_apply.specs.Planned.{AlwaysPrepared, AreFixedPlaces, AreReadyAs, IsPictured, IsReady, constant_alone, copied_by, entry_alone, records_between, single_alone};
 ghost use Rattle.cob_move_apply.specs.Planning.{IsLocatedBetween, IsLocatedConstantBetween};
 ghost use Rattle.cob_move_apply.specs.Steps.{CarriesLocated, WritesFor, alone};
 ghost use Rattle.cob_move_steps.specs.Pictured.{KeepsPictured};
@@ -15,7 +16,7 @@ use crate::pairs::same_entry;
 use crate::planning::Between;
 use crate::preparation::basis_of;
 use crate::step::{LocatedMove, LocatedStep, MovePlaces, PicturedMove, PreparedMove};
-use cob_layout::{Kind, Place, Ref, Value, places_lie_in_storage, records_are_sound};
+use cob_layout::{Kind, Layout, Place, Ref, Value, places_lie_in_storage, records_are_sound};
 use cob_move_data::{Sender, Side};
 use cob_move_steps::{CharactersStep, ConstantStep, MoveSteps, PicturedSteps};
 use std::alloc::{AllocError, Global};
@@ -54,18 +55,34 @@ pub(crate) enum Ready {
     Located(LocatedMove),
     /// A constant is written to an item wherever this stands.
     LocatedConstant(ReadyLocatedConstant),
+    /// A step between fixed places of the output record.
+    Within(PreparedMove),
+    /// A step between items of the output record wherever they stand.
+    LocatedWithin(LocatedMove),
     /// Nothing: it is carried out as a part of its statement, whose places and categories are looked at then.
     Nothing,
 }
 
-/// The places of an entry of the input record and of one of the output record; None where one of them doesn't stand at one place in every storage.
-fn fixed_places(sent: &Ref, receiver: &Ref, both: &Between<'_>) -> Option<MovePlaces>
-    requires sent { IsOperand both.now.input.now (operand_in both.now.input.now sent.now) }
+/// The layout of the record of a side.
+fn layout_of<'a>(side: Side, both: &Between<'a>) -> &'a Layout
+    ensures { result.now ≡ record_of (records_between both.now) side }
+{
+    match side {
+        Side::In => both.input,
+        Side::Out => both.output,
+    }
+}
+
+/// The places of an entry of the record of a side and of one of the output record; None where one of them doesn't stand at one place in every storage.
+fn fixed_places(side: Side, sent: &Ref, receiver: &Ref, both: &Between<'_>) -> Option<MovePlaces>
+    requires sent { IsOperand (record_of (records_between both.now) side)
+        (operand_in (record_of (records_between both.now) side) sent.now) }
     requires receiver { IsOperand both.now.output.now
         (operand_in both.now.output.now receiver.now) }
-    ensures { IfSome result (AreFixedPlaces (records_between both.now) sent.now receiver.now) }
+    ensures { IfSome result (AreFixedPlaces side (records_between both.now) sent.now
+        receiver.now) }
 {
-    let sends = both.input.fixed_place(sent, false)?;
+    let sends = layout_of(side, both).fixed_place(sent, false)?;
     let receives = both.output.fixed_place(receiver, true)?;
     Some(MovePlaces {
         from: sends,
@@ -90,14 +107,14 @@ fn pictured_entry(
         (operand_in both.now.output.now receiver.now) }
     ensures step { IfOk result (λ found. IfSome found
         (λ one. IsPictured both.now pictured.new one
-        (entry_alone both.now sent.now receiver.now))) }
+        (entry_alone In both.now sent.now receiver.now))) }
     ensures kept { KeepsPictured pictured.old pictured.new }
 {
     places_lie_in_storage();
     records_are_sound();
     let _ = both.input.greatest();
     let _ = both.output.greatest();
-    let Some(places) = fixed_places(sent, receiver, both) else {
+    let Some(places) = fixed_places(Side::In, sent, receiver, both) else {
         return Ok(None);
     };
     let sends = entry_kind(both.input, sent);
@@ -136,34 +153,37 @@ pub(crate) fn pictured_of(
     }
 }
 
-/// The single move of an entry of the input record to one of the output record, made ready; None where one of them doesn't stand at one place in
-/// every storage, or nothing carries such moves out.
+/// The single move of an entry of the record of a side to one of the output record, made ready; None where one of them doesn't stand at one place in every
+/// storage, or nothing carries such moves out.
 ///
 /// # Errors
 ///
 /// Where no memory is left.
 fn prepared_entry(
+    side: Side,
     sent: &Ref,
     receiver: &Ref,
     both: &Between<'_>,
     prepared: &mut MoveSteps,
 ) -> Result<Option<PreparedMove>, AllocError>
-    requires sent { IsOperand both.now.input.now (operand_in both.now.input.now sent.now) }
+    requires sent { IsOperand (record_of (records_between both.now) side)
+        (operand_in (record_of (records_between both.now) side) sent.now) }
     requires receiver { IsOperand both.now.output.now
         (operand_in both.now.output.now receiver.now) }
     ensures step { IfOk result (λ found. IfSome found
-        (λ one. AlwaysPrepared both.now prepared.new one
-        (entry_alone both.now sent.now receiver.now))) }
+        (λ one. AlwaysPrepared side both.now prepared.new one
+        (entry_alone side both.now sent.now receiver.now))) }
     ensures kept { KeepsSteps prepared.old prepared.new }
 {
     places_lie_in_storage();
     records_are_sound();
-    let _ = both.input.greatest();
+    let sending = layout_of(side, both);
+    let _ = sending.greatest();
     let _ = both.output.greatest();
-    let Some(places) = fixed_places(sent, receiver, both) else {
+    let Some(places) = fixed_places(side, sent, receiver, both) else {
         return Ok(None);
     };
-    let sends = entry_kind(both.input, sent);
+    let sends = entry_kind(sending, sent);
     let receives = entry_kind(both.output, receiver);
     match prepared.prepare(sends, places.from.length, receives, places.to.length)? {
         Some(step) => Ok(Some(PreparedMove { places, step })),
@@ -186,13 +206,13 @@ pub(crate) fn prepared_of(
         (alone (sender (records_between both.now) given.now)
         (operand_in both.now.output.now receiver.now)) }
     ensures step { IfOk result (λ found. IfSome found
-        (λ one. AlwaysPrepared both.now prepared.new one
+        (λ one. AlwaysPrepared In both.now prepared.new one
         (single_alone both.now given.now receiver.now))) }
     ensures kept { KeepsSteps prepared.old prepared.new }
 {
     match given {
         Sender::Entry { side, entry } => match *side {
-            Side::In => prepared_entry(entry, receiver, both, prepared),
+            Side::In => prepared_entry(Side::In, entry, receiver, both, prepared),
             Side::Out => Ok(None),
         },
         Sender::Constant(_) => Ok(None),
@@ -200,7 +220,7 @@ pub(crate) fn prepared_of(
 }
 
 /// The step that carries out the moves of an entry to another wherever they stand, as characters, whatever the reading or where senders are read as their
-/// pictures say; None where nothing carries such moves out.
+/// pictures say; where no step was made for such moves, the rule of MOVE itself does.
 ///
 /// # Errors
 ///
@@ -210,74 +230,74 @@ fn located_step(
     receives: &Kind,
     prepared: &mut MoveSteps,
     pictured: &mut PicturedSteps,
-) -> Result<Option<LocatedStep>, AllocError>
+) -> Result<LocatedStep, AllocError>
     requires sends { IsStorableKind sends.now }
     requires receives { IsStorableKind receives.now }
-    ensures step { IfOk result (λ found. IfSome found
-        (CarriesLocated prepared.new pictured.new sends.now receives.now)) }
+    ensures step { IfOk result
+        (CarriesLocated prepared.new pictured.new sends.now receives.now) }
     ensures prepared { KeepsSteps prepared.old prepared.new }
     ensures pictured { KeepsPictured pictured.old pictured.new }
 {
     if let Some(step) = CharactersStep::prepare(sends, 0, receives) {
-        return Ok(Some(LocatedStep::Characters(step.right)));
+        return Ok(LocatedStep::Characters(step.right));
     }
     let Kind::Item(from) = sends else {
-        return Ok(None);
+        return Ok(LocatedStep::Rule);
     };
     let Kind::Item(to) = receives else {
-        return Ok(None);
+        return Ok(LocatedStep::Rule);
     };
     let sent = u32::from(from.size());
     let received = u32::from(to.size());
     if let Some(step) = prepared.prepare(sends, sent, receives, received)? {
-        return Ok(Some(LocatedStep::Always(step)));
+        return Ok(LocatedStep::Always(step));
     }
     match pictured.prepare(sends, sent, receives, received)? {
-        Some(step) => Ok(Some(LocatedStep::Pictured(step))),
-        None => Ok(None),
+        Some(step) => Ok(LocatedStep::Pictured(step)),
+        None => Ok(LocatedStep::Rule),
     }
 }
 
-/// The single move of an entry of the input record to one of the output record, made ready wherever they stand; None where nothing carries such moves
-/// out.
+/// The single move of an entry of the record of a side to one of the output record, made ready wherever they stand.
 ///
 /// # Errors
 ///
 /// Where no memory is left.
 fn located_entry(
+    side: Side,
     sent: &Ref,
     receiver: &Ref,
     both: &Between<'_>,
     prepared: &mut MoveSteps,
     pictured: &mut PicturedSteps,
-) -> Result<Option<LocatedMove>, AllocError>
-    requires sent { IsOperand both.now.input.now (operand_in both.now.input.now sent.now) }
+) -> Result<LocatedMove, AllocError>
+    requires sent { IsOperand (record_of (records_between both.now) side)
+        (operand_in (record_of (records_between both.now) side) sent.now) }
     requires receiver { IsOperand both.now.output.now
         (operand_in both.now.output.now receiver.now) }
-    ensures step { IfOk result (λ found. IfSome found
-        (IsLocatedBetween both.now prepared.new pictured.new
-        (entry_alone both.now sent.now receiver.now))) }
+    ensures step { IfOk result (IsLocatedBetween side both.now prepared.new pictured.new
+        (entry_alone side both.now sent.now receiver.now)) }
     ensures prepared { KeepsSteps prepared.old prepared.new }
     ensures pictured { KeepsPictured pictured.old pictured.new }
 {
     records_are_sound();
-    let _ = both.input.greatest();
+    let sending = layout_of(side, both);
+    let _ = sending.greatest();
     let _ = both.output.greatest();
-    let sends = entry_kind(both.input, sent);
+    let sends = entry_kind(sending, sent);
     let receives = entry_kind(both.output, receiver);
-    match located_step(sends, receives, prepared, pictured)? {
-        Some(step) => Ok(Some(LocatedMove {
-            sent: same_entry(sent),
-            from: basis_of(both.input, sent, false),
-            receiver: same_entry(receiver),
-            to: basis_of(both.output, receiver, true),
-            step,
-        })),
-        None => Ok(None),
-    }
+    let step = located_step(sends, receives, prepared, pictured)?;
+    let from = basis_of(sending, sent, false);
+    Ok(LocatedMove {
+        sent: same_entry(sent),
+        from,
+        receiver: same_entry(receiver),
+        to: basis_of(both.output, receiver, true),
+        step,
+    })
 }
 
-/// A single move, made ready wherever its operands stand; None where nothing carries it out.
+/// A single move of an entry of the input record, made ready wherever its operands stand; None where it is no such move.
 ///
 /// # Errors
 ///
@@ -293,14 +313,17 @@ pub(crate) fn located_of(
         (alone (sender (records_between both.now) given.now)
         (operand_in both.now.output.now receiver.now)) }
     ensures step { IfOk result (λ found. IfSome found
-        (IsLocatedBetween both.now prepared.new pictured.new
+        (IsLocatedBetween In both.now prepared.new pictured.new
         (single_alone both.now given.now receiver.now))) }
     ensures prepared { KeepsSteps prepared.old prepared.new }
     ensures pictured { KeepsPictured pictured.old pictured.new }
 {
     match given {
         Sender::Entry { side, entry } => match *side {
-            Side::In => located_entry(entry, receiver, both, prepared, pictured),
+            Side::In => {
+                let one = located_entry(Side::In, entry, receiver, both, prepared, pictured)?;
+                Ok(Some(one))
+            }
             Side::Out => Ok(None),
         },
         Sender::Constant(_) => Ok(None),
@@ -435,5 +458,63 @@ pub(crate) fn located_constant_of(
     match given {
         Sender::Entry { .. } => Ok(None),
         Sender::Constant(value) => located_constant(value, receiver, both),
+    }
+}
+
+/// The single move of an entry of the output record to another, made ready: at their fixed places, or wherever they stand.
+///
+/// # Errors
+///
+/// Where no memory is left.
+fn within_entry(
+    sent: &Ref,
+    receiver: &Ref,
+    both: &Between<'_>,
+    prepared: &mut MoveSteps,
+    pictured: &mut PicturedSteps,
+) -> Result<Ready, AllocError>
+    requires sent { IsOperand both.now.output.now (operand_in both.now.output.now sent.now) }
+    requires receiver { IsOperand both.now.output.now
+        (operand_in both.now.output.now receiver.now) }
+    ensures ready { IfOk result (λ ready. AreReadyAs both.now prepared.new pictured.new ready
+        (entry_alone Out both.now sent.now receiver.now)) }
+    ensures copies { IfOk result (λ ready. copied_by ready ≡ None) }
+    ensures prepared { KeepsSteps prepared.old prepared.new }
+    ensures pictured { KeepsPictured pictured.old pictured.new }
+{
+    if let Some(one) = prepared_entry(Side::Out, sent, receiver, both, prepared)? {
+        return Ok(Ready::Within(one));
+    }
+    let one = located_entry(Side::Out, sent, receiver, both, prepared, pictured)?;
+    Ok(Ready::LocatedWithin(one))
+}
+
+/// A single move within the output record, made ready; nothing where it is no such move.
+///
+/// # Errors
+///
+/// Where no memory is left.
+pub(crate) fn within_of(
+    given: &Sender,
+    receiver: &Ref,
+    both: &Between<'_>,
+    prepared: &mut MoveSteps,
+    pictured: &mut PicturedSteps,
+) -> Result<Ready, AllocError>
+    requires legal { IsMove (records_between both.now)
+        (alone (sender (records_between both.now) given.now)
+        (operand_in both.now.output.now receiver.now)) }
+    ensures ready { IfOk result (λ ready. AreReadyAs both.now prepared.new pictured.new ready
+        (single_alone both.now given.now receiver.now)) }
+    ensures copies { IfOk result (λ ready. copied_by ready ≡ None) }
+    ensures prepared { KeepsSteps prepared.old prepared.new }
+    ensures pictured { KeepsPictured pictured.old pictured.new }
+{
+    match given {
+        Sender::Entry { side, entry } => match *side {
+            Side::In => Ok(Ready::Nothing),
+            Side::Out => within_entry(entry, receiver, both, prepared, pictured),
+        },
+        Sender::Constant(_) => Ok(Ready::Nothing),
     }
 }

@@ -6,6 +6,7 @@ ghost use Rattle.std.specs.Prelude.{◌≡◌, List, false, length, IsTrue};
 ghost use Rattle.cob_layout.specs.Sound.{IsSound};
 ghost use Rattle.cob_layout.specs.Storage.{greatest_length, IsStorage};
 ghost use Rattle.cob_move_data.specs.declared.operands.StatementMoves.{StatementMoves as Said};
+ghost use Rattle.cob_move_data.specs.declared.operands.Side.TheVariants.{In};
 ghost use Rattle.cob_move_data.specs.Moves.{Move as Meant};
 ghost use Rattle.cob_move_apply.specs.Applied.{done};
 ghost use Rattle.cob_move_apply.specs.Promised.{AnyEnd, AnyHaveSpent, PicturedEnds, PicturedHasSpent, PicturedMeans, PreparedMeans, StepEnds, StepHasSpent, StepMeans};
@@ -16,9 +17,11 @@ ghost use Rattle.cob_move_apply.specs.declared.step.Part.{Part as PartOf};
 use crate::application::make_single;
 use crate::constant::{make_constant, run_located_constant};
 use crate::layouts::Layouts;
+use crate::located_within::run_located_within;
 use crate::pictured::run_pictured;
 use crate::prepared::make_characters;
 use crate::step::{MovePlaces, PicturedMove, Plan, PreparedMove, Step, copy_across};
+use crate::within::{run_onwards, run_within};
 use crate::workspace::Workspace;
 use cob_codec::Reading;
 use cob_move_steps::MoveStep;
@@ -34,14 +37,14 @@ fn run_single(
     output: &mut [u8],
     space: &mut Workspace,
 ) -> bool
-    requires step { (own : List Meant) × PreparedMeans plan.now places.now step layouts.now own }
+    requires step { (own : List Meant) × PreparedMeans In plan.now places.now step layouts.now own }
     requires input { IsStorage layouts.now.input.now input.now }
     requires output { length output.old ≡ greatest_length layouts.now.output.now }
     requires space { IsWorkspace (records layouts.now) input.now output.old space.old }
-    ensures applied { IsTrue result → AnyEnd (PreparedMeans plan.now places.now step) layouts.now
+    ensures applied { IsTrue result → AnyEnd (PreparedMeans In plan.now places.now step) layouts.now
         input.now output.old (done output.new) }
     ensures space { IsWorkspace (records layouts.now) input.now output.new space.new }
-    ensures spends { IsTrue result → AnyHaveSpent (PreparedMeans plan.now places.now step)
+    ensures spends { IsTrue result → AnyHaveSpent (PreparedMeans In plan.now places.now step)
         layouts.now input.now output.old output.new space.old space.new }
     ensures same { result ≡ false → (output.new ≡ output.old) × (space.new ≡ space.old) }
 {
@@ -62,15 +65,15 @@ fn run_one(
     output: &mut [u8],
     space: &mut Workspace,
 ) -> bool
-    requires step { (own : List Meant) × PreparedMeans plan.now one.now.places one.now.step
+    requires step { (own : List Meant) × PreparedMeans In plan.now one.now.places one.now.step
         layouts.now own }
     requires input { IsStorage layouts.now.input.now input.now }
     requires output { length output.old ≡ greatest_length layouts.now.output.now }
     requires space { IsWorkspace (records layouts.now) input.now output.old space.old }
-    ensures applied { IsTrue result → AnyEnd (PreparedMeans plan.now one.now.places one.now.step)
+    ensures applied { IsTrue result → AnyEnd (PreparedMeans In plan.now one.now.places one.now.step)
         layouts.now input.now output.old (done output.new) }
     ensures space { IsWorkspace (records layouts.now) input.now output.new space.new }
-    ensures spends { IsTrue result → AnyHaveSpent (PreparedMeans plan.now one.now.places
+    ensures spends { IsTrue result → AnyHaveSpent (PreparedMeans In plan.now one.now.places
         one.now.step) layouts.now input.now output.old output.new space.old space.new }
     ensures same { result ≡ false → (output.new ≡ output.old) × (space.new ≡ space.old) }
 {
@@ -180,6 +183,18 @@ pub(crate) fn run_step<const VARIES: bool>(
         }
         Step::Part(_) => false,
         Step::Located(_) => false,
+        Step::Within(one) => run_within(plan, one, layouts, input, output, space),
+        Step::WithinNumber(one) => {
+            let step = MoveStep::Number(one.number);
+            run_onwards(plan, &one.places, step, &told, input, output, space)
+        }
+        Step::WithinEdited(one) => {
+            let step = MoveStep::Edited(one.number);
+            run_onwards(plan, &one.places, step, &told, input, output, space)
+        }
+        Step::LocatedWithin(number) => {
+            run_located_within(plan, *number, layouts, input, output, space)
+        }
         Step::LocatedConstant(number) => {
             run_located_constant(plan, *number, layouts, input, output, space)
         }

@@ -23,7 +23,7 @@ use cob_move_data::{Sender, Side};
 use cob_move_receive::Sent;
 
 /// Copies the bytes of a place to the front of `content`.
-fn copy_field(place: Place, bytes: &[u8], content: &mut [u8])
+pub(crate) fn copy_field(place: Place, bytes: &[u8], content: &mut [u8])
     requires within { place.offset + place.length ≤ length bytes.now }
     requires room { place.length ≤ length content.old }
     ensures { take place.length content.new ≡ field_of place bytes.now }

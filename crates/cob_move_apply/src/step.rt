@@ -1,11 +1,11 @@
 //! Steps: what is carried out in the place of moves.
 
-ghost use Rattle.std.specs.Prelude.{◌≡◌, ◌+◌, ◌≤◌, false, length, min, IfNone, IfSome, None, IfOk};
+ghost use Rattle.std.specs.Prelude.{◌≡◌, ◌+◌, ◌≤◌, false, length, min, IfNone, IfSome, IsTrue, None, IfOk};
 ghost use Rattle.cob_limits.specs.Limits.{longest_record};
 ghost use Rattle.cob_layout.specs.Fields.{field_of, with_field};
 ghost use Rattle.cob_move_apply.specs.Joined.{copy_ends, goes_on_from};
 ghost use Rattle.cob_move_apply.specs.Planned.{AreWithinLongest, counted_steps, step_count, step_ends};
-ghost use Rattle.cob_move_apply.specs.Steps.{StandsForPrepared};
+ghost use Rattle.cob_move_apply.specs.Steps.{StandsBefore, StandsForPrepared, StandsForWithin};
 ghost use Rattle.cob_move_apply.specs.Told.{most_moves_told};
 ghost use Rattle.cob_move_apply.specs.Written.{IsBoth};
 
@@ -29,7 +29,7 @@ pub(crate) struct Part {
     pub(crate) base: u32,
 }
 
-/// Where a move takes bytes from in the input record, and where it puts bytes in the output record.
+/// Where a move takes bytes from in the record of its sender, and where it puts bytes in the output record.
 #[derive(Clone, Copy)]
 pub(crate) struct MovePlaces {
     pub(crate) from: Place,
@@ -90,9 +90,11 @@ pub(crate) enum LocatedStep {
     Always(MoveStep),
     /// Where senders are read as their pictures say.
     Pictured(PicturedStep),
+    /// The rule of MOVE itself: what sender and receiver describe is looked at as the move is carried out.
+    Rule,
 }
 
-/// A single move of an entry of the input record to one of the output record, made ready wherever these stand. An item has as many bytes everywhere; a
+/// A single move of an entry of one of the records to one of the output record, made ready wherever these stand. An item has as many bytes everywhere; a
 /// group, which has those of its tables that vary, gives and takes characters.
 #[derive(Drop)]
 pub(crate) struct LocatedMove {
@@ -142,6 +144,15 @@ pub(crate) enum Step {
     Located(usize),
     /// The same of a constant: the one that has this number.
     LocatedConstant(usize),
+    /// A single move from one place of the output record to another was made ready, whatever bytes these share.
+    Within(PreparedMove),
+    /// The same of a number from one item to another behind it.
+    WithinNumber(NumberedMove),
+    /// The same of a number to an edited item behind it.
+    WithinEdited(NumberedMove),
+    /// A single move between entries of the output record was made ready, and where they stand is found as the step is carried out: the one that has this
+    /// number.
+    LocatedWithin(usize),
     /// Bytes of the input record are copied: one single move, or several, each of which begins on both sides where the one before ends.
     Copy(MovePlaces),
 }
@@ -162,6 +173,8 @@ pub(crate) struct Plan {
     pub(crate) located: Vec<LocatedMove>,
     /// Those of constants that were.
     pub(crate) located_constants: Vec<LocatedConstant>,
+    /// Those between entries of the output record that were.
+    pub(crate) within: Vec<LocatedMove>,
 }
 
 /// A number of 32 bits.
@@ -261,6 +274,37 @@ pub(crate) fn prepared_step(one: PreparedMove) -> Step
     }
 }
 
+/// Whether the bytes of the sender end before those of the receiver begin.
+fn stands_before(places: MovePlaces) -> bool
+    ensures { IsTrue result → StandsBefore places }
+{
+    let end = u64::from(places.from.offset) + u64::from(places.from.length);
+    end <= u64::from(places.to.offset)
+}
+
+/// The step that carries a single move from one place of the output record to another out.
+pub(crate) fn within_step(one: PreparedMove) -> Step
+    ensures stands { StandsForWithin one result }
+    ensures counts { step_count result ≡ 1 }
+    ensures ends { step_ends result ≡ None }
+{
+    let places = one.places;
+    if !stands_before(places) {
+        return Step::Within(one);
+    }
+    match one.step {
+        MoveStep::Number(number) => Step::WithinNumber(NumberedMove { places, number }),
+        MoveStep::Edited(number) => Step::WithinEdited(NumberedMove { places, number }),
+        MoveStep::Wide(_) => Step::Within(one),
+        MoveStep::AnyNumber(_) => Step::Within(one),
+        MoveStep::WideEdited(_) => Step::Within(one),
+        MoveStep::Numerals(_) => Step::Within(one),
+        MoveStep::Text(_) => Step::Within(one),
+        MoveStep::Long(_) => Step::Within(one),
+        MoveStep::Characters(_) => Step::Within(one),
+    }
+}
+
 /// For how many steps a step is counted: a part for each of its receivers.
 fn step_count(step: Step) -> usize
     ensures { result ≡ step_count step }
@@ -271,6 +315,8 @@ fn step_count(step: Step) -> usize
         Step::Characters(_) | Step::Prepared(_) => 1,
         Step::Pictured(_, _) | Step::Constant(_) => 1,
         Step::Located(_) | Step::LocatedConstant(_) | Step::Copy(_) => 1,
+        Step::Within(_) | Step::WithinNumber(_) | Step::WithinEdited(_) => 1,
+        Step::LocatedWithin(_) => 1,
     }
 }
 

@@ -2,6 +2,7 @@
 use Rattle.std.specs.Prelude.{ℕ, Bool, true, false, Option, None, Some, Result, Ok, Err}
 use Rattle.cob_convert.specs.declared.aside.Tally.{Tally}
 use Rattle.cob_records.specs.Device.{greatest_count}
+use Rattle.cob_records.specs.declared.progress.Telling.{Telling}
 use Rattle.cob_program_faults.specs.declared.done.CommandDone.{CommandDone}
 use Rattle.cob_program_faults.specs.declared.done.CommandDone.TheVariants as done
 use Rattle.cob_program_faults.specs.declared.fault.CommandFault.{CommandFault}
@@ -17,6 +18,11 @@ told_counted_from first (Err told) = Err (counted_from first told)
 abbrev pub most_of : Option ℕ → ℕ
 most_of None = greatest_count
 most_of (Some most) = most
+
+-- whether a run writes over the line that tells how far it is, where it tells that
+abbrev pub rewrites_line : Option Telling → Bool
+rewrites_line None = false
+rewrites_line (Some telling) = telling.rewrites
 
 -- what so many records come to, where the fault lines of the rejected ones were all printed, or were not
 abbrev pub told_tally : (printed : Bool) → Tally → Result CommandDone CommandFault

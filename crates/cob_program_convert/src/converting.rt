@@ -1,12 +1,13 @@
 //! A conversion that stops at the first record that does not convert.
 
-ghost use Rattle.std.specs.Prelude.{◌≡◌, Bool, IfErr, IfOk};
+ghost use Rattle.std.specs.Prelude.{◌≡◌, Bool, IfErr, IfOk, option_map};
 ghost use Rattle.cob_convert.specs.declared.status.Status.TheVariants as status;
 ghost use Rattle.cob_program_faults.specs.Done.{status_of_done};
 ghost use Rattle.cob_program_faults.specs.Ends.{EndsAmong};
 ghost use Rattle.cob_records.specs.Forms.{HasBlockSize};
 ghost use Rattle.cob_program_run.specs.Ends.{LacksOutput, StopsRun};
 ghost use Rattle.cob_program_convert.specs.Ends.{MayEndConvert};
+ghost use Rattle.cob_program_convert.specs.Parts.{part_by};
 
 use crate::told::{prepared_for, tell_converted, tell_uneven_input, told_counted_from};
 use cob_convert::{Converter, Status};
@@ -38,7 +39,9 @@ fn placed_run<'a, R: AllocGlobal + Files + Print>(
 }
 
 /// The part that stands in for the output, where one does.
-fn part_of<'a>(line: &ConvertLine<'_>, part: &'a str) -> Option<&'a str> {
+fn part_of<'a>(line: &ConvertLine<'_>, part: &'a str) -> Option<&'a str>
+    ensures { option_map (λ name. name.now) result ≡ part_by line.now.atomic part.now }
+{
     if line.atomic { Some(part) } else { None }
 }
 

@@ -1,11 +1,15 @@
 //! A conversion that sets rejected records aside and goes on.
 
-ghost use Rattle.std.specs.Prelude.{◌≡◌, Bool, IfErr};
+ghost use Rattle.std.specs.Prelude.{◌≡◌, ◌+◌, Bool, true, IfErr};
 ghost use Rattle.cob_program_faults.specs.Ends.{EndsAside};
 ghost use Rattle.cob_records.specs.Forms.{HasBlockSize};
+ghost use Rattle.cob_records.specs.Progress.{kept_count};
 ghost use Rattle.cob_program_run.specs.Ends.{LacksOutputs};
+ghost use Rattle.cob_program_run.specs.Marks.{unmarked};
+ghost use Rattle.cob_program_run.specs.Rejecting.{first_told, is_clearing};
 ghost use Rattle.cob_program_convert.specs.Ends.{MayEndAside};
-ghost use Rattle.cob_program_convert.specs.Told.{most_of, told_run};
+ghost use Rattle.cob_program_convert.specs.Parts.{part_by};
+ghost use Rattle.cob_program_convert.specs.Told.{most_of, rewrites_line, told_run};
 
 use crate::told::{prepared_for, tell_converted, tell_uneven_input, told_counted_from};
 use cob_convert::{Converter, Status, Tally};
@@ -50,7 +54,12 @@ fn how_of<R: Files>(rt: &R, line: &ConvertLine<'_>) -> How
 }
 
 /// The end that tells of the rejected records of such a run.
-fn rejections_of<'a, R>(rt: &'a R, line: &ConvertLine<'_>, how: How) -> Rejections<'a, R> {
+fn rejections_of<'a, R>(rt: &'a R, line: &ConvertLine<'_>, how: How) -> Rejections<'a, R>
+    ensures first { first_told result ≡ kept_count (line.now.first + line.now.skip) }
+    ensures clears { is_clearing result ≡ rewrites_line how.telling }
+    ensures printed { result.are_printed ≡ true }
+    ensures marks { result.marks ≡ unmarked }
+{
     let is_cleared = match how.telling {
         Some(telling) => telling.rewrites,
         None => false,
@@ -59,7 +68,9 @@ fn rejections_of<'a, R>(rt: &'a R, line: &ConvertLine<'_>, how: How) -> Rejectio
 }
 
 /// The parts that stand in for both outputs, where some do.
-fn parts_of<'a>(line: &ConvertLine<'_>, parts: OutputNames<'a>) -> Option<OutputNames<'a>> {
+fn parts_of<'a>(line: &ConvertLine<'_>, parts: OutputNames<'a>) -> Option<OutputNames<'a>>
+    ensures { result ≡ part_by line.now.atomic parts.entry }
+{
     if line.atomic { Some(parts) } else { None }
 }
 

@@ -1,5 +1,5 @@
 -- What is told where the records that a command reads are not there.
-use Rattle.std.specs.Prelude.{◌≡◌, ◌⊎◌, ◌+◌, ℕ, false, None, Some, Option}
+use Rattle.std.specs.Prelude.{◌≡◌, ◌⊎◌, ◌+◌, ℕ, false, Some, Option}
 use Rattle.cob_move_data.specs.declared.operands.Side.TheVariants.{In}
 use Rattle.cob_records.specs.Progress.{kept_count}
 use Rattle.cob_records.specs.declared.records.RecordFault.TheVariants.{ReadFailed}

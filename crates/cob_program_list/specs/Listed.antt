@@ -1,5 +1,5 @@
 -- What a list comes to: what was shown, and whether all of it was handed to the device.
-use Rattle.std.specs.Prelude.{ℕ, List, Option, Result, Ok, Err, ⊤, ◌+◌}
+use Rattle.std.specs.Prelude.{◌≡◌, ℕ, List, Option, Result, Ok, Err, Bool, true, false, ⊤, ◌+◌}
 use Rattle.cob_copybook_tree.specs.Forests.{Forest}
 use Rattle.cob_copybook_tree.specs.Nodes.{Resolved}
 use Rattle.cob_records.specs.Device.{Told}
@@ -8,9 +8,13 @@ use Rattle.cob_records.specs.declared.records.Form.{Form}
 use Rattle.cob_report_show.specs.Runs.{Shows}
 use Rattle.cob_report_show.specs.declared.records.ShowFault.{ShowFault}
 use Rattle.cob_report_show.specs.declared.records.ShowFault.TheVariants as show
+use Rattle.cob_records_parts.specs.Comings.{chosen_coming}
 use Rattle.cob_records_parts.specs.declared.choice.Stopped.{Stopped}
+use Rattle.cob_records_parts.specs.declared.chosen.Chosen.{Chosen}
 use Rattle.cob_records_parts.specs.declared.incoming.Incoming.{Incoming}
 use Rattle.cob_records_parts.specs.declared.incoming.Incoming.TheVariants as incoming
+use Rattle.cob_program_line.specs.declared.line.Listing.{Listing}
+use Rattle.cob_program_line.specs.declared.line.Listing.TheVariants as listing
 use Rattle.cob_program_ends.specs.Stops.{cause_told}
 use Rattle.cob_records.specs.Progress.{kept_count}
 use Rattle.cob_move_data.specs.declared.operands.Side.TheVariants.{In}
@@ -31,20 +35,37 @@ Lists form tree answer coming left before now = Told coming left (Shows form tre
 abbrev pub ListsFrom : Form → Forest Resolved → Result ℕ ShowFault → (coming before now : Option (List ℕ)) → Type 0
 ListsFrom form tree answer coming before now = (left : Option (List ℕ)) × Lists form tree answer coming left before now
 
--- All records that come of a source were listed. Of a listing of those that are chosen nothing is said.
-abbrev pub ListsOver : {S : Type 0} → (S → Option (List ℕ)) → Form → Forest Resolved → Result ℕ ShowFault → Incoming S → (before now : Option (List ℕ)) → Type 0
-ListsOver coming form tree answer (incoming.All source) before now = ListsFrom form tree answer (coming source) before now
-ListsOver coming form tree answer (incoming.Some chosen) before now = ⊤
-
 -- the fault of a listing of chosen records, which stopped here if it did
 abbrev pub show_fault_told : Option Stopped → ShowFault → ShowFault
 show_fault_told stop (show.Run told) = show.Run (cause_told stop told)
 show_fault_told stop show.Memory = show.Memory
 
+-- what a listing of chosen records comes to, whose source stopped here if it did
+abbrev pub listing_told : Option Stopped → Result ℕ ShowFault → Result ℕ ShowFault
+listing_told stop (Ok done) = Ok done
+listing_told stop (Err fault) = Err (show_fault_told stop fault)
+
+-- The chosen records of a source were listed: those that come of it, each by itself, and behind them the mark of a frame that can't be read. Where a read
+-- failed, since a frame can't be read, the answer has the fault at which their source stopped.
+abbrev pub ListsChosen : {S : Type 0} → (S → Option (List ℕ)) → Form → Forest Resolved → Result ℕ ShowFault → Chosen S → (before now : Option (List ℕ)) → Type 0
+ListsChosen coming form tree answer chosen before now =
+    (told : Result ℕ ShowFault) × (stop : Option Stopped) × (answer ≡ listing_told stop told) × ListsFrom form tree told (chosen_coming coming chosen) before now
+
+-- All records that come of a source were listed, or those that are chosen.
+abbrev pub ListsOver : {S : Type 0} → (S → Option (List ℕ)) → Form → Forest Resolved → Result ℕ ShowFault → Incoming S → (before now : Option (List ℕ)) → Type 0
+ListsOver coming form tree answer (incoming.All source) before now = ListsFrom form tree answer (coming source) before now
+ListsOver coming form tree answer (incoming.Some chosen) before now = ListsChosen coming form tree answer chosen before now
+
 -- what a listing comes to, its records counted behind so many that are passed over
 abbrev pub told_counted_behind : ℕ → Result ℕ CommandFault → Result ℕ CommandFault
 told_counted_behind skip (Err (fault.Stopped stopped)) = Err (fault.Stopped (record stopped { number = kept_count (stopped.number + skip) }))
 told_counted_behind skip outcome = outcome
+
+-- a listing is for programs, which read each line as a record
+abbrev pub is_for_programs : Listing → Bool
+is_for_programs listing.Text = false
+is_for_programs listing.Json = true
+is_for_programs listing.Csv = true
 
 -- what a list of entries comes to: where it was not handed over, a line was not printed
 abbrev pub listed_entries : Result ⊤ DeviceFault → Result ⊤ CommandFault

@@ -7,14 +7,15 @@
 //! What is promised: which faults each command can have (`MayEndLayout`, and `MayEndListing` of the other two, of specs/Ends.antt); that it ends with the
 //! status of what it came to, or as where a device failed if its last line was not printed (`EndsAmong` of `cob_program_faults`); and that where it ends
 //! otherwise than by a device that fails, nothing of what it prints is still held (`list_to_end`, `show_to_end`). What the lists hold is promised by
-//! `cob_report_show`, and where pieces begin by `cob_records_parts`. The copybook of `show` and `pieces` is refused where its records do not fit the record
-//! length that their file is said to have (`read_record_book`).
+//! `cob_report_show`, of `show` as text over the records that come of its file, or over those that are chosen (`ListsOver` of specs/Listed.antt); and where
+//! pieces begin by `cob_records_parts`. The copybook of `show` and `pieces` is refused where its records do not fit the record length that their file is said
+//! to have (`read_record_book`).
 //!
 //! # Where it is proved
 //!
 //! The clauses of `list_entries`, `list_records`, `list_pieces`, `do_layout`, `do_show` and `do_pieces`: which faults they can have, and with which
-//! status the command ends; inside `listed`, `shown`, what the sink still holds behind `show_to_end` and `list_to_end`, and that the copybook of `show`
-//! and `pieces` fits the record length that is said (`read_record_book`).
+//! status the command ends; inside `listed`, `shown`, what `show_to_end` listed as text (`ListsOver`), what the sink still holds behind it and behind
+//! `list_to_end`, and that the copybook of `show` and `pieces` fits the record length that is said (`read_record_book`).
 #![tactic(auto)]
 
 mod copybook;

@@ -1,4 +1,4 @@
-ghost use Rattle.std.specs.Prelude.{◌≡◌, [], IfErr, None, OnOk};
+ghost use Rattle.std.specs.Prelude.{◌≡◌, [], IfErr, IfOk, None, OnOk};
 ghost use Rattle.std.specs.Io.Buffered.{writer_buffer};
 ghost use Rattle.cob_records.specs.Forms.{HasBlockSize};
 ghost use Rattle.cob_records.specs.Streams.{sink_writer};
@@ -6,7 +6,7 @@ ghost use Rattle.cob_program_faults.specs.Texts.{StopsListing};
 ghost use Rattle.cob_report_show.specs.Records.{IsShowFault};
 ghost use Rattle.cob_program_faults.specs.Ends.{EndsAmong, EndsAs, status_of_outcome};
 ghost use Rattle.cob_program_list.specs.Ends.{MayEndListing};
-ghost use Rattle.cob_program_list.specs.Listed.{ListsFrom, ListsOver, Lists, listed_records, show_fault_told, told_counted_behind};
+ghost use Rattle.cob_program_list.specs.Listed.{ListsChosen, ListsFrom, ListsOver, Lists, is_for_programs, listed_records, show_fault_told, told_counted_behind};
 
 use crate::copybook::{Listed, read_record_book};
 use cob_convert::Status;
@@ -15,7 +15,7 @@ use cob_program_ends::{WantedRecords, open_records, with_cause};
 use cob_program_faults::{CommandFault, printed, tell_fault, tell_uneven, telling};
 use cob_program_line::{Listing, ShowLine};
 use cob_records::{DeviceFault, Form, Progress, Sink, Source, Telling, WriteSink, create_sink};
-use cob_records_parts::{Choice, Incoming, Stopped};
+use cob_records_parts::{Choice, Chosen, Incoming, Stopped};
 use cob_report_formats::{show_csv, show_json};
 use cob_report_show::{ShowFault, show};
 use std::alloc::Global;
@@ -83,7 +83,28 @@ fn shown<R: AllocGlobal + Eprint + Clock, S: Source + Drop, K: Sink>(
     }
 }
 
-/// What a listing of all records that come comes to, or of those that are chosen. Where one of these can't be read, that is why it stops.
+/// What a listing of chosen records comes to. Where one of these can't be read, that is why it stops.
+fn shown_chosen<R: AllocGlobal + Eprint + Clock, S: Source + Drop, K: Sink>(
+    rt: &R,
+    listed: &Listed,
+    form: Form,
+    listing: Listing,
+    telling: Option<Telling>,
+    mut chosen: Chosen<S>,
+    sink: &mut K,
+) -> Result<u64, ShowFault>
+    requires listed { listed.now.book ≡ listed.now.layout }
+    requires block { HasBlockSize form }
+    ensures shows { listing ≡ Listing.Text → ListsChosen S.coming form listed.now.layout result
+        chosen (K.taken sink.old) (K.taken sink.new) }
+{
+    match shown(rt, listed, form, listing, telling, &mut chosen, sink) {
+        Ok(done) => Ok(done),
+        Err(fault) => Err(caused_by(chosen.stopped(), fault)),
+    }
+}
+
+/// What a listing of all records that come comes to, or of those that are chosen.
 fn shown_over<R: AllocGlobal + Eprint + Clock, S: Source + Drop, K: Sink>(
     rt: &R,
     listed: &Listed,
@@ -100,12 +121,7 @@ fn shown_over<R: AllocGlobal + Eprint + Clock, S: Source + Drop, K: Sink>(
 {
     match incoming {
         Incoming::All(source) => shown(rt, listed, form, listing, telling, source, sink),
-        Incoming::Some(mut chosen) => {
-            match shown(rt, listed, form, listing, telling, &mut chosen, sink) {
-                Ok(done) => Ok(done),
-                Err(fault) => Err(caused_by(chosen.stopped(), fault)),
-            }
-        }
+        Incoming::Some(chosen) => shown_chosen(rt, listed, form, listing, telling, chosen, sink),
     }
 }
 
@@ -121,7 +137,10 @@ fn show_to_end<R: AllocGlobal + Eprint + Clock, S: Source + Drop, W: Write + Dro
 ) -> Result<Result<u64, ShowFault>, DeviceFault>
     requires listed { listed.now.book ≡ listed.now.layout }
     requires block { HasBlockSize form }
-    ensures { OnOk result (writer_buffer (sink_writer sink.new) ≡ []) }
+    // What was listed; what a device took is not told.
+    ensures shows { listing ≡ Listing.Text → IfOk result (λ answer.
+        ListsOver S.coming form listed.now.layout answer incoming None None) }
+    ensures flushed { OnOk result (writer_buffer (sink_writer sink.new) ≡ []) }
 {
     let answer = shown_over(rt, listed, form, listing, telling, incoming, sink);
     sink.flush()?;
@@ -245,7 +264,9 @@ pub fn list_records<R: AllocGlobal + Files + Input + Print + Eprint + Clock>(
 }
 
 /// Whether a listing is for programs, which would read the number of records as one of them.
-fn is_for_programs(listing: Listing) -> bool {
+fn is_for_programs(listing: Listing) -> bool
+    ensures { result ≡ is_for_programs listing }
+{
     matches!(listing, Listing::Json | Listing::Csv)
 }
 

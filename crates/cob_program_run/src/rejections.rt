@@ -26,12 +26,15 @@ pub struct Rejections<'a, T> {
 }
 
 impl<'a, T> Rejections<'a, T> {
-    ghost use Rattle.cob_program_run.specs.Rejecting.{first_told};
+    ghost use Rattle.cob_program_run.specs.Marks.{unmarked};
+    ghost use Rattle.cob_program_run.specs.Rejecting.{first_told, is_clearing};
 
     /// An end for a run whose first record has this number, and which writes over the lines that tell how far it is, or does not.
     pub fn new(rt: &'a T, first: u64, is_cleared: bool) -> Rejections<'a, T>
         ensures first { first_told result ≡ first }
+        ensures clears { is_clearing result ≡ is_cleared }
         ensures printed { result.are_printed ≡ true }
+        ensures marks { result.marks ≡ unmarked }
     {
         Rejections {
             rt,

@@ -142,8 +142,12 @@ impl DraftProgress {
     }
 }
 
-/// Whether a move that is objected to copies bytes, and would lose something of them: then items alone may be moved in its place.
+/// Whether a move that is objected to copies bytes, and would lose something of them, or fill a count within a group: then items alone may be moved in its
+/// place.
 pub(crate) fn is_of_bytes(pair: &PartnerPair<'_, '_>, objection: Objection) -> bool {
-    (!is_item(pair.from) || !is_item(pair.to))
-        && matches!(objection, Objection::Loses(_) | Objection::Description(_))
+    match objection {
+        Objection::Loses(_) | Objection::Description(_) => !is_item(pair.from) || !is_item(pair.to),
+        Objection::Counts => !is_item(pair.to),
+        _ => false,
+    }
 }

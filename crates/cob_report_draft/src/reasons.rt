@@ -59,6 +59,9 @@ impl fmt::Display for ObjectionReason<'_, '_> {
                 write_losses(f, from, to, losses)
             }
             (Objection::Description(unkept), _) => self.write_description(f, unkept),
+            (Objection::Counts, (_, Kind::Group)) => {
+                write!(f, "A table whose count it holds is not filled:")
+            }
             (objection, _) => write!(f, "{objection}:"),
         }
     }

@@ -1,7 +1,7 @@
 -- The entries of two records, as a draft sees them.
 use Rattle.std.specs.Borrow.{Bor}
 use Rattle.std.specs.List.{list_any}
-use Rattle.std.specs.Prelude.{◌≡◌, ℕ, Bool, true, ◌==◌, ◌&&◌, not, is_some, List, [], ◌∷◌, ◌++◌, map, Option, Some, None}
+use Rattle.std.specs.Prelude.{◌≡◌, ℕ, Bool, true, ◌&&◌, nat_le, not, is_some, List, [], ◌∷◌, ◌++◌, map, Option, Some, None}
 use Rattle.cob_copybook_tree.specs.declared.node.Kind.{Kind}
 use Rattle.cob_copybook_tree.specs.declared.node.Node.{Node}
 use Rattle.cob_copybook_tree.specs.declared.node.Node.TheViews.{out-Node}
@@ -23,7 +23,7 @@ use Rattle.cob_report_partners.specs.declared.entries.PartnerSource.{PartnerSour
 -- What is known of an entry besides its names: its record, its number and that of the last entry beneath it (its own where there is none), the greatest
 -- number of each table that holds it or that it is, the outermost first, what it describes, whether none of these tables varies, whether it stands in no
 -- redefinition, the number of the entry that it redefines, or that the outermost redefinition redefines in which it stands, and whether it is the count of
--- a table of its record.
+-- a table of its record, or holds one.
 pub record DraftEntry : Type 0 where
   pub side : Side
   pub number : ℕ
@@ -83,9 +83,9 @@ abbrev pub last_entry_number : ℕ → Forest Resolved → ℕ
 last_entry_number n NoEntries = n
 last_entry_number n (AnEntry e children more) = last_entry_number (last_entry_number e.number children) more
 
--- the entry with this number is the count of one of these tables
-abbrev pub is_count : List Table → ℕ → Bool
-is_count varying number = list_any (λ (t : Table). t.count == number) varying
+-- of an entry with this number and those beneath it, up to the last one, some entry is the count of one of these tables
+abbrev pub holds_count : List Table → (number last : ℕ) → Bool
+holds_count varying number last = list_any (λ (t : Table). nat_le number t.count && nat_le t.count last) varying
 
 -- an entry that stands there
 abbrev pub entry_inside : Source → Setting → Tree Resolved → DraftEntry
@@ -98,7 +98,7 @@ entry_inside source w t = record {
   steady = (inside w t.top).steady;
   own = (inside w t.top).own;
   redefined = (inside w t.top).redefined;
-  counts = is_count source.varying t.top.number;
+  counts = holds_count source.varying t.top.number (last_entry_number t.top.number t.beneath);
 }
 
 -- the entry, with its names

@@ -47,8 +47,8 @@ Objects from sent to room (objection.Refused refusal) = is_refused refusal (Entr
 Objects from sent to room (objection.Loses losses) = AreLosses (kind_there from) sent (kind_there to) room losses
 Objects from sent to room (objection.Description unkept) = TellsFirstUnkept (Element (node from.entry.now)) (node to.entry.now) Nothing (Some unkept)
 
--- Nothing is against it: both stand in as many tables, none of which varies, the receiver is the count of none, there is such a move, it loses nothing, and
--- where it copies bytes each byte of the receiver is described as what it gets.
+-- Nothing is against it: both stand in as many tables, none of which varies, the receiver is the count of none and holds none, there is such a move, it loses
+-- nothing, and where it copies bytes each byte of the receiver is described as what it gets.
 pub record MayStand (from : DraftEntry) (sent : ℕ) (to : DraftEntry) (room : ℕ) : Type 0 where
   pub tables : length from.tables.items ≡ length to.tables.items
   pub steady : IsTrue from.steady × IsTrue to.steady

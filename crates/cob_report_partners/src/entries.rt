@@ -8,7 +8,7 @@ ghost use Rattle.cob_layout.specs.Sound.{AreNested, own_dimension};
 ghost use Rattle.cob_layout_places.specs.Places.{is_table};
 ghost use Rattle.cob_limits.specs.Limits.{most_dimensions};
 ghost use Rattle.cob_move_names.specs.Candidates.{with_table};
-ghost use Rattle.cob_report_partners.specs.Entries.{ListsBehind, ListsTree, draft_entry, entry_inside, inside, is_count, last_entry_number, latest_behind, node_bearer, outside, record_entries, redefined_at, seen_setting, seen_source};
+ghost use Rattle.cob_report_partners.specs.Entries.{ListsBehind, ListsTree, draft_entry, entry_inside, holds_count, inside, last_entry_number, latest_behind, node_bearer, outside, record_entries, redefined_at, seen_setting, seen_source};
 
 use arrayvec::ArrayVec;
 use cob_copybook_names::{Bearer, name_of, names_beneath};
@@ -37,7 +37,7 @@ pub struct DraftEntry<'a> {
     pub own: bool,
     /// The number of the entry that it redefines, or that the outermost redefinition redefines in which it stands.
     pub redefined: Option<usize>,
-    /// Whether it is the count of a table of its record.
+    /// Whether it is the count of a table of its record, or holds one.
     pub counts: bool,
 }
 
@@ -126,11 +126,13 @@ fn inside(outer: &Setting, entry: &Node) -> Setting
     }
 }
 
-/// Whether the entry with this number is the count of one of these tables.
-fn is_count(varying: &[Table], number: usize) -> bool
-    ensures { result ≡ is_count varying.now number }
+/// Whether the entry with this number is the count of one of these tables, or one beneath it, up to the last one.
+fn holds_count(varying: &[Table], number: usize, last: usize) -> bool
+    ensures { result ≡ holds_count varying.now number last }
 {
-    varying.iter().any(|table| table.count == number)
+    varying
+        .iter()
+        .any(|table| number <= table.count && table.count <= last)
 }
 
 /// The number of the last entry beneath an entry, or its own where there is none.
@@ -152,15 +154,16 @@ fn entry_inside<'a>(source: PartnerSource<'_>, outer: &Setting, entry: &'a Node)
         (node entry.now) }
 {
     let inner = inside(outer, entry);
+    let last = last_number(entry);
     DraftEntry {
         side: source.side,
         entry,
-        last: last_number(entry),
+        last,
         tables: inner.tables,
         steady: inner.steady,
         own: inner.own,
         redefined: inner.redefined,
-        counts: is_count(source.varying, entry.number),
+        counts: holds_count(source.varying, entry.number, last),
     }
 }
 

@@ -16,7 +16,7 @@ pub enum Objection {
     Tables,
     /// One of their tables varies.
     Varies,
-    /// The item is the count of a table.
+    /// The receiver is the count of a table, or holds one.
     Counts,
     /// There is no such move.
     Refused(Refusal),

@@ -3,7 +3,7 @@
 //! What is promised:
 //!
 //! - [`entries_of`] lists the entries of a record with what is known of each (`record_entries` of specs/Entries.antt), and [`BothRecords::of`] those of both
-//!   records. Of an entry is known, among the rest, which entry it or the redefinition around it redefines, and whether it is the count of a table;
+//!   records. Of an entry is known, among the rest, which entry it or the redefinition around it redefines, and whether it is the count of a table or holds one;
 //! - [`partner_of`] answers the only candidate, or that there is none, or several (`IsOnly` and `candidates_for` of specs/Partners.antt): candidates
 //!   are those of the same name whose groups have the same names, the records and FILLER left out, and where there are none those of which this holds
 //!   where names are left out that no group of the other record has;
@@ -12,8 +12,8 @@
 //! - [`only_item_beneath`] answers the only item of a group that an item may receive in the group's place (`items_beneath`): the only one with a name that is
 //!   a number where the item is one, or the only one of characters where it has characters;
 //! - [`objection_to`] answers what is against a move, and nothing exactly where both stand in as many tables, none of which varies, the receiver is the
-//!   count of no table, the table of categories has the move, it can lose nothing, and where it copies bytes each byte of the receiver is described as
-//!   what it gets (`MayStand` and `Objects` of specs/Verdicts.antt);
+//!   count of no table and holds none, the table of categories has the move, it can lose nothing, and where it copies bytes each byte of the receiver is
+//!   described as what it gets (`MayStand` and `Objects` of specs/Verdicts.antt);
 //! - [`qualifiers_needed`] answers the least number of qualifiers with which a name names one entry of both records alone (`IsNeeded` of
 //!   specs/Naming.antt).
 //!

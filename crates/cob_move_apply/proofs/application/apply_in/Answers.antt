@@ -13,7 +13,7 @@ run_ready-rest-requires-clause-steps c =
     let r : Records = records c.args.layouts.now in
     let on : Support = support_of c.args.plan.now in
     let all = subst (λ (ss : List Step). StandFor x r c.args.given.now ss on (moves_by x r c.args.given.now)) (sym c.as_slice-steps.ensures.value) c.requires.steps in
-    (c.args.given.now, c.args.output.now, left_all c.one_outcome_of_counts.ensures.needed x r c.args.given.now c.as_slice-steps.result.now on c.args.input.now c.args.output.now all)
+    (c.args.given.now, c.args.output.now, left_all c.one_outcome_of_counts.ensures.needed x r c.args.given.now c.as_slice-steps.result.now on c.args.input.now c.args.output.now c.requires.output all)
 
 pub run_ready-rest-requires-clause-space : goal.run_ready-rest-requires-clause-space
 run_ready-rest-requires-clause-space c =
@@ -25,7 +25,7 @@ apply_steps-requires-clause-steps c =
     let r : Records = records c.args.layouts.now in
     let on : Support = support_of c.args.plan.now in
     let all = subst (λ (ss : List Step). StandFor x r c.args.given.now ss on (moves_by x r c.args.given.now)) (sym c.as_slice-steps.ensures.value) c.requires.steps in
-    (c.args.output.now, c.run_ready-rest.ensures.left c.args.given.now c.args.output.now (left_all c.one_outcome_of_counts.ensures.needed x r c.args.given.now c.as_slice-steps.result.now on c.args.input.now c.args.output.now all))
+    (c.args.output.now, c.run_ready-rest.ensures.left c.args.given.now c.args.output.now (left_all c.one_outcome_of_counts.ensures.needed x r c.args.given.now c.as_slice-steps.result.now on c.args.input.now c.args.output.now c.requires.output all))
 
 pub returns-in-empty-clause-applied : goal.returns-in-empty-clause-applied
 returns-in-empty-clause-applied c =
@@ -33,7 +33,7 @@ returns-in-empty-clause-applied c =
     let r : Records = records c.args.layouts.now in
     let on : Support = support_of c.args.plan.now in
     let all = subst (λ (ss : List Step). StandFor x r c.args.given.now ss on (moves_by x r c.args.given.now)) (sym c.as_slice-steps.ensures.value) c.requires.steps in
-    left_none x r c.args.given.now c.run_ready-rest.result.now on 0 c.args.input.now c.args.output.now c.run_ready-rest.new.output (omega (arith, c.in-empty.len_below)) (c.run_ready-rest.ensures.left c.args.given.now c.args.output.now (left_all c.one_outcome_of_counts.ensures.needed x r c.args.given.now c.as_slice-steps.result.now on c.args.input.now c.args.output.now all))
+    left_none x r c.args.given.now c.run_ready-rest.result.now on 0 c.args.input.now c.args.output.now c.run_ready-rest.new.output (omega (arith, c.in-empty.len_below)) (c.run_ready-rest.ensures.left c.args.given.now c.args.output.now (left_all c.one_outcome_of_counts.ensures.needed x r c.args.given.now c.as_slice-steps.result.now on c.args.input.now c.args.output.now c.requires.output all))
 
 pub returns-in-empty-clause-reads : goal.returns-in-empty-clause-reads
 returns-in-empty-clause-reads c =
@@ -49,7 +49,7 @@ returns-in_default-clause-applied c =
     let r : Records = records c.args.layouts.now in
     let on : Support = support_of c.args.plan.now in
     let all = subst (λ (ss : List Step). StandFor x r c.args.given.now ss on (moves_by x r c.args.given.now)) (sym c.as_slice-steps.ensures.value) c.requires.steps in
-    c.apply_steps.ensures.applied c.args.output.now (c.run_ready-rest.ensures.left c.args.given.now c.args.output.now (left_all c.one_outcome_of_counts.ensures.needed x r c.args.given.now c.as_slice-steps.result.now on c.args.input.now c.args.output.now all))
+    c.apply_steps.ensures.applied c.args.output.now (c.run_ready-rest.ensures.left c.args.given.now c.args.output.now (left_all c.one_outcome_of_counts.ensures.needed x r c.args.given.now c.as_slice-steps.result.now on c.args.input.now c.args.output.now c.requires.output all))
 
 pub returns-in_default-clause-reads : goal.returns-in_default-clause-reads
 returns-in_default-clause-reads c =

@@ -32,7 +32,7 @@ returns-in_err-make_step-clause-applied c =
     λ before all.
     let left = subst (λ (ss : List Step). Left x r c.args.given.now ss on 0 c.args.input.now before c.loop-step.output) c.in-Some.ensures.cases.0 (c.loop-step.invariant.left before all) in
     let next = next_step x r c.args.given.now steps on 0 step step c.args.input.now before c.loop-step.output (omega arith) refl left in
-    rw (p.1, p.2) (stopped_made x r c.args.given.now steps on 0 step c.args.input.now before c.loop-step.output c.make_step.new.output c.in_err-make_step.field-0.0 next c.in_err-make_step.ensures.applied)
+    rw (p.1, p.2) (stopped_made c.one_ending.ensures x r c.args.given.now steps on 0 step c.args.input.now before c.loop-step.output c.make_step.new.output c.in_err-make_step.field-0.0 c.requires.input (c.loop-step.invariant.output ∙ c.requires.output) c.make_step.auto.output next c.in_err-make_step.ensures.applied)
 
 pub returns-in_err-make_step-clause-reads : goal.returns-in_err-make_step-clause-reads
 returns-in_err-make_step-clause-reads c =
@@ -55,7 +55,7 @@ run_ready-rest-requires-clause-steps c =
     let (before, all) = c.requires.steps in
     let left = subst (λ (ss : List Step). Left x r c.args.given.now ss on 0 c.args.input.now before c.loop-step.output) c.in-Some.ensures.cases.0 (c.loop-step.invariant.left before all) in
     let next = next_step x r c.args.given.now steps on 0 step step c.args.input.now before c.loop-step.output (omega arith) refl left in
-    (c.args.given.now, before, left_made x r c.args.given.now steps on 0 step c.args.input.now before c.loop-step.output c.make_step.new.output next c.in_ok-make_step.ensures.applied)
+    (c.args.given.now, before, left_made c.one_ending.ensures x r c.args.given.now steps on 0 step c.args.input.now before c.loop-step.output c.make_step.new.output c.requires.input (c.loop-step.invariant.output ∙ c.requires.output) c.make_step.auto.output next c.in_ok-make_step.ensures.applied)
 
 pub loop-step-preserved : goal.loop-step-preserved
 loop-step-preserved c =
@@ -68,7 +68,7 @@ loop-step-preserved c =
       left = λ before all.
           let left = subst (λ (ss : List Step). Left x r c.args.given.now ss on 0 c.args.input.now before c.loop-step.output) c.in-Some.ensures.cases.0 (c.loop-step.invariant.left before all) in
           let next = next_step x r c.args.given.now steps on 0 step step c.args.input.now before c.loop-step.output (omega arith) refl left in
-          c.run_ready-rest.ensures.left c.args.given.now before (left_made x r c.args.given.now steps on 0 step c.args.input.now before c.loop-step.output c.make_step.new.output next c.in_ok-make_step.ensures.applied);
+          c.run_ready-rest.ensures.left c.args.given.now before (left_made c.one_ending.ensures x r c.args.given.now steps on 0 step c.args.input.now before c.loop-step.output c.make_step.new.output c.requires.input (c.loop-step.invariant.output ∙ c.requires.output) c.make_step.auto.output next c.in_ok-make_step.ensures.applied);
       output = c.run_ready-rest.auto.output ∙ (c.make_step.auto.output ∙ c.loop-step.invariant.output);
       space = c.run_ready-rest.ensures.space;
       spends = λ before all.

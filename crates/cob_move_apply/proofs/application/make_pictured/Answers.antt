@@ -16,7 +16,7 @@ run_pictured-requires-clause-step c =
 pub run_pictured-requires-clause-reads : goal.run_pictured-requires-clause-reads
 run_pictured-requires-clause-reads c =
     let (m, part) = c.requires.part in
-    pictured_reads c.args.layouts.now.reading (records c.args.layouts.now) c.args.given.now c.args.plan.now.bases.items c.args.plan.now.pictured c.args.one c.args.part.now m c.args.input.now c.in-Pictured.is part c.requires.input
+    pictured_reads c.args.layouts.now.reading (records c.args.layouts.now) c.args.given.now c.args.plan.now.bases.items c.args.plan.now.pictured c.args.one c.args.part.now m c.args.input.now c.args.output.now c.in-Pictured.is part c.requires.input c.requires.output
 
 pub run_pictured-requires-clause-writes : goal.run_pictured-requires-clause-writes
 run_pictured-requires-clause-writes c =

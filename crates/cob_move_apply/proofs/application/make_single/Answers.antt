@@ -1,3 +1,4 @@
+use Rattle.cob_move_data.specs.declared.operands.Side.TheVariants.{In}
 use Rattle.cob_move_apply.specs.Applied.{ending}
 use Rattle.cob_move_apply.specs.Surveyed.{records}
 use Rattle.cob_move_apply.specs.declared.step.PreparedMove.{PreparedMove}
@@ -8,26 +9,26 @@ use Rattle.cob_move_apply.proofs.application.make_single.Goals as goal
 pub make_prepared-requires-clause-step : goal.make_prepared-requires-clause-step
 make_prepared-requires-clause-step c =
     let p : PreparedMove = record { places = c.args.places.now; step = c.args.step } in
-    the_prepared c.args.layouts.now.reading (records c.args.layouts.now) c.args.plan.now.prepared p c.requires.step.0 c.requires.step.1
+    the_prepared In c.args.layouts.now.reading (records c.args.layouts.now) c.args.plan.now.prepared p c.requires.step.0 c.requires.step.1
 
 pub make_prepared-requires-clause-reads : goal.make_prepared-requires-clause-reads
 make_prepared-requires-clause-reads c =
     let p : PreparedMove = record { places = c.args.places.now; step = c.args.step } in
-    prepared_reads c.args.layouts.now.reading (records c.args.layouts.now) c.args.plan.now.prepared p c.requires.step.0 c.args.input.now c.requires.step.1 c.requires.input
+    prepared_reads In c.args.layouts.now.reading (records c.args.layouts.now) c.args.plan.now.prepared p c.requires.step.0 c.args.input.now c.args.output.now c.requires.step.1 c.requires.input c.requires.output
 
 pub make_prepared-requires-clause-writes : goal.make_prepared-requires-clause-writes
 make_prepared-requires-clause-writes c =
     let p : PreparedMove = record { places = c.args.places.now; step = c.args.step } in
-    prepared_within c.args.layouts.now.reading (records c.args.layouts.now) c.args.plan.now.prepared p c.requires.step.0 c.requires.step.1
+    prepared_within In c.args.layouts.now.reading (records c.args.layouts.now) c.args.plan.now.prepared p c.requires.step.0 c.requires.step.1
 
 pub returns-clause-applied : goal.returns-clause-applied
 returns-clause-applied c = λ own is.
     let p : PreparedMove = record { places = c.args.places.now; step = c.args.step } in
-    made_prepared c.args.layouts.now.reading (records c.args.layouts.now) c.args.plan.now.prepared p own c.args.input.now c.args.output.now (ending c.make_prepared.result c.make_prepared.new.output)
+    made_prepared In c.args.layouts.now.reading (records c.args.layouts.now) c.args.plan.now.prepared p own c.args.input.now c.args.output.now (ending c.make_prepared.result c.make_prepared.new.output)
     c.requires.input c.requires.output c.make_prepared.ensures.made is
 
 pub returns-clause-spends : goal.returns-clause-spends
 returns-clause-spends c = λ own is.
     let p : PreparedMove = record { places = c.args.places.now; step = c.args.step } in
-    prepared_spends c.args.layouts.now.reading (records c.args.layouts.now) c.args.plan.now.prepared p own c.args.input.now c.args.output.now c.make_prepared.result c.make_prepared.new.output _ _
+    prepared_spends In c.args.layouts.now.reading (records c.args.layouts.now) c.args.plan.now.prepared p own c.args.input.now c.args.output.now c.make_prepared.result c.make_prepared.new.output _ _
     c.make_prepared.ensures.made c.make_prepared.ensures.spends is

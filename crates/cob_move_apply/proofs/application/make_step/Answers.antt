@@ -317,3 +317,99 @@ returns-in-LocatedConstant-clause-spends c = λ own is.
     let on : Support = support_of c.args.plan.now in
     let this = subst (λ (s : Step). IsStep x r c.args.given.now on s own) c.in-LocatedConstant.is is in
     c.make_located_constant.ensures.spends own this
+
+pub make_within-requires-clause-step : goal.make_within-requires-clause-step
+make_within-requires-clause-step c =
+    let x = c.args.layouts.now.reading in
+    let r = records c.args.layouts.now in
+    let on : Support = support_of c.args.plan.now in
+    let is = subst (λ (s : Step). IsStep x r c.args.given.now on s c.requires.step.0) c.in-Within.is c.requires.step.1 in
+    (c.requires.step.0, is)
+
+pub returns-in-Within-clause-applied : goal.returns-in-Within-clause-applied
+returns-in-Within-clause-applied c = λ own is.
+    let x = c.args.layouts.now.reading in
+    let r = records c.args.layouts.now in
+    let on : Support = support_of c.args.plan.now in
+    let this = subst (λ (s : Step). IsStep x r c.args.given.now on s own) c.in-Within.is is in
+    c.make_within.ensures.applied own this
+
+pub returns-in-Within-clause-spends : goal.returns-in-Within-clause-spends
+returns-in-Within-clause-spends c = λ own is.
+    let x = c.args.layouts.now.reading in
+    let r = records c.args.layouts.now in
+    let on : Support = support_of c.args.plan.now in
+    let this = subst (λ (s : Step). IsStep x r c.args.given.now on s own) c.in-Within.is is in
+    c.make_within.ensures.spends own this
+
+pub make_within-requires-in-WithinNumber-clause-step : goal.make_within-requires-in-WithinNumber-clause-step
+make_within-requires-in-WithinNumber-clause-step c =
+    let x = c.args.layouts.now.reading in
+    let r = records c.args.layouts.now in
+    let on : Support = support_of c.args.plan.now in
+    let is = subst (λ (s : Step). IsStep x r c.args.given.now on s c.requires.step.0) c.in-WithinNumber.is c.requires.step.1 in
+    (c.requires.step.0, is.0)
+
+pub returns-in-WithinNumber-clause-applied : goal.returns-in-WithinNumber-clause-applied
+returns-in-WithinNumber-clause-applied c = λ own is.
+    let x = c.args.layouts.now.reading in
+    let r = records c.args.layouts.now in
+    let on : Support = support_of c.args.plan.now in
+    let this = subst (λ (s : Step). IsStep x r c.args.given.now on s own) c.in-WithinNumber.is is in
+    c.make_within-in-WithinNumber.ensures.applied own this.0
+
+pub returns-in-WithinNumber-clause-spends : goal.returns-in-WithinNumber-clause-spends
+returns-in-WithinNumber-clause-spends c = λ own is.
+    let x = c.args.layouts.now.reading in
+    let r = records c.args.layouts.now in
+    let on : Support = support_of c.args.plan.now in
+    let this = subst (λ (s : Step). IsStep x r c.args.given.now on s own) c.in-WithinNumber.is is in
+    c.make_within-in-WithinNumber.ensures.spends own this.0
+
+pub make_within-requires-in-WithinEdited-clause-step : goal.make_within-requires-in-WithinEdited-clause-step
+make_within-requires-in-WithinEdited-clause-step c =
+    let x = c.args.layouts.now.reading in
+    let r = records c.args.layouts.now in
+    let on : Support = support_of c.args.plan.now in
+    let is = subst (λ (s : Step). IsStep x r c.args.given.now on s c.requires.step.0) c.in-WithinEdited.is c.requires.step.1 in
+    (c.requires.step.0, is.0)
+
+pub returns-in-WithinEdited-clause-applied : goal.returns-in-WithinEdited-clause-applied
+returns-in-WithinEdited-clause-applied c = λ own is.
+    let x = c.args.layouts.now.reading in
+    let r = records c.args.layouts.now in
+    let on : Support = support_of c.args.plan.now in
+    let this = subst (λ (s : Step). IsStep x r c.args.given.now on s own) c.in-WithinEdited.is is in
+    c.make_within-in-WithinEdited.ensures.applied own this.0
+
+pub returns-in-WithinEdited-clause-spends : goal.returns-in-WithinEdited-clause-spends
+returns-in-WithinEdited-clause-spends c = λ own is.
+    let x = c.args.layouts.now.reading in
+    let r = records c.args.layouts.now in
+    let on : Support = support_of c.args.plan.now in
+    let this = subst (λ (s : Step). IsStep x r c.args.given.now on s own) c.in-WithinEdited.is is in
+    c.make_within-in-WithinEdited.ensures.spends own this.0
+
+pub make_located_within-requires-clause-step : goal.make_located_within-requires-clause-step
+make_located_within-requires-clause-step c =
+    let x = c.args.layouts.now.reading in
+    let r = records c.args.layouts.now in
+    let on : Support = support_of c.args.plan.now in
+    let is = subst (λ (s : Step). IsStep x r c.args.given.now on s c.requires.step.0) c.in-LocatedWithin.is c.requires.step.1 in
+    (c.requires.step.0, is)
+
+pub returns-in-LocatedWithin-clause-applied : goal.returns-in-LocatedWithin-clause-applied
+returns-in-LocatedWithin-clause-applied c = λ own is.
+    let x = c.args.layouts.now.reading in
+    let r = records c.args.layouts.now in
+    let on : Support = support_of c.args.plan.now in
+    let this = subst (λ (s : Step). IsStep x r c.args.given.now on s own) c.in-LocatedWithin.is is in
+    c.make_located_within.ensures.applied own this
+
+pub returns-in-LocatedWithin-clause-spends : goal.returns-in-LocatedWithin-clause-spends
+returns-in-LocatedWithin-clause-spends c = λ own is.
+    let x = c.args.layouts.now.reading in
+    let r = records c.args.layouts.now in
+    let on : Support = support_of c.args.plan.now in
+    let this = subst (λ (s : Step). IsStep x r c.args.given.now on s own) c.in-LocatedWithin.is is in
+    c.make_located_within.ensures.spends own this

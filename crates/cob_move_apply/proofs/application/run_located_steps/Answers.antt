@@ -41,7 +41,7 @@ loop-step-preserved c =
       left = λ given before all.
           let left = subst (λ (ss : List Step). Left x r given ss on 0 c.args.input.now before c.loop-step.output) c.in-Some.ensures.cases.0 (c.loop-step.invariant.left given before all) in
           let next = next_step x r given steps on 0 step step c.args.input.now before c.loop-step.output (omega arith) refl left in
-          left_made x r given steps on 0 step c.args.input.now before c.loop-step.output c.run_located.new.output next (λ own is. c.if-not-run_located.ensures.applied refl own (subst (λ (s : Step). IsStep x r given on s own) c.in-Located.is is));
+          left_made c.one_ending.ensures x r given steps on 0 step c.args.input.now before c.loop-step.output c.run_located.new.output c.requires.input (c.loop-step.invariant.output ∙ c.requires.output) c.run_located.auto.output next (λ own is. c.if-not-run_located.ensures.applied refl own (subst (λ (s : Step). IsStep x r given on s own) c.in-Located.is is));
       output = c.run_located.auto.output ∙ c.loop-step.invariant.output;
       space = c.run_located.ensures.space;
       spends = λ given before all.

@@ -41,7 +41,7 @@ loop-step-preserved g c =
       left = λ given before all.
           let left = subst (λ (ss : List Step). Left x r given ss on 0 c.args.input.now before c.loop-step.output) c.in-Some.ensures.cases.0 (c.loop-step.invariant.left given before all) in
           let next = next_step x r given steps on 0 step step c.args.input.now before c.loop-step.output (omega arith) refl left in
-          left_made x r given steps on 0 step c.args.input.now before c.loop-step.output c.run_step.new.output next (c.if-not-run_step.ensures.applied refl given);
+          left_made c.one_ending.ensures x r given steps on 0 step c.args.input.now before c.loop-step.output c.run_step.new.output c.requires.input (c.loop-step.invariant.output ∙ c.requires.output) c.run_step.auto.output next (c.if-not-run_step.ensures.applied refl given);
       output = c.run_step.auto.output ∙ c.loop-step.invariant.output;
       space = c.run_step.ensures.space;
       spends = λ given before all.

@@ -1,3 +1,4 @@
+use Rattle.cob_move_data.specs.declared.operands.Side.TheVariants.{In}
 use Rattle.cob_move_apply.specs.Applied.{ending}
 use Rattle.cob_move_apply.specs.Surveyed.{records}
 use Rattle.cob_move_apply.proofs.LocatedLemmas.{applied_located}
@@ -6,10 +7,10 @@ use Rattle.cob_move_apply.proofs.located.make_located.Goals as goal
 
 pub returns-clause-applied : goal.returns-clause-applied
 returns-clause-applied c = λ own is.
-    applied_located c.args.layouts.now.reading (records c.args.layouts.now) c.args.plan.now.prepared c.args.plan.now.pictured c.args.plan.now.located.items c.args.number own c.index-one.result.now c.args.input.now c.args.output.now
+    applied_located In c.args.layouts.now.reading (records c.args.layouts.now) c.args.plan.now.prepared c.args.plan.now.pictured c.args.plan.now.located.items c.args.number own c.index-one.result.now c.args.input.now c.args.output.now
     (ending c.move_unready.result c.move_unready.new.output) is c.index-one.ensures c.move_unready.ensures.moved
 
 pub returns-clause-spends : goal.returns-clause-spends
 returns-clause-spends c = λ own is.
-    located_step_spends c.args.layouts.now.reading (records c.args.layouts.now) c.args.plan.now.prepared c.args.plan.now.pictured c.args.plan.now.located.items c.args.number own c.index-one.result.now c.args.input.now c.args.output.now
+    located_step_spends In c.args.layouts.now.reading (records c.args.layouts.now) c.args.plan.now.prepared c.args.plan.now.pictured c.args.plan.now.located.items c.args.number own c.index-one.result.now c.args.input.now c.args.output.now
     c.move_unready.result c.move_unready.new.output _ _ is c.index-one.ensures c.move_unready.ensures.spends

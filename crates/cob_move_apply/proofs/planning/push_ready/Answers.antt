@@ -36,3 +36,13 @@ pub returns-in-LocatedConstant-clause-gains : goal.returns-in-LocatedConstant-cl
 returns-in-LocatedConstant-clause-gains c =
     let ready = rw c.in-LocatedConstant.is at c.requires.ready in
     on_ok_weaker c.push_located_constant.result (λ so x. so x (records_between c.args.both.now) c.args.given.now (part_alone c.args.both.now c.args.part.now) ready) c.push_located_constant.ensures.gains
+
+pub returns-in-Within-clause-gains : goal.returns-in-Within-clause-gains
+returns-in-Within-clause-gains c =
+    let ready = rw c.in-Within.is at c.requires.ready in
+    on_ok_weaker c.push_within.result (λ so x. so x (records_between c.args.both.now) c.args.given.now (part_alone c.args.both.now c.args.part.now) ready) c.push_within.ensures.gains
+
+pub returns-in-LocatedWithin-clause-gains : goal.returns-in-LocatedWithin-clause-gains
+returns-in-LocatedWithin-clause-gains c =
+    let ready = rw c.in-LocatedWithin.is at c.requires.ready in
+    on_ok_weaker c.push_located_within.result (λ so x. so x (records_between c.args.both.now) c.args.given.now (part_alone c.args.both.now c.args.part.now) ready) c.push_located_within.ensures.gains

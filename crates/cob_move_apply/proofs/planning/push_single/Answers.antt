@@ -19,9 +19,9 @@ push_ready-requires-clause-ready c =
 pub returns-clause-gains : goal.returns-clause-gains
 returns-clause-gains c =
     let r : Records = records_between c.args.both.now in
-    let mid : Plan = record { steps = c.args.plan.now.steps; bases = c.args.plan.now.bases; prepared = c.ready_of.new.prepared; pictured = c.ready_of.new.pictured; constants = c.args.plan.now.constants; located = c.args.plan.now.located; located_constants = c.args.plan.now.located_constants } in
+    let mid : Plan = record { steps = c.args.plan.now.steps; bases = c.args.plan.now.bases; prepared = c.ready_of.new.prepared; pictured = c.ready_of.new.pictured; constants = c.args.plan.now.constants; located = c.args.plan.now.located; located_constants = c.args.plan.now.located_constants; within = c.args.plan.now.within } in
     on_ok_weaker c.push_ready.result
-    (λ so x. gains_more x r c.args.given.now (meant x r c.args.part.now ∷ []) c.args.plan.now mid c.push_ready.new.plan refl refl c.in_ok-ready.ensures.prepared c.in_ok-ready.ensures.pictured refl refl refl (so x))
+    (λ so x. gains_more x r c.args.given.now (meant x r c.args.part.now ∷ []) c.args.plan.now mid c.push_ready.new.plan refl refl c.in_ok-ready.ensures.prepared c.in_ok-ready.ensures.pictured refl refl refl refl (so x))
     c.push_ready.ensures.gains
 
 pub returns-clause-more : goal.returns-clause-more

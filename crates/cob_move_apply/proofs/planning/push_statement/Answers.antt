@@ -30,7 +30,7 @@ returns-in-Pairs-clause-gains c =
     on_ok_weaker c.push_pairs.result
     (λ so x s there. (
       statement_moves_by x r s,
-      cut_selves (statement_moves_by x r s),
+      cut_selves r (statement_moves_by x r s),
       subst (λ (t : StatementMoves). Gains x r c.args.given.now (statement_moves_by x r t) c.args.plan.now c.push_pairs.new.plan)
           (sym c.in-Pairs.is ∙ same_statement c.args.given.now c.args.number c.index-given-number.result s c.requires.below c.index-given-number.is there.1) (so x),
     ))

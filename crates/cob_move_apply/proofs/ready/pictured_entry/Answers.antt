@@ -1,3 +1,4 @@
+use Rattle.cob_move_data.specs.declared.operands.Side.TheVariants.{In}
 use Rattle.cob_move_apply.specs.Planned.{records_between}
 use Rattle.cob_move_apply.proofs.PicturedLemmas.{pictured}
 use Rattle.cob_move_apply.proofs.PreparedLemmas.{occupied}
@@ -5,7 +6,7 @@ use Rattle.cob_move_apply.proofs.ready.pictured_entry.Goals as goal
 
 pub prepare-requires : goal.prepare-requires
 prepare-requires c =
-    occupied (records_between c.args.both.now) c.args.sent.now c.args.receiver.now c.in-Some.places c.entry_kind-sends.result.now c.entry_kind-receives.result.now
+    occupied In (records_between c.args.both.now) c.args.sent.now c.args.receiver.now c.in-Some.places c.entry_kind-sends.result.now c.entry_kind-receives.result.now
     (c.records_are_sound.ensures c.args.both.now.input.now c.greatest.ensures.record) (c.records_are_sound.ensures c.args.both.now.output.now c.greatest-2.ensures.record) c.requires.sent c.requires.receiver c.in-Some.ensures c.entry_kind-sends.ensures c.entry_kind-receives.ensures
 
 pub returns-in-Some-2-clause-step : goal.returns-in-Some-2-clause-step

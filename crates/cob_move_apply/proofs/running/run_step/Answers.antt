@@ -1,5 +1,6 @@
 use Rattle.std.proofs.Common.{ℕ, Ok, subst}
 use Rattle.cob_move_steps.specs.declared.pool.MoveStep.TheVariants.{Characters}
+use Rattle.cob_move_data.specs.declared.operands.Side.TheVariants.{In}
 use Rattle.cob_move_apply.specs.Applied.{done}
 use Rattle.cob_move_apply.specs.Steps.{IsStep, Support, support_of}
 use Rattle.cob_move_apply.specs.Surveyed.{records}
@@ -142,7 +143,7 @@ make_characters-requires-clause-step g c =
     let (given, own, at) = c.requires.step in
     let is = subst (λ (s : Step). IsStep x r given on s own) c.in-Characters.is at in
     let p : PreparedMove = record { places = c.in-Characters.one.places; step = Characters c.in-Characters.one.step } in
-    the_prepared x r on.prepared p own is
+    the_prepared In x r on.prepared p own is
 
 pub make_characters-requires-clause-reads : goal.make_characters-requires-clause-reads
 make_characters-requires-clause-reads g c =
@@ -152,7 +153,7 @@ make_characters-requires-clause-reads g c =
     let (given, own, at) = c.requires.step in
     let is = subst (λ (s : Step). IsStep x r given on s own) c.in-Characters.is at in
     let p : PreparedMove = record { places = c.in-Characters.one.places; step = Characters c.in-Characters.one.step } in
-    prepared_reads x r on.prepared p own c.args.input.now is c.requires.input
+    prepared_reads In x r on.prepared p own c.args.input.now c.args.output.now is c.requires.input c.requires.output
 
 pub make_characters-requires-clause-writes : goal.make_characters-requires-clause-writes
 make_characters-requires-clause-writes g c =
@@ -162,7 +163,7 @@ make_characters-requires-clause-writes g c =
     let (given, own, at) = c.requires.step in
     let is = subst (λ (s : Step). IsStep x r given on s own) c.in-Characters.is at in
     let p : PreparedMove = record { places = c.in-Characters.one.places; step = Characters c.in-Characters.one.step } in
-    prepared_within x r on.prepared p own is
+    prepared_within In x r on.prepared p own is
 
 pub returns-in-Characters-clause-applied : goal.returns-in-Characters-clause-applied
 returns-in-Characters-clause-applied g c = λ yes given own is.
@@ -171,7 +172,7 @@ returns-in-Characters-clause-applied g c = λ yes given own is.
     let on : Support = support_of c.args.plan.now in
     let this = subst (λ (s : Step). IsStep x r given on s own) c.in-Characters.is is in
     let p : PreparedMove = record { places = c.in-Characters.one.places; step = Characters c.in-Characters.one.step } in
-    made_prepared x r on.prepared p own c.args.input.now c.args.output.now (done c.make_characters.new.output) c.requires.input c.requires.output c.make_characters.ensures.made this
+    made_prepared In x r on.prepared p own c.args.input.now c.args.output.now (done c.make_characters.new.output) c.requires.input c.requires.output c.make_characters.ensures.made this
 
 pub returns-in-Characters-clause-spends : goal.returns-in-Characters-clause-spends
 returns-in-Characters-clause-spends g c = λ yes given own is.
@@ -180,7 +181,7 @@ returns-in-Characters-clause-spends g c = λ yes given own is.
     let on : Support = support_of c.args.plan.now in
     let this = subst (λ (s : Step). IsStep x r given on s own) c.in-Characters.is is in
     let p : PreparedMove = record { places = c.in-Characters.one.places; step = Characters c.in-Characters.one.step } in
-    prepared_spends {A = ℕ} x r on.prepared p own c.args.input.now c.args.output.now (Ok 0) c.make_characters.new.output _ _ c.make_characters.ensures.made c.make_characters.ensures.spends this
+    prepared_spends {A = ℕ} In x r on.prepared p own c.args.input.now c.args.output.now (Ok 0) c.make_characters.new.output _ _ c.make_characters.ensures.made c.make_characters.ensures.spends this
 
 pub run_part-requires-clause-part : goal.run_part-requires-clause-part
 run_part-requires-clause-part g c =
@@ -276,3 +277,121 @@ returns-in-Copy-clause-spends g c = λ yes given own is.
     let this = subst (λ (s : Step). IsStep x r given on s own) c.in-Copy.is is in
     copy_spends r own c.args.input.now c.args.output.now c.copy_across.new.output c.args.space.now.output
     (made_copy x r given on c.in-Copy.places own c.args.input.now c.args.output.now c.copy_across.new.output c.requires.input c.requires.output c.copy_across.ensures this)
+
+pub run_onwards-requires-clause-step : goal.run_onwards-requires-clause-step
+run_onwards-requires-clause-step g c =
+    let x = c.args.layouts.now.reading in
+    let r = records c.args.layouts.now in
+    let on : Support = support_of c.args.plan.now in
+    let (given, own, at) = c.requires.step in
+    let is = subst (λ (s : Step). IsStep x r given on s own) c.in-WithinNumber.is at in
+    (own, is.0)
+
+pub run_onwards-requires-clause-before : goal.run_onwards-requires-clause-before
+run_onwards-requires-clause-before g c =
+    let x = c.args.layouts.now.reading in
+    let r = records c.args.layouts.now in
+    let on : Support = support_of c.args.plan.now in
+    let (given, own, at) = c.requires.step in
+    let is = subst (λ (s : Step). IsStep x r given on s own) c.in-WithinNumber.is at in
+    is.1
+
+pub returns-in-WithinNumber-clause-applied : goal.returns-in-WithinNumber-clause-applied
+returns-in-WithinNumber-clause-applied g c = λ yes given own is.
+    let x = c.args.layouts.now.reading in
+    let r = records c.args.layouts.now in
+    let on : Support = support_of c.args.plan.now in
+    let this = subst (λ (s : Step). IsStep x r given on s own) c.in-WithinNumber.is is in
+    c.run_onwards.ensures.applied yes own this.0
+
+pub returns-in-WithinNumber-clause-spends : goal.returns-in-WithinNumber-clause-spends
+returns-in-WithinNumber-clause-spends g c = λ yes given own is.
+    let x = c.args.layouts.now.reading in
+    let r = records c.args.layouts.now in
+    let on : Support = support_of c.args.plan.now in
+    let this = subst (λ (s : Step). IsStep x r given on s own) c.in-WithinNumber.is is in
+    c.run_onwards.ensures.spends yes own this.0
+
+pub run_onwards-requires-in-WithinEdited-clause-step : goal.run_onwards-requires-in-WithinEdited-clause-step
+run_onwards-requires-in-WithinEdited-clause-step g c =
+    let x = c.args.layouts.now.reading in
+    let r = records c.args.layouts.now in
+    let on : Support = support_of c.args.plan.now in
+    let (given, own, at) = c.requires.step in
+    let is = subst (λ (s : Step). IsStep x r given on s own) c.in-WithinEdited.is at in
+    (own, is.0)
+
+pub run_onwards-requires-in-WithinEdited-clause-before : goal.run_onwards-requires-in-WithinEdited-clause-before
+run_onwards-requires-in-WithinEdited-clause-before g c =
+    let x = c.args.layouts.now.reading in
+    let r = records c.args.layouts.now in
+    let on : Support = support_of c.args.plan.now in
+    let (given, own, at) = c.requires.step in
+    let is = subst (λ (s : Step). IsStep x r given on s own) c.in-WithinEdited.is at in
+    is.1
+
+pub returns-in-WithinEdited-clause-applied : goal.returns-in-WithinEdited-clause-applied
+returns-in-WithinEdited-clause-applied g c = λ yes given own is.
+    let x = c.args.layouts.now.reading in
+    let r = records c.args.layouts.now in
+    let on : Support = support_of c.args.plan.now in
+    let this = subst (λ (s : Step). IsStep x r given on s own) c.in-WithinEdited.is is in
+    c.run_onwards-in-WithinEdited.ensures.applied yes own this.0
+
+pub returns-in-WithinEdited-clause-spends : goal.returns-in-WithinEdited-clause-spends
+returns-in-WithinEdited-clause-spends g c = λ yes given own is.
+    let x = c.args.layouts.now.reading in
+    let r = records c.args.layouts.now in
+    let on : Support = support_of c.args.plan.now in
+    let this = subst (λ (s : Step). IsStep x r given on s own) c.in-WithinEdited.is is in
+    c.run_onwards-in-WithinEdited.ensures.spends yes own this.0
+
+pub run_within-requires-clause-step : goal.run_within-requires-clause-step
+run_within-requires-clause-step g c =
+    let x = c.args.layouts.now.reading in
+    let r = records c.args.layouts.now in
+    let on : Support = support_of c.args.plan.now in
+    let (given, own, at) = c.requires.step in
+    let is = subst (λ (s : Step). IsStep x r given on s own) c.in-Within.is at in
+    (own, is)
+
+pub returns-in-Within-clause-applied : goal.returns-in-Within-clause-applied
+returns-in-Within-clause-applied g c = λ yes given own is.
+    let x = c.args.layouts.now.reading in
+    let r = records c.args.layouts.now in
+    let on : Support = support_of c.args.plan.now in
+    let this = subst (λ (s : Step). IsStep x r given on s own) c.in-Within.is is in
+    c.run_within.ensures.applied yes own this
+
+pub returns-in-Within-clause-spends : goal.returns-in-Within-clause-spends
+returns-in-Within-clause-spends g c = λ yes given own is.
+    let x = c.args.layouts.now.reading in
+    let r = records c.args.layouts.now in
+    let on : Support = support_of c.args.plan.now in
+    let this = subst (λ (s : Step). IsStep x r given on s own) c.in-Within.is is in
+    c.run_within.ensures.spends yes own this
+
+pub run_located_within-requires-clause-step : goal.run_located_within-requires-clause-step
+run_located_within-requires-clause-step g c =
+    let x = c.args.layouts.now.reading in
+    let r = records c.args.layouts.now in
+    let on : Support = support_of c.args.plan.now in
+    let (given, own, at) = c.requires.step in
+    let is = subst (λ (s : Step). IsStep x r given on s own) c.in-LocatedWithin.is at in
+    (own, is)
+
+pub returns-in-LocatedWithin-clause-applied : goal.returns-in-LocatedWithin-clause-applied
+returns-in-LocatedWithin-clause-applied g c = λ yes given own is.
+    let x = c.args.layouts.now.reading in
+    let r = records c.args.layouts.now in
+    let on : Support = support_of c.args.plan.now in
+    let this = subst (λ (s : Step). IsStep x r given on s own) c.in-LocatedWithin.is is in
+    c.run_located_within.ensures.applied yes own this
+
+pub returns-in-LocatedWithin-clause-spends : goal.returns-in-LocatedWithin-clause-spends
+returns-in-LocatedWithin-clause-spends g c = λ yes given own is.
+    let x = c.args.layouts.now.reading in
+    let r = records c.args.layouts.now in
+    let on : Support = support_of c.args.plan.now in
+    let this = subst (λ (s : Step). IsStep x r given on s own) c.in-LocatedWithin.is is in
+    c.run_located_within.ensures.spends yes own this
