@@ -10,12 +10,11 @@ ghost use Rattle.std.specs.Prelude.{length, IsTrue};
 ghost use Rattle.cob_copybook_tree.specs.Items.{IsStorable};
 ghost use Rattle.cob_move_receive.specs.Sent.{sent, Occupies, HasAllBytes};
 
-use crate::books::book_at;
-use crate::constants::constant_of;
 use cob_codec::Reading;
 use cob_copybook::Role;
 use cob_copybook_tree::{Item, Kind, is_number, is_number_item};
 use cob_move_receive::{Refusal, SenderKind, Sent, receive, refusal_of};
+use cob_test_layouts::{book_at, constant_of};
 use cob_test_rows::{Row, RowFault, push_digits};
 use std::alloc::{AllocError, Global};
 

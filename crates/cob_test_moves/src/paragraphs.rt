@@ -8,10 +8,10 @@ ghost use Rattle.std.specs.Prelude.{IfOk};
 ghost use Rattle.cob_move.specs.Among.{both};
 ghost use Rattle.cob_move.specs.Paragraphs.{IsReadyFor};
 
-use crate::books::layout_at;
 use cob_copybook::Role;
 use cob_layout::Layout;
 use cob_move::{MoveFault, MoveRule, Paragraph};
+use cob_test_layouts::layout_at;
 use cob_test_rows::{Row, RowFault};
 use std::alloc::{AllocError, Global};
 use std::fmt::Write;

@@ -1,10 +1,10 @@
 //! What reads the texts of a template.
 
-use crate::books::read_book;
 use crate::paragraphs::read_paragraph;
 use cob_copybook::{BookFault, BookRule, Role};
 use cob_layout::Layout;
 use cob_move::MoveFault;
+use cob_test_layouts::read_book;
 use std::alloc::{AllocError, Global};
 use std::fmt::Write;
 

@@ -8,12 +8,12 @@ ghost use Rattle.cob_layout.specs.Storage.{greatest_length};
 ghost use Rattle.cob_move.specs.Among.{both};
 ghost use Rattle.cob_move.specs.Paragraphs.{IsReadyFor};
 
-use crate::books::{book_at, layout_at};
 use crate::paragraphs::read_paragraph;
 use cob_copybook::Role;
 use cob_layout::Layout;
 use cob_move::{Paragraph, Scratch, Stop, apply};
 use cob_move_initial::initial;
+use cob_test_layouts::{book_at, layout_at};
 use cob_test_rows::{Row, RowFault};
 use std::alloc::{AllocError, Global};
 use std::fmt::Write;

@@ -10,10 +10,10 @@
 //!
 //! `tools/sweep_oracle --templates` works out what must be printed too.
 
-use crate::books::layout_at;
 use crate::reader::Reader;
 use crate::template::Template;
 use cob_copybook::Role;
+use cob_test_layouts::layout_at;
 use cob_test_rows::{Row, RowFault, lines_of, unescaped};
 use std::alloc::Global;
 use std::fmt::Write;

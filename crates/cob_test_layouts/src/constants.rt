@@ -34,7 +34,7 @@ fn number(written: &str) -> Option<Value> {
 }
 
 /// The constant that is written so: a quoted literal, ALL and one, a figurative constant, or a numeric literal.
-pub(crate) fn constant_of(written: &str) -> Result<Value, RowFault> {
+pub fn constant_of(written: &str) -> Result<Value, RowFault> {
     if let Some(figurative) = figurative(written) {
         return Ok(Value::Figurative(figurative));
     }

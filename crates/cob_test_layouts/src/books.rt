@@ -20,17 +20,12 @@ fn row_fault(fault: BookFault) -> RowFault {
 }
 
 /// The book of a text.
-pub(crate) fn read_book(alloc: Global, role: Role, text: &[u8]) -> Result<Book, BookFault> {
+pub fn read_book(alloc: Global, role: Role, text: &[u8]) -> Result<Book, BookFault> {
     Book::read(alloc, role, text)
 }
 
 /// The book of a field.
-pub(crate) fn book_at(
-    alloc: Global,
-    role: Role,
-    row: &Row,
-    place: usize,
-) -> Result<Book, RowFault> {
+pub fn book_at(alloc: Global, role: Role, row: &Row, place: usize) -> Result<Book, RowFault> {
     let text = row.lines(alloc, place)?;
     match read_book(alloc, role, text.as_slice()) {
         Ok(book) => Ok(book),
@@ -44,12 +39,7 @@ pub(crate) fn book_of(alloc: Global, row: &Row) -> Result<Book, RowFault> {
 }
 
 /// The layout of a field's book.
-pub(crate) fn layout_at(
-    alloc: Global,
-    role: Role,
-    row: &Row,
-    place: usize,
-) -> Result<Layout, RowFault> {
+pub fn layout_at(alloc: Global, role: Role, row: &Row, place: usize) -> Result<Layout, RowFault> {
     let book = book_at(alloc, role, row, place)?;
     Ok(Layout::of(alloc, &book)?)
 }
