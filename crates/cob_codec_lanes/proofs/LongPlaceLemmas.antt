@@ -1,5 +1,5 @@
 -- Texts of at most forty-eight bytes in three vectors: their lanes, and the bytes at given places.
-use Rattle.std.proofs.Common.{◌≡◌, ◌↔◌, ℕ, ◌+◌, ◌-◌, ◌%◌, ◌<◌, ◌≤◌, ◌&&◌, Bool, true, false, cond, ltb, List, ◌++◌, length, get_or, take, drop, replicate, sym, ap, ◌∙◌, inl, inr, arith, lt-ltb, le-ltb, length-append, length-drop, length-take-le}
+use Rattle.std.proofs.Common.{◌≡◌, ℕ, ◌+◌, ◌-◌, ◌%◌, ◌<◌, ◌≤◌, ◌&&◌, true, false, cond, ltb, List, ◌++◌, length, get_or, take, drop, replicate, sym, ap, ◌∙◌, inl, inr, arith, lt-ltb, le-ltb, length-append, length-drop, length-take-le}
 use Rattle.std.proofs.lemmas.Bool.{cases_lt, le-leb, lt-leb}
 use Rattle.std.proofs.lemmas.List.{append_assoc, append-nil, replicate-append-replicate, take-append-drop, get_or_append_left, get_or-append_right}
 use Rattle.cob_codec_lanes.specs.Lanes.{picked_at}
@@ -102,4 +102,7 @@ none_of_three at a b c places k are ge lt =
     let first : get_or places.first.lanes k 0 ≡ 128 = are.first k lt ∙ ap (λ t. cond {A = ℕ} t (place_from 0 j) 128) outside in
     let second : get_or places.second.lanes k 0 ≡ 128 = are.second k lt ∙ ap (λ t. cond {A = ℕ} t (place_from 16 j) 128) outside in
     let third : get_or places.third.lanes k 0 ≡ 128 = are.third k lt ∙ ap (λ t. cond {A = ℕ} t (place_from 32 j) 128) outside in
-    omega (arith, ap (picked_at a) first, ap (picked_at b) second, ap (picked_at c) third)
+    let p : picked_at a (get_or places.first.lanes k 0) ≡ 0 = ap (picked_at a) first in
+    let q : picked_at b (get_or places.second.lanes k 0) ≡ 0 = ap (picked_at b) second in
+    let r : picked_at c (get_or places.third.lanes k 0) ≡ 0 = ap (picked_at c) third in
+    omega (arith, p, q, r)

@@ -21,15 +21,15 @@ impl LongTextLanes {
         ensures { all_long_lanes result ≡ padded_long_text bytes.now }
     {
         if bytes.len() <= 32 {
-            LongTextLanes {
+            return LongTextLanes {
                 lead: TextLanes::of(bytes),
                 last: u8x16::splat(0),
-            }
-        } else {
-            LongTextLanes {
-                lead: TextLanes::of(&bytes[..32]),
-                last: front_lanes(&bytes[32..]),
-            }
+            };
+        }
+        let (lead, behind) = bytes.split_at(32);
+        LongTextLanes {
+            lead: TextLanes::of(lead),
+            last: front_lanes(behind),
         }
     }
 }

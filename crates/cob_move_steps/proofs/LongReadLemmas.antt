@@ -92,7 +92,9 @@ long_value count front back long =
     elim (cases_lt count 16) [
       | inl lt ↦
           let none : count - 16 ≡ 0 = omega arith in
-          omega (arith, ap (λ n. number_of (take n front)) none, ap (λ n. number_of (take n front ++ last)) none)
+          let nothing : number_of (take (count - 16) front) ≡ 0 = ap (λ n. number_of (take n front)) none in
+          let whole : number_of (long_digits count front back) ≡ number_of last = ap (λ n. number_of (take n front ++ last)) none in
+          omega (arith, nothing, whole)
       | inr ge ↦ (let all : last_count count ≡ 16 = many_last count ge in number_of_both (take (count - 16) front) last (length-take-le (last_count count) back (omega (arith, all, long)) ∙ all))
     ]
 

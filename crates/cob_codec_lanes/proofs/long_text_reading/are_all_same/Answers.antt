@@ -1,4 +1,4 @@
-use Rattle.std.proofs.Common.{◌≡◌, ◌++◌, length, sym, ◌∙◌, arith, length-append}
+use Rattle.std.proofs.Common.{◌≡◌, ◌++◌, length, arith, length-append}
 use Rattle.cob_codec_lanes.specs.Texts.{all_lanes}
 use Rattle.cob_codec_lanes.proofs.TextLemmas.{both_same}
 use Rattle.cob_codec_lanes.proofs.long_text_reading.are_all_same.Goals as goal

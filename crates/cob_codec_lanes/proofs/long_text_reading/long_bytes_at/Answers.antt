@@ -1,4 +1,4 @@
-use Rattle.std.proofs.Common.{◌<◌, ◌+◌, ◌%◌, ℕ, get_or, ap, ◌∙◌, arith}
+use Rattle.std.proofs.Common.{◌<◌, ◌+◌, ◌%◌, get_or, ap, ◌∙◌, arith}
 use Rattle.cob_codec_lanes.specs.Lanes.{picked_at}
 use Rattle.cob_codec_lanes.proofs.LaneLemmas.{lane_fits}
 use Rattle.cob_codec_lanes.proofs.LongPlaceLemmas.{none_of_three, place_of_three}
