@@ -1,5 +1,5 @@
 -- Numbers of any number of digits that are moved to characters: the characters, and what the receiver gets.
-use Rattle.std.proofs.Common.{◌≡◌, ℕ, ◌+◌, ◌-◌, ◌%◌, ◌^◌, ◌<◌, ◌≤◌, ℤ, pos, ◌-ℤ◌, Bool, true, false, not, List, ◌++◌, length, take, map, replicate, get_or, Some, None, cond, lt-ltb, le-ltb, sym, ap, subst, ◌∙◌, inl, inr, arith, length-append}
+use Rattle.std.proofs.Common.{◌≡◌, ℕ, ◌+◌, ◌-◌, ◌%◌, ◌^◌, ◌<◌, ◌≤◌, ℤ, pos, ◌-ℤ◌, Bool, true, false, not, List, ◌++◌, length, take, map, replicate, get_or, None, cond, lt-ltb, le-ltb, sym, ap, subst, ◌∙◌, inl, inr, arith, length-append}
 use Rattle.std.proofs.Math.Nat.{mod-eq_of_lt}
 use Rattle.std.proofs.lemmas.Bool.{cases_lt}
 use Rattle.std.proofs.lemmas.List.{ext_get_or, get_or-map, get_or-replicate, get_or_append_left, get_or-append_right, length-map, length-replicate}
@@ -23,7 +23,6 @@ use Rattle.cob_codec_lanes.specs.Wide.{AreHeldWide, AreWidelyRead, IsWideKeeperO
 use Rattle.cob_codec_lanes.specs.declared.long_text.LongText.{LongText}
 use Rattle.cob_move_receive.specs.Sent.{Entry}
 use Rattle.cob_move_receive.specs.Characters.{GivesDigits, numerals_to_point, padded, padded_left}
-use Rattle.cob_move_receive.specs.Copying.{is_of_characters}
 use Rattle.cob_move_receive.specs.Received.{GetsCharacters, GetsNumber, Received, outcome}
 use Rattle.cob_move_steps.specs.Ends.{GivesSigned, item_digits, SuitsReading}
 use Rattle.cob_move_steps.specs.Long.{IsLongCharactersFor, IsLongNumeralsStep}

@@ -1,5 +1,5 @@
 -- Numbers of edited items of any number of digits, read by prepared texts: the digits are taken out into two vectors, their text is made again, and compared.
-use Rattle.std.proofs.Common.{◌≡◌, ◌↔◌, ◌⊎◌, ℕ, ◌+◌, ◌-◌, ◌*◌, ◌%◌, ◌^◌, ◌<◌, ◌≤◌, ◌==◌, pos, Bool, true, false, not, IsTrue, List, ◌++◌, length, take, drop, replicate, count_by, get_or, refl, sym, ap, subst, ◌∙◌, inl, inr, arith, length-append, length-take-le, length-drop, get_or-take}
+use Rattle.std.proofs.Common.{◌≡◌, ◌↔◌, ℕ, ◌+◌, ◌-◌, ◌*◌, ◌%◌, ◌^◌, ◌<◌, ◌≤◌, ◌==◌, pos, Bool, true, false, not, IsTrue, List, ◌++◌, length, take, drop, replicate, count_by, get_or, refl, sym, ap, subst, ◌∙◌, inl, inr, arith, length-take-le, length-drop, get_or-take}
 use Rattle.std.specs.Bool.{IsFalse}
 use Rattle.std.specs.List.{prefix_len}
 use Rattle.std.proofs.Math.Nat.{mod-eq_of_lt, pow-le-pow_right}

@@ -9,7 +9,6 @@ use Rattle.cob_codec_lanes.specs.LongTexts.{AreLonglyShown}
 use Rattle.cob_codec_lanes.specs.Texts.{IsKeeperOf}
 use Rattle.cob_codec_lanes.specs.Wide.{IsWideRead}
 use Rattle.cob_codec_lanes.specs.Windows.{last_bytes}
-use Rattle.cob_codec_lanes.specs.declared.long_places.LongPlaces.{LongPlaces}
 use Rattle.cob_codec_lanes.specs.declared.long_text.LongText.{LongText}
 use Rattle.cob_move_steps.specs.Ends.{GivesSigned, item_digits}
 use Rattle.cob_move_steps.specs.LongDigits.{last_count}

@@ -99,24 +99,43 @@ pub fn try_long_to_edited(
     Ok(tally)
 }
 
+/// A step to a zoned item of so many digits.
+#[derive(Drop)]
+struct NearStep {
+    step: LongStep,
+    digits: usize,
+    ghost most: { digits ≤ 31 },
+}
+
+/// The most digits of an item at a scale.
+fn digits_at(scale: i32) -> u32
+    ensures { result ≤ 31 }
+{
+    if scale < 0 {
+        31u32.saturating_sub(scale.unsigned_abs())
+    } else {
+        31
+    }
+}
+
 /// Moves a text in which one byte is each of those of symbols, and counts what came of it.
-fn tally_place(step: &LongStep, record: &mut [u8], place: usize, tally: &mut Tally) {
+fn tally_place(near: &NearStep, record: &mut [u8], place: usize, tally: &mut Tally) {
     for byte in NEAR {
         put(record, place, byte);
         let mut bytes = [UNWRITTEN; 31];
-        let moved = step.run(record, &mut bytes);
-        tally.count(moved, &bytes);
+        let moved = near.step.run(record, &mut bytes[..near.digits]);
+        tally.count(moved, &bytes[..near.digits]);
     }
 }
 
 /// Moves the text of so many bytes that ends a record, with each byte another in turn.
-fn tally_near(step: &LongStep, record: &mut [u8], size: usize, tally: &mut Tally) {
+fn tally_near(near: &NearStep, record: &mut [u8], size: usize, tally: &mut Tally) {
     let first = record.len().saturating_sub(size);
     for number in 0..size {
         let place = first.saturating_add(number);
         if place < record.len() {
             let kept = record[place];
-            tally_place(step, record, place, tally);
+            tally_place(near, record, place, tally);
             put(record, place, kept);
         }
     }
@@ -126,7 +145,7 @@ fn tally_near(step: &LongStep, record: &mut [u8], size: usize, tally: &mut Tally
 fn try_step(
     alloc: Global,
     sender: &Item,
-    step: &LongStep,
+    near: &NearStep,
     draws: &mut Draws,
     tally: &mut Tally,
 ) -> Result<(), AllocError> {
@@ -134,11 +153,11 @@ fn try_step(
     let minus = sender.picture.signed();
     for digits in [&[0u8; 31][..1], &[1u8; 31][..1], &[9u8; 31][..31]] {
         let mut text = text_of(alloc, sender, minus, digits)?;
-        tally_near(step, text.as_mut_slice(), size, tally);
+        tally_near(near, text.as_mut_slice(), size, tally);
     }
     for _ in 0..TRIES {
         let mut record = drawn_text(alloc, sender, draws)?;
-        tally_near(step, record.as_mut_slice(), size, tally);
+        tally_near(near, record.as_mut_slice(), size, tally);
     }
     Ok(())
 }
@@ -153,9 +172,14 @@ pub fn try_long_near(
     let [_, zoned, _, _, _, _, _] = kinds();
     if let Some(sender) = item_of(from) {
         let scale = i32::from(sender.picture.scale());
-        if let Some(receiver) = item_at(alloc, &zoned, 31, scale)? {
+        let digits = digits_at(scale);
+        if let Some(receiver) = item_at(alloc, &zoned, digits, scale)? {
             if let Some(step) = LongStep::prepare(alloc, &sender, &receiver)? {
-                try_step(alloc, &sender, &step, draws, &mut tally)?;
+                let near = NearStep {
+                    step,
+                    digits: digits as usize,
+                };
+                try_step(alloc, &sender, &near, draws, &mut tally)?;
             }
         }
     }

@@ -1,4 +1,4 @@
-use Rattle.std.proofs.Common.{◌≡◌, ◌<◌, ◌≤◌, ◌∙◌, ℕ, List, length, take, ap, subst, arith, get_or-take, length-take-le}
+use Rattle.std.proofs.Common.{◌≡◌, ◌≤◌, ◌∙◌, ℕ, List, take, ap, subst, arith, get_or-take, length-take-le}
 use Rattle.cob_edit.specs.declared.cell.TextCell.{TextCell}
 use Rattle.cob_edit.specs.declared.cell.TextCell.TheVariants.{Same}
 use Rattle.cob_move_steps.specs.LongNumerals.{numeral_cell}

@@ -1,7 +1,5 @@
-use Rattle.std.proofs.Common.{◌≡◌, sym, subst, ◌∙◌, ap, length}
-use Rattle.cob_copybook_tree.specs.Lengths.{item_size}
+use Rattle.std.proofs.Common.{sym, subst, ◌∙◌, ap, length}
 use Rattle.cob_edit.specs.Rows.{IsRowOf}
-use Rattle.cob_move_steps.specs.Ends.{item_digits}
 use Rattle.cob_move_steps.specs.LongTexts.{IsLongTextOf}
 use Rattle.cob_move_steps.proofs.LongTextLemmas.{long_padded, long_text_made}
 use Rattle.cob_move_steps.proofs.long_texts.long_text_for.Goals as goal
