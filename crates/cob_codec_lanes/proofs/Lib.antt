@@ -23,3 +23,4 @@ pub mod WideWordLemmas
 pub mod DigitWriting
 pub mod PairReading
 pub mod LongTextLemmas
+pub mod LongPlaceLemmas

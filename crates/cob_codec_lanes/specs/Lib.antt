@@ -12,3 +12,4 @@ pub mod DigitItems
 pub mod WideWords
 pub mod Pairs
 pub mod LongTexts
+pub mod LongPlaces

@@ -26,6 +26,7 @@
 //! [`DigitReader`] reads those that have a byte for each of sixteen digits and more: zoned ones, ones with a separate sign, and characters.
 //! [`WideWordReader`] reads binary ones. [`WideKeeper::keep`] keeps the digits that are wanted (`AreWanted`). [`DigitWriter`] and
 //! [`WideWordWriter`] write such digits as [`WideWriter`] does, and [`LongText::write`] shows them in a text of at most forty-eight bytes.
+//! Such a text stands in [`LongTextLanes`]; [`LongPlaces::digits`] takes digits out of it, and [`LongText::is`] compares.
 //!
 //! It knows no record and no move, and nothing here takes memory.
 //!
@@ -38,7 +39,8 @@
 //! `numerals` reads characters, each a digit, as a whole number (`AreNumeralsOf`); `LaneText::write`, `WideText::write` and `WideText::is`,
 //! `DigitPlaces::digits`, `KeptDigits::keep` (specs/Texts.antt) and `zeros_before`. Of numbers in two vectors: what `PairReader`, `DigitReader` and
 //! `WideWordReader` read (`IsPairRead`, `AreDigitsRead`, `IsWideWordRead`), that `WideKeeper::keep` keeps the digits that are wanted, what `DigitWriter`
-//! and `WideWordWriter` leave (`IsDigitWriterOf`, `IsWideWordWritten`), and `LongText::write` (`AreLonglyShown`).
+//! and `WideWordWriter` leave (`IsDigitWriterOf`, `IsWideWordWritten`), `LongText::write` and `LongText::is` (`AreLonglyShown`), and
+//! `LongPlaces::digits` (`AreDigitsAt`).
 #![tactic(auto)]
 
 mod binary;
@@ -53,7 +55,10 @@ mod digit_writer;
 mod digit_writing;
 mod filling;
 mod lanes;
+mod long_places;
 mod long_text;
+mod long_text_lanes;
+mod long_text_reading;
 mod long_texts;
 mod pair_reader;
 mod pair_reading;
@@ -81,7 +86,9 @@ pub use digit_reader::DigitReader;
 pub use digit_writer::DigitWriter;
 pub use digit_writing::put_characters;
 pub use lanes::{Bounds, NO_LANE, Picks, keeps_minus, keeps_minus_of_both, zeros_before};
+pub use long_places::LongPlaces;
 pub use long_text::{LongText, PairText};
+pub use long_text_lanes::LongTextLanes;
 pub use pair_reader::PairReader;
 pub use reader::LaneReader;
 pub use reading::LanesRead;

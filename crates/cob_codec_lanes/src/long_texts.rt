@@ -29,7 +29,7 @@ fn put_all(front: &[u8], middle: &[u8], back: &[u8], out: &mut [u8])
 impl PairText {
     /// Sixteen bytes of the text of the digits of a number and its sign.
     #[inline(always)]
-    fn made(&self, front: u8x16, back: u8x16, minus: bool) -> u8x16
+    pub(crate) fn made(&self, front: u8x16, back: u8x16, minus: bool) -> u8x16
         ensures { AreShownOfBoth self.now minus front back result }
     {
         let digits = sums(picked(front, &self.front), picked(back, &self.back));

@@ -69,7 +69,7 @@ pub(crate) fn put_both(front: &[u8], back: &[u8], out: &mut [u8])
 
 /// Whether thirty-two bytes are those of a text.
 #[inline(always)]
-fn are_both_same(front: u8x16, back: u8x16, text: &TextLanes) -> bool
+pub(crate) fn are_both_same(front: u8x16, back: u8x16, text: &TextLanes) -> bool
     ensures { IsTrue result ↔ (front ++ back ≡ all_lanes text.now) }
 {
     are_same(front, text.front) && are_same(back, text.back)
@@ -77,7 +77,7 @@ fn are_both_same(front: u8x16, back: u8x16, text: &TextLanes) -> bool
 
 /// At most sixteen bytes, with zeros behind them.
 #[inline(always)]
-fn front_lanes(bytes: &[u8]) -> u8x16
+pub(crate) fn front_lanes(bytes: &[u8]) -> u8x16
     requires { length bytes.now ≤ 16 }
     ensures { result ≡ bytes.now ++ replicate (16 - length bytes.now) 0 }
 {
@@ -99,7 +99,7 @@ fn place_from(start: u8, byte: u8) -> u8
 }
 
 /// For each of these bytes its lane in sixteen that start at one, if it is one of them.
-fn places_from(start: u8, bytes: &[u8]) -> Picks
+pub(crate) fn places_from(start: u8, bytes: &[u8]) -> Picks
     requires { length bytes.now ≤ 16 }
     ensures each { (k : ℕ) → k < length bytes.now
         → slice_index result.lanes k ≡ place_from start (slice_index bytes.now k) }
@@ -134,7 +134,7 @@ fn above_zero(v: u8x16) -> u8x16
 
 /// The digit that each byte shows, and 0 for a byte that shows none.
 #[inline(always)]
-fn digits_shown(v: u8x16) -> u8x16
+pub(crate) fn digits_shown(v: u8x16) -> u8x16
     ensures long { length result ≡ 16 }
     ensures lanes { (i : ℕ) → i < 16 → slice_index result i ≡ digit_shown (slice_index v i) }
 {

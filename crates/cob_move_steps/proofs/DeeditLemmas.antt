@@ -39,7 +39,7 @@ use Rattle.cob_move_steps.proofs.TextLemmas.{led_digits}
 pub shown_same : (b : ℕ) → shown_digit b ≡ digit_shown b
 shown_same b = refl
 
-digit_small : (b : ℕ) → digit_shown b < 10
+pub digit_small : (b : ℕ) → digit_shown b < 10
 digit_small b = grind (arith, nat_tests)
 
 -- one place
@@ -112,7 +112,7 @@ zeros_at n i =
     let long : length (replicate {A = ℕ} n 0) ≡ n = length-replicate {A = ℕ} n 0 in
     elim (cases_lt i n) [ inl lt ↦ get_or-replicate {A = ℕ} n i 0 0 lt | inr ge ↦ get_or_past (replicate {A = ℕ} n 0) i 0 (omega (arith, long)) ]
 
-padded_at : (xs : List ℕ) (n i : ℕ) → get_or (xs ++ replicate n 0) i 0 ≡ get_or xs i 0
+pub padded_at : (xs : List ℕ) (n i : ℕ) → get_or (xs ++ replicate n 0) i 0 ≡ get_or xs i 0
 padded_at xs n i =
     elim (cases_lt i (length xs)) [
       | inl lt ↦ get_or-append xs (replicate n 0) 0 i lt
@@ -130,7 +130,7 @@ digits_out ps bytes lanes count same few d =
     ∙ ap digit_shown (padded_at bytes (32 - length bytes) (get_or ats k 0))
     ∙ sym (extract_at ps 0 bytes k inside))
 
-lanes_led : (ats bytes lanes : List ℕ) (count : ℕ) → length ats ≡ count → AreDigitsAt ats bytes lanes → AreLed count lanes
+pub lanes_led : (ats bytes lanes : List ℕ) (count : ℕ) → length ats ≡ count → AreDigitsAt ats bytes lanes → AreLed count lanes
 lanes_led ats bytes lanes count same d = record {
   long = d.long;
   tens = λ i lt.
@@ -192,7 +192,7 @@ module _ (i : Item) (item lanes : List ℕ) (zeros : ℕ) (t : WideText) (c : Ar
   }
 
 -- a text with a minus is that of a number below zero, or it is the text without
-minus_or_plain : (p : PlainPicture) (blank : Bool) (ds bytes : List ℕ) → IsDigits ds → length ds ≡ digits p.positions → IsEdited p blank true ds (scale p.positions) bytes
+pub minus_or_plain : (p : PlainPicture) (blank : Bool) (ds bytes : List ℕ) → IsDigits ds → length ds ≡ digits p.positions → IsEdited p blank true ds (scale p.positions) bytes
     → IsInRange p true ds ⊎ IsEdited p blank false ds (scale p.positions) bytes
 minus_or_plain p blank ds bytes valid count e = go e.minus refl
   where

@@ -15,3 +15,5 @@ pub mod LongKinds
 pub mod LongDigits
 pub mod LongLemmas
 pub mod LongTextLemmas
+pub mod LongReadLemmas
+pub mod LongNumeralLemmas

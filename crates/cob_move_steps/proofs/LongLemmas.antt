@@ -24,7 +24,7 @@ use Rattle.cob_move_receive.specs.Sent.{Amount, Entry}
 use Rattle.cob_move_receive.specs.Numbers.{AreNumerals, GivesUnder, HoldsAligned, IsNumberIn, IsReadAs, ItemGives, digits_of}
 use Rattle.cob_move_receive.specs.Received.{Received, GetsNumber, GetsCharacters, outcome}
 use Rattle.cob_move_steps.specs.Ends.{GivesSigned, item_digits}
-use Rattle.cob_move_steps.specs.Long.{IsCharacterNumber, IsLongReceiverFor, IsLongStep, IsLongWriterFor, SendsLong}
+use Rattle.cob_move_steps.specs.Long.{IsCharacterNumber, IsLongNumberStep, IsLongReceiverFor, IsLongWriterFor, SendsAnyLong, SendsLong}
 use Rattle.cob_move_steps.specs.LongDigits.{last_count, long_digits}
 use Rattle.cob_move_steps.specs.Texts.{IsPlainlyEdited}
 use Rattle.cob_move_steps.specs.declared.long_ends.LongReceiver.{LongReceiver}
@@ -33,7 +33,7 @@ use Rattle.cob_move_steps.specs.declared.long_ends.LongWriter.{LongWriter}
 use Rattle.cob_move_steps.specs.declared.long_ends.LongWriter.TheVariants as writer
 use Rattle.cob_move_steps.specs.Steps.{received_form}
 use Rattle.cob_move_steps.specs.declared.long_step.LongStep.{LongStep}
-use Rattle.cob_move_steps.proofs.GivenLemmas.{at_scale, from_false, low_digits, match_false, number_gives, number_sent, numeral_digits, numeral_zones, numerals_are}
+use Rattle.cob_move_steps.proofs.GivenLemmas.{at_scale, from_false, gives_scaled, low_digits, match_false, number_gives, number_sent, numeral_digits, numeral_zones, numerals_are}
 use Rattle.cob_move_steps.proofs.AnyNumberLemmas.{left_nonzero, size_is}
 use Rattle.cob_move_steps.proofs.EditLemmas.{edited_of_sent}
 use Rattle.cob_move_steps.proofs.LongDigits.{AreLongDigits, long_are}
@@ -130,6 +130,13 @@ gives_long reading i bytes v sends g =
           })
     ]
 
+gives_any_long : (reading : Reading) (i : Item) (bytes : List ℕ) (v : Amount) → SendsAnyLong i → ItemGives reading i bytes v → GivesSigned reading i bytes v.negative v.digits
+gives_any_long reading i bytes v sends g =
+    elim sends [
+      | inl s ↦ gives_long reading i bytes v s g
+      | inr edited ↦ gives_scaled reading i bytes v (inr (inr edited.plainly)) g
+    ]
+
 -- ---- what is moved
 
 -- such a receiver is a number
@@ -139,7 +146,7 @@ long_number to (writer.Packed w) is = is.number
 long_number to (writer.Digits w) is = is.number
 long_number to (writer.Word w) is = is.number
 
-pub moved_long : (s r : Item) (step : LongStep) (reading : Reading) (item front back first last new : List ℕ) (told minus left zero_is : Bool) (n : ℕ) → IsLongStep s r step → IsNumberItem r → n ≡ item_size r → not told ≡ false
+pub moved_long : (s r : Item) (step : LongStep) (reading : Reading) (item front back first last new : List ℕ) (told minus left zero_is : Bool) (n : ℕ) → IsLongNumberStep s r step → IsNumberItem r → n ≡ item_size r → not told ≡ false
     → IsWideRead (GivesSigned reading s item) told minus front back
     → ((number wanted : ℕ) (shift : ℤ) → IsWideKeeperOf wanted shift step.front → AreHeldWide number front back → AreWanted wanted shift number first)
     → ((number wanted : ℕ) (shift : ℤ) → IsWideKeeperOf wanted shift step.back → AreHeldWide number front back → AreWanted wanted shift number last)
@@ -167,7 +174,7 @@ moved_long s r step reading item front back first last new told minus left zero_
     )
 
 -- an edited receiver
-pub moved_to_text : (s r : Item) (step : LongStep) (reading : Reading) (item front back first last new : List ℕ) (told minus : Bool) (n : ℕ) → IsLongStep s r step → IsPlainlyEdited r → not told ≡ false
+pub moved_to_text : (s r : Item) (step : LongStep) (reading : Reading) (item front back first last new : List ℕ) (told minus : Bool) (n : ℕ) → IsLongNumberStep s r step → IsPlainlyEdited r → not told ≡ false
     → IsWideRead (GivesSigned reading s item) told minus front back
     → ((number wanted : ℕ) (shift : ℤ) → IsWideKeeperOf wanted shift step.front → AreHeldWide number front back → AreWanted wanted shift number first)
     → ((number wanted : ℕ) (shift : ℤ) → IsWideKeeperOf wanted shift step.back → AreHeldWide number front back → AreWanted wanted shift number last)
@@ -194,9 +201,10 @@ moved_to_text s r step reading item front back first last new told minus n is re
 receiver_shows : (r : Item) (w : LongReceiver) → IsLongReceiverFor r w → shows_number r.picture.category ≡ true
 receiver_shows r (receiver.Number w) is = number_shows r (number_item r (long_number r w is))
 receiver_shows r (receiver.Text w) is = is.edited.plainly.shows
+receiver_shows r (receiver.Characters w) is = absurd is
 
-pub not_moved_long : (s r : Item) (step : LongStep) (reading : Reading) (item front back new : List ℕ) (told minus : Bool) (n : ℕ) → IsLongStep s r step → not told ≡ true → IsWideRead (GivesSigned reading s item) told minus front back
+pub not_moved_long : (s r : Item) (step : LongStep) (reading : Reading) (item front back new : List ℕ) (told minus : Bool) (n : ℕ) → IsLongNumberStep s r step → not told ≡ true → IsWideRead (GivesSigned reading s item) told minus front back
     → Received (Entry (ItemKind s) item reading) (ItemKind r) n (outcome false new)
 not_moved_long s r step reading item front back new told minus n is none read =
     match_true (shows_number r.picture.category) (GetsNumber (Entry (ItemKind s) item reading) r None) (GetsCharacters (Entry (ItemKind s) item reading) (ItemKind r) n None) (receiver_shows r step.writer is.writer)
-    (λ v gives. read.nothing (not_true told none) v.negative v.digits (gives_long reading s item v is.sends gives))
+    (λ v gives. read.nothing (not_true told none) v.negative v.digits (gives_any_long reading s item v is.sends gives))

@@ -1,7 +1,7 @@
 -- Texts of edited items that are made of digits in two vectors.
-use Rattle.std.proofs.Common.{◌≡◌, ℕ, suc, ◌+◌, ◌-◌, ◌%◌, ◌<◌, ◌≤◌, ◌==◌, ◌&&◌, Bool, true, false, cond, ltb, leb, List, [], ◌∷◌, ◌++◌, length, take, get_or, refl, sym, ap, subst, ◌∙◌, inl, inr, arith, lt-ltb, le-ltb, length-take-le, get_or-take}
+use Rattle.std.proofs.Common.{◌≡◌, ℕ, suc, ◌+◌, ◌-◌, ◌%◌, ◌<◌, ◌≤◌, ◌==◌, ◌&&◌, Bool, true, false, cond, ltb, leb, List, [], ◌∷◌, ◌++◌, length, take, drop, replicate, get_or, refl, sym, ap, subst, ◌∙◌, inl, inr, arith, lt-ltb, le-ltb, length-take-le, length-drop, get_or-take}
 use Rattle.std.proofs.lemmas.Bool.{cases_lt, le-leb, lt-leb}
-use Rattle.std.proofs.lemmas.List.{ext_get_or, get_or_past, get_or_append_left, get_or-append_right, get_or-map, length-append, length-map}
+use Rattle.std.proofs.lemmas.List.{ext_get_or, get_or_past, get_or_append_left, get_or-append_right, get_or-drop, get_or-map, get_or-replicate, length-append, length-map, length-replicate}
 use Rattle.std.specs.List.{prefix_len}
 use Rattle.cob_cp037.specs.Named.{zero_byte}
 use Rattle.cob_picture.specs.Counts.{scale}
@@ -19,6 +19,7 @@ use Rattle.cob_codec_lanes.specs.declared.long_text.PairText.{PairText}
 use Rattle.cob_codec_lanes.proofs.HalfLemmas.{all_digits}
 use Rattle.cob_move_steps.specs.Ends.{item_digits}
 use Rattle.cob_move_steps.specs.LongDigits.{last_count, long_digits}
+use Rattle.cob_move_steps.specs.LongReads.{ArePaddedBehind, IsPaddedBehind}
 use Rattle.cob_move_steps.specs.LongTexts.{AreLongTextsFor, IsLongTextFor, IsLongTextOf, IsPairTextOf, back_lane, front_lane}
 use Rattle.cob_move_steps.specs.Texts.{added_to, cell_in}
 use Rattle.cob_move_steps.proofs.LongDigits.{few_last, many_last}
@@ -72,16 +73,16 @@ last_left count =
 
 -- ---- the bytes of a text
 
-long_length : (count : ℕ) (front back : List ℕ) → count ≤ 31 → length front ≡ 16 → length back ≡ 16 → length (long_digits count front back) ≡ count
+pub long_length : (count : ℕ) (front back : List ℕ) → count ≤ 31 → length front ≡ 16 → length back ≡ 16 → length (long_digits count front back) ≡ count
 long_length count front back few first last =
     let left : count - (count - 16) ≡ last_count count = last_left count in
     omega (arith, length-append (take (count - 16) front) (take (last_count count) back), length-take-le (count - 16) front (omega arith), length-take-le (last_count count) back (omega arith), left)
 
-digit_in_front : (count n : ℕ) (front back : List ℕ) → count ≤ 31 → length front ≡ 16 → n < count - 16 → get_or (long_digits count front back) n 0 ≡ get_or front n 0
+pub digit_in_front : (count n : ℕ) (front back : List ℕ) → count ≤ 31 → length front ≡ 16 → n < count - 16 → get_or (long_digits count front back) n 0 ≡ get_or front n 0
 digit_in_front count n front back few first lt =
     get_or_append_left (take (count - 16) front) (take (last_count count) back) 0 n (omega (arith, length-take-le (count - 16) front (omega arith))) ∙ get_or-take (count - 16) front n 0 lt
 
-digit_behind : (count n : ℕ) (front back : List ℕ) → count ≤ 31 → length front ≡ 16 → length back ≡ 16 → count - 16 ≤ n → n < count → get_or (long_digits count front back) n 0 ≡ get_or back (n - (count - 16)) 0
+pub digit_behind : (count n : ℕ) (front back : List ℕ) → count ≤ 31 → length front ≡ 16 → length back ≡ 16 → count - 16 ≤ n → n < count → get_or (long_digits count front back) n 0 ≡ get_or back (n - (count - 16)) 0
 digit_behind count n front back few first last ge lt =
     let left : count - (count - 16) ≡ last_count count = last_left count in
     get_or-append_right (take (count - 16) front) (take (last_count count) back) (count - 16) n 0 (length-take-le (count - 16) front (omega arith)) ge
@@ -174,7 +175,7 @@ long_all : (t : LongText) (negative : Bool) (front back bytes : List ℕ) → Ar
 long_all t negative front back bytes shown =
     ap length shown.all ∙ omega (arith, length-append (shown.one ++ shown.two) shown.three, length-append shown.one shown.two, shown.first.long, shown.second.long, shown.third.long)
 
-long_row : (count : ℕ) (row : List TextCell) (t : LongText) (negative : Bool) (front back bytes : List ℕ) → length row ≤ 48 → count ≤ 31 → length front ≡ 16 → length back ≡ 16 → AreTens front → AreTens back
+pub long_row : (count : ℕ) (row : List TextCell) (t : LongText) (negative : Bool) (front back bytes : List ℕ) → length row ≤ 48 → count ≤ 31 → length front ≡ 16 → length back ≡ 16 → AreTens front → AreTens back
     → IsLongTextOf count row t → AreLonglyShown t negative front back bytes → take (length row) bytes ≡ row_bytes (long_digits count front back) negative row
 long_row count row t negative front back bytes fits few first last tens more is shown =
     let ds : List ℕ = long_digits count front back in
@@ -185,7 +186,7 @@ long_row count row t negative front back bytes fits few first last tens more is 
     get_or-take (length row) bytes i 0 inside ∙ each.0 ∙ one_long_cell (cell_in row i) count negative front back few first last tens more each.1
     ∙ sym (get_or-map (cell_byte ds negative) row i (Same 0) 0 inside))
 
-long_valid : (count : ℕ) (front back : List ℕ) → count ≤ 31 → length front ≡ 16 → length back ≡ 16 → AreTens front → AreTens back → IsDigits (long_digits count front back)
+pub long_valid : (count : ℕ) (front back : List ℕ) → count ≤ 31 → length front ≡ 16 → length back ≡ 16 → AreTens front → AreTens back → IsDigits (long_digits count front back)
 long_valid count front back few first last tens more =
     let size : length (long_digits count front back) ≡ count = long_length count front back few first last in
     all_digits (long_digits count front back) (λ i lt. elim (cases_lt i (count - 16)) [
@@ -202,6 +203,21 @@ long_text_made to leading row t few fits size is texts negative front back bytes
     subst (λ xs. IsEdited to.picture to.blank negative (long_digits count front back) (scale to.picture.positions) xs) (sym here)
     (texts negative (long_digits count front back) (long_valid count front back few first last tens more) (long_length count front back few first last) told)
 
+-- behind the bytes of an item a text has zeros
+pub long_padded : (to : Item) (row : List TextCell) (t : LongText) → item_size to ≤ 48 → item_size to ≡ length row → IsLongTextOf (item_digits to) row t → IsPaddedBehind to t
+long_padded to row t fits size is negative front back bytes shown =
+    let n : ℕ = length row in
+    let long : length (drop n bytes) ≡ 48 - n = length-drop n bytes ∙ ap (λ k. k - n) (long_all t negative front back bytes shown) in
+    ap (λ k. drop k bytes) size
+    ∙ ext_get_or 0 (drop n bytes) (replicate (48 - n) 0) (long ∙ sym (length-replicate (48 - n) 0)) (λ i lt.
+    let inside : n + i < 48 = omega arith in
+    let each = each_shown (item_digits to) row t negative front back bytes (n + i) is shown inside in
+    get_or-drop n bytes i 0
+    ∙ each.0
+    ∙ ap (long_byte negative (item_digits to) front back) (get_or_past row (n + i) (Same 0) (omega arith))
+    ∙ sym (get_or-replicate (48 - n) i 0 0 (omega arith)))
+    ∙ ap (λ k. replicate (48 - k) 0) (sym size)
+
 -- ---- many texts
 
 pub long_texts_more : (to : Item) (zeros : ℕ) (before after : List LongText) (t : LongText) → length before ≡ zeros → AreLongTextsFor to 0 before → IsLongTextFor to zeros t → after ≡ before ++ t ∷ []
@@ -210,3 +226,9 @@ long_texts_more to zeros before after t long all one is = more_numbered (IsLongT
 
 pub long_text_at : (to : Item) (ts : List LongText) (i : ℕ) (d : LongText) → AreLongTextsFor to 0 ts → i < length ts → IsLongTextFor to i (get_or ts i d)
 long_text_at to ts i d all lt = first_numbered (IsLongTextFor to) ts i d all lt
+
+pub behind_more : (to : Item) (zeros : ℕ) (before after : List LongText) (t : LongText) → length before ≡ zeros → ArePaddedBehind to before → IsPaddedBehind to t → after ≡ before ++ t ∷ [] → ArePaddedBehind to after
+behind_more to zeros before after t long all one is = (more_numbered (λ k. IsPaddedBehind to) zeros before after t long all one is).1
+
+pub behind_at : (to : Item) (ts : List LongText) (i : ℕ) (d : LongText) → ArePaddedBehind to ts → i < length ts → IsPaddedBehind to (get_or ts i d)
+behind_at to ts i d all lt = first_numbered (λ k. IsPaddedBehind to) ts i d all lt

@@ -43,10 +43,10 @@ use Rattle.cob_move_steps.proofs.StepLemmas.{from_match, match_true, not_false, 
 
 -- ---- the digits that are kept are the number's own
 
-none_moved : (s : ℤ) → s -ℤ s ≡ pos 0
+pub none_moved : (s : ℤ) → s -ℤ s ≡ pos 0
 none_moved s = omega (arith, ints)
 
-all_shifted : (a : ℕ) → shifted a (pos 0) ≡ a
+pub all_shifted : (a : ℕ) → shifted a (pos 0) ≡ a
 all_shifted a = omega arith
 
 pub kept_own : (count : ℕ) (s : ℤ) (ds kept : List ℕ) → count ≤ 16 → length ds ≡ count → IsDigits ds → AreWanted count (s -ℤ s) (number_of ds) kept → take count kept ≡ ds

@@ -1,4 +1,4 @@
--- Single moves of numbers of any number of digits that are made ready: of numbers and characters, to numbers and edited items.
+-- Single moves of numbers of any number of digits that are made ready: of numbers, characters and edited items, to numbers, edited items and characters.
 use Rattle.std.specs.Prelude.{◌≡◌, ◌⊎◌, ℕ, ◌-◌, ◌<◌, ◌≤◌, pos, ◌-ℤ◌, Bool, IsTrue, List, length, Option}
 use Rattle.cob_decimal.specs.Decimal.{number_of}
 use Rattle.cob_picture.specs.Counts.{scale, signed}
@@ -24,7 +24,9 @@ use Rattle.cob_codec_lanes.specs.declared.wide_word.WideWordWriter.{WideWordWrit
 use Rattle.cob_codec_lanes.specs.declared.wide_writer.WideWriter.{WideWriter}
 use Rattle.cob_move_steps.specs.Ends.{GivesSigned, IsNumberWriterFor, item_digits, SuitsReading}
 use Rattle.cob_move_steps.specs.LongDigits.{last_count, long_digits}
-use Rattle.cob_move_steps.specs.LongTexts.{IsLongTextWriterFor}
+use Rattle.cob_move_steps.specs.LongNumerals.{AreLongNumeralsFor}
+use Rattle.cob_move_steps.specs.LongReads.{IsLongTextReaderFor}
+use Rattle.cob_move_steps.specs.LongTexts.{IsLongEditedItem, IsLongTextWriterFor}
 use Rattle.cob_move_steps.specs.Running.{ReceivedWhereRead}
 use Rattle.cob_move_steps.specs.Steps.{received_form}
 use Rattle.cob_move_steps.specs.declared.long_ends.LongReader.{LongReader}
@@ -47,6 +49,10 @@ pub record IsCharacterNumber (i : Item) : Type 0 where
 -- The item is a number, or characters that may be one.
 abbrev pub SendsLong : Item → Type 0
 SendsLong i = IsNumberItem i ⊎ IsCharacterNumber i
+
+-- The item is one of these, or edits a number in at most forty-eight bytes.
+abbrev pub SendsAnyLong : Item → Type 0
+SendsAnyLong i = SendsLong i ⊎ IsLongEditedItem i
 
 -- The reader reads a number's item of at most sixteen bytes, however it is sent.
 pub record IsPairReaderFor (from : Item) (r : PairReader) : Type 0 where
@@ -79,6 +85,7 @@ abbrev pub IsLongReaderFor : Item → LongReader → Type 0
 IsLongReaderFor from (reader.Lanes r) = IsPairReaderFor from r ⊎ IsNumeralPairFor from r
 IsLongReaderFor from (reader.Digits r) = AreDigitsReadFor from r ⊎ AreNumeralsReadFor from r
 IsLongReaderFor from (reader.Word r) = IsLongWordReaderFor from r
+IsLongReaderFor from (reader.Text r) = IsLongTextReaderFor from r
 
 -- What was read of the item at the end of bytes, for each item whose reader this is.
 abbrev pub IsLongRead : LongReader → List ℕ → (is_number minus : Bool) → (front back : List ℕ) → Type 0
@@ -117,21 +124,39 @@ IsLongWritten w front back minus n bytes =
     (to : Item) → IsLongWriterFor to w → n ≡ item_size to → AreTens front → AreTens back → (IsTrue minus → 0 < number_of (long_digits (item_digits to) front back))
     → bytes ≡ received_form to minus (long_digits (item_digits to) front back)
 
--- The writer writes what an item receives of a number.
+-- The writer writes what an item receives of a number, as a number or edited.
 abbrev pub IsLongReceiverFor : Item → LongReceiver → Type 0
 IsLongReceiverFor to (receiver.Number w) = IsLongWriterFor to w
 IsLongReceiverFor to (receiver.Text w) = IsLongTextWriterFor to w
+IsLongReceiverFor to (receiver.Characters w) = ⊥
+
+-- The writer writes the digits of the first item's number to the second as characters.
+abbrev pub IsLongCharactersFor : (from to : Item) → LongReceiver → Type 0
+IsLongCharactersFor from to (receiver.Number w) = ⊥
+IsLongCharactersFor from to (receiver.Text w) = ⊥
+IsLongCharactersFor from to (receiver.Characters w) = AreLongNumeralsFor from to w
 
 -- ---- steps
 
 -- The step moves the number that one item gives to another: it keeps the last sixteen of the digits that this has, and those in front of them.
-pub record IsLongStep (from to : Item) (step : LongStep) : Type 0 where
-  pub sends : SendsLong from
+pub record IsLongNumberStep (from to : Item) (step : LongStep) : Type 0 where
+  pub sends : SendsAnyLong from
   pub room : item_digits to ≤ 32
   pub reader : IsLongReaderFor from step.reader
   pub front : IsWideKeeperOf (item_digits to - 16) (scale to.picture.positions -ℤ scale from.picture.positions -ℤ pos 16) step.front
   pub back : IsWideKeeperOf (last_count (item_digits to)) (scale to.picture.positions -ℤ scale from.picture.positions) step.back
   pub writer : IsLongReceiverFor to step.writer
+
+-- The step moves the digits of one item's number to another as characters: it keeps the last sixteen, and those in front of them.
+pub record IsLongNumeralsStep (from to : Item) (step : LongStep) : Type 0 where
+  pub reader : IsLongReaderFor from step.reader
+  pub front : IsWideKeeperOf (item_digits from - 16) (scale from.picture.positions -ℤ scale from.picture.positions -ℤ pos 16) step.front
+  pub back : IsWideKeeperOf (last_count (item_digits from)) (scale from.picture.positions -ℤ scale from.picture.positions) step.back
+  pub writer : IsLongCharactersFor from to step.writer
+
+-- The step moves the number that one item gives to another, or its digits as characters.
+abbrev pub IsLongStep : (from to : Item) → LongStep → Type 0
+IsLongStep from to step = IsLongNumberStep from to step ⊎ IsLongNumeralsStep from to step
 
 -- What a receiver of n bytes holds after the move of the item that ends these bytes, or none: for each two items whose step this is, where the
 -- bytes have the sender at their end and n is the receiver's size.

@@ -21,8 +21,9 @@
 //!   give none;
 //! - a number of at most sixteen digits to characters: [`NumeralsStep::prepare`] gives one wherever the receiver takes characters without
 //!   insertions, and writes the digits without the sign, with a zero for each P at the right;
-//! - any other number, of up to 31 digits: [`LongStep::prepare`] gives one wherever the sender is a number or at most 31 characters, and the receiver is a
-//!   number, or edits one in at most forty-eight bytes. It holds the number in two vectors;
+//! - any other number, of up to 31 digits: [`LongStep::prepare`] gives one wherever the sender is a number, at most 31 characters or edited in at most
+//!   forty-eight bytes, and the receiver is a number, or edits one in at most forty-eight bytes; and for a number whose digits become characters. It
+//!   holds the number in two vectors;
 //! - characters without insertions, of a sender that gives its bytes as they are: [`CharactersStep::prepare`] gives one, and
 //!   [`ConstantStep::prepare`] that of a constant, whose bytes `receive` makes once. [`copy_all`] copies bytes.
 //!
@@ -54,9 +55,13 @@ mod edit_step;
 mod ends_preparing;
 mod ends_running;
 mod long_ends;
+mod long_numerals;
+mod long_numerals_writing;
 mod long_preparing;
 mod long_running;
 mod long_step;
+mod long_text_reader;
+mod long_text_reading;
 mod long_text_writer;
 mod long_texts;
 mod number_ends;
@@ -89,7 +94,9 @@ pub use characters_step::CharactersStep;
 pub use constant_step::ConstantStep;
 pub use edit_step::EditStep;
 pub use long_ends::{LongReader, LongReceiver, LongWriter};
+pub use long_numerals::LongNumerals;
 pub use long_step::LongStep;
+pub use long_text_reader::{LongTextReader, PairPlaces};
 pub use long_text_writer::LongTextWriter;
 pub use number_ends::{NumberReader, NumberWriter, ReceiverWriter};
 pub use numerals_step::NumeralsStep;

@@ -1,3 +1,5 @@
+use crate::long_numerals::LongNumerals;
+use crate::long_text_reader::LongTextReader;
 use crate::long_text_writer::LongTextWriter;
 use crate::number_ends::NumberWriter;
 use cob_codec_lanes::{
@@ -5,7 +7,7 @@ use cob_codec_lanes::{
 };
 
 /// What reads the number that items of one kind give, of any number of digits.
-#[derive(Clone, Copy)]
+#[derive(Drop)]
 pub enum LongReader {
     /// Those of at most sixteen bytes that aren't binary.
     Lanes(PairReader),
@@ -13,6 +15,8 @@ pub enum LongReader {
     Digits(DigitReader),
     /// Binary ones.
     Word(WideWordReader),
+    /// Edited ones.
+    Text(LongTextReader),
 }
 
 /// What writes the number of items of one kind of storage, of any number of digits.
@@ -35,4 +39,6 @@ pub enum LongReceiver {
     Number(LongWriter),
     /// Edited ones.
     Text(LongTextWriter),
+    /// Those that take its digits as characters.
+    Characters(LongNumerals),
 }

@@ -5,12 +5,14 @@ ghost use Rattle.cob_picture.specs.Counts.{scale};
 ghost use Rattle.cob_copybook_tree.specs.declared.kinds.StorageKind.TheVariants.{Binary, Packed, Separate, Zoned};
 ghost use Rattle.cob_copybook_tree.specs.Items.{IsNumberItem, storage_kind};
 ghost use Rattle.cob_move_steps.specs.Ends.{item_digits};
-ghost use Rattle.cob_move_steps.specs.Long.{IsCharacterNumber, IsLongReaderFor, IsLongStep, IsLongReceiverFor, IsLongWriterFor, SendsLong};
+ghost use Rattle.cob_move_steps.specs.Long.{IsCharacterNumber, IsLongNumberStep, IsLongNumeralsStep, IsLongReaderFor, IsLongStep, IsLongReceiverFor, IsLongWriterFor, SendsAnyLong, SendsLong};
 ghost use Rattle.cob_move_steps.specs.LongDigits.{last_count};
 
 use crate::ends_preparing::number_writer;
 use crate::long_ends::{LongReader, LongReceiver, LongWriter};
+use crate::long_numerals_writing::long_numerals;
 use crate::long_step::LongStep;
+use crate::long_text_reading::long_text_reader;
 use crate::long_texts::long_text_writer;
 use cob_codec_lanes::{
     DigitReader, DigitWriter, PairReader, Wanted, WideKeeper, WideWordReader, WideWordWriter,
@@ -114,6 +116,25 @@ fn long_reader(item: &Item) -> Option<LongReader>
         Some(numeral_reader(item))
     } else {
         None
+    }
+}
+
+/// What reads the numbers that an item gives, as a number, as characters or edited.
+///
+/// # Errors
+///
+/// There is not enough memory.
+fn any_reader(alloc: Global, item: &Item) -> Result<Option<LongReader>, AllocError>
+    ensures reader { IfOk result (λ reader. IfSome reader (IsLongReaderFor item.now)) }
+    ensures sends { IfOk result (λ reader. IfSome reader (λ r. SendsAnyLong item.now)) }
+    ensures must { SendsAnyLong item.now → IfOk result IsSome }
+{
+    if let Some(reader) = long_reader(item) {
+        return Ok(Some(reader));
+    }
+    match long_text_reader(alloc, item)? {
+        Some(reader) => Ok(Some(LongReader::Text(reader))),
+        None => Ok(None),
     }
 }
 
@@ -232,8 +253,51 @@ fn long_receiver(alloc: Global, receiver: &Item) -> Result<Option<LongReceiver>,
 }
 
 impl LongStep {
-    /// The step of the move of one item to another. There is one where the sender is a number or holds at most 31 characters, and the receiver is
-    /// a number, or edits one in at most 48 bytes.
+    /// The step of the move of one item's number to another.
+    ///
+    /// # Errors
+    ///
+    /// There is not enough memory.
+    fn to_number(
+        alloc: Global,
+        sender: &Item,
+        receiver: &Item,
+    ) -> Result<Option<LongStep>, AllocError>
+        ensures { IfOk result (λ step. IfSome step (IsLongNumberStep sender.now receiver.now)) }
+    {
+        let Some(writer) = long_receiver(alloc, receiver)? else {
+            return Ok(None);
+        };
+        let Some(reader) = any_reader(alloc, sender)? else {
+            return Ok(None);
+        };
+        let front = WideKeeper::of(front_wanted(sender, receiver));
+        let back = WideKeeper::of(last_wanted(sender, receiver));
+        Ok(Some(LongStep {
+            reader,
+            front,
+            back,
+            writer,
+        }))
+    }
+
+    /// The step of the move of the digits of one item's number to another as characters.
+    fn to_characters(sender: &Item, receiver: &Item) -> Option<LongStep>
+        ensures { IfSome result (IsLongNumeralsStep sender.now receiver.now) }
+    {
+        let writer = long_numerals(sender, receiver)?;
+        let reader = long_reader(sender)?;
+        Some(LongStep {
+            reader,
+            front: WideKeeper::of(front_wanted(sender, sender)),
+            back: WideKeeper::of(last_wanted(sender, sender)),
+            writer: LongReceiver::Characters(writer),
+        })
+    }
+
+    /// The step of the move of one item to another. There is one where the sender is a number, holds at most 31 characters, or is edited, in at
+    /// most 48 bytes, and the receiver is a number, or edits one in at most 48 bytes; and where the sender is a number whose digits are at most 48
+    /// characters, with a zero for each P at the right, and the receiver takes characters without insertions.
     ///
     /// # Errors
     ///
@@ -245,19 +309,9 @@ impl LongStep {
     ) -> Result<Option<LongStep>, AllocError>
         ensures { IfOk result (λ step. IfSome step (IsLongStep sender.now receiver.now)) }
     {
-        let Some(reader) = long_reader(sender) else {
-            return Ok(None);
-        };
-        let Some(writer) = long_receiver(alloc, receiver)? else {
-            return Ok(None);
-        };
-        let front = WideKeeper::of(front_wanted(sender, receiver));
-        let back = WideKeeper::of(last_wanted(sender, receiver));
-        Ok(Some(LongStep {
-            reader,
-            front,
-            back,
-            writer,
-        }))
+        match LongStep::to_number(alloc, sender, receiver)? {
+            Some(step) => Ok(Some(step)),
+            None => Ok(LongStep::to_characters(sender, receiver)),
+        }
     }
 }

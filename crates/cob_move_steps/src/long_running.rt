@@ -66,6 +66,7 @@ impl LongReader {
             LongReader::Lanes(reader) => reader.read(bytes),
             LongReader::Digits(reader) => read_digits(reader, bytes),
             LongReader::Word(reader) => read_word(reader, bytes),
+            LongReader::Text(reader) => reader.read(bytes),
         }
     }
 }
@@ -129,8 +130,8 @@ impl LongWriter {
 }
 
 impl LongStep {
-    /// Moves the number of the sender that ends bytes to a receiver's bytes, as a step of two shorter numbers does. A binary sender is read as
-    /// its picture says.
+    /// Moves the number of the sender that ends bytes to a receiver's bytes, as a step of two shorter numbers does, or its digits as characters. A
+    /// binary sender is read as its picture says.
     ///
     /// False where the sender's bytes represent no number: the receiver's bytes are as they were then.
     ///
@@ -153,6 +154,7 @@ impl LongStep {
                 writer.write(front, back, minus, to);
             }
             LongReceiver::Text(writer) => writer.write(front, back, read.minus, to),
+            LongReceiver::Characters(writer) => writer.write(front, back, to),
         }
         true
     }

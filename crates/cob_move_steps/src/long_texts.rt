@@ -6,6 +6,7 @@ ghost use Rattle.cob_edit.specs.Rows.{ArePlacesOf};
 ghost use Rattle.cob_codec_lanes.specs.Lanes.{is_pick};
 ghost use Rattle.cob_move_steps.specs.Ends.{item_digits};
 ghost use Rattle.cob_move_steps.specs.LongDigits.{long_digits};
+ghost use Rattle.cob_move_steps.specs.LongReads.{ArePaddedBehind, IsPaddedBehind};
 ghost use Rattle.cob_move_steps.specs.LongTexts.{AreLongTextsFor, IsLongEditedItem, IsLongTextFor, IsLongTextOf, IsLongTextWriterFor, IsLongTextWritten, IsPairTextOf, back_lane, front_lane};
 ghost use Rattle.cob_move_steps.specs.Texts.{cell_in};
 
@@ -20,7 +21,7 @@ use std::alloc::{AllocError, Global};
 use std::simd::prelude::*;
 
 /// Whether an item is edited, and three vectors of lanes hold its texts.
-fn is_long_edited_item(item: &Item) -> bool
+pub(crate) fn is_long_edited_item(item: &Item) -> bool
     ensures { IsTrue result ↔ IsLongEditedItem item.now }
 {
     is_edited(item) && item.picture.digits() <= 31 && item.size() <= 48
@@ -28,7 +29,7 @@ fn is_long_edited_item(item: &Item) -> bool
 
 /// How many of so many digits stand in front of the last sixteen.
 #[inline(always)]
-fn front_count(count: u8) -> u8
+pub(crate) fn front_count(count: u8) -> u8
     ensures { result ≡ count - 16 }
 {
     if count < 16 { 0 } else { count - 16 }
@@ -114,7 +115,7 @@ fn pair_text_of(count: u8, row: &[TextCell], start: usize) -> PairText
 }
 
 /// What makes a text whose bytes are these.
-fn long_text_of(count: u8, row: &[TextCell]) -> LongText
+pub(crate) fn long_text_of(count: u8, row: &[TextCell]) -> LongText
     requires { count ≤ 31 }
     ensures { IsLongTextOf count row.now result }
 {
@@ -129,16 +130,18 @@ fn long_text_of(count: u8, row: &[TextCell]) -> LongText
 fn long_text_for(item: &Item, places: &Places, zeros: usize) -> LongText
     requires item { IsLongEditedItem item.now }
     requires places { ArePlacesOf item.now.picture places.now.items }
-    ensures { IsLongTextFor item.now zeros result }
+    ensures text { IsLongTextFor item.now zeros result }
+    ensures padded { IsPaddedBehind item.now result }
 {
     let row = row_of(&item.picture, places, item.blank, zeros);
     long_text_of(item.picture.digits(), row.as_slice())
 }
 
 /// What makes the texts of numbers, by how many of their digits are zeros in front: none, one, and so on up to all.
-fn long_texts_for(alloc: Global, item: &Item) -> Result<Vec<LongText>, AllocError>
+pub(crate) fn long_texts_for(alloc: Global, item: &Item) -> Result<Vec<LongText>, AllocError>
     requires { IsLongEditedItem item.now }
     ensures texts { IfOk result (λ texts. AreLongTextsFor item.now 0 texts.items) }
+    ensures padded { IfOk result (λ texts. ArePaddedBehind item.now texts.items) }
     ensures each { IfOk result (λ texts. vec_len texts ≡ item_digits item.now + 1) }
 {
     let count = usize::from(item.picture.digits()) + 1;
@@ -172,7 +175,7 @@ pub(crate) fn long_text_writer(
 
 /// How many of so many digits of two vectors are zeros in front.
 #[inline(always)]
-fn zeros_of_both(front: u8x16, back: u8x16, count: u8) -> usize
+pub(crate) fn zeros_of_both(front: u8x16, back: u8x16, count: u8) -> usize
     requires { count ≤ 31 }
     ensures value { result ≡ prefix_len (λ d. d == 0) (long_digits count front back) }
     ensures within { result ≤ count }

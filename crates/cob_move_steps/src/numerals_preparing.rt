@@ -13,7 +13,7 @@ use cob_decimal::zeros_of;
 use cob_move_receive::is_of_characters;
 
 /// How many characters the digits of an item's number are, with a zero for each P at the right.
-fn numeral_count(item: &Item) -> usize
+pub(crate) fn numeral_count(item: &Item) -> usize
     ensures { result ≡ numeral_count item.now }
 {
     usize::from(item.picture.digits()) + usize::from(zeros_of(item.picture.scale()))

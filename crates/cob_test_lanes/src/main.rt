@@ -4,7 +4,8 @@
 //! figurative constants to entries of each length; numbers of which an item has more than sixteen digits. Then numbers are moved to edited items of
 //! more than sixteen bytes, from characters, from edited items and from bytes that are near their texts, and to characters. By steps of any number of
 //! digits numbers and characters of each length up to 31 are moved to each kind and to edited items; scales, bytes and signs are drawn, the same in
-//! each run. At the end the same steps move numbers between each two kinds, of each number of digits, at each two scales at the edges, with each sign.
+//! each run. The same steps then move numbers between each two kinds, of each number of digits, at each two scales at the edges, with each sign. At the
+//! end they move edited items of each kind, and numbers to characters.
 //! A line tells how many moves were made, how many senders represented no number, how many moves had no step, and the sum. `tools/lane_sums` works the
 //! same out from the rules alone.
 #![tactic(auto)]
@@ -15,6 +16,7 @@ mod draws;
 mod edited;
 mod kinds;
 mod long;
+mod long_senders;
 mod moves;
 mod near;
 mod numbers;
@@ -36,6 +38,7 @@ use crate::kinds::{all_kinds, kinds};
 use crate::long::{
     try_long_characters, try_long_edges, try_long_edited, try_long_kinds, try_long_numerals,
 };
+use crate::long_senders::{try_long_near, try_long_shown, try_long_to_edited, try_long_to_numbers};
 use crate::near::try_near;
 use crate::numbers::{try_kinds, try_wide_kinds};
 use crate::shown::try_shown;
@@ -233,6 +236,30 @@ fn print_long_numbers(rt: HostRuntime, draws: &mut Draws) -> io::Result<()> {
     print_edges(rt, draws)
 }
 
+/// Edited items by steps of numbers of any number of digits.
+fn print_long_deedited(rt: HostRuntime, kinds: &[EditedKind], draws: &mut Draws) -> io::Result<()> {
+    for from in kinds {
+        let tally = try_long_to_numbers(rt.alloc(), from, draws)?;
+        print_tally(rt, from.picture, "numbers", &tally)?;
+        let tally = try_long_to_edited(rt.alloc(), from, draws)?;
+        print_tally(rt, from.picture, "edited", &tally)?;
+        let tally = try_long_near(rt.alloc(), from, draws)?;
+        print_tally(rt, from.picture, "zoned trailing, one byte another", &tally)?;
+    }
+    Ok(())
+}
+
+/// Numbers of any number of digits as characters.
+fn print_long_shown(rt: HostRuntime, draws: &mut Draws) -> io::Result<()> {
+    for from in &all_kinds() {
+        let tally = try_long_shown(rt.alloc(), from, false, draws)?;
+        print_tally(rt, from.name, "characters", &tally)?;
+        let tally = try_long_shown(rt.alloc(), from, true, draws)?;
+        print_tally(rt, from.name, "JUSTIFIED", &tally)?;
+    }
+    Ok(())
+}
+
 fn main(rt: HostRuntime) -> io::Result<()> {
     let mut draws = Draws::new(1985);
     print_numbers(rt, &mut draws)?;
@@ -242,5 +269,9 @@ fn main(rt: HostRuntime) -> io::Result<()> {
     print_binary(rt, &mut draws)?;
     print_wide(rt, &mut draws)?;
     print_texts(rt, &mut draws)?;
-    print_long_numbers(rt, &mut draws)
+    print_long_numbers(rt, &mut draws)?;
+    print_long_deedited(rt, &edited_kinds(), &mut draws)?;
+    print_long_deedited(rt, &long_kinds(), &mut draws)?;
+    print_long_deedited(rt, &longest_kinds(), &mut draws)?;
+    print_long_shown(rt, &mut draws)
 }

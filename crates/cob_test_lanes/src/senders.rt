@@ -188,7 +188,7 @@ fn push_item(bytes: &mut Vec<u8>, kind: &ItemKind, drawn: &Drawn) -> Result<(), 
 
 /// Makes one of an item's bytes any, now and then.
 fn spoil(item: &mut [u8], draws: &mut Draws) {
-    if item.is_empty() || item.len() > 32 {
+    if item.is_empty() || item.len() > 48 {
         return;
     }
     if draws.below(8) == 0 {

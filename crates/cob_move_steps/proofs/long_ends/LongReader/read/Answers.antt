@@ -57,3 +57,7 @@ returns-in-Word c = λ from reading is suits within.
     let read = c.read_word.result in
     word_wide reading from bytes read.front read.back read.is_number read.minus own.number own.binary (suits (ap is_read_whole own.binary))
     (c.read_word.ensures (item_digits from) (signed from.picture.positions) own.reads long)
+
+pub returns-in-Text : goal.returns-in-Text
+returns-in-Text c = λ from reading is suits within.
+    c.read-in-Text.ensures from reading (subst (λ x. IsLongReaderFor from x) c.in-Text.is is) within
