@@ -24,7 +24,7 @@ use Rattle.cob_codec_lanes.specs.declared.wide_word.WideWordWriter.{WideWordWrit
 use Rattle.cob_codec_lanes.specs.declared.wide_writer.WideWriter.{WideWriter}
 use Rattle.cob_move_steps.specs.Ends.{GivesSigned, IsNumberWriterFor, item_digits, SuitsReading}
 use Rattle.cob_move_steps.specs.LongDigits.{last_count, long_digits}
-use Rattle.cob_move_steps.specs.LongTexts.{IsLongTextWriterFor}
+use Rattle.cob_move_steps.specs.LongTexts.{IsLongEditedItem, IsLongTextWriterFor}
 use Rattle.cob_move_steps.specs.Running.{ReceivedWhereRead}
 use Rattle.cob_move_steps.specs.Steps.{received_form}
 use Rattle.cob_move_steps.specs.declared.long_ends.LongReader.{LongReader}
@@ -122,6 +122,10 @@ abbrev pub IsLongReceiverFor : Item → LongReceiver → Type 0
 IsLongReceiverFor to (receiver.Number w) = IsLongWriterFor to w
 IsLongReceiverFor to (receiver.Text w) = IsLongTextWriterFor to w
 
+-- The item is a number of any kind of storage and any number of digits, or edits one in at most forty-eight bytes.
+abbrev pub ReceivesLong : Item → Type 0
+ReceivesLong i = IsNumberItem i ⊎ IsLongEditedItem i
+
 -- ---- steps
 
 -- The step moves the number that one item gives to another: it keeps the last sixteen of the digits that this has, and those in front of them.
@@ -132,6 +136,12 @@ pub record IsLongStep (from to : Item) (step : LongStep) : Type 0 where
   pub front : IsWideKeeperOf (item_digits to - 16) (scale to.picture.positions -ℤ scale from.picture.positions -ℤ pos 16) step.front
   pub back : IsWideKeeperOf (last_count (item_digits to)) (scale to.picture.positions -ℤ scale from.picture.positions) step.back
   pub writer : IsLongReceiverFor to step.writer
+
+-- There is a step: the sender is a number of any kind of storage and any number of digits, or characters that may be one, and the receiver is such a
+-- number, or edits one.
+pub record HaveLongNumbers (from to : Item) : Type 0 where
+  pub sends : SendsLong from
+  pub receives : ReceivesLong to
 
 -- What a receiver of n bytes holds after the move of the item that ends these bytes, or none: for each two items whose step this is, where the
 -- bytes have the sender at their end and n is the receiver's size.
