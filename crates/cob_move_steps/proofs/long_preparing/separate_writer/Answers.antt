@@ -3,8 +3,8 @@ use Rattle.cob_copybook_tree.specs.declared.kinds.StorageKind.TheVariants.{Separ
 use Rattle.cob_move_steps.proofs.LongKinds.{lane_item, separate_written}
 use Rattle.cob_move_steps.proofs.long_preparing.separate_writer.Goals as goal
 
-pub lane_writer-requires-item : goal.lane_writer-requires-item
-lane_writer-requires-item c =
+pub lane_writer-requires-clause-item : goal.lane_writer-requires-clause-item
+lane_writer-requires-clause-item c =
     let shape = c.shape-shape.result in
     let s = c.shape-shape.ensures in
     lane_item c.args.item.now Separate shape.digits c.requires.number c.requires.kind refl s.size s.digits (omega (arith, c.if-shape-lt16.true)) (omega (arith, c.if-shape-lt16.true))
