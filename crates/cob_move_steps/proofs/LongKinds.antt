@@ -1,5 +1,5 @@
 -- Which items the readers and writers of numbers of any number of digits are made ready for.
-use Rattle.std.proofs.Common.{◌≡◌, ℕ, ◌+◌, ◌/◌, ◌&&◌, ℤ, Bool, true, false, List, refl, sym, ap, subst, ◌∙◌}
+use Rattle.std.proofs.Common.{◌≡◌, ◌≤◌, arith, ℕ, ◌+◌, ◌/◌, ◌&&◌, ℤ, Bool, true, false, List, IsSome, refl, sym, ap, subst, ◌∙◌}
 use Rattle.cob_picture.specs.Counts.{digits, signed}
 use Rattle.cob_picture.specs.Positions.{PlainPicture}
 use Rattle.cob_codec.specs.Packed.{IsPacked}
@@ -17,7 +17,7 @@ use Rattle.cob_codec_lanes.specs.Wide.{IsWideKeeperOf}
 use Rattle.cob_codec_lanes.specs.declared.wide_keeper.WideKeeper.{WideKeeper}
 use Rattle.cob_codec_lanes.specs.DigitItems.{IsDigitWriterOf}
 use Rattle.cob_codec_lanes.specs.declared.digit_writer.DigitWriter.{DigitWriter}
-use Rattle.cob_move_steps.specs.Steps.{received_form}
+use Rattle.cob_move_steps.specs.Steps.{IsLaneItem, lanes_of, received_form}
 
 -- what is said of which bytes represent which numbers, and of their number
 abbrev pub OfItems : Type 1
@@ -99,6 +99,16 @@ separate_written i count leading w form number size many lead h =
     let has : signed i.picture.positions ≡ true = subst (λ (f : StorageKind). TakesPicture f i.picture) form number.taken in
     written i Separate count (count + 1) (separate_form leading) w form size refl many (λ minus ds.
     ap (λ b. separate_form b minus ds) lead ∙ sym (ap (λ b. separate_form (is_leading i.sign) (b && minus) ds) has)) h
+
+-- an item of at most sixteen digits and bytes, of a kind of storage that lanes read and write
+pub lane_item : (i : Item) (f : StorageKind) (count : ℕ) → IsNumberItem i → storage_kind i ≡ f → IsSome (lanes_of f) → item_size i ≡ size_as (storage_kind i) count → count ≡ digits i.picture.positions
+    → count ≤ 16 → size_as f count ≤ 16 → IsLaneItem i
+lane_item i f count number form halves size many few fits = record {
+  number = number;
+  halves = subst (λ (g : StorageKind). IsSome (lanes_of g)) (sym form) halves;
+  few = omega (arith, many, few);
+  fits = omega (arith, size ∙ ap (λ (g : StorageKind). size_as g count) form, fits);
+}
 
 -- ---- keepers
 

@@ -24,7 +24,7 @@ use Rattle.cob_codec_lanes.specs.declared.wide_word.WideWordWriter.{WideWordWrit
 use Rattle.cob_codec_lanes.specs.declared.wide_writer.WideWriter.{WideWriter}
 use Rattle.cob_move_steps.specs.Ends.{GivesSigned, IsNumberWriterFor, item_digits, SuitsReading}
 use Rattle.cob_move_steps.specs.LongDigits.{last_count, long_digits}
-use Rattle.cob_move_steps.specs.LongNumerals.{AreLongNumeralsFor}
+use Rattle.cob_move_steps.specs.LongNumerals.{AreLongNumeralsFor, HaveLongNumerals}
 use Rattle.cob_move_steps.specs.LongReads.{IsLongTextReaderFor}
 use Rattle.cob_move_steps.specs.LongTexts.{IsLongEditedItem, IsLongTextWriterFor}
 use Rattle.cob_move_steps.specs.Running.{ReceivedWhereRead}
@@ -136,6 +136,10 @@ IsLongCharactersFor from to (receiver.Number w) = ⊥
 IsLongCharactersFor from to (receiver.Text w) = ⊥
 IsLongCharactersFor from to (receiver.Characters w) = AreLongNumeralsFor from to w
 
+-- The item is a number of any kind of storage and any number of digits, or edits one in at most forty-eight bytes.
+abbrev pub ReceivesLong : Item → Type 0
+ReceivesLong i = IsNumberItem i ⊎ IsLongEditedItem i
+
 -- ---- steps
 
 -- The step moves the number that one item gives to another: it keeps the last sixteen of the digits that this has, and those in front of them.
@@ -157,6 +161,16 @@ pub record IsLongNumeralsStep (from to : Item) (step : LongStep) : Type 0 where
 -- The step moves the number that one item gives to another, or its digits as characters.
 abbrev pub IsLongStep : (from to : Item) → LongStep → Type 0
 IsLongStep from to step = IsLongNumberStep from to step ⊎ IsLongNumeralsStep from to step
+
+-- The sender is a number of any kind of storage and any number of digits, characters that may be one, or edits one, and the receiver is such a number,
+-- or edits one.
+pub record HaveLongNumbers (from to : Item) : Type 0 where
+  pub sends : SendsAnyLong from
+  pub receives : ReceivesLong to
+
+-- There is a step: these two move a number, or its digits as characters.
+abbrev pub HaveLongStep : (from to : Item) → Type 0
+HaveLongStep from to = HaveLongNumbers from to ⊎ HaveLongNumerals from to
 
 -- What a receiver of n bytes holds after the move of the item that ends these bytes, or none: for each two items whose step this is, where the
 -- bytes have the sender at their end and n is the receiver's size.

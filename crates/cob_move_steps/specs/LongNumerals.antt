@@ -22,6 +22,11 @@ pub record HasLongNumerals (i : Item) : Type 0 where
   pub few : item_digits i ≤ 31
   pub fits : numeral_count i ≤ 48
 
+-- The sender is such a number, and the receiver takes characters without insertions.
+pub record HaveLongNumerals (from to : Item) : Type 0 where
+  pub sends : HasLongNumerals from
+  pub receives : is_of_characters to.picture.category ≡ true
+
 -- What a character shows: one of so many digits, or a zero behind them.
 abbrev pub numeral_cell : (digits : ℕ) → ℕ → TextCell
 numeral_cell digits at = if nat_lt at digits then Taken at else Same zero_byte

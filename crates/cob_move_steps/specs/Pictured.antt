@@ -10,8 +10,8 @@ use Rattle.cob_move_receive.specs.Sent.{Entry}
 use Rattle.cob_move_steps.specs.Edits.{IsEditStep, IsWideEditStep}
 use Rattle.cob_move_steps.specs.Ends.{IsAnyNumberStep}
 use Rattle.cob_move_steps.specs.Long.{IsLongStep}
-use Rattle.cob_move_steps.specs.Numerals.{HaveAnyShortNumbers, IsNumeralsStep}
-use Rattle.cob_move_steps.specs.Pool.{AreOccupied, BetweenItems, IsStepAt, MoveKinds}
+use Rattle.cob_move_steps.specs.Numerals.{IsNumeralsStep}
+use Rattle.cob_move_steps.specs.Pool.{AreOccupied, BetweenItems, HaveNumberStep, IsStepAt, MoveKinds}
 use Rattle.cob_move_steps.specs.declared.any_number_step.AnyNumberStep.{AnyNumberStep}
 use Rattle.cob_move_steps.specs.declared.edit_step.EditStep.{EditStep}
 use Rattle.cob_move_steps.specs.declared.long_step.LongStep.{LongStep}
@@ -68,9 +68,9 @@ abbrev pub CarriesPicturedFromTo : PicturedSteps → (from to : Item) → Pictur
 CarriesPicturedFromTo steps from to step =
     (k : MoveKinds) → AreOccupied k → k.sender ≡ ItemKind from → k.receiver ≡ ItemKind to → IsPicturedStep steps k step
 
--- there is a step between these kinds: the sender gives a short number, and the receiver is one, edits one, or takes its digits as characters
+-- there is a step between these kinds: the sender gives a number that the receiver takes
 abbrev pub HavePicturedStep : Kind → Kind → Type 0
-HavePicturedStep from to = BetweenItems HaveAnyShortNumbers from to
+HavePicturedStep from to = BetweenItems HaveNumberStep from to
 
 -- no step of a move was lost
 abbrev pub KeepsPictured : PicturedSteps → PicturedSteps → Type 0

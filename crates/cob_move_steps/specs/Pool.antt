@@ -13,7 +13,7 @@ use Rattle.cob_move_steps.specs.Copies.{IsCharactersStep, gives_bytes}
 use Rattle.cob_move_steps.specs.Deedits.{IsTextStep, ReceivesNumber}
 use Rattle.cob_move_steps.specs.Edits.{IsEditStep, IsWideEditStep}
 use Rattle.cob_move_steps.specs.Ends.{IsAnyNumberStep}
-use Rattle.cob_move_steps.specs.Long.{IsLongStep}
+use Rattle.cob_move_steps.specs.Long.{HaveLongStep, IsLongStep}
 use Rattle.cob_move_steps.specs.Numerals.{HaveAnyShortNumbers, IsNumeralsStep}
 use Rattle.cob_move_steps.specs.Steps.{IsNumberStep}
 use Rattle.cob_move_steps.specs.Texts.{IsWideEditedItem}
@@ -123,10 +123,14 @@ abbrev pub PutsCharacters : MoveSteps → CharactersStep → (from before after 
 PutsCharacters steps step from before after = (k : MoveKinds) → IsMoveStep steps k (move_step.Characters step)
     → k.sent ≤ length from → length before ≡ k.received → IsReceived k from (Some after)
 
--- the sender gives a short number and is read in one way, and the receiver is a number of any kind of storage, edits one, or takes its digits as characters
+-- there is a step of a number: the sender gives one of any number of digits, and the receiver is one, edits one, or takes its digits as characters
+abbrev pub HaveNumberStep : Item → Item → Type 0
+HaveNumberStep from to = HaveAnyShortNumbers from to ⊎ HaveLongStep from to
+
+-- there is one, and the sender is read in one way
 pub record HaveSteadyNumbers (from to : Item) : Type 0 where
   pub steady : is_read_whole (storage_kind from) ≡ false
-  pub numbers : HaveAnyShortNumbers from to
+  pub numbers : HaveNumberStep from to
 
 -- the sender is edited, and the receiver is a short number, or edits one
 pub record HaveTexts (from to : Item) : Type 0 where
@@ -134,13 +138,13 @@ pub record HaveTexts (from to : Item) : Type 0 where
   pub sends : IsWideEditedItem from
   pub receives : ReceivesNumber to
 
--- the items have a step: the sender is read in one way, and gives a short number that the receiver takes
-abbrev pub HaveShortNumbers : Item → Item → Type 0
-HaveShortNumbers from to = HaveSteadyNumbers from to ⊎ HaveTexts from to
+-- the items have a step: the sender is read in one way, and gives a number that the receiver takes, or is edited and gives a short one
+abbrev pub HaveItemStep : Item → Item → Type 0
+HaveItemStep from to = HaveSteadyNumbers from to ⊎ HaveTexts from to
 
--- there is a step between these kinds: the sender gives its bytes as characters, or both are items with short numbers
+-- there is a step between these kinds: the sender gives its bytes as characters, or both are items that have one
 abbrev pub HaveStep : Kind → Kind → Type 0
-HaveStep from to = (gives_bytes from to ≡ true) ⊎ BetweenItems HaveShortNumbers from to
+HaveStep from to = (gives_bytes from to ≡ true) ⊎ BetweenItems HaveItemStep from to
 
 -- no step of a move was lost
 abbrev pub KeepsSteps : MoveSteps → MoveSteps → Type 0

@@ -2,7 +2,7 @@
 
 ghost use Rattle.std.specs.Prelude.{◌≡◌, ◌↔◌, ◌<◌, ◌≤◌, ℕ, length, slice_index_or, IfSome, IsSome, IsTrue};
 ghost use Rattle.cob_edit.specs.declared.cell.TextCell.TheVariants.{Same};
-ghost use Rattle.cob_move_steps.specs.LongNumerals.{AreLongNumeralsFor, AreLongNumeralsWritten, HasLongNumerals, MakesLongNumerals, numeral_cell};
+ghost use Rattle.cob_move_steps.specs.LongNumerals.{AreLongNumeralsFor, AreLongNumeralsWritten, HasLongNumerals, HaveLongNumerals, MakesLongNumerals, numeral_cell};
 
 use crate::characters::put;
 use crate::long_numerals::LongNumerals;
@@ -60,6 +60,7 @@ fn long_numerals_text(item: &Item) -> LongText
 /// What writes the digits of a sender's number as characters, if it is one, and the receiver takes characters without insertions.
 pub(crate) fn long_numerals(sender: &Item, receiver: &Item) -> Option<LongNumerals>
     ensures writer { IfSome result (AreLongNumeralsFor sender.now receiver.now) }
+    ensures must { HaveLongNumerals sender.now receiver.now → IsSome result }
 {
     if !is_of_characters(receiver) || !has_long_numerals(sender) {
         return None;

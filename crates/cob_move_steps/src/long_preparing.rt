@@ -5,18 +5,22 @@ ghost use Rattle.cob_picture.specs.Counts.{scale};
 ghost use Rattle.cob_copybook_tree.specs.declared.kinds.StorageKind.TheVariants.{Binary, Packed, Separate, Zoned};
 ghost use Rattle.cob_copybook_tree.specs.Items.{IsNumberItem, storage_kind};
 ghost use Rattle.cob_move_steps.specs.Ends.{item_digits};
-ghost use Rattle.cob_move_steps.specs.Long.{IsCharacterNumber, IsLongNumberStep, IsLongNumeralsStep, IsLongReaderFor, IsLongStep, IsLongReceiverFor, IsLongWriterFor, SendsAnyLong, SendsLong};
+ghost use Rattle.cob_move_steps.specs.Long.{HaveLongNumbers, HaveLongStep, IsCharacterNumber, IsLongNumberStep, IsLongNumeralsStep, IsLongReaderFor, IsLongStep, IsLongReceiverFor, IsLongWriterFor, ReceivesLong, SendsAnyLong, SendsLong};
 ghost use Rattle.cob_move_steps.specs.LongDigits.{last_count};
+ghost use Rattle.cob_move_steps.specs.LongNumerals.{HaveLongNumerals};
+ghost use Rattle.cob_move_steps.specs.Steps.{IsLaneItem, kind_by_lanes};
 
-use crate::ends_preparing::number_writer;
 use crate::long_ends::{LongReader, LongReceiver, LongWriter};
 use crate::long_numerals_writing::long_numerals;
 use crate::long_step::LongStep;
 use crate::long_text_reading::long_text_reader;
 use crate::long_texts::long_text_writer;
+use crate::number_ends::NumberWriter;
+use crate::preparing::writer_for;
+use crate::storage::LaneStorage;
 use cob_codec_lanes::{
-    DigitReader, DigitWriter, PairReader, Wanted, WideKeeper, WideWordReader, WideWordWriter,
-    WideWriter,
+    BinaryWriter, DigitReader, DigitWriter, PairReader, Wanted, WideKeeper, WideWordReader,
+    WideWordWriter, WideWriter,
 };
 use cob_copybook_tree::{Item, StorageKind, is_number_item};
 use cob_picture::Category;
@@ -138,66 +142,76 @@ fn any_reader(alloc: Global, item: &Item) -> Result<Option<LongReader>, AllocErr
     }
 }
 
-/// What writes the numbers of zoned items of at least 16 digits.
-fn zoned_writer(item: &Item) -> Option<LongWriter>
+/// What writes the numbers of an item that sixteen lanes hold.
+fn lane_writer(item: &Item, storage: LaneStorage) -> LongWriter
+    requires item { IsLaneItem item.now }
+    requires kind { storage_kind item.now ≡ kind_by_lanes storage }
+    ensures { IsLongWriterFor item.now result }
+{
+    LongWriter::Short(NumberWriter::Lanes(writer_for(item, storage)))
+}
+
+/// What writes the numbers of zoned items.
+fn zoned_writer(item: &Item) -> LongWriter
     requires number { IsNumberItem item.now }
     requires kind { storage_kind item.now ≡ Zoned }
-    ensures { IfSome result (IsLongWriterFor item.now) }
+    ensures { IsLongWriterFor item.now result }
 {
     let shape = item.shape();
-    if shape.digits < 16 {
-        return None;
+    if shape.digits <= 16 {
+        lane_writer(item, LaneStorage::Zoned)
+    } else {
+        LongWriter::Digits(DigitWriter::zoned(&shape))
     }
-    Some(LongWriter::Digits(DigitWriter::zoned(&shape)))
 }
 
-/// What writes those of items with a separate sign, of at least 16 digits.
-fn separate_writer(item: &Item) -> Option<LongWriter>
+/// What writes those of items with a separate sign.
+fn separate_writer(item: &Item) -> LongWriter
     requires number { IsNumberItem item.now }
     requires kind { storage_kind item.now ≡ Separate }
-    ensures { IfSome result (IsLongWriterFor item.now) }
+    ensures { IsLongWriterFor item.now result }
 {
     let shape = item.shape();
     if shape.digits < 16 {
-        return None;
+        lane_writer(item, LaneStorage::Separate)
+    } else {
+        LongWriter::Digits(DigitWriter::separate(&shape))
     }
-    Some(LongWriter::Digits(DigitWriter::separate(&shape)))
 }
 
-/// What writes those of packed items of more than 16 digits.
-fn packed_writer(item: &Item) -> Option<LongWriter>
+/// What writes those of packed items.
+fn packed_writer(item: &Item) -> LongWriter
     requires number { IsNumberItem item.now }
     requires kind { storage_kind item.now ≡ Packed }
-    ensures { IfSome result (IsLongWriterFor item.now) }
+    ensures { IsLongWriterFor item.now result }
 {
     let shape = item.shape();
     if shape.digits <= 16 {
-        return None;
+        lane_writer(item, LaneStorage::Packed)
+    } else {
+        LongWriter::Packed(WideWriter::packed(&shape))
     }
-    Some(LongWriter::Packed(WideWriter::packed(&shape)))
 }
 
-/// What writes those of binary items of more than 16 digits.
-fn word_writer(item: &Item) -> Option<LongWriter>
+/// What writes those of binary items.
+fn word_writer(item: &Item) -> LongWriter
     requires number { IsNumberItem item.now }
     requires kind { storage_kind item.now ≡ Binary }
-    ensures { IfSome result (IsLongWriterFor item.now) }
+    ensures { IsLongWriterFor item.now result }
 {
     let shape = item.shape();
     if shape.digits <= 16 {
-        return None;
+        LongWriter::Short(NumberWriter::Binary(BinaryWriter::of(&shape)))
+    } else {
+        LongWriter::Word(WideWordWriter::of(&shape))
     }
-    Some(LongWriter::Word(WideWordWriter::of(&shape)))
 }
 
 /// What writes the numbers of a number's item.
-fn long_writer(item: &Item) -> Option<LongWriter>
+fn long_writer(item: &Item) -> LongWriter
     requires { IsNumberItem item.now }
-    ensures { IfSome result (IsLongWriterFor item.now) }
+    ensures { IsLongWriterFor item.now result }
 {
-    if let Some(writer) = number_writer(item) {
-        return Some(LongWriter::Short(writer));
-    }
     match item.storage_kind() {
         StorageKind::Zoned => zoned_writer(item),
         StorageKind::Separate => separate_writer(item),
@@ -232,22 +246,20 @@ fn front_wanted(sender: &Item, receiver: &Item) -> Wanted
     Wanted { digits, shift }
 }
 
-/// What writes the number that a receiver gets.
+/// What writes the number that a receiver gets, if it is one, or is edited and three vectors of lanes hold its texts.
 ///
 /// # Errors
 ///
 /// There is not enough memory.
 fn long_receiver(alloc: Global, receiver: &Item) -> Result<Option<LongReceiver>, AllocError>
-    ensures { IfOk result (λ writer. IfSome writer (IsLongReceiverFor receiver.now)) }
+    ensures writer { IfOk result (λ writer. IfSome writer (IsLongReceiverFor receiver.now)) }
+    ensures must { ReceivesLong receiver.now → IfOk result IsSome }
 {
-    if !is_number_item(receiver) {
-        return match long_text_writer(alloc, receiver)? {
-            Some(writer) => Ok(Some(LongReceiver::Text(writer))),
-            None => Ok(None),
-        };
+    if is_number_item(receiver) {
+        return Ok(Some(LongReceiver::Number(long_writer(receiver))));
     }
-    match long_writer(receiver) {
-        Some(writer) => Ok(Some(LongReceiver::Number(writer))),
+    match long_text_writer(alloc, receiver)? {
+        Some(writer) => Ok(Some(LongReceiver::Text(writer))),
         None => Ok(None),
     }
 }
@@ -263,7 +275,8 @@ impl LongStep {
         sender: &Item,
         receiver: &Item,
     ) -> Result<Option<LongStep>, AllocError>
-        ensures { IfOk result (λ step. IfSome step (IsLongNumberStep sender.now receiver.now)) }
+        ensures step { IfOk result (λ step. IfSome step (IsLongNumberStep sender.now receiver.now)) }
+        ensures must { HaveLongNumbers sender.now receiver.now → IfOk result IsSome }
     {
         let Some(writer) = long_receiver(alloc, receiver)? else {
             return Ok(None);
@@ -283,7 +296,8 @@ impl LongStep {
 
     /// The step of the move of the digits of one item's number to another as characters.
     fn to_characters(sender: &Item, receiver: &Item) -> Option<LongStep>
-        ensures { IfSome result (IsLongNumeralsStep sender.now receiver.now) }
+        ensures step { IfSome result (IsLongNumeralsStep sender.now receiver.now) }
+        ensures must { HaveLongNumerals sender.now receiver.now → IsSome result }
     {
         let writer = long_numerals(sender, receiver)?;
         let reader = long_reader(sender)?;
@@ -307,7 +321,8 @@ impl LongStep {
         sender: &Item,
         receiver: &Item,
     ) -> Result<Option<LongStep>, AllocError>
-        ensures { IfOk result (λ step. IfSome step (IsLongStep sender.now receiver.now)) }
+        ensures step { IfOk result (λ step. IfSome step (IsLongStep sender.now receiver.now)) }
+        ensures must { HaveLongStep sender.now receiver.now → IfOk result IsSome }
     {
         match LongStep::to_number(alloc, sender, receiver)? {
             Some(step) => Ok(Some(step)),

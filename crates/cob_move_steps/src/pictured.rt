@@ -2,8 +2,7 @@
 
 ghost use Rattle.std.specs.Prelude.{◌≡◌, ◌≤◌, false, length, IfOk, IfSome, IsSome};
 ghost use Rattle.cob_move_steps.specs.Pictured.{CarriesPicturedFromTo, CarriesPicturedItems, HasNoPictured, HavePicturedStep, IsPicturedStep, IsReceivedPictured, KeepsPictured, MovesPictured, MovesPicturedLong, MovesPicturedToEdited, MovesPicturedToNumerals, MovesPicturedToWideEdited};
-ghost use Rattle.cob_move_steps.specs.Numerals.{HaveAnyShortNumbers};
-ghost use Rattle.cob_move_steps.specs.Pool.{AreOccupied, MoveKinds};
+ghost use Rattle.cob_move_steps.specs.Pool.{AreOccupied, HaveNumberStep, MoveKinds};
 ghost use Rattle.cob_move_receive.specs.Received.{outcome};
 
 use crate::any_number_step::AnyNumberStep;
@@ -148,7 +147,7 @@ impl PicturedSteps {
     fn prepare_items(&mut self, from: &Item, to: &Item) -> Result<Option<PicturedStep>, AllocError>
         ensures step { IfOk result (λ found. IfSome found
             (CarriesPicturedFromTo self.new from.now to.now)) }
-        ensures must { HaveAnyShortNumbers from.now to.now → IfOk result (λ found. IsSome found) }
+        ensures must { HaveNumberStep from.now to.now → IfOk result (λ found. IsSome found) }
         ensures kept { KeepsPictured self.old self.new }
     {
         if let Some(step) = AnyNumberStep::prepare(from, to) {
@@ -170,8 +169,9 @@ impl PicturedSteps {
     }
 
     /// Makes the step of the move of an entry, read as its picture says, to another ready, by what they describe and how many bytes they have.
-    /// There is one where the sender gives a number of at most sixteen digits, and the receiver is one, edits one in at most thirty-two bytes, or
-    /// takes the digits of a number as characters. The steps so far stay.
+    /// There is one where the sender is a number of any kind of storage, holds from 1 to 31 characters, or is edited, in at most 48 bytes, and the
+    /// receiver is a number of any kind of storage, or edits one in at most 48 bytes; and where the sender is a number whose digits are at most 48
+    /// characters, with a zero for each P at the right, and the receiver takes characters without insertions. The steps so far stay.
     ///
     /// # Errors
     ///

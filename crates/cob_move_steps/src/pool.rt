@@ -1,10 +1,9 @@
 //! Steps of single moves, one for each move that has one.
 
 ghost use Rattle.std.specs.Prelude.{◌≡◌, ◌≤◌, false, length, Some, IfOk, IfSome, IsSome};
-ghost use Rattle.cob_move_steps.specs.Numerals.{HaveAnyShortNumbers};
 ghost use Rattle.cob_copybook_tree.specs.Items.{storage_kind};
 ghost use Rattle.cob_copybook_tree.specs.Storage.{is_read_whole};
-ghost use Rattle.cob_move_steps.specs.Pool.{AreOccupied, CarriesFromTo, CarriesItems, HasNoSteps, HaveShortNumbers, HaveStep, IsMoveStep, IsReceived, KeepsSteps, MoveKinds, MovesAnyNumber, MovesLong, MovesNumber, MovesText, MovesToEdited, MovesToNumerals, MovesToWideEdited, MovesWide, PutsCharacters};
+ghost use Rattle.cob_move_steps.specs.Pool.{AreOccupied, CarriesFromTo, CarriesItems, HasNoSteps, HaveItemStep, HaveNumberStep, HaveStep, IsMoveStep, IsReceived, KeepsSteps, MoveKinds, MovesAnyNumber, MovesLong, MovesNumber, MovesText, MovesToEdited, MovesToNumerals, MovesToWideEdited, MovesWide, PutsCharacters};
 ghost use Rattle.cob_move_steps.specs.declared.pool.MoveStep.TheVariants.{Characters};
 ghost use Rattle.cob_move_receive.specs.Received.{outcome};
 
@@ -213,7 +212,7 @@ impl MoveSteps {
         requires { is_read_whole (storage_kind from.now) ≡ false }
         ensures step { IfOk result (λ found. IfSome found
             (CarriesFromTo self.new from.now to.now)) }
-        ensures must { HaveAnyShortNumbers from.now to.now → IfOk result (λ found. IsSome found) }
+        ensures must { HaveNumberStep from.now to.now → IfOk result (λ found. IsSome found) }
         ensures kept { KeepsSteps self.old self.new }
     {
         if let Some(step) = NumberStep::prepare(from, to) {
@@ -248,7 +247,7 @@ impl MoveSteps {
     fn prepare_items(&mut self, from: &Item, to: &Item) -> Result<Option<MoveStep>, AllocError>
         ensures step { IfOk result (λ found. IfSome found
             (CarriesFromTo self.new from.now to.now)) }
-        ensures must { HaveShortNumbers from.now to.now → IfOk result (λ found. IsSome found) }
+        ensures must { HaveItemStep from.now to.now → IfOk result (λ found. IsSome found) }
         ensures kept { KeepsSteps self.old self.new }
     {
         // Another sender is read in one way.
@@ -262,10 +261,14 @@ impl MoveSteps {
     }
 
     /// Makes the step of the move of an entry to another ready, by what they describe and how many bytes they have. There is one where the sender
-    /// gives its bytes as characters, and the receiver takes them without insertions; and where the sender is read in one way and gives a number of at
-    /// most sixteen digits, as a number or characters of at most sixteen bytes or an edited item of at most thirty-two, and the receiver is a
-    /// number of at most sixteen digits of any kind of storage, edits one in at most thirty-two bytes, or takes the digits of a number as
-    /// characters. The steps so far stay.
+    /// gives its bytes as characters, and the receiver takes them without insertions. There is one too where the sender is read in one way, and
+    ///
+    /// - it is a number of any kind of storage, holds from 1 to 31 characters, or is edited, in at most 48 bytes, and the receiver is a number of
+    ///   any kind of storage, or edits one in at most 48 bytes;
+    /// - it is a number whose digits are at most 48 characters, with a zero for each P at the right, and the receiver takes characters without
+    ///   insertions.
+    ///
+    /// The steps so far stay.
     ///
     /// # Errors
     ///

@@ -1,8 +1,8 @@
 use Rattle.cob_move_steps.proofs.LongKinds.{keeper_as}
 use Rattle.cob_move_steps.proofs.long_step.LongStep.to_characters.Goals as goal
 
-pub returns : goal.returns
-returns c =
+pub returns-clause-step : goal.returns-clause-step
+returns-clause-step c =
     let front = c.front_wanted.result in
     let last = c.last_wanted.result in
     record {
