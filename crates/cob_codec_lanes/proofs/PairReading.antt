@@ -1,9 +1,8 @@
 -- Items of at most sixteen bytes that are read as numbers in two vectors.
-use Rattle.std.proofs.Common.{◌≡◌, ℕ, ◌+◌, ◌-◌, ◌*◌, ◌/◌, ◌%◌, ◌^◌, ◌<◌, ◌≤◌, ℤ, pos, negsuc, ◌-ℤ◌, Bool, true, false, List, ◌++◌, length, take, get_or, refl, sym, ap, subst, ◌∙◌, inl, inr, arith, length-append}
+use Rattle.std.proofs.Common.{◌≡◌, ℕ, ◌*◌, ◌%◌, ◌^◌, ◌<◌, ◌≤◌, ℤ, pos, negsuc, Bool, List, ◌++◌, length, sym, ap, subst, ◌∙◌, arith, length-append}
 use Rattle.std.proofs.Math.Nat.{mod-eq_of_lt, pow-le-pow_right}
-use Rattle.std.proofs.lemmas.Int.{ints}
 use Rattle.std.proofs.lemmas.List.{length-map, take_all}
-use Rattle.cob_decimal.specs.Decimal.{IsDigits, number_of, aligned}
+use Rattle.cob_decimal.specs.Decimal.{IsDigits, number_of}
 use Rattle.cob_decimal.proofs.DecimalLemmas.{number_of-lt}
 use Rattle.cob_codec.specs.Packed.{IsPacked}
 use Rattle.cob_codec.specs.Separate.{IsSignedSeparately}
@@ -11,14 +10,12 @@ use Rattle.cob_codec.specs.Zoned.{IsZoned, low_digit}
 use Rattle.cob_codec.proofs.PackedLaws as packed
 use Rattle.cob_codec.proofs.SeparateLaws as separate
 use Rattle.cob_codec.proofs.ZonedLaws as zoned
-use Rattle.cob_codec_lanes.specs.Lanes.{AreTens}
 use Rattle.cob_codec_lanes.specs.Pairs.{IsPairRead, IsPairReaderOf}
-use Rattle.cob_codec_lanes.specs.Readers.{AreLanesTaken, AreNumeralsOf, AreRead, AreWanted, IsLanesRead, IsReaderOf}
-use Rattle.cob_codec_lanes.specs.Wide.{AreHeldWide, AreWidelyRead, IsWideRead}
+use Rattle.cob_codec_lanes.specs.Readers.{AreNumeralsOf, AreRead, AreWanted, IsReaderOf}
+use Rattle.cob_codec_lanes.specs.Wide.{AreHeldWide, IsWideRead}
 use Rattle.cob_codec_lanes.specs.Windows.{last_bytes}
 use Rattle.cob_codec_lanes.specs.declared.reader.LaneReader.{LaneReader}
 use Rattle.cob_codec_lanes.specs.declared.pair_reader.PairReader.{PairReader}
-use Rattle.cob_codec_lanes.proofs.HalfLemmas.{all_digits}
 use Rattle.cob_codec_lanes.proofs.WantedLemmas.{wanted_tens}
 use Rattle.cob_codec_lanes.proofs.WideLemmas.{joined, joined_aligned, joined_valid}
 

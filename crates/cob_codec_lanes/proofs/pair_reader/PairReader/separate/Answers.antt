@@ -1,4 +1,4 @@
-use Rattle.std.proofs.Common.{◌+◌, ◌/◌, refl, arith}
+use Rattle.std.proofs.Common.{◌+◌, arith}
 use Rattle.cob_codec_lanes.proofs.PairReading.{separate_pair, wanted_as}
 use Rattle.cob_codec_lanes.proofs.pair_reader.PairReader.separate.Goals as goal
 

@@ -1,4 +1,4 @@
-use Rattle.std.proofs.Common.{◌+◌, ◌/◌, refl, arith}
+use Rattle.std.proofs.Common.{refl, arith}
 use Rattle.cob_codec_lanes.proofs.PairReading.{zoned_pair, wanted_as}
 use Rattle.cob_codec_lanes.proofs.pair_reader.PairReader.zoned.Goals as goal
 
