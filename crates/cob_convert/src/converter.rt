@@ -7,7 +7,8 @@ ghost use Rattle.cob_convert_record.specs.Conversion.{conversion_by, in_length, 
 ghost use Rattle.cob_move_data.specs.Moves.{Move};
 ghost use Rattle.cob_convert.specs.declared.fault.PrepareFault.TheVariants.{Memory};
 ghost use Rattle.cob_convert.specs.Unique.{HasBytes};
-ghost use Rattle.cob_records.specs.Forms.{FitsForm, HasBlockSize};
+ghost use Rattle.cob_records.specs.Forms.{FitsForm, HasBlockSize, outlet_of};
+ghost use Rattle.cob_convert_record.specs.Rooms.{capacity_for};
 ghost use Rattle.cob_convert.specs.Means.{Means, MeansBy, IsBlockRefusal, IsMovesRefusal, IsPrepareRefusal};
 
 use crate::aside::{AsideFault, Tally, run_over_aside};
@@ -25,14 +26,44 @@ use cob_records::{Form, Outlet, Sink, Source};
 use std::alloc::{AllocError, Global};
 use std::marker::Model;
 
-/// A prepared conversion, with room for a record of each side and for all that a run needs.
+/// What the runs of a conversion need: a record of each side, the frames that are held back, and room for what makes one record of the other.
 #[derive(Drop)]
-pub struct Converter {
-    conversion: Conversion,
+struct Buffers {
     input: Vec<u8>,
     output: Vec<u8>,
     outlet: Outlet,
     room: Room,
+}
+
+/// The buffers that the runs of a conversion need.
+///
+/// # Errors
+///
+/// Where no memory is left.
+fn buffers_for(alloc: Global, conversion: &Conversion) -> Result<Buffers, AllocError>
+    requires { FitsForm conversion.now.out_form (out_length conversion.now) }
+    ensures input { IfOk result (λ made. vec_len made.input ≡ in_length conversion.now) }
+    ensures output { IfOk result (λ made. vec_len made.output ≡ out_length conversion.now) }
+    ensures outlet { IfOk result (λ made. made.outlet ≡ outlet_of conversion.now.out_form) }
+    ensures room { IfOk result (λ made. made.room ≡ capacity_for conversion.now.records) }
+{
+    let input = vec![in alloc; 0u8; conversion.in_length() as usize]?;
+    let output = vec![in alloc; 0u8; conversion.out_length() as usize]?;
+    let outlet = Outlet::new(alloc, conversion.out_form())?;
+    let room = Room::new(alloc, conversion)?;
+    Ok(Buffers {
+        input,
+        output,
+        outlet,
+        room,
+    })
+}
+
+/// A prepared conversion, with room for a record of each side and for all that a run needs.
+#[derive(Drop)]
+pub struct Converter {
+    conversion: Conversion,
+    buffers: Buffers,
 }
 
 impl Model for Converter {
@@ -50,10 +81,10 @@ impl Model for Converter {
     ghost view = { λ c. c.conversion };
 
     ghost invariant = { λ c.
-        (vec_len c.input ≡ in_length c.conversion)
-        × (vec_len c.output ≡ out_length c.conversion)
-        × (c.room ≡ capacity_for c.conversion.records)
-        × (c.outlet ≡ outlet_of c.conversion.out_form)
+        (vec_len c.buffers.input ≡ in_length c.conversion)
+        × (vec_len c.buffers.output ≡ out_length c.conversion)
+        × (c.buffers.room ≡ capacity_for c.conversion.records)
+        × (c.buffers.outlet ≡ outlet_of c.conversion.out_form)
         × FitsForm c.conversion.out_form (out_length c.conversion) };
 }
 
@@ -155,17 +186,13 @@ impl Converter {
         ensures records { IfOk result
             (λ made. HasBytes made.records.input × HasBytes made.records.output) }
     {
-        let input = vec![in alloc; 0u8; conversion.in_length() as usize]?;
-        let output = vec![in alloc; 0u8; conversion.out_length() as usize]?;
-        let outlet = Outlet::new(alloc, conversion.out_form())?;
-        let room = Room::new(alloc, &conversion)?;
-        Ok(Converter {
-            conversion,
-            input,
-            output,
-            outlet,
-            room,
-        })
+        match buffers_for(alloc, &conversion) {
+            Ok(buffers) => Ok(Converter {
+                conversion,
+                buffers,
+            }),
+            Err(full) => Err(full),
+        }
     }
 
     /// Reads the copybooks of the two records and the paragraph of MOVE statements, and makes a converter of them.
@@ -210,10 +237,7 @@ impl Converter {
     {
         Converter {
             conversion: self.conversion.with_reading(reading),
-            input: self.input,
-            output: self.output,
-            outlet: self.outlet,
-            room: self.room,
+            buffers: self.buffers,
         }
     }
 
@@ -306,10 +330,10 @@ impl Converter {
     {
         run_over(
             &self.conversion,
-            &mut self.input,
-            &mut self.output,
-            &mut self.outlet,
-            &mut self.room,
+            &mut self.buffers.input,
+            &mut self.buffers.output,
+            &mut self.buffers.outlet,
+            &mut self.buffers.room,
             source,
             sink,
         )
@@ -352,10 +376,10 @@ impl Converter {
     {
         run_over_aside(
             &self.conversion,
-            &mut self.input,
-            &mut self.output,
-            &mut self.outlet,
-            &mut self.room,
+            &mut self.buffers.input,
+            &mut self.buffers.output,
+            &mut self.buffers.outlet,
+            &mut self.buffers.room,
             source,
             sink,
             aside,
