@@ -46,6 +46,9 @@ fn buffers_for(alloc: Global, conversion: &Conversion) -> Result<Buffers, AllocE
     ensures output { IfOk result (λ made. vec_len made.output ≡ out_length conversion.now) }
     ensures outlet { IfOk result (λ made. made.outlet ≡ outlet_of conversion.now.out_form) }
     ensures room { IfOk result (λ made. made.room ≡ capacity_for conversion.now.records) }
+    // Records of both sides have from 1 to 32,752 bytes.
+    ensures records { IfOk result
+        (λ _. HasBytes conversion.now.records.input × HasBytes conversion.now.records.output) }
 {
     let input = vec![in alloc; 0u8; conversion.in_length() as usize]?;
     let output = vec![in alloc; 0u8; conversion.out_length() as usize]?;
