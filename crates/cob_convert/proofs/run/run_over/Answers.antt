@@ -1,4 +1,4 @@
-use Rattle.std.proofs.Common.{ℕ, Bool, rules, arith, take, Some, ◌∙◌, ap, sym}
+use Rattle.std.proofs.Common.{Bool, rules, arith, take, Some, ◌∙◌, ap, sym}
 use Rattle.cob_records.specs.Device.{counted}
 use Rattle.cob_convert_stream.specs.declared.fault.Reason.{Reason}
 use Rattle.cob_convert_stream.specs.declared.fault.RunFault.{RunFault}
