@@ -1,4 +1,4 @@
-ghost use Rattle.std.specs.Prelude.{◌↔◌, IsTrue};
+ghost use Rattle.std.specs.Prelude.{◌↔◌, ◌≡◌, true, IsTrue};
 ghost use Rattle.cob_program_faults.specs.Identity.{IsSameFile, LeadToOneFile, Loses};
 
 use std::fs::Metadata;
@@ -49,6 +49,15 @@ impl FileIdentity {
     {
         self.device == other.device && self.number == other.number
     }
+
+    /// Whether a write to this file would lose what the other one holds: both are one, and it keeps what is written to it.
+    fn writes_over(self, other: FileIdentity) -> bool
+        ensures keeps { IsTrue result → self.keeps ≡ true }
+        ensures same { IsTrue result → IsSameFile self other }
+        ensures lost { IsSameFile self other → self.keeps ≡ true → IsTrue result }
+    {
+        self.keeps && self.is_same_file(other)
+    }
 }
 
 /// Whether two names lead to one file.
@@ -66,7 +75,7 @@ pub fn loses(output: Option<FileIdentity>, other: Option<FileIdentity>) -> bool
     ensures { IsTrue result ↔ Loses output other }
 {
     match (output, other) {
-        (Some(output), Some(other)) => output.keeps && output.is_same_file(other),
+        (Some(output), Some(other)) => output.writes_over(other),
         _ => false,
     }
 }

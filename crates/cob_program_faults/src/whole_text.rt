@@ -1,4 +1,4 @@
-ghost use Rattle.std.specs.Prelude.{◌≡◌, ◌≤◌, ◌<◌, ◌+◌, ◌^◌, ◌++◌, ℕ, List, length, take, drop, vec_len, IfOk, IfErr, is_err};
+ghost use Rattle.std.specs.Prelude.{◌≡◌, ◌≤◌, ◌<◌, ◌+◌, ◌^◌, ◌++◌, true, false, ℕ, List, length, take, drop, vec_len, IfOk, IfErr, is_err};
 ghost use Rattle.std.specs.Io.KnownBytes.{IsAtEnd};
 ghost use Rattle.cob_records.specs.Device.{counted};
 ghost use Rattle.cob_program_faults.specs.WholeTexts.{IsPieceOf, IsReadOf, IsReadingFault, IsWhole, is_failed_read};
@@ -77,6 +77,14 @@ fn read_piece<S: Source>(source: &mut S, bytes: &mut Vec<u8>) -> Result<usize, T
     Ok(before + count)
 }
 
+/// Whether a text of which so many bytes came is read on: its reader doesn't refuse it for its length yet.
+fn is_read_on(came: usize, most: usize) -> bool
+    ensures yes { result ≡ true → came ≤ most }
+    ensures no { result ≡ false → most < came }
+{
+    came <= most
+}
+
 /// Reads a source to its end, or until there are more than so many bytes, whose reader refuses them.
 ///
 /// # Errors
@@ -100,7 +108,7 @@ pub fn read_whole<S: Source>(
 {
     let mut bytes = Vec::new(alloc);
     let mut came: usize = 0;
-    while came <= most {
+    while is_read_on(came, most) {
         let now = read_piece(source, &mut bytes)?;
         if now == came {
             return Ok(bytes);
