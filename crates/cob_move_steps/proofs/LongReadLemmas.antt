@@ -33,7 +33,7 @@ use Rattle.cob_codec_lanes.proofs.WideWordLemmas.{number_of_both}
 use Rattle.cob_move_receive.specs.Numbers.{IsUnedited}
 use Rattle.cob_move_steps.specs.Ends.{GivesSigned, item_digits}
 use Rattle.cob_move_steps.specs.LongDigits.{last_count, long_digits}
-use Rattle.cob_move_steps.specs.LongReads.{IsPaddedBehind, digit_bytes}
+use Rattle.cob_move_steps.specs.LongReads.{IsPaddedBehind, bytes_of_digits}
 use Rattle.cob_move_steps.specs.LongTexts.{IsLongEditedItem, IsLongTextFor}
 use Rattle.cob_move_steps.specs.Texts.{digit_bytes_from}
 use Rattle.cob_move_steps.proofs.DeeditLemmas.{count_bytes, count_digits, extract_at, lanes_led, minus_or_plain, padded_at}
@@ -117,8 +117,8 @@ held_behind count front back a b few last first_long last_long tens more f l =
 pub record AreLongCompared (i : Item) (item front back : List ℕ) (zeros : ℕ) (t : LongText) : Type 0 where
   pub edited : IsLongEditedItem i
   pub long : length item ≡ item_size i
-  pub first : AreDigitsAt (take (item_digits i - 16) (digit_bytes i)) (padded_long_text item) front
-  pub last : AreDigitsAt (drop (item_digits i - 16) (digit_bytes i)) (padded_long_text item) back
+  pub first : AreDigitsAt (take (item_digits i - 16) (bytes_of_digits i)) (padded_long_text item) front
+  pub last : AreDigitsAt (drop (item_digits i - 16) (bytes_of_digits i)) (padded_long_text item) back
   pub text : IsLongTextFor i zeros t
   pub padded : IsPaddedBehind i t
   pub led : zeros ≡ prefix_len (λ d. d == 0) (long_digits (item_digits i) front back)
@@ -129,10 +129,10 @@ taken_digits i front back = long_digits (item_digits i) front back
 
 module _ (i : Item) (item front back : List ℕ) (zeros : ℕ) (t : LongText) (c : AreLongCompared i item front back zeros t) where
   pub front_tens : AreTens front
-  front_tens = taken_tens (take (item_digits i - 16) (digit_bytes i)) (padded_long_text item) front c.first
+  front_tens = taken_tens (take (item_digits i - 16) (bytes_of_digits i)) (padded_long_text item) front c.first
 
   pub back_tens : AreTens back
-  back_tens = taken_tens (drop (item_digits i - 16) (digit_bytes i)) (padded_long_text item) back c.last
+  back_tens = taken_tens (drop (item_digits i - 16) (bytes_of_digits i)) (padded_long_text item) back c.last
 
   valid : IsDigits (taken_digits i front back)
   valid = long_valid (item_digits i) front back c.edited.few c.first.long c.last.long front_tens back_tens

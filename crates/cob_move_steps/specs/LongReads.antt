@@ -27,8 +27,8 @@ abbrev pub ArePaddedBehind : Item → List LongText → Type 0
 ArePaddedBehind i texts = HoldInTurn (λ zeros. IsPaddedBehind i) 0 texts
 
 -- the bytes of the digits of an item, in order
-abbrev pub digit_bytes : Item → List ℕ
-digit_bytes i = digit_bytes_from 0 (places i.picture.positions)
+abbrev pub bytes_of_digits : Item → List ℕ
+bytes_of_digits i = digit_bytes_from 0 (places i.picture.positions)
 
 -- Of so many digits at these bytes those in front of the last sixteen are looked for where they stand, and these too.
 pub record ArePairPlacesAt (count : ℕ) (at : List ℕ) (places : PairPlaces) : Type 0 where
@@ -40,7 +40,7 @@ pub record IsLongTextReaderFor (from : Item) (r : LongTextReader) : Type 0 where
   pub edited : IsLongEditedItem from
   pub size : r.size ≡ item_size from
   pub count : r.digits ≡ item_digits from
-  pub places : ArePairPlacesAt (item_digits from) (digit_bytes from) r.places
+  pub places : ArePairPlacesAt (item_digits from) (bytes_of_digits from) r.places
   pub front : IsKeeperOf (item_digits from - 16) 16 (pos 0) r.front
   pub back : IsKeeperOf (last_count (item_digits from)) 16 (pos 0) r.back
   pub texts : AreLongTextsFor from 0 r.texts.items

@@ -9,7 +9,7 @@ ghost use Rattle.cob_edit.specs.Pictured.{places};
 ghost use Rattle.cob_edit.specs.Places.{bytes_of, is_digit};
 ghost use Rattle.cob_move_steps.specs.Ends.{item_digits};
 ghost use Rattle.cob_move_steps.specs.LongDigits.{last_count};
-ghost use Rattle.cob_move_steps.specs.LongReads.{ArePairPlacesAt, IsLongTextRead, IsLongTextReaderFor, digit_bytes};
+ghost use Rattle.cob_move_steps.specs.LongReads.{ArePairPlacesAt, IsLongTextRead, IsLongTextReaderFor, bytes_of_digits};
 ghost use Rattle.cob_move_steps.specs.LongTexts.{IsLongEditedItem};
 ghost use Rattle.cob_move_steps.specs.Texts.{digit_bytes_from};
 
@@ -61,7 +61,7 @@ fn pair_places(places: &[EditedPlace], lead: usize) -> PairPlaces
 /// Where the digits of an item stand in its text.
 fn digit_pair_places(item: &Item) -> PairPlaces
     requires { IsLongEditedItem item.now }
-    ensures { ArePairPlacesAt (item_digits item.now) (digit_bytes item.now) result }
+    ensures { ArePairPlacesAt (item_digits item.now) (bytes_of_digits item.now) result }
 {
     let places = places_of(&item.picture);
     let lead = usize::from(front_count(item.picture.digits()));

@@ -10,7 +10,7 @@ use Rattle.cob_codec_lanes.specs.Windows.{last_bytes}
 use Rattle.cob_codec_lanes.specs.declared.long_text.LongText.{LongText}
 use Rattle.cob_move_steps.specs.Ends.{item_digits}
 use Rattle.cob_move_steps.specs.LongDigits.{last_count, long_digits}
-use Rattle.cob_move_steps.specs.LongReads.{IsPaddedBehind, digit_bytes}
+use Rattle.cob_move_steps.specs.LongReads.{IsPaddedBehind, bytes_of_digits}
 use Rattle.cob_move_steps.specs.LongTexts.{IsLongTextFor}
 use Rattle.cob_move_steps.proofs.LongReadLemmas.{AreLongCompared, back_tens, front_tens, held_behind, long_text_read}
 use Rattle.cob_move_steps.proofs.LongTextLemmas.{behind_at, long_text_at}
@@ -28,8 +28,8 @@ returns c = λ from reading is within.
     let own : LongText = c.index-own.result.now in
     let told = c.is_either.result in
     let text : all_long_lanes c.last_long_text-text.result ≡ padded_long_text item = c.last_long_text-text.ensures ∙ ap (λ n. padded_long_text (last_bytes n bytes)) is.size in
-    let lead : List ℕ = take (count - 16) (digit_bytes from) in
-    let rest : List ℕ = drop (count - 16) (digit_bytes from) in
+    let lead : List ℕ = take (count - 16) (bytes_of_digits from) in
+    let rest : List ℕ = drop (count - 16) (bytes_of_digits from) in
     let first : AreDigitsAt lead (padded_long_text item) front = subst (λ xs. AreDigitsAt lead xs front) text (c.digits-front.ensures lead is.places.front) in
     let last : AreDigitsAt rest (padded_long_text item) back = subst (λ xs. AreDigitsAt rest xs back) text (c.digits-back.ensures rest is.places.back) in
     let inside : zeros < length r.texts.items = omega (arith, r.texts.ok.0, r.each, c.zeros_of_both.ensures.within) in
