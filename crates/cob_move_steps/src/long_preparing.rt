@@ -275,7 +275,8 @@ impl LongStep {
         sender: &Item,
         receiver: &Item,
     ) -> Result<Option<LongStep>, AllocError>
-        ensures step { IfOk result (λ step. IfSome step (IsLongNumberStep sender.now receiver.now)) }
+        ensures step { IfOk result (λ step.
+            IfSome step (IsLongNumberStep sender.now receiver.now)) }
         ensures must { HaveLongNumbers sender.now receiver.now → IfOk result IsSome }
     {
         let Some(writer) = long_receiver(alloc, receiver)? else {
