@@ -1,0 +1,98 @@
+-- What the readers of loops say of what they answer, and of the words that they leave.
+use Rattle.std.specs.Prelude.{◌≡◌, ◌⊎◌, ℕ, ◌*◌, codes, false, List, [], ◌∷◌, ◌++◌, map, Option, Some, IsSomeAnd}
+use denote.Ref.{Bor}
+use Rattle.cob_source.specs.declared.token.Token.{Token}
+use Rattle.cob_source.specs.Tokens.{Lexeme, lexemes}
+use Rattle.cob_copybook_clauses.specs.Clauses.{IsWord}
+use Rattle.cob_move_loops.specs.declared.parts.Loop.{Loop}
+use Rattle.cob_move_loops.specs.declared.turn.Counter.{Counter}
+use Rattle.cob_move_loops.specs.declared.writing.Run.{Run}
+use Rattle.cob_move_loops.specs.declared.front.Item.{Item}
+use Rattle.cob_move_loops.specs.declared.front.Item.TheVariants as item
+use Rattle.cob_move_loops.specs.declared.words.LoopWord.TheVariants as loop
+use Rattle.cob_move_loops.specs.Few.{statements_in, statements_of}
+use Rattle.cob_move_loops.specs.Turns.{Counted, counter_at, in_turn, turns, turns_of, written_out}
+use Rattle.cob_move_loops.specs.Words.{IsLoopWord}
+use Rattle.cob_move_loops.specs.Passages.{APause, ARun, Breaks, Front, FrontStands, IsPassage, Looped, Passage, WrittenLoop, open_behind}
+
+-- a loop without where its texts lie in memory
+abbrev pub written_loop : Loop → WrittenLoop
+written_loop l = record { line = l.line; counter = l.counter.now; from = l.from; by = l.by; tested = l.tested.now; bound = l.bound }
+
+-- a reader answers a number and a text, and leaves these words
+abbrev pub AnswersNamed : Option (ℕ × Bor (List ℕ) × Bor (List Token)) → ℕ → List ℕ → List Lexeme → Type 0
+AnswersNamed answer n text more = IsSomeAnd answer (λ r. (r.0 ≡ n) × (r.1.now ≡ text) × (lexemes r.2.now ≡ more))
+
+-- a reader answers two numbers, and leaves these words
+abbrev pub AnswersNumbers : Option (ℕ × ℕ × Bor (List Token)) → ℕ → ℕ → List Lexeme → Type 0
+AnswersNumbers answer m n more = IsSomeAnd answer (λ r. (r.0 ≡ m) × (r.1 ≡ n) × (lexemes r.2.now ≡ more))
+
+-- a reader answers a text and a number, and leaves these words
+abbrev pub AnswersTested : Option (Bor (List ℕ) × ℕ × Bor (List Token)) → List ℕ → ℕ → List Lexeme → Type 0
+AnswersTested answer text n more = IsSomeAnd answer (λ r. (r.0.now ≡ text) × (r.1 ≡ n) × (lexemes r.2.now ≡ more))
+
+-- IS stands in front, before these words; or it doesn't, and they are all
+abbrev pub AfterIs : List Lexeme → List Lexeme → Type 0
+AfterIs words rest =
+    ((is : Lexeme) × IsWord (codes "IS") is × (words ≡ is ∷ rest))
+    ⊎ ((rest ≡ words) × ((is : Lexeme) (more : List Lexeme) → IsWord (codes "IS") is → words ≡ is ∷ more → ⊥))
+
+-- what stands in front, without where it lies in memory
+abbrev pub front_of : Item → Front
+front_of (item.Run words) = ARun (lexemes words.now)
+front_of item.Pause = APause
+front_of (item.Loop head body) = Looped (written_loop head) (lexemes body.now)
+
+-- words stand in front in which as many loops are closed as are opened, and behind them an END-PERFORM, before these words
+abbrev pub ClosedInFront : List Lexeme → List Lexeme → List Lexeme → Type 0
+ClosedInFront own words more = (end : Lexeme) × (open_behind (Some 0) own ≡ Some 0) × IsLoopWord loop.EndPerform end × (words ≡ own ++ end ∷ more)
+
+-- a reader answers what stands in front, and leaves the words behind it
+abbrev pub AnswersFront : Option (Item × Bor (List Token)) → Front → List Lexeme → Type 0
+AnswersFront answer f more = IsSomeAnd answer (λ r. (front_of r.0 ≡ f) × (lexemes r.1.now ≡ more))
+
+-- where a loop stands in front, its statements are a passage
+abbrev pub HasPassages : Front → Type 0
+HasPassages (ARun own) = Unit {0}
+HasPassages APause = Unit {0}
+HasPassages (Looped l own) = (p : Passage) × IsPassage p own
+
+-- a loop stands in front, and its statements are no passage, on this line
+abbrev pub BreaksWithin : Front → ℕ → Type 0
+BreaksWithin (ARun own) line = ⊥
+BreaksWithin APause line = ⊥
+BreaksWithin (Looped l own) line = Breaks own line
+
+-- counters without where their names lie in memory
+abbrev pub counters : List Counter → List Counted
+counters cs = map (λ c. record { name = c.name.now; number = c.number }) cs
+
+-- the words of a run, as they are in its turn
+abbrev pub run_words : Run → List Lexeme
+run_words r = in_turn (counters r.turn.items) false 0 (lexemes r.words.now)
+
+-- those of several
+abbrev pub all_runs : List Run → List (List Lexeme)
+all_runs rs = map run_words rs
+
+-- where a loop stands in front, its statements are this passage
+abbrev pub Within : Front → Passage → Type 0
+Within (ARun own) p = Unit {0}
+Within APause p = Unit {0}
+Within (Looped l own) p = IsPassage p own
+
+-- what stands in front written out, where its statements, if it is a loop, are this passage
+abbrev pub written_front : List Counted → Front → Passage → List (List Lexeme)
+written_front ns (ARun own) p = in_turn ns false 0 own ∷ []
+written_front ns APause p = []
+written_front ns (Looped l own) p = turns (λ i. written_out (ns ++ counter_at l i ∷ []) p) l.by (turns_of l) l.from
+
+-- the names of counters
+abbrev pub names_of : List Counter → List (List ℕ)
+names_of cs = map (λ c. c.name.now) cs
+
+-- the statements of what stands in front once it is written out, where its statements, if it is a loop, are this passage
+abbrev pub statements_front : Front → Passage → ℕ
+statements_front (ARun own) p = statements_in own
+statements_front APause p = 0
+statements_front (Looped l own) p = turns_of l * statements_of p
