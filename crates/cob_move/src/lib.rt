@@ -46,6 +46,7 @@
 mod corresponding;
 mod entries;
 mod laws;
+mod loops;
 mod meaning;
 mod meaning_laws;
 mod paragraph;

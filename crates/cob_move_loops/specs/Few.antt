@@ -39,37 +39,40 @@ abbrev pub deepest : Option ℕ → List Lexeme → ℕ
 deepest depth [] = depth_of depth
 deepest depth (w ∷ ws) = max (depth_of depth) (deepest (open_by (loop_word w) depth) ws)
 
--- M12: loops come to few statements, and few of them hold one another
-pub record AreFew (p : Passage) (words : List Lexeme) : Type 0 where
-  pub statements : statements_of p ≤ most_written_out
-  pub depth : deepest (Some 0) words ≤ most_open
+-- M12: a passage comes to few statements
+abbrev pub IsFew : Passage → Type 0
+IsFew p = statements_of p ≤ most_written_out
 
--- the counters of a passage, a loop's before those of its statements
-abbrev pub counters_of : Passage → List (List ℕ)
-counters_of NoMore = []
-counters_of (Moves own more) = counters_of more
-counters_of (Pause more) = counters_of more
-counters_of (ALoop l body more) = l.counter ∷ (counters_of body ++ counters_of more)
+-- M12: few loops of words hold one another
+abbrev pub IsShallow : List Lexeme → Type 0
+IsShallow words = deepest (Some 0) words ≤ most_open
 
--- M11: a loop tests its own counter, and no loop round it has a counter of that name
-pub record IsApart (names : List (List ℕ)) (l : WrittenLoop) : Type 0 where
+-- the heads of a passage's loops, each before those among its statements
+abbrev pub loops_of : Passage → List WrittenLoop
+loops_of NoMore = []
+loops_of (Moves own more) = loops_of more
+loops_of (Pause more) = loops_of more
+loops_of (ALoop l body more) = l ∷ (loops_of body ++ loops_of more)
+
+-- M11: a loop tests its own counter, and none of the loops round it has a counter of that name
+pub record IsApart (around : List WrittenLoop) (l : WrittenLoop) : Type 0 where
   pub tested : l.tested ≡ l.counter
-  pub alone : AllByRecursion (λ name. name ≢ l.counter) names
+  pub alone : AllByRecursion (λ other. other.counter ≢ l.counter) around
 
--- each loop of a passage is so, within loops with counters of these names
-abbrev pub AreApart : List (List ℕ) → Passage → Type 0
-AreApart names NoMore = Unit {0}
-AreApart names (Moves own more) = AreApart names more
-AreApart names (Pause more) = AreApart names more
-AreApart names (ALoop l body more) = IsApart names l × AreApart (names ++ l.counter ∷ []) body × AreApart names more
+-- each loop of a passage within these loops is so
+abbrev pub AreApart : List WrittenLoop → Passage → Type 0
+AreApart around NoMore = Unit {0}
+AreApart around (Moves own more) = AreApart around more
+AreApart around (Pause more) = AreApart around more
+AreApart around (ALoop l body more) = IsApart around l × AreApart (around ++ l ∷ []) body × AreApart around more
 
 -- a loop on this line is not so
-abbrev pub Clashes : List (List ℕ) → Passage → ℕ → Type 0
-Clashes names NoMore line = ⊥
-Clashes names (Moves own more) line = Clashes names more line
-Clashes names (Pause more) line = Clashes names more line
-Clashes names (ALoop l body more) line =
-    ((line ≡ l.line) × (IsApart names l → ⊥)) ⊎ (Clashes (names ++ l.counter ∷ []) body line ⊎ Clashes names more line)
+abbrev pub Clashes : List WrittenLoop → Passage → ℕ → Type 0
+Clashes around NoMore line = ⊥
+Clashes around (Moves own more) line = Clashes around more line
+Clashes around (Pause more) line = Clashes around more line
+Clashes around (ALoop l body more) line =
+    ((line ≡ l.line) × (IsApart around l → ⊥)) ⊎ (Clashes (around ++ l ∷ []) body line ⊎ Clashes around more line)
 
 -- the line of the first loop, or 1 where there is none
 abbrev pub loop_line_at : Option LoopWord → ℕ → ℕ → ℕ

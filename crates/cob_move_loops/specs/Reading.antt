@@ -6,11 +6,13 @@ use Rattle.cob_source.specs.Tokens.{Lexeme, lexemes}
 use Rattle.cob_copybook_clauses.specs.Clauses.{IsWord}
 use Rattle.cob_move_loops.specs.declared.parts.Loop.{Loop}
 use Rattle.cob_move_loops.specs.declared.turn.Counter.{Counter}
+use Rattle.cob_move_loops.specs.declared.naming.LoopFault.{LoopFault}
+use Rattle.cob_move_loops.specs.declared.naming.LoopFault.TheVariants as fault
 use Rattle.cob_move_loops.specs.declared.writing.Run.{Run}
 use Rattle.cob_move_loops.specs.declared.front.Item.{Item}
 use Rattle.cob_move_loops.specs.declared.front.Item.TheVariants as item
 use Rattle.cob_move_loops.specs.declared.words.LoopWord.TheVariants as loop
-use Rattle.cob_move_loops.specs.Few.{statements_in, statements_of}
+use Rattle.cob_move_loops.specs.Few.{AreApart, Clashes, IsApart, loops_of, statements_in, statements_of}
 use Rattle.cob_move_loops.specs.Turns.{Counted, counter_at, in_turn, turns, turns_of, written_out}
 use Rattle.cob_move_loops.specs.Words.{IsLoopWord}
 use Rattle.cob_move_loops.specs.Passages.{APause, ARun, Breaks, Front, FrontStands, IsPassage, Looped, Passage, WrittenLoop, open_behind}
@@ -87,12 +89,53 @@ written_front ns (ARun own) p = in_turn ns false 0 own ∷ []
 written_front ns APause p = []
 written_front ns (Looped l own) p = turns (λ i. written_out (ns ++ counter_at l i ∷ []) p) l.by (turns_of l) l.from
 
--- the names of counters
-abbrev pub names_of : List Counter → List (List ℕ)
-names_of cs = map (λ c. c.name.now) cs
+-- loops without where their texts lie in memory
+abbrev pub written_loops : List Loop → List WrittenLoop
+written_loops ls = map written_loop ls
 
 -- the statements of what stands in front once it is written out, where its statements, if it is a loop, are this passage
 abbrev pub statements_front : Front → Passage → ℕ
 statements_front (ARun own) p = statements_in own
 statements_front APause p = 0
 statements_front (Looped l own) p = turns_of l * statements_of p
+
+-- the loops of what stands in front, where its statements, if it is a loop, are this passage
+abbrev pub loops_front : Front → Passage → List WrittenLoop
+loops_front (ARun own) p = []
+loops_front APause p = []
+loops_front (Looped l own) p = l ∷ loops_of p
+
+-- each of them, within these loops, has a counter of its own
+abbrev pub ApartFront : List WrittenLoop → Front → Passage → Type 0
+ApartFront around (ARun own) p = Unit {0}
+ApartFront around APause p = Unit {0}
+ApartFront around (Looped l own) p = IsApart around l × AreApart (around ++ l ∷ []) p
+
+-- one of them, on this line, has not
+abbrev pub ClashesFront : List WrittenLoop → Front → Passage → ℕ → Type 0
+ClashesFront around (ARun own) p line = ⊥
+ClashesFront around APause p line = ⊥
+ClashesFront around (Looped l own) p line = ((line ≡ l.line) × (IsApart around l → ⊥)) ⊎ Clashes (around ++ l ∷ []) p line
+
+-- refused memory, or a clash on a line that is so
+abbrev pub IsClash : (ℕ → Type 0) → LoopFault → Type 0
+IsClash Is fault.Memory = Unit {0}
+IsClash Is (fault.Clash line) = Is line
+
+-- whatever passage words are, its loops are apart within others, and stand behind those before
+abbrev pub AddsLoops : List WrittenLoop → List Lexeme → (old new : List Loop) → Type 0
+AddsLoops around words old new =
+    (p : Passage) → IsPassage p words → AreApart around p × (written_loops new ≡ written_loops old ++ loops_of p)
+
+-- whatever passage the statements of what stands in front are, if it is a loop, its loops are apart within others, and stand behind those before
+abbrev pub AddsLoopsFront : List WrittenLoop → Front → (old new : List Loop) → Type 0
+AddsLoopsFront around f old new =
+    (p : Passage) → Within f p → ApartFront around f p × (written_loops new ≡ written_loops old ++ loops_front f p)
+
+-- whatever passage words are, one of its loops on this line is not apart within others
+abbrev pub ClashesIn : List WrittenLoop → List Lexeme → ℕ → Type 0
+ClashesIn around words line = (p : Passage) → IsPassage p words → Clashes around p line
+
+-- whatever passage the statements of what stands in front are, if it is a loop, one of its loops on this line is not apart within others
+abbrev pub ClashesInFront : List WrittenLoop → Front → ℕ → Type 0
+ClashesInFront around f line = (p : Passage) → Within f p → ClashesFront around f p line

@@ -123,7 +123,7 @@ fn pause_at(words: &[Token]) -> Option<(Item<'_>, &[Token])>
 }
 
 /// How many loops are open behind a word; none where it ends one that is not there.
-fn depth_behind(depth: u64, word: Option<LoopWord>) -> Option<u64>
+pub(crate) fn depth_behind(depth: u64, word: Option<LoopWord>) -> Option<u64>
     requires room { depth < 1_000_000_000_000 }
     ensures value { result ≡ open_by word (Some depth) }
     ensures most { IfSome result (λ d. d ≤ depth + 1) }

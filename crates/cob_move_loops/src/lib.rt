@@ -6,9 +6,11 @@
 #![tactic(auto)]
 
 mod checking;
+mod counting;
 mod front;
 mod head;
 mod laws;
+mod naming;
 mod number;
 mod parts;
 mod turn;
@@ -16,8 +18,10 @@ mod words;
 mod writing;
 
 pub use checking::check;
+pub use counting::{is_few, is_shallow, loop_line};
 pub use laws::{breaks_none, no_turn, one_passage};
+pub use naming::{LoopFault, loops};
 pub use parts::Loop;
 pub use turn::{Counter, in_turn};
-pub use words::LoopWord;
+pub use words::{LoopWord, loop_word};
 pub use writing::{Run, write_out};

@@ -35,7 +35,7 @@ fn loop_word_in(text: &[u8]) -> Option<LoopWord>
 }
 
 /// The word of loops that a token is, if it is one.
-pub(crate) fn loop_word(token: &Token) -> Option<LoopWord>
+pub fn loop_word(token: &Token) -> Option<LoopWord>
     ensures { result ≡ loop_word (lexeme token.now) }
 {
     match token.kind {

@@ -1,11 +1,13 @@
 //! Passages written out turn by turn.
 
-ghost use Rattle.std.specs.Prelude.{◌≡◌, ◌+◌, ◌<◌, ◌++◌, ◌∷◌, [], false, IfOk, OnOk};
+ghost use Rattle.std.specs.Prelude.{◌≡◌, ◌⊎◌, ◌+◌, ◌<◌, ◌++◌, ◌∷◌, [], false, IfOk, IsTrue, OnOk};
 ghost use Rattle.cob_source.specs.Tokens.{lexemes};
+ghost use Rattle.cob_move_loops.specs.Few.{statements_of};
 ghost use Rattle.cob_move_loops.specs.Passages.{IsPassage, Passage};
 ghost use Rattle.cob_move_loops.specs.Reading.{Within, all_runs, counters, front_of, written_front, written_loop};
 ghost use Rattle.cob_move_loops.specs.Turns.{counter_at, in_turn, turns, turns_of, written_out};
 
+use crate::counting::{count_all, turns_of};
 use crate::front::{Item, item_at};
 use crate::parts::Loop;
 use crate::turn::Counter;
@@ -57,14 +59,27 @@ fn with_counter<'a>(
     Ok(made)
 }
 
-/// How many turns a loop has.
-fn turns_of(head: &Loop<'_>) -> u64
-    ensures { result ≡ turns_of (written_loop head.now) }
+/// Whether words, if they are a passage, come to no statement.
+fn holds_none(words: &[Token]) -> bool
+    ensures { IsTrue result → (p : Passage) → IsPassage p (lexemes words.now)
+        → statements_of p ≡ 0 }
 {
-    if head.bound < head.from {
+    match count_all(words) {
+        Some(count) => count == 0,
+        None => false,
+    }
+}
+
+/// How many turns of a loop are to be written out: all, or none where they come to no statement.
+fn turns_to_write(head: &Loop<'_>, body: &[Token]) -> u64
+    ensures { (result ≡ turns_of (written_loop head.now))
+        ⊎ ((result ≡ 0) × ((p : Passage) → IsPassage p (lexemes body.now)
+        → statements_of p ≡ 0)) }
+{
+    if holds_none(body) {
         return 0;
     }
-    u64::from(head.bound - head.from) / u64::from(head.by) + 1
+    turns_of(head)
 }
 
 /// The number of a counter in the next turn, where one is left.
@@ -102,7 +117,7 @@ fn write_turns<'a>(
         ++ turns (λ i. written_out (counters turn.now ++ counter_at (written_loop head.now) i ∷ []) p)
         head.now.by (turns_of (written_loop head.now)) head.now.from) }
 {
-    let mut left = turns_of(head);
+    let mut left = turns_to_write(head, body);
     let mut number = head.from;
     while left > 0 {
         let counter = Counter {

@@ -1,0 +1,54 @@
+-- What readers of paragraphs with loops say of what they answer.
+use Rattle.std.specs.Prelude.{◌≡◌, ◌<◌, List, [], ◌++◌, length}
+use Rattle.cob_source.specs.Tokens.{Lexeme}
+use Rattle.cob_move_data.specs.declared.operands.StatementMoves.{StatementMoves}
+use Rattle.cob_move_loops.specs.Few.{IsFew, IsShallow}
+use Rattle.cob_move_loops.specs.Passages.{IsPassage, Passage}
+use Rattle.cob_move_loops.specs.Turns.{written_out}
+use Rattle.cob_move_names.specs.Candidates.{Candidate}
+use Rattle.cob_move_statements.specs.declared.fault.MoveFault.{MoveFault}
+use Rattle.cob_move_statements.specs.Statements.{IsEndedStatement, Several}
+use Rattle.cob_move_statements.specs.Written.{WrittenStatement}
+use Rattle.cob_move.specs.declared.entries.Entries.{Entries}
+use Rattle.cob_move.specs.Among.{AreMeaningsAmong, nameable}
+use Rattle.cob_move.specs.Paragraphs.{AreCounters, AreSpelled, IsBodyRefusal, RunIsRefused}
+
+-- words are a passage that is not empty, with few loops in one another, few statements, and counters of their own
+pub record HasJudged (all : List Candidate) (body : List Lexeme) : Type 0 where
+  pub passage : Passage
+  pub some : 0 < length body
+  pub says : IsPassage passage body
+  pub shallow : IsShallow body
+  pub few : IsFew passage
+  pub counters : AreCounters all passage
+
+-- the words are statements, and what these mean stands behind the moves so far
+pub record AddsRun (e : Entries) (words : List Lexeme) (old new : List StatementMoves) : Type 0 where
+  pub statements : List WrittenStatement
+  pub own : List StatementMoves
+  pub spelled : Several IsEndedStatement statements words
+  pub meant : AreMeaningsAmong e statements own
+  pub added : new ≡ old ++ own
+
+-- runs spell statements, and what these mean stands behind the moves so far
+pub record AddsRuns (e : Entries) (runs : List (List Lexeme)) (old new : List StatementMoves) : Type 0 where
+  pub statements : List WrittenStatement
+  pub own : List StatementMoves
+  pub spelled : AreSpelled runs statements
+  pub meant : AreMeaningsAmong e statements own
+  pub added : new ≡ old ++ own
+
+-- words are no statements, or one of them breaks a rule, or memory was refused
+abbrev pub RunRefused : MoveFault → Entries → List Lexeme → Type 0
+RunRefused f e ws = RunIsRefused f (nameable e) e.input.now e.output.now ws
+
+-- words behind a heading are refused
+abbrev pub BodyRefused : MoveFault → Entries → List Lexeme → Type 0
+BodyRefused f e body = IsBodyRefusal f (nameable e) e.input.now e.output.now body
+
+-- words behind a heading are a passage, whose runs mean these moves
+pub record SaysBody (e : Entries) (body : List Lexeme) (list : List StatementMoves) : Type 0 where
+  pub judged : HasJudged (nameable e) body
+  pub statements : List WrittenStatement
+  pub spelled : AreSpelled (written_out [] judged.passage) statements
+  pub meant : AreMeaningsAmong e statements list

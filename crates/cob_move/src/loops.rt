@@ -1,0 +1,206 @@
+//! Paragraphs with loops, read run by run.
+
+ghost use Rattle.std.specs.Prelude.{◌≡◌, ◌↔◌, ◌++◌, [], List, IfErr, IfOk, IsTrue, OnOk};
+ghost use Rattle.std.specs.List.{AllByRecursion};
+ghost use Rattle.cob_copybook_names.specs.Naming.{named};
+ghost use Rattle.cob_move_loops.specs.Reading.{run_words, written_loop, written_loops};
+ghost use Rattle.cob_move_names.specs.Directory.{entries_named};
+ghost use Rattle.cob_move_statements.specs.Statements.{Several, IsEndedStatement};
+ghost use Rattle.cob_move_statements.specs.Written.{written_statements};
+ghost use Rattle.cob_move.specs.Among.{AreMeaningsAmong, nameable};
+ghost use Rattle.cob_move.specs.Between.{ArePairsOf};
+ghost use Rattle.cob_move.specs.Entries.{AllMayBeNamed, records_of};
+ghost use Rattle.cob_move.specs.Loops.{AddsRun, BodyRefused, BreaksCounters, HasJudged, IsPassageRefusal, RunRefused, SaysBody};
+ghost use Rattle.cob_move.specs.Paragraphs.{IsBodyIn, IsNoEntry};
+ghost use Rattle.cob_source.specs.Tokens.{lexemes};
+
+use crate::entries::Entries;
+use crate::meaning::meanings_of;
+use cob_move_data::StatementMoves;
+use cob_move_loops::{
+    Loop, LoopFault, Run, check, in_turn, is_few, is_shallow, loop_line, loop_word, loops,
+    write_out,
+};
+use cob_move_names::{Correspondences, Names};
+use cob_move_statements::{MoveFault, MoveRule, Reference, behind_heading, ended_statements};
+use cob_source::Token;
+use std::alloc::Global;
+
+/// The words behind the heading, if one comes first: the name of a paragraph is no word of loops.
+pub(crate) fn body_of(words: &[Token]) -> &[Token]
+    ensures { IsBodyIn (lexemes words.now) (lexemes result.now) }
+{
+    match words.split_first() {
+        Some((first, _)) => match loop_word(first) {
+            Some(_) => words,
+            None => behind_heading(words),
+        },
+        None => words,
+    }
+}
+
+/// A fault of loops on this line.
+fn fault_of(rule: MoveRule, line: u32) -> MoveFault
+    ensures { (result.rule ≡ rule) × (result.line ≡ line) }
+{
+    MoveFault { rule, line }
+}
+
+/// Whether no entry of the two records has this name.
+fn is_no_entry(names: &Names<'_>, name: &[u8]) -> bool
+    ensures { IsTrue result ↔ IsNoEntry (entries_named names.now) name.now }
+{
+    let reference = Reference {
+        name,
+        qualifiers: &[],
+        subscripts: &[],
+    };
+    match names.find(&reference) {
+        Ok(_) => false,
+        Err(rule) => matches!(rule, MoveRule::Unknown),
+    }
+}
+
+/// Checks that no entry has the name of a loop's counter.
+///
+/// # Errors
+///
+/// `Counter`, with the loop's line.
+fn check_names(names: &Names<'_>, heads: &[Loop<'_>]) -> Result<(), MoveFault>
+    ensures found { OnOk result (AllByRecursion
+        (λ l. IsNoEntry (entries_named names.now) l.counter) (written_loops heads.now)) }
+    ensures fault { IfErr result (λ f. (f.rule ≡ MoveRule.Counter)
+        × BreaksCounters (entries_named names.now) f.line (written_loops heads.now)) }
+{
+    for head in heads {
+        if !is_no_entry(names, head.counter) {
+            return Err(fault_of(MoveRule::Counter, head.line));
+        }
+    }
+    Ok(())
+}
+
+/// The loops of a passage, each with a counter of its own.
+///
+/// # Errors
+///
+/// `Counter`, with a loop's line; `Memory`.
+fn apart_loops(alloc: Global, body: &[Token]) -> Result<Vec<Loop<'_>>, MoveFault> {
+    match loops(alloc, body) {
+        Ok(heads) => Ok(heads),
+        Err(LoopFault::Clash(line)) => Err(fault_of(MoveRule::Counter, line)),
+        Err(LoopFault::Memory) => Err(fault_of(MoveRule::Memory, 0)),
+    }
+}
+
+/// Checks that the words behind a heading are a passage that is not empty, and comes to few statements.
+///
+/// # Errors
+///
+/// `Grammar`, `TooMany`.
+fn check_passage(body: &[Token]) -> Result<(), MoveFault> {
+    if body.is_empty() {
+        return Err(fault_of(MoveRule::Grammar, 1));
+    }
+    if !is_shallow(body) {
+        return Err(fault_of(MoveRule::TooMany, loop_line(body)));
+    }
+    if let Err(line) = check(body) {
+        return Err(fault_of(MoveRule::Grammar, line));
+    }
+    if !is_few(body) {
+        return Err(fault_of(MoveRule::TooMany, loop_line(body)));
+    }
+    Ok(())
+}
+
+/// Checks that the words behind a heading are a passage, and keep the rules of loops.
+///
+/// # Errors
+///
+/// `Grammar`, `TooMany`, `Counter`; `Memory`.
+fn judge(alloc: Global, names: &Names<'_>, body: &[Token]) -> Result<(), MoveFault>
+    ensures found { OnOk result (HasJudged (entries_named names.now) (lexemes body.now)) }
+    ensures fault { IfErr result (λ f. IsPassageRefusal f.rule f.line (entries_named names.now)
+        (lexemes body.now)) }
+{
+    check_passage(body)?;
+    let heads = apart_loops(alloc, body)?;
+    check_names(names, heads.as_slice())
+}
+
+/// Puts the moves of words behind those so far.
+///
+/// # Errors
+///
+/// The rule that the words or one of their statements break, with its line; `Memory`.
+fn add_words(
+    alloc: Global,
+    entries: &Entries<'_, '_>,
+    pairs: &mut Correspondences<'_>,
+    words: &[Token],
+    list: &mut Vec<StatementMoves>,
+) -> Result<(), MoveFault>
+    requires named { AllMayBeNamed entries.now }
+    requires pairs { ArePairsOf (records_of entries.now) pairs.old }
+    ensures added { OnOk result (AddsRun entries.now (lexemes words.now) list.old.items
+        list.new.items) }
+    ensures fault { IfErr result (λ f. RunRefused f entries.now (lexemes words.now)) }
+    ensures pairs { ArePairsOf (records_of entries.now) pairs.new }
+{
+    let statements = ended_statements(alloc, words)?;
+    let mut own = meanings_of(alloc, entries, pairs, statements.as_slice())?;
+    list.append(&mut own)?;
+    Ok(())
+}
+
+/// Puts the moves of a run, in its turn, behind those so far.
+///
+/// # Errors
+///
+/// The rule that its words or one of its statements break, with its line; `Memory`.
+fn add_run(
+    alloc: Global,
+    entries: &Entries<'_, '_>,
+    pairs: &mut Correspondences<'_>,
+    run: &Run<'_>,
+    list: &mut Vec<StatementMoves>,
+) -> Result<(), MoveFault>
+    requires named { AllMayBeNamed entries.now }
+    requires pairs { ArePairsOf (records_of entries.now) pairs.old }
+    ensures added { OnOk result (AddsRun entries.now (run_words run.now) list.old.items
+        list.new.items) }
+    ensures fault { IfErr result (λ f. RunRefused f entries.now (run_words run.now)) }
+    ensures pairs { ArePairsOf (records_of entries.now) pairs.new }
+{
+    if run.turn.is_empty() {
+        return add_words(alloc, entries, pairs, run.words, list);
+    }
+    let words = in_turn(alloc, run.words, run.turn.as_slice())?;
+    add_words(alloc, entries, pairs, words.as_slice(), list)
+}
+
+/// The moves that words behind a heading say.
+///
+/// # Errors
+///
+/// A rule that they break, with its line; `Memory`.
+pub(crate) fn moves_of_body(
+    alloc: Global,
+    entries: &Entries<'_, '_>,
+    pairs: &mut Correspondences<'_>,
+    body: &[Token],
+) -> Result<Vec<StatementMoves>, MoveFault>
+    requires named { AllMayBeNamed entries.now }
+    requires pairs { ArePairsOf (records_of entries.now) pairs.old }
+    ensures found { IfOk result (λ v. SaysBody entries.now (lexemes body.now) v.items) }
+    ensures fault { IfErr result (λ f. BodyRefused f entries.now (lexemes body.now)) }
+{
+    judge(alloc, entries.names, body)?;
+    let runs = write_out(alloc, body)?;
+    let mut list = Vec::new(alloc);
+    for run in runs.as_slice() {
+        add_run(alloc, entries, pairs, run, &mut list)?;
+    }
+    Ok(list)
+}
