@@ -6,3 +6,5 @@ pub mod OneLemmas
 pub mod PassageLemmas
 pub mod TurnLemmas
 pub mod WritingLemmas
+pub mod CountLemmas
+pub mod NamingLemmas

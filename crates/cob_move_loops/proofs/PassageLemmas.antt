@@ -79,6 +79,37 @@ written_joined ns (ARun own) body more = refl
 written_joined ns APause body more = refl
 written_joined ns (Looped l own) body more = refl
 
+-- where nothing stands in front that may, words are the passage of nothing
+pub nothing_left : (q : Passage) (rest : List Lexeme) → IsPassage q rest → ((f : Front) (more : List Lexeme) → FrontStands f rest more → ⊥) → q ≡ NoMore
+nothing_left NoMore rest is none = refl
+nothing_left (Moves own more) rest (behind, run, first, e, is) none = absurd (none (ARun own) behind (run, first, e))
+nothing_left (Pause more) rest (pause, stops, behind, word, are, e, is) none = absurd (none APause behind (pause, stops, word, are, no_period more behind is, e))
+nothing_left (ALoop l body more) rest (head, own, stops, behind, end, h, b, inner, word, are, e, is) none =
+    absurd (none (Looped l own) behind (head, stops, end, h, b, word, are, no_period more behind is, e))
+
+-- a front is the only one, and leaves the same words
+abbrev pub IsOnlyFront : Front → List Lexeme → List Lexeme → Type 0
+IsOnlyFront f rest more = (g : Front) (others : List Lexeme) → FrontStands g rest others → (f ≡ g) × (more ≡ others)
+
+-- a passage of words before which this stands: the statements of that, if it is a loop, and the others
+pub record Parted (f : Front) (more : List Lexeme) (q : Passage) : Type 0 where
+  pub body : Passage
+  pub others : Passage
+  pub within : Within f body
+  pub is : IsPassage others more
+  pub same : q ≡ joined f body others
+
+pub parted : (f : Front) (rest more : List Lexeme) (q : Passage) → IsPassage q rest → 0 < length rest → IsOnlyFront f rest more → Parted f more q
+parted f rest more q is some only =
+    let k : InFront q rest = in_front q rest is some in
+    let one = only k.front k.behind k.stands in record {
+      body = k.body;
+      others = k.more;
+      within = subst (λ (g : Front). Within g k.body) (sym one.0) k.within;
+      is = subst (λ (ws : List Lexeme). IsPassage k.more ws) (sym one.1) k.is;
+      same = k.same ∙ ap (λ (g : Front). joined g k.body k.more) (sym one.0);
+    }
+
 -- ---- the check
 
 has_body : (f : Front) → HasPassages f → (body : Passage) × Within f body
