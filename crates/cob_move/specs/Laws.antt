@@ -1,13 +1,11 @@
 -- What follows from the definitions, said as laws.
-use Rattle.std.specs.Prelude.{◌≡◌, ◌↔◌, ℕ, ◌≤◌, List}
+use Rattle.std.specs.Prelude.{◌≡◌, ◌↔◌, ℕ, List}
 use Rattle.std.specs.List.{AllByRecursion}
 use Rattle.cob_source.specs.Tokens.{Lexeme}
 use Rattle.cob_source.specs.Words.{AreParagraphWordsOf}
 use Rattle.cob_copybook_tree.specs.Forests.{Forest}
 use Rattle.cob_copybook_tree.specs.Nodes.{Resolved}
 use Rattle.cob_move_data.specs.Moves.{Move}
-use Rattle.cob_move_loops.specs.Few.{statements_in}
-use Rattle.cob_move_loops.specs.Limits.{most_written_out}
 use Rattle.cob_move_loops.specs.Words.{IsOther}
 use Rattle.cob_move_statements.specs.declared.fault.MoveFault.{MoveFault}
 use Rattle.cob_move_statements.specs.declared.fault.MoveRule.TheVariants.{Memory}
@@ -26,5 +24,5 @@ ParagraphBreaksNoRule = (text : List ℕ) (input output : Forest Resolved) (ms :
 -- Law: a text without words of loops says what its statements mean, as it does where there are no loops.
 abbrev pub PlainParagraph : Type 0
 PlainParagraph = (text : List ℕ) (input output : Forest Resolved) (ms : List Move) (words : List Lexeme)
-    → AreParagraphWordsOf text words → AllByRecursion IsOther words → statements_in words ≤ most_written_out
+    → AreParagraphWordsOf text words → AllByRecursion IsOther words
     → (IsParagraphOf text input output ms ↔ IsPlainParagraphOf text input output ms)

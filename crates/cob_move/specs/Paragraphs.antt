@@ -37,7 +37,7 @@ pub record AreCounters (all : List Candidate) (p : Passage) : Type 0 where
   pub apart : AreApart [] p
   pub no_entries : AllByRecursion (λ l. IsNoEntry all l.counter) (loops_of p)
 
--- The words of a paragraph: perhaps its name, which is no word of loops, and a passage that is not empty, with few loops in one another and few statements (M12).
+-- The words of a paragraph: perhaps its name, which is no word of loops, and a passage that is not empty, with few loops in one another, which come to few statements (M12).
 pub record HasPassage (words : List Lexeme) (p : Passage) : Type 0 where
   pub heading : List Lexeme
   pub body : List Lexeme
@@ -81,7 +81,7 @@ pub record IsBodyIn (words body : List Lexeme) : Type 0 where
 abbrev pub BreaksPassage : List Lexeme → ℕ → Type 0
 BreaksPassage body line = ((body ≡ []) × (line ≡ 1)) ⊎ Breaks body line
 
--- M12: too many loops hold one another, or the passage comes to too many statements
+-- M12: too many loops hold one another, or the loops of the passage come to too many statements
 abbrev pub BreaksFew : List Lexeme → Type 0
 BreaksFew body = (IsShallow body → ⊥) ⊎ ((p : Passage) × IsPassage p body × (IsFew p → ⊥))
 

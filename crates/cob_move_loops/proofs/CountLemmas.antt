@@ -5,57 +5,73 @@ use Rattle.cob_source.specs.Tokens.{Lexeme}
 use Rattle.cob_copybook_clauses.specs.Terms.{word_class}
 use Rattle.cob_move_loops.specs.declared.words.LoopWord.{LoopWord}
 use Rattle.cob_move_loops.specs.declared.words.LoopWord.TheVariants as loop
-use Rattle.cob_move_loops.specs.Few.{deepest, loop_line, loop_line_at, statements_by, statements_in, statements_of}
+use Rattle.cob_move_loops.specs.Few.{deepest, loop_line, loop_line_at, looped_of, statements_by, statements_in, statements_of}
 use Rattle.cob_move_loops.specs.Limits.{most_open}
 use Rattle.cob_move_loops.specs.Passages.{ALoop, ARun, APause, Front, FrontStands, IsPassage, IsRun, Looped, Moves, NoMore, Passage, Pause, open_by}
-use Rattle.cob_move_loops.specs.Reading.{Within, statements_front}
+use Rattle.cob_move_loops.specs.Reading.{Within, looped_front, statements_front}
 use Rattle.cob_move_loops.specs.Turns.{Counted, counter_at, turns, turns_of, written_out}
 use Rattle.cob_move_loops.specs.Words.{loop_word}
 use Rattle.cob_move_loops.proofs.PassageLemmas.{IsOnlyFront, Parted, joined, nothing_left, parted}
 
-pub statements_joined : (f : Front) (body more : Passage) → statements_of (joined f body more) ≡ statements_front f body + statements_of more
+-- a count of passages that adds up: none of nothing, and of what stands in front with the others
+pub record Adds (of : Passage → ℕ) (front : Front → Passage → ℕ) : Type 0 where
+  pub none : of NoMore ≡ 0
+  pub joins : (f : Front) (body more : Passage) → of (joined f body more) ≡ front f body + of more
+
+statements_joined : (f : Front) (body more : Passage) → statements_of (joined f body more) ≡ statements_front f body + statements_of more
 statements_joined (ARun own) body more = refl
 statements_joined APause body more = refl
 statements_joined (Looped l own) body more = refl
 
--- the statements so far, with those of what is left, are those of all
-abbrev pub LeftToCount : (words rest : List Lexeme) → ℕ → Type 0
-LeftToCount words rest count = (p : Passage) → IsPassage p words → (q : Passage) × IsPassage q rest × (count + statements_of q ≡ statements_of p)
+looped_joined : (f : Front) (body more : Passage) → looped_of (joined f body more) ≡ looped_front f body + looped_of more
+looped_joined (ARun own) body more = refl
+looped_joined APause body more = refl
+looped_joined (Looped l own) body more = refl
 
-pub count_first : (words : List Lexeme) → LeftToCount words words 0
-count_first words p is = (p, is, refl)
+pub statements_add : Adds statements_of statements_front
+statements_add = record { none = refl; joins = statements_joined }
 
-pub count_more : (words rest more : List Lexeme) (f : Front) (count own sum : ℕ) → LeftToCount words rest count → 0 < length rest → IsOnlyFront f rest more
-    → ((body : Passage) → Within f body → own ≡ statements_front f body) → sum ≡ count + own → LeftToCount words more sum
-count_more words rest more f count own sum left some only counted is_sum p is =
+pub looped_add : Adds looped_of looped_front
+looped_add = record { none = refl; joins = looped_joined }
+
+-- what is counted so far, with what is left, is what is counted of all
+abbrev pub LeftToCount : (Passage → ℕ) → (words rest : List Lexeme) → ℕ → Type 0
+LeftToCount of words rest count = (p : Passage) → IsPassage p words → (q : Passage) × IsPassage q rest × (count + of q ≡ of p)
+
+pub count_first : (of : Passage → ℕ) (words : List Lexeme) → LeftToCount of words words 0
+count_first of words p is = (p, is, refl)
+
+pub count_more : (of : Passage → ℕ) (front : Front → Passage → ℕ) → Adds of front → (words rest more : List Lexeme) (f : Front) (count own sum : ℕ) → LeftToCount of words rest count
+    → 0 < length rest → IsOnlyFront f rest more → ((body : Passage) → Within f body → own ≡ front f body) → sum ≡ count + own → LeftToCount of words more sum
+count_more of front adds words rest more f count own sum left some only counted is_sum p is =
     let (q, are, so) = left p is in
     let k : Parted f more q = parted f rest more q are some only in
-    let all : statements_of q ≡ statements_front f k.body + statements_of k.others = ap statements_of k.same ∙ statements_joined f k.body k.others in
+    let all : of q ≡ front f k.body + of k.others = ap of k.same ∙ adds.joins f k.body k.others in
     (k.others, k.is, omega (arith, counted k.body k.within, is_sum, all, so))
 
 -- what stands in front comes to too much
-pub count_over : (words rest more : List Lexeme) (f : Front) (count most : ℕ) → LeftToCount words rest count → 0 < length rest → IsOnlyFront f rest more
-    → ((body : Passage) → Within f body → most < statements_front f body) → (p : Passage) → IsPassage p words → most < statements_of p
-count_over words rest more f count most left some only over p is =
+pub count_over : (of : Passage → ℕ) (front : Front → Passage → ℕ) → Adds of front → (words rest more : List Lexeme) (f : Front) (count most : ℕ) → LeftToCount of words rest count
+    → 0 < length rest → IsOnlyFront f rest more → ((body : Passage) → Within f body → most < front f body) → (p : Passage) → IsPassage p words → most < of p
+count_over of front adds words rest more f count most left some only over p is =
     let (q, are, so) = left p is in
     let k : Parted f more q = parted f rest more q are some only in
-    let all : statements_of q ≡ statements_front f k.body + statements_of k.others = ap statements_of k.same ∙ statements_joined f k.body k.others in
+    let all : of q ≡ front f k.body + of k.others = ap of k.same ∙ adds.joins f k.body k.others in
     omega (arith, over k.body k.within, all, so)
 
 -- it does so with what was before
-pub sum_over : (words rest more : List Lexeme) (f : Front) (count own most : ℕ) → LeftToCount words rest count → 0 < length rest → IsOnlyFront f rest more
-    → ((body : Passage) → Within f body → own ≡ statements_front f body) → most < count + own → (p : Passage) → IsPassage p words → most < statements_of p
-sum_over words rest more f count own most left some only counted over p is =
+pub sum_over : (of : Passage → ℕ) (front : Front → Passage → ℕ) → Adds of front → (words rest more : List Lexeme) (f : Front) (count own most : ℕ) → LeftToCount of words rest count
+    → 0 < length rest → IsOnlyFront f rest more → ((body : Passage) → Within f body → own ≡ front f body) → most < count + own → (p : Passage) → IsPassage p words → most < of p
+sum_over of front adds words rest more f count own most left some only counted over p is =
     let (q, are, so) = left p is in
     let k : Parted f more q = parted f rest more q are some only in
-    let all : statements_of q ≡ statements_front f k.body + statements_of k.others = ap statements_of k.same ∙ statements_joined f k.body k.others in
+    let all : of q ≡ front f k.body + of k.others = ap of k.same ∙ adds.joins f k.body k.others in
     omega (arith, counted k.body k.within, over, all, so)
 
-pub count_end : (words rest : List Lexeme) (count : ℕ) → LeftToCount words rest count → ((f : Front) (more : List Lexeme) → FrontStands f rest more → ⊥)
-    → (p : Passage) → IsPassage p words → count ≡ statements_of p
-count_end words rest count left none p is =
+pub count_end : (of : Passage → ℕ) (front : Front → Passage → ℕ) → Adds of front → (words rest : List Lexeme) (count : ℕ) → LeftToCount of words rest count
+    → ((f : Front) (more : List Lexeme) → FrontStands f rest more → ⊥) → (p : Passage) → IsPassage p words → count ≡ of p
+count_end of front adds words rest count left none p is =
     let (q, are, so) = left p is in
-    let nothing : statements_of q ≡ 0 = ap statements_of (nothing_left q rest are none) in
+    let nothing : of q ≡ 0 = ap of (nothing_left q rest are none) ∙ adds.none in
     omega (arith, so, nothing)
 
 -- as many turns as there are, one at least, of too much are too much

@@ -69,9 +69,10 @@ pub loops_end : (around : List WrittenLoop) (words rest : List Lexeme) (start no
     → (p : Passage) → IsPassage p words → AreApart around p × (written_loops now ≡ written_loops start ++ loops_of p)
 loops_end around words rest start now left none p is =
     let (q, are, so) = left p is in
-    let nothing : q ≡ NoMore = nothing_left q rest are none in
-    (so.apart (subst (λ (d : Passage). AreApart around d) (sym nothing) tt),
-     sym (append-nil (written_loops now)) ∙ ap (λ (d : Passage). written_loops now ++ loops_of d) (sym nothing) ∙ so.loops)
+    let nothing : q ≡ NoMore = nothing_left q rest are none in (
+      so.apart (subst (λ (d : Passage). AreApart around d) (sym nothing) tt),
+      sym (append-nil (written_loops now)) ∙ ap (λ (d : Passage). written_loops now ++ loops_of d) (sym nothing) ∙ so.loops,
+    )
 
 pub written_more : (ls : List Loop) (l : Loop) → written_loops (ls ++ l ∷ []) ≡ written_loops ls ++ written_loop l ∷ []
 written_more [] l = refl

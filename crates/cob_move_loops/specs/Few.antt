@@ -39,9 +39,16 @@ abbrev pub deepest : Option ℕ → List Lexeme → ℕ
 deepest depth [] = depth_of depth
 deepest depth (w ∷ ws) = max (depth_of depth) (deepest (open_by (loop_word w) depth) ws)
 
--- M12: a passage comes to few statements
+-- the statements that the loops of a passage come to; those outside of loops are as many as are written
+abbrev pub looped_of : Passage → ℕ
+looped_of NoMore = 0
+looped_of (Moves own more) = looped_of more
+looped_of (Pause more) = looped_of more
+looped_of (ALoop l body more) = turns_of l * statements_of body + looped_of more
+
+-- M12: the loops of a passage come to few statements
 abbrev pub IsFew : Passage → Type 0
-IsFew p = statements_of p ≤ most_written_out
+IsFew p = looped_of p ≤ most_written_out
 
 -- M12: few loops of words hold one another
 abbrev pub IsShallow : List Lexeme → Type 0

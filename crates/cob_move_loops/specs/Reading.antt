@@ -99,6 +99,12 @@ statements_front (ARun own) p = statements_in own
 statements_front APause p = 0
 statements_front (Looped l own) p = turns_of l * statements_of p
 
+-- the same where it is a loop, else none
+abbrev pub looped_front : Front → Passage → ℕ
+looped_front (ARun own) p = 0
+looped_front APause p = 0
+looped_front (Looped l own) p = turns_of l * statements_of p
+
 -- the loops of what stands in front, where its statements, if it is a loop, are this passage
 abbrev pub loops_front : Front → Passage → List WrittenLoop
 loops_front (ARun own) p = []

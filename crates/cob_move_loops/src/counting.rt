@@ -2,10 +2,10 @@
 
 ghost use Rattle.std.specs.Prelude.{◌≡◌, ◌↔◌, ◌+◌, ◌*◌, ◌<◌, ◌≤◌, IfNone, IfSome, IsTrue, Some};
 ghost use Rattle.cob_source.specs.Tokens.{lexeme, lexemes};
-ghost use Rattle.cob_move_loops.specs.Few.{IsFew, IsShallow, loop_line, statements_in, statements_of};
+ghost use Rattle.cob_move_loops.specs.Few.{IsFew, IsShallow, loop_line, looped_of, statements_in, statements_of};
 ghost use Rattle.cob_move_loops.specs.Limits.{most_written_out};
 ghost use Rattle.cob_move_loops.specs.Passages.{IsPassage, Passage};
-ghost use Rattle.cob_move_loops.specs.Reading.{Within, front_of, statements_front, written_loop};
+ghost use Rattle.cob_move_loops.specs.Reading.{Within, front_of, looped_front, statements_front, written_loop};
 ghost use Rattle.cob_move_loops.specs.Turns.{turns_of};
 ghost use Rattle.cob_move_loops.specs.Words.{loop_word};
 
@@ -132,12 +132,43 @@ pub(crate) fn count_all(words: &[Token]) -> Option<u64>
     Some(count)
 }
 
-/// Whether a passage comes to few statements.
-pub fn is_few(words: &[Token]) -> bool
-    ensures { (p : Passage) → IsPassage p (lexemes words.now)
-        → (IsTrue result ↔ IsFew p) }
+/// The statements of what stands in front once it is written out, if it is a loop, where they are not over the most.
+fn count_looped(item: &Item<'_>) -> Option<u64>
+    ensures some { IfSome result (λ n. (p : Passage) → Within (front_of item.now) p
+        → n ≡ looped_front (front_of item.now) p) }
+    ensures most { IfSome result (λ n. n ≤ most_written_out) }
+    ensures none { IfNone result ((p : Passage) → Within (front_of item.now) p
+        → most_written_out < looped_front (front_of item.now) p) }
 {
-    count_all(words).is_some()
+    match item {
+        Item::Run(_) | Item::Pause => Some(0),
+        Item::Loop { head, body } => count_turns(head, body),
+    }
+}
+
+/// The statements that the loops of a passage come to, where they are not over the most.
+fn count_loops(words: &[Token]) -> Option<u64>
+    ensures some { IfSome result (λ n. (p : Passage) → IsPassage p (lexemes words.now)
+        → n ≡ looped_of p) }
+    ensures most { IfSome result (λ n. n ≤ most_written_out) }
+    ensures none { IfNone result ((p : Passage) → IsPassage p (lexemes words.now)
+        → most_written_out < looped_of p) }
+{
+    let mut count: u64 = 0;
+    let mut rest = words;
+    while let Some((item, more)) = item_at(rest) {
+        let own = count_looped(&item)?;
+        count = sum_of(count, own)?;
+        rest = more;
+    }
+    Some(count)
+}
+
+/// Whether the loops of a passage come to few statements.
+pub fn is_few(words: &[Token]) -> bool
+    ensures { (p : Passage) → IsPassage p (lexemes words.now) → (IsTrue result ↔ IsFew p) }
+{
+    count_loops(words).is_some()
 }
 
 /// Whether few loops of words hold one another.

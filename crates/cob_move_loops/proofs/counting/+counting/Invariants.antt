@@ -1,5 +1,6 @@
 use Rattle.std.proofs.Common.{◌≤◌, ◌+◌, ◌*◌, length}
 use Rattle.cob_source.specs.Tokens.{lexemes}
+use Rattle.cob_move_loops.specs.Few.{statements_of}
 use Rattle.cob_move_loops.specs.Limits.{most_written_out}
 use Rattle.cob_move_loops.specs.Reading.{front_of}
 use Rattle.cob_move_loops.proofs.CountLemmas.{LeftToCount}
@@ -17,7 +18,7 @@ decreases-count_turns l = 3 * length (lexemes l.body.now) + 1
 
 abbrev pub invariant-count_all-loop-item : goal.invariant-count_all-loop-item
 invariant-count_all-loop-item l = record {
-  left : LeftToCount (lexemes l.words) (lexemes l.rest) l.count;
+  left : LeftToCount statements_of (lexemes l.words) (lexemes l.rest) l.count;
   most : l.count ≤ most_written_out;
   fewer : length (lexemes l.rest) ≤ length (lexemes l.words);
 }
