@@ -8,3 +8,5 @@ pub mod MoveLemmas
 pub mod CorrespondingLemmas
 pub mod MeaningLemmas
 pub mod PieceLemmas
+pub mod PassageLemmas
+pub mod PlainLemmas

@@ -18,7 +18,7 @@ use crate::entries::Entries;
 use crate::meaning::meanings_of;
 use cob_move_data::StatementMoves;
 use cob_move_loops::{
-    Loop, LoopFault, Run, check, in_turn, is_few, is_shallow, loop_line, loop_word, loops,
+    Loop, LoopFault, Run, check, in_turn, is_few, is_shallow, loop_line, loop_word, loops, no_turn,
     write_out,
 };
 use cob_move_names::{Correspondences, Names};
@@ -173,6 +173,8 @@ fn add_run(
     ensures fault { IfErr result (λ f. RunRefused f entries.now (run_words run.now)) }
     ensures pairs { ArePairsOf (records_of entries.now) pairs.new }
 {
+    // Outside of loops words are as they are written.
+    no_turn();
     if run.turn.is_empty() {
         return add_words(alloc, entries, pairs, run.words, list);
     }

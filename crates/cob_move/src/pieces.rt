@@ -19,7 +19,7 @@ use crate::meaning::meanings_of;
 use cob_copybook_clauses::{WordClass, is_term};
 use cob_layout::Layout;
 use cob_move_data::StatementMoves;
-use cob_move_loops::loop_word;
+use cob_move_loops::{loop_word, no_turn};
 use cob_move_names::{Correspondences, Names};
 use cob_move_statements::{MoveFault, MoveRule, Statement, statements};
 use cob_source::{SourceRule, Token, WordsAhead};
@@ -257,6 +257,8 @@ fn all_pieces(
         v.items)) }
     ensures fault { IfErr result IsRefusedMemory }
 {
+    // For `found`: words without loops are as they are written.
+    no_turn();
     let Some(start) = WordsAhead::new(alloc, text) else {
         return Ok(None);
     };

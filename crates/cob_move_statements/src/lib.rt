@@ -28,6 +28,6 @@ mod senders;
 mod subscripts;
 
 pub use fault::{MoveFault, MoveRule};
-pub use laws::one_list_of_statements;
+pub use laws::{one_list_of_ended, one_list_of_statements};
 pub use paragraph::{behind_heading, ended_statements, statements};
 pub use parts::{Action, Reference, Statement, StatementSender};
