@@ -1,19 +1,42 @@
 -- What readers of paragraphs with loops say of what they answer.
-use Rattle.std.specs.Prelude.{◌≡◌, ◌<◌, List, [], ◌++◌, length}
+use Rattle.std.specs.Prelude.{◌≡◌, ◌⊎◌, ◌<◌, List, [], ◌++◌, length}
 use Rattle.cob_source.specs.Tokens.{Lexeme}
 use Rattle.cob_move_data.specs.declared.operands.StatementMoves.{StatementMoves}
-use Rattle.cob_move_loops.specs.Few.{IsFew, IsShallow}
-use Rattle.cob_move_loops.specs.Passages.{IsPassage, Passage}
+use Rattle.cob_move_loops.specs.Few.{AreApart, Clashes, IsFew, IsShallow, loops_of}
+use Rattle.cob_move_loops.specs.Passages.{IsPassage, Passage, WrittenLoop}
 use Rattle.cob_move_loops.specs.Turns.{written_out}
 use Rattle.cob_move_names.specs.Candidates.{Candidate}
 use Rattle.cob_move_statements.specs.declared.fault.MoveFault.{MoveFault}
+use Rattle.cob_move_statements.specs.declared.fault.MoveRule.TheVariants as rule
 use Rattle.cob_move_statements.specs.Statements.{IsEndedStatement, Several}
 use Rattle.cob_move_statements.specs.Written.{WrittenStatement}
 use Rattle.cob_move.specs.declared.entries.Entries.{Entries}
 use Rattle.cob_move.specs.Among.{AreMeaningsAmong, nameable}
-use Rattle.cob_move.specs.Paragraphs.{AreCounters, AreSpelled, IsBodyRefusal, RunIsRefused}
+use Rattle.cob_move.specs.Paragraphs.{AreCounters, AreSpelled, IsBodyRefusal, IsPassageRefusal, RunIsRefused}
 
--- words are a passage that is not empty, with few loops in one another, few statements, and counters of their own
+-- words are a passage that is not empty, with few loops in one another, which come to few statements
+pub record HasChecked (body : List Lexeme) : Type 0 where
+  pub passage : Passage
+  pub some : 0 < length body
+  pub says : IsPassage passage body
+  pub shallow : IsShallow body
+  pub few : IsFew passage
+
+-- words break a rule of passages, whatever may be named
+abbrev pub BreaksAnywhere : MoveFault → List Lexeme → Type 0
+BreaksAnywhere f body = (all : List Candidate) → IsPassageRefusal f.rule f.line all body
+
+-- whatever passage words are, a loop of it on the line of the fault has another's counter; or memory was refused
+abbrev pub IsClashOf : MoveFault → List Lexeme → Type 0
+IsClashOf f body =
+    (f ≡ record { rule = rule.Memory; line = 0 })
+    ⊎ ((f.rule ≡ rule.Counter) × ((p : Passage) → IsPassage p body → Clashes [] p f.line))
+
+-- whatever passage words are, these are its loops, and none has another's counter
+abbrev pub AreItsLoops : List Lexeme → List WrittenLoop → Type 0
+AreItsLoops body ls = (p : Passage) → IsPassage p body → AreApart [] p × (ls ≡ loops_of p)
+
+-- words are a passage that is not empty, with few loops in one another, which come to few statements, and with counters of their own
 pub record HasJudged (all : List Candidate) (body : List Lexeme) : Type 0 where
   pub passage : Passage
   pub some : 0 < length body

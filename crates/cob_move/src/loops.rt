@@ -1,17 +1,13 @@
 //! Paragraphs with loops, read run by run.
 
-ghost use Rattle.std.specs.Prelude.{◌≡◌, ◌↔◌, ◌++◌, [], List, IfErr, IfOk, IsTrue, OnOk};
+ghost use Rattle.std.specs.Prelude.{◌≡◌, ◌↔◌, IfErr, IfOk, IsTrue, OnOk};
 ghost use Rattle.std.specs.List.{AllByRecursion};
-ghost use Rattle.cob_copybook_names.specs.Naming.{named};
-ghost use Rattle.cob_move_loops.specs.Reading.{run_words, written_loop, written_loops};
+ghost use Rattle.cob_move_loops.specs.Reading.{run_words, written_loops};
 ghost use Rattle.cob_move_names.specs.Directory.{entries_named};
-ghost use Rattle.cob_move_statements.specs.Statements.{Several, IsEndedStatement};
-ghost use Rattle.cob_move_statements.specs.Written.{written_statements};
-ghost use Rattle.cob_move.specs.Among.{AreMeaningsAmong, nameable};
 ghost use Rattle.cob_move.specs.Between.{ArePairsOf};
 ghost use Rattle.cob_move.specs.Entries.{AllMayBeNamed, records_of};
-ghost use Rattle.cob_move.specs.Loops.{AddsRun, BodyRefused, BreaksCounters, HasJudged, IsPassageRefusal, RunRefused, SaysBody};
-ghost use Rattle.cob_move.specs.Paragraphs.{IsBodyIn, IsNoEntry};
+ghost use Rattle.cob_move.specs.Loops.{AddsRun, AreItsLoops, BodyRefused, BreaksAnywhere, HasChecked, HasJudged, IsClashOf, RunRefused, SaysBody};
+ghost use Rattle.cob_move.specs.Paragraphs.{BreaksCounters, IsBodyIn, IsNoEntry, IsPassageRefusal};
 ghost use Rattle.cob_source.specs.Tokens.{lexemes};
 
 use crate::entries::Entries;
@@ -85,7 +81,10 @@ fn check_names(names: &Names<'_>, heads: &[Loop<'_>]) -> Result<(), MoveFault>
 /// # Errors
 ///
 /// `Counter`, with a loop's line; `Memory`.
-fn apart_loops(alloc: Global, body: &[Token]) -> Result<Vec<Loop<'_>>, MoveFault> {
+fn apart_loops(alloc: Global, body: &[Token]) -> Result<Vec<Loop<'_>>, MoveFault>
+    ensures found { IfOk result (λ v. AreItsLoops (lexemes body.now) (written_loops v.items)) }
+    ensures fault { IfErr result (λ f. IsClashOf f (lexemes body.now)) }
+{
     match loops(alloc, body) {
         Ok(heads) => Ok(heads),
         Err(LoopFault::Clash(line)) => Err(fault_of(MoveRule::Counter, line)),
@@ -98,7 +97,10 @@ fn apart_loops(alloc: Global, body: &[Token]) -> Result<Vec<Loop<'_>>, MoveFault
 /// # Errors
 ///
 /// `Grammar`, `TooMany`.
-fn check_passage(body: &[Token]) -> Result<(), MoveFault> {
+fn check_passage(body: &[Token]) -> Result<(), MoveFault>
+    ensures found { OnOk result (HasChecked (lexemes body.now)) }
+    ensures fault { IfErr result (λ f. BreaksAnywhere f (lexemes body.now)) }
+{
     if body.is_empty() {
         return Err(fault_of(MoveRule::Grammar, 1));
     }

@@ -140,7 +140,7 @@ pub some_statements : (ss : List WrittenStatement) (ws : List Lexeme) → Severa
 some_statements [] ws several some = absurd (some several)
 some_statements (s ∷ ss) ws several some = omega arith
 
-statements_first : (ss : List WrittenStatement) (ws : List Lexeme) → 0 < length ss → Several IsEndedStatement ss ws → (w : Lexeme) × (behind : List Lexeme) × (word_class w ≡ term.Move) × (ws ≡ w ∷ behind)
+pub statements_first : (ss : List WrittenStatement) (ws : List Lexeme) → 0 < length ss → Several IsEndedStatement ss ws → (w : Lexeme) × (behind : List Lexeme) × (word_class w ≡ term.Move) × (ws ≡ w ∷ behind)
 statements_first [] ws some several = absurd (omega (arith, some))
 statements_first (s ∷ ss) ws some (own, rest, is, cut, several) =
     let (w, behind, move, e) = move_first s own rest is in
