@@ -1,0 +1,28 @@
+use Rattle.std.proofs.Common.{length, arith}
+use Rattle.cob_source.specs.Tokens.{lexemes}
+use Rattle.cob_move_loops.specs.Few.{statements_of}
+use Rattle.cob_move_loops.specs.Limits.{most_written_out}
+use Rattle.cob_move_loops.specs.Reading.{front_of, statements_front}
+use Rattle.cob_move_loops.proofs.CountLemmas.{count_end, count_first, count_more, count_over, statements_add, sum_over}
+use Rattle.cob_move_loops.proofs.PassageLemmas.{shorter}
+use Rattle.cob_move_loops.proofs.counting.+counting.Goals as goal
+
+pub count_all-loop-item-init : goal.count_all-loop-item-init
+count_all-loop-item-init t c = record { left = count_first statements_of (lexemes c.args.words.now); most = omega arith; fewer = omega arith }
+
+pub count_all-loop-item-preserved : goal.count_all-loop-item-preserved
+count_all-loop-item-preserved t c =
+    let f = front_of c.in-Some.item in
+    let less = shorter f (lexemes c.loop-item.rest.now) (lexemes c.in-Some.more.now) c.in-Some.ensures.found in record {
+      left = count_more statements_of statements_front statements_add (lexemes c.args.words.now) (lexemes c.loop-item.rest.now) (lexemes c.in-Some.more.now) f c.loop-item.count c.in_ok-own.own c.in_ok-sum_of.field-0.0
+          c.loop-item.invariant.left (omega (arith, less)) c.in-Some.ensures.only c.in_ok-own.ensures.some c.in_ok-sum_of.ensures.some.0;
+      most = c.in_ok-sum_of.ensures.some.1;
+      fewer = omega (arith, c.loop-item.invariant.fewer, less);
+    }
+
+pub count_all-loop-item-smaller : goal.count_all-loop-item-smaller
+count_all-loop-item-smaller t c = shorter (front_of c.in-Some.item) (lexemes c.loop-item.rest.now) (lexemes c.in-Some.more.now) c.in-Some.ensures.found
+
+pub count_all-returns-clause-some : goal.count_all-returns-clause-some
+count_all-returns-clause-some t c =
+    count_end statements_of statements_front statements_add (lexemes c.args.words.now) (lexemes c.loop-item.rest.now) c.loop-item.count c.loop-item.invariant.left c.in_default.ensures.only
