@@ -1,10 +1,13 @@
 -- Words in front.
-use Rattle.std.proofs.Common.{◌≡◌, ℕ, ◌+◌, ◌<◌, ◌≤◌, List, [], ◌∷◌, ◌++◌, length, refl, sym, ap, subst, ◌∙◌, append_assoc, arith, Option, Some, None}
+use Rattle.std.proofs.Common.{◌≡◌, ℕ, zero, suc, ◌+◌, ◌-◌, ◌<◌, ◌≤◌, List, [], ◌∷◌, ◌++◌, length, refl, sym, ap, subst, ◌∙◌, append_assoc, append-nil, arith, Option, Some, None}
 use Rattle.std.specs.List.{AllByRecursion}
 use Rattle.cob_source.specs.Tokens.{Lexeme}
+use Rattle.cob_move_loops.specs.declared.words.LoopWord.{LoopWord}
+use Rattle.cob_move_loops.specs.declared.words.LoopWord.TheVariants as loop
+use Rattle.cob_move_loops.specs.Reading.{ClosedInFront}
 use Rattle.cob_move_loops.specs.Words.{IsOther, IsPeriod, LoopWordFirst, NoPeriod, loop_word}
 use Rattle.cob_move_loops.specs.Passages.{APause, ARun, Front, FrontStands, Looped, open_behind, open_by}
-use Rattle.cob_move_loops.proofs.CutLemmas.{open_append}
+use Rattle.cob_move_loops.proofs.CutLemmas.{cut_one, no_cut, open_append}
 use Rattle.cob_move_loops.proofs.PassageLemmas.{body_shorter, shorter}
 
 pub no_stop : (ws : List Lexeme) → ((w : Lexeme) (more : List Lexeme) → IsPeriod w → ws ≡ w ∷ more → ⊥) → NoPeriod ws
@@ -49,6 +52,29 @@ opened_more words rest more w depth next so e step most = record {
   opened = open_append (Some 0) so.done (w ∷ []) ∙ ap (λ d. open_by (loop_word w) d) so.opened ∙ sym step;
   room = omega (arith, so.room, ap length e, most);
 }
+
+-- an END-PERFORM that ends no loop
+ends_none : (o : Option LoopWord) (depth : ℕ) → open_by o (Some depth) ≡ None → (o ≡ Some loop.EndPerform) × (depth ≡ 0)
+ends_none None depth e = absurd (let never : Some depth ≡ None = e in cc)
+ends_none (Some loop.Perform) depth e = absurd (let never : Some (depth + 1) ≡ None = e in cc)
+ends_none (Some loop.EndPerform) zero e = (refl, refl)
+ends_none (Some loop.EndPerform) (suc d) e = absurd (let never : Some (suc d - 1) ≡ None = e in cc)
+ends_none (Some loop.Continue) depth e = absurd (let never : Some depth ≡ None = e in cc)
+
+pub closed_here : (words rest more : List Lexeme) (w : Lexeme) (depth : ℕ) (so : Opened words rest depth) → rest ≡ w ∷ more → open_by (loop_word w) (Some depth) ≡ None
+    → (own behind : List Lexeme) → ClosedInFront own words behind → (so.done ≡ own) × (more ≡ behind)
+closed_here words rest more w depth so e none own behind (end, closed, is, cut) =
+    let (ends, zero_is) = ends_none (loop_word w) depth none in
+    cut_one (Some 0) so.done own w end more behind (so.opened ∙ ap (λ (d : ℕ). Some d) zero_is) ends closed is (sym (so.words_are ∙ ap (λ (t : List Lexeme). so.done ++ t) e) ∙ cut)
+
+none_left : (rest : List Lexeme) → length rest ≤ 0 → rest ≡ []
+none_left [] few = refl
+none_left (w ∷ rest) few = absurd (omega (arith, few))
+
+pub never_closed : (words rest : List Lexeme) (depth : ℕ) → Opened words rest depth → length rest ≤ 0 → (own more : List Lexeme) → ClosedInFront own words more → ⊥
+never_closed words rest depth so few own more (end, closed, is, cut) =
+    let all : words ≡ so.done = so.words_are ∙ ap (λ (t : List Lexeme). so.done ++ t) (none_left rest few) ∙ append-nil so.done in
+    no_cut own more end depth closed is (ap (λ (t : List Lexeme). open_behind (Some 0) t) (sym cut ∙ all) ∙ so.opened)
 
 -- how many words are in what stands in front, if it is a loop
 abbrev pub front_size : Front → ℕ

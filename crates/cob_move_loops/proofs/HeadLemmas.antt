@@ -1,10 +1,12 @@
 -- The heads of loops.
-use Rattle.std.proofs.Common.{◌≡◌, ◌⊎◌, ℕ, ◌<◌, List, [], ◌∷◌, ◌++◌, length, refl, sym, ap, subst, ◌∙◌, append_assoc, arith, inl, inr}
-use Rattle.std.specs.Prelude.{codes}
+use Rattle.std.proofs.Common.{◌≡◌, ◌⊎◌, ℕ, ◌<◌, List, [], ◌∷◌, ◌++◌, length, refl, sym, ap, subst, ◌∙◌, append_assoc, arith, inl, inr, Option, Some, None}
+use Rattle.std.specs.Prelude.{IfSome, codes}
 use Rattle.cob_decimal.specs.Decimal.{number_of}
 use Rattle.cob_decimal.specs.Literals.{AreDigits, digits_in}
 use Rattle.cob_source.specs.Tokens.{Lexeme}
 use Rattle.cob_copybook_clauses.specs.Clauses.{IsWord}
+use Rattle.cob_copybook_clauses.specs.Reading.{StandInFront}
+use Rattle.cob_move_loops.specs.Reading.{AfterIs}
 use Rattle.cob_move_loops.specs.Words.{IsCounter, IsNumber}
 use Rattle.cob_move_loops.specs.Passages.{IsGreater, IsHead, IsPastWord, IsStepping, IsUntil, IsVarying, NotThanFirst, WrittenLoop}
 
@@ -31,7 +33,7 @@ stepping_one i j m n h k a b (p, v, c, w, ip, iv, ic, iw, e) (q, u, d, x, iq, iu
     (number_one i m v u iv iu from, number_one j n w x iw ix by, tail)
 
 -- THAN is no number
-number_no_than : (n : ℕ) (w : Lexeme) → IsNumber n w → IsWord (codes "THAN") w → ⊥
+pub number_no_than : (n : ℕ) (w : Lexeme) → IsNumber n w → IsWord (codes "THAN") w → ⊥
 number_no_than n w is than =
     let digits : AreDigits (codes "THAN") = subst AreDigits than.same is.spelled.digits in
     omega (arith, digits.0.1)
@@ -99,7 +101,7 @@ past_one g h a b (inr (inr (i, p, ii, ip, e))) (inr (inr (j, q, ij, iq, f))) m n
     let tail : p ++ a ≡ q ++ b = cc in
     greater_one p q a b ip iq m n tail
 
-until_split : (u c n : Lexeme) (past a : List Lexeme) → (u ∷ c ∷ (past ++ n ∷ [])) ++ a ≡ u ∷ c ∷ (past ++ n ∷ a)
+pub until_split : (u c n : Lexeme) (past a : List Lexeme) → (u ∷ c ∷ (past ++ n ∷ [])) ++ a ≡ u ∷ c ∷ (past ++ n ∷ a)
 until_split u c n past a = ap (λ (t : List Lexeme). u ∷ c ∷ t) (append_assoc past (n ∷ []) a)
 
 until_one : (s t : List ℕ) (m n : ℕ) (h k a b : List Lexeme) → IsUntil s m h → IsUntil t n k → h ++ a ≡ k ++ b → (s ≡ t) × (m ≡ n) × (a ≡ b)
@@ -113,7 +115,7 @@ until_one s t m n h k a b (u, c, w, past, iu, ic, ip, iw, e) (v, d, x, tsap, iv,
     let tail : a ≡ b = cc in
     (counter_one s t c d ic id counter, number_one m n w x iw ix number, tail)
 
-head_split : (v s u a : List Lexeme) → (v ++ (s ++ u)) ++ a ≡ v ++ (s ++ (u ++ a))
+pub head_split : (v s u a : List Lexeme) → (v ++ (s ++ u)) ++ a ≡ v ++ (s ++ (u ++ a))
 head_split v s u a = append_assoc v (s ++ u) a ∙ ap (λ (t : List Lexeme). v ++ t) (append_assoc s u a)
 
 -- words begin with one head at most
@@ -125,3 +127,19 @@ head_one l m h k a b (v, s, u, iv, is, iu, e) (w, t, x, iw, it, ix, f) same =
     let second = stepping_one l.from l.by m.from m.by s t (u ++ a) (x ++ b) is it first.2 in
     let third = until_one l.tested m.tested l.bound m.bound u x a b iu ix second.2 in
     (λ i. record { line = first.0 i; counter = first.1 i; from = second.0 i; by = second.1 i; tested = third.0 i; bound = third.1 i }, third.2)
+
+-- ---- what readers of heads answer
+
+pub past_behind : (words rest more : List Lexeme) → AfterIs words rest → StandInFront IsGreater rest more → StandInFront IsPastWord words more
+past_behind words rest more (inl (i, is, e)) (g, greater, f) = (i ∷ g, inr (inr (i, g, is, greater, refl)), e ∙ ap (λ (t : List Lexeme). i ∷ t) f)
+past_behind words rest more (inr (same, none)) (g, greater, f) = (g, inr (inl greater), sym same ∙ f)
+
+pub some_weaker : {A : Type 0} (P Q : A → Type 0) (o : Option A) → ((a : A) → P a → Q a) → IfSome o P → IfSome o Q
+some_weaker P Q (Some a) more is = more a is
+some_weaker P Q None more is = tt
+
+pub until_words : (words ws more past : List Lexeme) (u c n : Lexeme) → ws ≡ u ∷ c ∷ (past ++ n ∷ []) → words ≡ ws ++ more → words ≡ u ∷ c ∷ (past ++ n ∷ more)
+until_words words ws more past u c n cut e = e ∙ ap (λ (t : List Lexeme). t ++ more) cut ∙ until_split u c n past more
+
+pub head_words : (words ws more v s u : List Lexeme) → ws ≡ v ++ (s ++ u) → words ≡ ws ++ more → words ≡ v ++ (s ++ (u ++ more))
+head_words words ws more v s u cut e = e ∙ ap (λ (t : List Lexeme). t ++ more) cut ∙ head_split v s u more

@@ -8,3 +8,4 @@ pub mod TurnLemmas
 pub mod WritingLemmas
 pub mod CountLemmas
 pub mod NamingLemmas
+pub mod NumberLemmas

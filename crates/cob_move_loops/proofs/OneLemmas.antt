@@ -12,7 +12,7 @@ use Rattle.cob_move_loops.proofs.CutLemmas.{cut_one}
 use Rattle.cob_move_loops.proofs.HeadLemmas.{head_one}
 use Rattle.cob_move_loops.proofs.PassageLemmas.{InFront, head_first, in_front, joined, no_period, shorter}
 
-others_one : (own us a b : List Lexeme) → AllByRecursion IsOther own → AllByRecursion IsOther us → LoopWordFirst a → LoopWordFirst b → own ++ a ≡ us ++ b → (own ≡ us) × (a ≡ b)
+pub others_one : (own us a b : List Lexeme) → AllByRecursion IsOther own → AllByRecursion IsOther us → LoopWordFirst a → LoopWordFirst b → own ++ a ≡ us ++ b → (own ≡ us) × (a ≡ b)
 others_one [] [] a b p q f g e = (refl, e)
 others_one [] (w ∷ us) a b p q f g e = absurd (subst LoopWordFirst e f q.0)
 others_one (w ∷ own) [] a b p q f g e = absurd (subst LoopWordFirst (sym e) g p.0)
@@ -22,7 +22,7 @@ others_one (w ∷ own) (v ∷ us) a b p q f g e =
     let left : own ≡ us = rest.0 in
     (cc, rest.1)
 
-are_others : (own : List Lexeme) → IsRun own → AllByRecursion IsOther own
+pub are_others : (own : List Lexeme) → IsRun own → AllByRecursion IsOther own
 are_others [] is = absurd is
 are_others (w ∷ own) is = is.1
 

@@ -124,7 +124,7 @@ fn pause_at(words: &[Token]) -> Option<(Item<'_>, &[Token])>
 
 /// How many loops are open behind a word; none where it ends one that is not there.
 pub(crate) fn depth_behind(depth: u64, word: Option<LoopWord>) -> Option<u64>
-    requires room { depth < 1_000_000_000_000 }
+    requires room { depth < 18_446_744_073_709_551_615 }
     ensures value { result ≡ open_by word (Some depth) }
     ensures most { IfSome result (λ d. d ≤ depth + 1) }
 {
@@ -142,6 +142,8 @@ fn body_at(words: &[Token]) -> Option<(&[Token], &[Token])>
     ensures only { (own more : List Lexeme) → ClosedInFront own (lexemes words.now) more
         → IsSomeAnd result (λ r. (lexemes r.0.now ≡ own) × (lexemes r.1.now ≡ more)) }
 {
+    // Words are fewer than 2^64, so that a depth is too.
+    let _ = words.len();
     let mut depth: u64 = 0;
     let mut rest = words;
     while let Some((first, more)) = rest.split_first() {
@@ -160,7 +162,14 @@ fn body_at(words: &[Token]) -> Option<(&[Token], &[Token])>
 fn has_no_period(words: &[Token]) -> bool
     ensures { IsTrue result ↔ AllByRecursion IsNoPeriod (lexemes words.now) }
 {
-    words.iter().all(|word| !is_stop(word))
+    let mut rest = words;
+    while let Some((first, more)) = rest.split_first() {
+        if is_stop(first) {
+            return false;
+        }
+        rest = more;
+    }
+    true
 }
 
 /// Whether words in which as many loops are closed as are opened may be the statements of a loop.
