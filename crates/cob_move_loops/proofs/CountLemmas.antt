@@ -1,6 +1,7 @@
 -- How much passages come to.
 use Rattle.std.proofs.Common.{◌≡◌, ℕ, zero, suc, ◌+◌, ◌*◌, ◌<◌, ◌≤◌, List, [], ◌∷◌, ◌++◌, length, refl, sym, ap, ◌∙◌, arith, Option, Some, None}
-use Rattle.std.specs.Prelude.{max}
+use Rattle.std.specs.Prelude.{IfNone, max}
+use Rattle.std.proofs.Math.Nat.{suc-mul}
 use Rattle.cob_source.specs.Tokens.{Lexeme}
 use Rattle.cob_copybook_clauses.specs.Terms.{word_class}
 use Rattle.cob_move_loops.specs.declared.words.LoopWord.{LoopWord}
@@ -18,14 +19,17 @@ pub record Adds (of : Passage → ℕ) (front : Front → Passage → ℕ) : Typ
   pub none : of NoMore ≡ 0
   pub joins : (f : Front) (body more : Passage) → of (joined f body more) ≡ front f body + of more
 
+zero_plus : (n : ℕ) → n ≡ 0 + n
+zero_plus n = omega arith
+
 statements_joined : (f : Front) (body more : Passage) → statements_of (joined f body more) ≡ statements_front f body + statements_of more
 statements_joined (ARun own) body more = refl
-statements_joined APause body more = refl
+statements_joined APause body more = zero_plus (statements_of more)
 statements_joined (Looped l own) body more = refl
 
 looped_joined : (f : Front) (body more : Passage) → looped_of (joined f body more) ≡ looped_front f body + looped_of more
-looped_joined (ARun own) body more = refl
-looped_joined APause body more = refl
+looped_joined (ARun own) body more = zero_plus (looped_of more)
+looped_joined APause body more = zero_plus (looped_of more)
 looped_joined (Looped l own) body more = refl
 
 pub statements_add : Adds statements_of statements_front
@@ -39,7 +43,7 @@ abbrev pub LeftToCount : (Passage → ℕ) → (words rest : List Lexeme) → �
 LeftToCount of words rest count = (p : Passage) → IsPassage p words → (q : Passage) × IsPassage q rest × (count + of q ≡ of p)
 
 pub count_first : (of : Passage → ℕ) (words : List Lexeme) → LeftToCount of words words 0
-count_first of words p is = (p, is, refl)
+count_first of words p is = (p, is, sym (zero_plus (of p)))
 
 pub count_more : (of : Passage → ℕ) (front : Front → Passage → ℕ) → Adds of front → (words rest more : List Lexeme) (f : Front) (count own sum : ℕ) → LeftToCount of words rest count
     → 0 < length rest → IsOnlyFront f rest more → ((body : Passage) → Within f body → own ≡ front f body) → sum ≡ count + own → LeftToCount of words more sum
@@ -74,11 +78,15 @@ count_end of front adds words rest count left none p is =
     let nothing : of q ≡ 0 = ap of (nothing_left q rest are none) ∙ adds.none in
     omega (arith, so, nothing)
 
+pub if_none : {A P : Type 0} (o : Option A) → P → IfNone o P
+if_none (Some a) p = tt
+if_none None p = p
+
 -- as many turns as there are, one at least, of too much are too much
 pub times_over : (t s most : ℕ) → 0 < t → most < s → most < t * s
 times_over zero s most some over = absurd (omega (arith, some))
 times_over (suc n) s most some over =
-    let it : suc n * s ≡ s + n * s = refl in
+    let it = suc-mul n s in
     omega (arith, it, over)
 
 -- ---- where nothing is written
@@ -98,7 +106,7 @@ none_turn f by (suc n) i none = ap (λ xs. xs ++ turns f by n (i + by)) (none i)
 none_turned : {A : Type 0} (f : ℕ → List A) (by n i s : ℕ) → (s ≡ 0 → (k : ℕ) → f k ≡ []) → n * s ≡ 0 → turns f by n i ≡ []
 none_turned f by zero i s none product = refl
 none_turned f by (suc n) i s none product =
-    let it : suc n * s ≡ s + n * s = refl in
+    let it = suc-mul n s in
     none_turn f by (suc n) i (none (omega (arith, it, product)))
 
 -- a passage without statements is written out as nothing

@@ -1,5 +1,5 @@
 -- Words in front.
-use Rattle.std.proofs.Common.{◌≡◌, ℕ, zero, suc, ◌+◌, ◌-◌, ◌<◌, ◌≤◌, List, [], ◌∷◌, ◌++◌, length, refl, sym, ap, subst, ◌∙◌, append_assoc, append-nil, arith, Option, Some, None}
+use Rattle.std.proofs.Common.{◌≡◌, ℕ, ◌+◌, ◌-◌, ◌<◌, ◌≤◌, List, [], ◌∷◌, ◌++◌, length, refl, sym, ap, subst, ◌∙◌, append_assoc, append-nil, arith, rules, Bool, true, false, nat_lt, if◌then◌else◌, Option, Some, None}
 use Rattle.std.specs.List.{AllByRecursion}
 use Rattle.cob_source.specs.Tokens.{Lexeme}
 use Rattle.cob_move_loops.specs.declared.words.LoopWord.{LoopWord}
@@ -53,12 +53,18 @@ opened_more words rest more w depth next so e step most = record {
   room = omega (arith, so.room, ap length e, most);
 }
 
+if_none : (b : Bool) (n : ℕ) → (if b then Some n else None) ≡ None → b ≡ false
+if_none true n e = absurd (let never : Some n ≡ None = e in cc)
+if_none false n e = refl
+
+not_below : (n : ℕ) → nat_lt 0 n ≡ false → n ≡ 0
+not_below n e = search rules
+
 -- an END-PERFORM that ends no loop
 ends_none : (o : Option LoopWord) (depth : ℕ) → open_by o (Some depth) ≡ None → (o ≡ Some loop.EndPerform) × (depth ≡ 0)
 ends_none None depth e = absurd (let never : Some depth ≡ None = e in cc)
 ends_none (Some loop.Perform) depth e = absurd (let never : Some (depth + 1) ≡ None = e in cc)
-ends_none (Some loop.EndPerform) zero e = (refl, refl)
-ends_none (Some loop.EndPerform) (suc d) e = absurd (let never : Some (suc d - 1) ≡ None = e in cc)
+ends_none (Some loop.EndPerform) depth e = (refl, not_below depth (if_none (nat_lt 0 depth) (depth - 1) e))
 ends_none (Some loop.Continue) depth e = absurd (let never : Some depth ≡ None = e in cc)
 
 pub closed_here : (words rest more : List Lexeme) (w : Lexeme) (depth : ℕ) (so : Opened words rest depth) → rest ≡ w ∷ more → open_by (loop_word w) (Some depth) ≡ None

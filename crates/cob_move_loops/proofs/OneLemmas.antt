@@ -33,7 +33,7 @@ periods_one (w ∷ n) [] a b p q f g e = absurd (subst NoPeriod (sym e) g p.0)
 periods_one (w ∷ n) (v ∷ m) a b p q f g e = let tail : n ++ a ≡ m ++ b = cc in periods_one n m a b p.1 q.1 f g tail
 
 -- the word of loops that stands first
-first_kind : Front → Option LoopWord
+abbrev first_kind : Front → Option LoopWord
 first_kind (ARun own) = None
 first_kind APause = Some loop.Continue
 first_kind (Looped l own) = Some loop.Perform
@@ -122,14 +122,14 @@ one_passage (ALoop l body more) q ws (head, own, stops, rest, end, h, b, inner, 
 -- ---- where words break off they are no passage
 
 pub breaks_none : BreaksNone
-breaks_none ws line (breaks_here ws line some none e) p is =
-    let k = in_front p ws is some in none k.front k.behind k.stands
-breaks_none ws line (breaks_within ws own more l line stands inner) p is =
-    let k = in_front p ws is (some_words (Looped l own) ws more stands) in
-    let one = one_front (Looped l own) k.front ws more k.behind stands k.stands in
+breaks_none ws line (breaks_here us n some none e) p is =
+    let k = in_front p us is some in none k.front k.behind k.stands
+breaks_none ws line (breaks_within us own more l n stands inner) p is =
+    let k = in_front p us is (some_words (Looped l own) us more stands) in
+    let one = one_front (Looped l own) k.front us more k.behind stands k.stands in
     let within : Within (Looped l own) k.body = subst (λ (g : Front). Within g k.body) (sym one.0) k.within in
-    breaks_none own line inner k.body within
-breaks_none ws line (breaks_behind ws more f line stands rest) p is =
-    let k = in_front p ws is (some_words f ws more stands) in
-    let one = one_front f k.front ws more k.behind stands k.stands in
-    breaks_none more line rest k.more (subst (λ (t : List Lexeme). IsPassage k.more t) (sym one.1) k.is)
+    breaks_none own n inner k.body within
+breaks_none ws line (breaks_behind us more f n stands rest) p is =
+    let k = in_front p us is (some_words f us more stands) in
+    let one = one_front f k.front us more k.behind stands k.stands in
+    breaks_none more n rest k.more (subst (λ (t : List Lexeme). IsPassage k.more t) (sym one.1) k.is)

@@ -19,7 +19,7 @@ use cob_source::Token;
 const MAX_WRITTEN_OUT: u64 = 100_000;
 
 /// The most loops that are open.
-const MAX_OPEN: u64 = 16;
+const MAX_OPEN: usize = 16;
 
 /// How many turns a loop has.
 pub(crate) fn turns_of(head: &Loop<'_>) -> u64
@@ -126,7 +126,8 @@ pub(crate) fn count_all(words: &[Token]) -> Option<u64>
     let mut rest = words;
     while let Some((item, more)) = item_at(rest) {
         let own = count_item(&item)?;
-        count = sum_of(count, own)?;
+        let sum = sum_of(count, own)?;
+        count = sum;
         rest = more;
     }
     Some(count)
@@ -158,7 +159,8 @@ fn count_loops(words: &[Token]) -> Option<u64>
     let mut rest = words;
     while let Some((item, more)) = item_at(rest) {
         let own = count_looped(&item)?;
-        count = sum_of(count, own)?;
+        let sum = sum_of(count, own)?;
+        count = sum;
         rest = more;
     }
     Some(count)
@@ -175,10 +177,10 @@ pub fn is_few(words: &[Token]) -> bool
 pub fn is_shallow(words: &[Token]) -> bool
     ensures { IsTrue result ↔ IsShallow (lexemes words.now) }
 {
-    let mut depth: u64 = 0;
+    let mut depth: usize = 0;
     let mut rest = words;
     while let Some((first, more)) = rest.split_first() {
-        match depth_behind(depth, loop_word(first)) {
+        match depth_behind(depth, loop_word(first), MAX_OPEN + 1) {
             Some(next) => {
                 if next > MAX_OPEN {
                     return false;

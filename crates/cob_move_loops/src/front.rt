@@ -122,14 +122,14 @@ fn pause_at(words: &[Token]) -> Option<(Item<'_>, &[Token])>
     Some((Item::Pause, behind_stops(rest)))
 }
 
-/// How many loops are open behind a word; none where it ends one that is not there.
-pub(crate) fn depth_behind(depth: u64, word: Option<LoopWord>) -> Option<u64>
-    requires room { depth < 18_446_744_073_709_551_615 }
+/// How many loops are open behind a word, where they are fewer than so many before; none where it ends one that is not there.
+pub(crate) fn depth_behind(depth: usize, word: Option<LoopWord>, most: usize) -> Option<usize>
+    requires room { depth < most }
     ensures value { result ≡ open_by word (Some depth) }
     ensures most { IfSome result (λ d. d ≤ depth + 1) }
 {
     match word {
-        Some(LoopWord::Perform) => Some(depth + 1),
+        Some(LoopWord::Perform) => { if depth < most { Some(depth + 1) } else { None } }
         Some(LoopWord::EndPerform) => { if depth > 0 { Some(depth - 1) } else { None } }
         Some(LoopWord::Continue) | None => Some(depth),
     }
@@ -142,12 +142,10 @@ fn body_at(words: &[Token]) -> Option<(&[Token], &[Token])>
     ensures only { (own more : List Lexeme) → ClosedInFront own (lexemes words.now) more
         → IsSomeAnd result (λ r. (lexemes r.0.now ≡ own) × (lexemes r.1.now ≡ more)) }
 {
-    // Words are fewer than 2^64, so that a depth is too.
-    let _ = words.len();
-    let mut depth: u64 = 0;
+    let mut depth: usize = 0;
     let mut rest = words;
     while let Some((first, more)) = rest.split_first() {
-        match depth_behind(depth, loop_word(first)) {
+        match depth_behind(depth, loop_word(first), words.len()) {
             Some(next) => {
                 depth = next;
                 rest = more;

@@ -1,5 +1,7 @@
 use Rattle.std.proofs.Common.{length, arith, refl}
-use Rattle.cob_source.specs.Tokens.{lexemes}
+use Rattle.std.proofs.lemmas.List.{length-map}
+use Rattle.std.proofs.lemmas.Result.{err_from_is_err_and}
+use Rattle.cob_source.specs.Tokens.{lexeme, lexemes}
 use Rattle.cob_move_loops.specs.Passages.{breaks_here}
 use Rattle.cob_move_loops.specs.Reading.{front_of}
 use Rattle.cob_move_loops.proofs.PassageLemmas.{broken_within, checked_all, checked_first, checked_more, none_is, shorter}
@@ -21,4 +23,13 @@ check-loop-rest-smaller t c = shorter (front_of c.in-Some.item) (lexemes c.loop-
 
 pub check-returns-in_err-check_item-clause-line : goal.check-returns-in_err-check_item-clause-line
 check-returns-in_err-check_item-clause-line t c =
-    broken_within (lexemes c.args.words.now) (lexemes c.loop-rest.rest.now) (lexemes c.in-Some.more.now) (front_of c.in-Some.item) c.in_err-check_item.field-0.0 c.loop-rest.invariant.checked c.in-Some.ensures.found c.in_err-check_item.ensures.line
+    let p = err_from_is_err_and c.from_residual.result c.from_residual.ensures.1 in
+    rw (p.1, p.2) (broken_within (lexemes c.args.words.now) (lexemes c.loop-rest.rest.now) (lexemes c.in-Some.more.now) (front_of c.in-Some.item) c.in_err-check_item.field-0.0 c.loop-rest.invariant.checked c.in-Some.ensures.found c.in_err-check_item.ensures.line)
+
+pub check-returns-in_default-clause-line : goal.check-returns-in_default-clause-line
+check-returns-in_default-clause-line t c =
+    c.loop-rest.invariant.checked.broken c.line_of.result (breaks_here (lexemes c.loop-rest.rest.now) c.line_of.result (omega (arith, length-map c.loop-rest.rest.now lexeme, c.loop-rest-test.true)) c.in_default.ensures.only c.line_of.ensures)
+
+pub check-returns-clause-found : goal.check-returns-clause-found
+check-returns-clause-found t c =
+    checked_all (lexemes c.args.words.now) (lexemes c.loop-rest.rest.now) c.loop-rest.invariant.checked (none_is (lexemes c.loop-rest.rest.now) (omega (arith, length-map c.loop-rest.rest.now lexeme, c.loop-rest-test.false)))

@@ -1,4 +1,4 @@
-use Rattle.std.proofs.Common.{◌≡◌, ◌++◌, ◌∷◌, [], List, length, ◌∙◌, ap, arith}
+use Rattle.std.proofs.Common.{◌≡◌, ◌++◌, ◌∷◌, [], List, length, ◌∙◌, ap, arith, refl}
 use Rattle.cob_source.specs.Tokens.{lexemes}
 use Rattle.cob_move_loops.specs.Reading.{all_runs, counters, front_of, written_loop}
 use Rattle.cob_move_loops.specs.Turns.{Counted, counter_at, written_out}
@@ -31,7 +31,7 @@ write_all-returns t c =
 
 pub write_turns-loop-left-init : goal.write_turns-loop-left-init
 write_turns-loop-left-init t c = record {
-  left = turns_first (counters c.args.turn.now) (lexemes c.args.body.now) (written_loop c.args.head.now) c.turns_to_write-left.result c.args.head.now.from c.args.out.now.items c.turns_to_write-left.ensures ?;
+  left = turns_first (counters c.args.turn.now) (lexemes c.args.body.now) (written_loop c.args.head.now) c.turns_to_write-left.result c.args.head.now.from c.args.out.now.items c.turns_to_write-left.ensures refl;
 }
 
 pub write_turns-loop-left-preserved : goal.write_turns-loop-left-preserved
