@@ -2,10 +2,12 @@
 use Rattle.std.proofs.Common.{◌≡◌, ◌⊎◌, inl, inr, ℕ, ◌<◌, List, [], ◌∷◌, ◌++◌, length, map, refl, sym, ap, subst, ◌∙◌, append_assoc, append-nil}
 use Rattle.std.specs.List.{AllByRecursion}
 use Rattle.cob_source.specs.Tokens.{Lexeme}
+use Rattle.cob_move_loops.specs.declared.naming.LoopFault.{LoopFault}
+use Rattle.cob_move_loops.specs.declared.naming.LoopFault.TheVariants as fault
 use Rattle.cob_move_loops.specs.declared.parts.Loop.{Loop}
 use Rattle.cob_move_loops.specs.Few.{AreApart, Clashes, IsApart, loops_of}
 use Rattle.cob_move_loops.specs.Passages.{ALoop, ARun, APause, Front, FrontStands, IsPassage, Looped, NoMore, Passage, WrittenLoop}
-use Rattle.cob_move_loops.specs.Reading.{ApartFront, ClashesFront, Within, loops_front, written_loop, written_loops}
+use Rattle.cob_move_loops.specs.Reading.{ApartFront, ClashesFront, IsClash, Within, loops_front, written_loop, written_loops}
 use Rattle.cob_move_loops.proofs.PassageLemmas.{IsOnlyFront, Parted, joined, nothing_left, parted}
 
 loops_joined : (f : Front) (body more : Passage) → loops_of (joined f body more) ≡ loops_front f body ++ loops_of more
@@ -82,3 +84,7 @@ pub loop_named : (out pushed after : List Loop) (l : Loop) (all : List WrittenLo
     → written_loops after ≡ written_loops out ++ written_loop l ∷ all
 loop_named out pushed after l all push made =
     made ∙ ap (λ (xs : List Loop). written_loops xs ++ all) push ∙ ap (λ (xs : List WrittenLoop). xs ++ all) (written_more out l) ∙ append_assoc (written_loops out) (written_loop l ∷ []) all
+
+pub clash_weaker : (P Q : ℕ → Type 0) (f : LoopFault) → ((line : ℕ) → P line → Q line) → IsClash P f → IsClash Q f
+clash_weaker P Q fault.Memory more is = tt
+clash_weaker P Q (fault.Clash line) more is = more line is

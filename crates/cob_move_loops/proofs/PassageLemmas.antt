@@ -1,9 +1,11 @@
 -- Passages, from what stands in front of them.
 use Rattle.std.proofs.Common.{◌≡◌, ℕ, ◌<◌, List, [], ◌∷◌, ◌++◌, length, refl, sym, ap, subst, ◌∙◌, append_assoc, append-nil, arith, Option, Some, None, map}
 use Rattle.std.proofs.lemmas.List.{length-append}
-use Rattle.std.specs.Prelude.{false}
+use Rattle.std.proofs.lemmas.Bool.Decides.{Decides-eqb}
+use Rattle.std.specs.Prelude.{◌==◌, Bool, true, false}
+use Rattle.cob_source.specs.declared.token.Token.{Token}
 use Rattle.std.specs.List.{AllByRecursion}
-use Rattle.cob_source.specs.Tokens.{Lexeme}
+use Rattle.cob_source.specs.Tokens.{Lexeme, lexemes}
 use Rattle.cob_copybook_clauses.specs.Terms.{term_of_kind, word_class}
 use Rattle.cob_copybook_clauses.specs.declared.term.WordClass.TheVariants as term
 use Rattle.cob_move_loops.specs.declared.words.LoopWord.{LoopWord}
@@ -156,3 +158,19 @@ shorter (Looped l own) ws more (head, stops, end, h, b, word, are, none, e) =
 pub body_shorter : (l : WrittenLoop) (own ws more : List Lexeme) → FrontStands (Looped l own) ws more → length own < length ws
 body_shorter l own ws more (head, stops, end, h, b, word, are, none, e) =
     omega (arith, ap length e, length-append head (own ++ end ∷ (stops ++ more)), length-append own (end ∷ (stops ++ more)), length-append stops more)
+
+-- ---- whether words are left
+
+no_words : (ws : List Token) → length ws ≡ 0 → lexemes ws ≡ []
+no_words [] e = refl
+no_words (w ∷ ws) e = absurd (omega (arith, e))
+
+pub none_left : (ws : List Token) (b : Bool) → b ≡ (length ws == 0) → b ≡ true → lexemes ws ≡ []
+none_left ws b e is = no_words ws ((Decides-eqb (length ws) 0).0 (sym e ∙ is))
+
+some_words : (ws : List Token) → (length ws ≡ 0 → ⊥) → 0 < length (lexemes ws)
+some_words [] some = absurd (some refl)
+some_words (w ∷ ws) some = omega arith
+
+pub some_left : (ws : List Token) (b : Bool) → b ≡ (length ws == 0) → b ≡ false → 0 < length (lexemes ws)
+some_left ws b e is = some_words ws (λ empty. let never : true ≡ false = sym ((Decides-eqb (length ws) 0).1 empty) ∙ sym e ∙ is in cc)

@@ -1,8 +1,9 @@
 //! The loops of passages, with their counters.
 
-ghost use Rattle.std.specs.Prelude.{◌≡◌, ◌≢◌, ◌↔◌, ◌++◌, ◌∷◌, [], IfErr, IfOk, IsTrue, OnOk};
+ghost use Rattle.std.specs.Prelude.{◌≡◌, ◌⊎◌, ◌≢◌, ◌↔◌, ◌++◌, ◌∷◌, [], IfErr, IfOk, IsTrue, OnOk};
 ghost use Rattle.std.specs.List.{AllByRecursion};
 ghost use Rattle.cob_source.specs.Tokens.{lexemes};
+ghost use Rattle.cob_move_loops.specs.declared.naming.LoopFault.TheVariants.{Memory};
 ghost use Rattle.cob_move_loops.specs.Few.{AreApart, Clashes, IsApart, loops_of};
 ghost use Rattle.cob_move_loops.specs.Passages.{IsPassage, Passage};
 ghost use Rattle.cob_move_loops.specs.Reading.{AddsLoops, AddsLoopsFront, ClashesIn, ClashesInFront, IsClash, front_of, written_loop, written_loops};
@@ -22,7 +23,7 @@ pub enum LoopFault {
 }
 
 impl From<AllocError> for LoopFault {
-    ghost from_gives = { λ _ e. e ≡ LoopFault.Memory };
+    ghost from_gives = { λ _ e. e ≡ Memory };
 
     fn from(_refused: AllocError) -> LoopFault {
         LoopFault::Memory
@@ -30,7 +31,7 @@ impl From<AllocError> for LoopFault {
 }
 
 impl<T: Drop> From<AllocFailed<T>> for LoopFault {
-    ghost from_gives = { λ _ e. e ≡ LoopFault.Memory };
+    ghost from_gives = { λ _ e. e ≡ Memory };
 
     fn from(_refused: AllocFailed<T>) -> LoopFault {
         LoopFault::Memory
@@ -68,7 +69,7 @@ fn with_loop<'a>(
     around: &[Loop<'a>],
     head: Loop<'a>,
 ) -> Result<Vec<Loop<'a>>, AllocError>
-    ensures { IfOk result (λ made. made.items ≡ around.now ++ head ∷ []) }
+    ensures { IfOk result (λ made. made.items ≡ around.now ++ head.entry ∷ []) }
 {
     let mut made = Vec::with_capacity(alloc, around.len())?;
     made.extend_from_slice(around)?;

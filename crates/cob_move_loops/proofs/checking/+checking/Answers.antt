@@ -1,10 +1,9 @@
 use Rattle.std.proofs.Common.{length, arith, refl}
-use Rattle.std.proofs.lemmas.List.{length-map}
 use Rattle.std.proofs.lemmas.Result.{err_from_is_err_and}
-use Rattle.cob_source.specs.Tokens.{lexeme, lexemes}
+use Rattle.cob_source.specs.Tokens.{lexemes}
 use Rattle.cob_move_loops.specs.Passages.{breaks_here}
 use Rattle.cob_move_loops.specs.Reading.{front_of}
-use Rattle.cob_move_loops.proofs.PassageLemmas.{broken_within, checked_all, checked_first, checked_more, none_is, shorter}
+use Rattle.cob_move_loops.proofs.PassageLemmas.{broken_within, checked_all, checked_first, checked_more, none_left, shorter, some_left}
 use Rattle.cob_move_loops.proofs.checking.+checking.Goals as goal
 
 pub check-loop-rest-init : goal.check-loop-rest-init
@@ -28,8 +27,8 @@ check-returns-in_err-check_item-clause-line t c =
 
 pub check-returns-in_default-clause-line : goal.check-returns-in_default-clause-line
 check-returns-in_default-clause-line t c =
-    c.loop-rest.invariant.checked.broken c.line_of.result (breaks_here (lexemes c.loop-rest.rest.now) c.line_of.result (omega (arith, length-map c.loop-rest.rest.now lexeme, c.loop-rest-test.true)) c.in_default.ensures.only c.line_of.ensures)
+    c.loop-rest.invariant.checked.broken c.line_of.result (breaks_here (lexemes c.loop-rest.rest.now) c.line_of.result (some_left c.loop-rest.rest.now c.is_empty.result c.is_empty.ensures c.loop-rest-test.true) c.in_default.ensures.only c.line_of.ensures)
 
 pub check-returns-clause-found : goal.check-returns-clause-found
 check-returns-clause-found t c =
-    checked_all (lexemes c.args.words.now) (lexemes c.loop-rest.rest.now) c.loop-rest.invariant.checked (none_is (lexemes c.loop-rest.rest.now) (omega (arith, length-map c.loop-rest.rest.now lexeme, c.loop-rest-test.false)))
+    checked_all (lexemes c.args.words.now) (lexemes c.loop-rest.rest.now) c.loop-rest.invariant.checked (none_left c.loop-rest.rest.now c.is_empty.result c.is_empty.ensures c.loop-rest-test.false)

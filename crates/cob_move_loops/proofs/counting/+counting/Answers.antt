@@ -1,4 +1,4 @@
-use Rattle.std.proofs.Common.{length, arith}
+use Rattle.std.proofs.Common.{ℕ, ◌*◌, ◌<◌, length, arith, subst}
 use Rattle.cob_source.specs.Tokens.{lexemes}
 use Rattle.cob_move_loops.specs.Few.{statements_of}
 use Rattle.cob_move_loops.specs.Limits.{most_written_out}
@@ -31,7 +31,7 @@ pub count_all-returns-in_err-own-clause-none : goal.count_all-returns-in_err-own
 count_all-returns-in_err-own-clause-none t c =
     let f = front_of c.in-Some.item in
     let less = shorter f (lexemes c.loop-item.rest.now) (lexemes c.in-Some.more.now) c.in-Some.ensures.found in
-    if_none c.from_residual-in_err-own.result (count_over statements_of statements_front statements_add (lexemes c.args.words.now) (lexemes c.loop-item.rest.now) (lexemes c.in-Some.more.now) f c.loop-item.count most_written_out
+    if_none c.from_residual.result (count_over statements_of statements_front statements_add (lexemes c.args.words.now) (lexemes c.loop-item.rest.now) (lexemes c.in-Some.more.now) f c.loop-item.count most_written_out
     c.loop-item.invariant.left (omega (arith, less)) c.in-Some.ensures.only c.in_err-own.ensures.none)
 
 pub count_all-returns-in_err-sum-clause-none : goal.count_all-returns-in_err-sum-clause-none
@@ -42,4 +42,6 @@ count_all-returns-in_err-sum-clause-none t c =
     c.loop-item.invariant.left (omega (arith, less)) c.in-Some.ensures.only c.in_ok-own.ensures.some c.in_err-sum.ensures.none)
 
 pub count_turns-returns-in_err-own-clause-none : goal.count_turns-returns-in_err-own-clause-none
-count_turns-returns-in_err-own-clause-none t c = ?
+count_turns-returns-in_err-own-clause-none t c =
+    if_none c.from_residual.result (λ p is.
+    subst (λ (n : ℕ). most_written_out < n * statements_of p) c.turns_of-turns.ensures (times_over c.turns_of-turns.result (statements_of p) most_written_out (omega (arith, c.if-turns-eq0.false)) (c.in_err-own.ensures.none p is)))

@@ -30,7 +30,7 @@ pub returns-in_err-own-clause-none : goal.returns-in_err-own-clause-none
 returns-in_err-own-clause-none c =
     let f = front_of c.in-Some.item in
     let less = shorter f (lexemes c.loop-item.rest.now) (lexemes c.in-Some.more.now) c.in-Some.ensures.found in
-    if_none c.from_residual-in_err-own.result (count_over looped_of looped_front looped_add (lexemes c.args.words.now) (lexemes c.loop-item.rest.now) (lexemes c.in-Some.more.now) f c.loop-item.count most_written_out
+    if_none c.from_residual.result (count_over looped_of looped_front looped_add (lexemes c.args.words.now) (lexemes c.loop-item.rest.now) (lexemes c.in-Some.more.now) f c.loop-item.count most_written_out
     c.loop-item.invariant.left (omega (arith, less)) c.in-Some.ensures.only c.in_err-own.ensures.none)
 
 pub returns-in_err-sum-clause-none : goal.returns-in_err-sum-clause-none
