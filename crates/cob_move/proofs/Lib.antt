@@ -10,3 +10,4 @@ pub mod MeaningLemmas
 pub mod PieceLemmas
 pub mod PassageLemmas
 pub mod PlainLemmas
+pub mod LoopLemmas

@@ -121,7 +121,7 @@ run_unbroken one unbroken f rule.Twice line all input output ws own ms same is b
 run_unbroken one unbroken f rule.TooLong line all input output ws own ms same is broken = absurd broken
 run_unbroken one unbroken f rule.Counter line all input output ws own ms same is broken = absurd broken
 run_unbroken one unbroken f rule.TooMany line all input output ws own ms same is broken = absurd broken
-run_unbroken one unbroken f rule.Memory line all input output ws own ms same is broken = absurd broken
+run_unbroken one unbroken f rule.Memory line all input output ws own ms same is broken = same
 
 -- runs that spell statements which mean moves are refused for want of memory alone
 pub runs_unbroken : OneListOfEnded → MeantBreakNoRule → (f : MoveFault) (all : List Candidate) (input output : Forest Resolved) (runs : List (List Lexeme)) (ss : List WrittenStatement) (ms : List Move)

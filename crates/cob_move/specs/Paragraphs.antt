@@ -103,9 +103,10 @@ pub record BreaksRun (line : ℕ) (ws : List Lexeme) : Type 0 where
   pub none : (ss : List WrittenStatement) → Several IsEndedStatement ss ws → ⊥
   pub line_is : BreaksOff ws line
 
--- the words of a run, in a turn, break the rule: they are no statements
+-- the words of a run, in a turn, break the rule: they are no statements; refused memory has line 0
 abbrev pub IsRunRefusal : MoveRule → ℕ → List Lexeme → Type 0
 IsRunRefusal rule.Grammar line ws = BreaksRun line ws
+IsRunRefusal rule.Memory line ws = line ≡ 0
 IsRunRefusal other line ws = ⊥
 
 -- A run, in a turn, is no statements; or it is, and one of these breaks the rule of the fault on its line, or memory was refused.
