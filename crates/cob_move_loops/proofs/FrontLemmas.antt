@@ -1,11 +1,11 @@
 -- Words in front.
-use Rattle.std.proofs.Common.{◌≡◌, ℕ, ◌+◌, ◌-◌, ◌<◌, ◌≤◌, List, [], ◌∷◌, ◌++◌, length, refl, sym, ap, subst, ◌∙◌, append_assoc, append-nil, arith, rules, Bool, true, false, nat_lt, if◌then◌else◌, Option, Some, None}
+use Rattle.std.proofs.Common.{◌≡◌, ℕ, ◌+◌, ◌-◌, ◌<◌, ◌≤◌, List, [], ◌∷◌, ◌++◌, length, refl, sym, ap, ◌∙◌, append_assoc, append-nil, arith, rules, Bool, true, false, nat_lt, if◌then◌else◌, Option, Some, None}
 use Rattle.std.specs.List.{AllByRecursion}
 use Rattle.cob_source.specs.Tokens.{Lexeme}
 use Rattle.cob_move_loops.specs.declared.words.LoopWord.{LoopWord}
 use Rattle.cob_move_loops.specs.declared.words.LoopWord.TheVariants as loop
 use Rattle.cob_move_loops.specs.Reading.{ClosedInFront}
-use Rattle.cob_move_loops.specs.Words.{IsOther, IsPeriod, LoopWordFirst, NoPeriod, loop_word}
+use Rattle.cob_move_loops.specs.Words.{IsOther, IsPeriod, NoPeriod, loop_word}
 use Rattle.cob_move_loops.specs.Passages.{APause, ARun, Front, FrontStands, Looped, open_behind, open_by}
 use Rattle.cob_move_loops.proofs.CutLemmas.{cut_one, no_cut, open_append}
 use Rattle.cob_move_loops.proofs.PassageLemmas.{body_shorter, shorter}

@@ -1,12 +1,11 @@
 -- The loops of passages.
-use Rattle.std.proofs.Common.{◌≡◌, ◌⊎◌, inl, inr, ℕ, ◌<◌, List, [], ◌∷◌, ◌++◌, length, map, refl, sym, ap, subst, ◌∙◌, append_assoc, append-nil}
-use Rattle.std.specs.List.{AllByRecursion}
+use Rattle.std.proofs.Common.{◌≡◌, inl, inr, ℕ, ◌<◌, List, [], ◌∷◌, ◌++◌, length, refl, sym, ap, subst, ◌∙◌, append_assoc, append-nil}
 use Rattle.cob_source.specs.Tokens.{Lexeme}
 use Rattle.cob_move_loops.specs.declared.naming.LoopFault.{LoopFault}
 use Rattle.cob_move_loops.specs.declared.naming.LoopFault.TheVariants as fault
 use Rattle.cob_move_loops.specs.declared.parts.Loop.{Loop}
-use Rattle.cob_move_loops.specs.Few.{AreApart, Clashes, IsApart, loops_of}
-use Rattle.cob_move_loops.specs.Passages.{ALoop, ARun, APause, Front, FrontStands, IsPassage, Looped, NoMore, Passage, WrittenLoop}
+use Rattle.cob_move_loops.specs.Few.{AreApart, Clashes, loops_of}
+use Rattle.cob_move_loops.specs.Passages.{ARun, APause, Front, FrontStands, IsPassage, Looped, NoMore, Passage, WrittenLoop}
 use Rattle.cob_move_loops.specs.Reading.{ApartFront, ClashesFront, IsClash, Within, loops_front, written_loop, written_loops}
 use Rattle.cob_move_loops.proofs.PassageLemmas.{IsOnlyFront, Parted, joined, nothing_left, parted}
 

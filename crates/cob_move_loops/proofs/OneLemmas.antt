@@ -1,11 +1,11 @@
 -- Words are one passage at most, and none where they break off.
-use Rattle.std.proofs.Common.{◌≡◌, ℕ, ◌<◌, List, [], ◌∷◌, ◌++◌, length, refl, sym, ap, subst, ◌∙◌, append_assoc, arith, Option, Some, None}
+use Rattle.std.proofs.Common.{◌≡◌, ◌<◌, List, [], ◌∷◌, ◌++◌, length, refl, sym, ap, subst, ◌∙◌, arith, Option, Some, None}
 use Rattle.std.specs.List.{AllByRecursion}
 use Rattle.cob_source.specs.Tokens.{Lexeme}
 use Rattle.cob_move_loops.specs.declared.words.LoopWord.{LoopWord}
 use Rattle.cob_move_loops.specs.declared.words.LoopWord.TheVariants as loop
-use Rattle.cob_move_loops.specs.Words.{IsLoopWord, IsOther, IsPeriod, LoopWordFirst, NoPeriod, loop_word}
-use Rattle.cob_move_loops.specs.Passages.{ALoop, APause, ARun, Breaks, Front, FrontStands, IsPassage, IsRun, Looped, Moves, NoMore, Passage, Pause, WrittenLoop, breaks_behind, breaks_here, breaks_within}
+use Rattle.cob_move_loops.specs.Words.{IsOther, IsPeriod, LoopWordFirst, NoPeriod, loop_word}
+use Rattle.cob_move_loops.specs.Passages.{ALoop, APause, ARun, Front, FrontStands, IsPassage, IsRun, Looped, Moves, NoMore, Passage, Pause, breaks_behind, breaks_here, breaks_within}
 use Rattle.cob_move_loops.specs.Reading.{Within}
 use Rattle.cob_move_loops.specs.Laws.{BreaksNone, OnePassage}
 use Rattle.cob_move_loops.proofs.CutLemmas.{cut_one}

@@ -1,19 +1,18 @@
 -- Passages, from what stands in front of them.
-use Rattle.std.proofs.Common.{◌≡◌, ℕ, ◌<◌, List, [], ◌∷◌, ◌++◌, length, refl, sym, ap, subst, ◌∙◌, append_assoc, append-nil, arith, Option, Some, None, map}
+use Rattle.std.proofs.Common.{◌≡◌, ℕ, ◌<◌, List, [], ◌∷◌, ◌++◌, length, refl, sym, ap, subst, ◌∙◌, arith, Some, None}
 use Rattle.std.proofs.lemmas.List.{length-append}
 use Rattle.std.proofs.lemmas.Bool.Decides.{Decides-eqb}
 use Rattle.std.specs.Prelude.{◌==◌, Bool, true, false}
 use Rattle.cob_source.specs.declared.token.Token.{Token}
-use Rattle.std.specs.List.{AllByRecursion}
 use Rattle.cob_source.specs.Tokens.{Lexeme, lexemes}
-use Rattle.cob_copybook_clauses.specs.Terms.{term_of_kind, word_class}
+use Rattle.cob_copybook_clauses.specs.Terms.{term_of_kind}
 use Rattle.cob_copybook_clauses.specs.declared.term.WordClass.TheVariants as term
 use Rattle.cob_move_loops.specs.declared.words.LoopWord.{LoopWord}
 use Rattle.cob_move_loops.specs.declared.words.LoopWord.TheVariants as loop
-use Rattle.cob_move_loops.specs.Words.{IsLoopWord, IsPeriod, LoopWordFirst, NoPeriod, loop_word, loop_word_of_kind}
-use Rattle.cob_move_loops.specs.Passages.{ALoop, APause, ARun, Breaks, Front, FrontStands, IsHead, IsPassage, IsRun, Looped, Moves, NoMore, Passage, Pause, WrittenLoop, breaks_behind, breaks_here, breaks_within}
+use Rattle.cob_move_loops.specs.Words.{IsLoopWord, IsPeriod, NoPeriod, loop_word_of_kind}
+use Rattle.cob_move_loops.specs.Passages.{ALoop, APause, ARun, Breaks, Front, FrontStands, IsHead, IsPassage, IsRun, Looped, Moves, NoMore, Passage, Pause, WrittenLoop, breaks_behind, breaks_within}
 use Rattle.cob_move_loops.specs.Reading.{BreaksWithin, HasPassages, Within, written_front}
-use Rattle.cob_move_loops.specs.Turns.{Counted, counter_at, in_turn, turns, turns_of, written_out}
+use Rattle.cob_move_loops.specs.Turns.{Counted, written_out}
 
 -- a passage of what stands in front, with its statements if it is a loop, and of the others
 abbrev pub joined : Front → Passage → Passage → Passage

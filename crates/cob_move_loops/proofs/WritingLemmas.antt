@@ -1,14 +1,14 @@
 -- Passages written out.
-use Rattle.std.proofs.Common.{◌≡◌, ◌⊎◌, inl, inr, ℕ, zero, suc, ◌+◌, ◌-◌, ◌<◌, List, [], ◌∷◌, ◌++◌, length, refl, sym, ap, subst, ◌∙◌, append_assoc, append-nil, arith}
+use Rattle.std.proofs.Common.{◌≡◌, ◌⊎◌, inl, inr, ℕ, zero, suc, ◌+◌, ◌-◌, ◌<◌, List, [], ◌∷◌, ◌++◌, length, refl, sym, ap, ◌∙◌, append_assoc, append-nil, arith}
 use Rattle.cob_source.specs.Tokens.{Lexeme}
 use Rattle.cob_move_loops.specs.declared.turn.Counter.{Counter}
 use Rattle.cob_move_loops.specs.declared.writing.Run.{Run}
-use Rattle.cob_move_loops.specs.Passages.{Front, FrontStands, IsPassage, NoMore, Passage, WrittenLoop}
+use Rattle.cob_move_loops.specs.Passages.{Front, FrontStands, IsPassage, Passage, WrittenLoop}
 use Rattle.cob_move_loops.specs.Few.{statements_of}
 use Rattle.cob_move_loops.specs.Reading.{Within, all_runs, counters, written_front}
 use Rattle.cob_move_loops.specs.Turns.{Counted, counter_at, turns, turns_of, written_out}
 use Rattle.cob_move_loops.proofs.CountLemmas.{none_turn, nothing_written}
-use Rattle.cob_move_loops.proofs.PassageLemmas.{IsOnlyFront, Parted, joined, nothing_left, parted, written_joined}
+use Rattle.cob_move_loops.proofs.PassageLemmas.{IsOnlyFront, Parted, nothing_left, parted, written_joined}
 
 -- what is left of words comes to, behind what is written, what all come to
 abbrev pub LeftOfWords : List Counted → (words rest : List Lexeme) → (start now : List Run) → Type 0

@@ -15,7 +15,7 @@ use Rattle.cob_move_loops.specs.declared.words.LoopWord.TheVariants as loop
 use Rattle.cob_move_loops.specs.Few.{AreApart, Clashes, IsApart, loops_of, statements_in, statements_of}
 use Rattle.cob_move_loops.specs.Turns.{Counted, counter_at, in_turn, turns, turns_of, written_out}
 use Rattle.cob_move_loops.specs.Words.{IsLoopWord}
-use Rattle.cob_move_loops.specs.Passages.{APause, ARun, Breaks, Front, FrontStands, IsPassage, Looped, Passage, WrittenLoop, open_behind}
+use Rattle.cob_move_loops.specs.Passages.{APause, ARun, Breaks, Front, IsPassage, Looped, Passage, WrittenLoop, open_behind}
 
 -- a loop without where its texts lie in memory
 abbrev pub written_loop : Loop → WrittenLoop

@@ -1,5 +1,5 @@
 -- Loops written out: the words of a turn have the number of a counter in its place.
-use Rattle.std.specs.Prelude.{◌≡◌, ℕ, zero, suc, ◌+◌, ◌-◌, ◌/◌, ◌&&◌, nat_le, nat_lt, if◌then◌else◌, bytes_eq, codes, decimal, Bool, true, false, List, [], ◌∷◌, ◌++◌, length, map, Option, Some, None}
+use Rattle.std.specs.Prelude.{ℕ, zero, suc, ◌+◌, ◌-◌, ◌/◌, ◌&&◌, nat_le, nat_lt, if◌then◌else◌, bytes_eq, codes, decimal, Bool, true, false, List, [], ◌∷◌, ◌++◌, length, Option, Some, None}
 use Rattle.std.specs.List.{list_all}
 use Rattle.cob_decimal.specs.Decimal.{number_of}
 use Rattle.cob_decimal.specs.Literals.{digits_in}

@@ -1,4 +1,4 @@
-use Rattle.std.proofs.Common.{ℕ, ◌*◌, ◌<◌, length, arith, subst}
+use Rattle.std.proofs.Common.{ℕ, ◌*◌, ◌<◌, arith, subst}
 use Rattle.cob_source.specs.Tokens.{lexemes}
 use Rattle.cob_move_loops.specs.Few.{statements_of}
 use Rattle.cob_move_loops.specs.Limits.{most_written_out}

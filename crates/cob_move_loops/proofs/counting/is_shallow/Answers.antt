@@ -1,4 +1,4 @@
-use Rattle.std.proofs.Common.{◌≡◌, ap, sym, ◌∙◌, true, false, refl}
+use Rattle.std.proofs.Common.{◌≡◌, ap, ◌∙◌, true, false, refl}
 use Rattle.std.specs.Prelude.{Option, Some}
 use Rattle.cob_source.specs.Tokens.{lexeme, lexemes}
 use Rattle.cob_move_loops.specs.declared.words.LoopWord.{LoopWord}

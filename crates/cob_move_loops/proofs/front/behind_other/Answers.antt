@@ -1,5 +1,5 @@
-use Rattle.std.proofs.Common.{◌≡◌, List, [], ◌∷◌, ◌++◌, refl, sym, ap, subst, ◌∙◌, inl, inr, arith, rules, true, false}
-use Rattle.cob_source.specs.Tokens.{Lexeme, lexeme, lexemes}
+use Rattle.std.proofs.Common.{sym, ap, ◌∙◌}
+use Rattle.cob_source.specs.Tokens.{lexeme, lexemes}
 use Rattle.cob_move_loops.proofs.front.behind_other.Goals as goal
 
 pub returns-in-None-clause-found : goal.returns-in-None-clause-found

@@ -1,7 +1,7 @@
 use Rattle.std.proofs.lemmas.List.{length-map}
-use Rattle.std.proofs.Common.{length, ◌≡◌, List, [], ◌∷◌, ◌++◌, refl, sym, ap, subst, ◌∙◌, inl, inr, arith, rules, true, false}
-use Rattle.cob_source.specs.Tokens.{Lexeme, lexeme, lexemes}
-use Rattle.std.specs.Prelude.{ℕ, Option, Some}
+use Rattle.std.proofs.Common.{length, sym, ap, ◌∙◌, arith}
+use Rattle.cob_source.specs.Tokens.{lexeme, lexemes}
+use Rattle.std.specs.Prelude.{Option, Some}
 use Rattle.cob_move_loops.specs.declared.words.LoopWord.{LoopWord}
 use Rattle.cob_move_loops.specs.Passages.{open_by}
 use Rattle.cob_move_loops.proofs.FrontLemmas.{closed_here, never_closed, opened_more}

@@ -1,5 +1,4 @@
-use Rattle.std.proofs.Common.{◌≡◌, List, [], ◌∷◌, ◌++◌, refl, sym, ap, subst, ◌∙◌, inl, inr, arith, rules, true, false}
-use Rattle.cob_source.specs.Tokens.{Lexeme, lexeme, lexemes}
+use Rattle.std.proofs.Common.{◌≡◌, ◌∷◌, ◌++◌, sym, subst, ◌∙◌, true, false}
 use Rattle.cob_move_loops.specs.Passages.{IsBody, Looped}
 use Rattle.cob_move_loops.proofs.front.loop_at.Goals as goal
 

@@ -1,5 +1,5 @@
-use Rattle.std.proofs.Common.{◌≡◌, List, [], ◌∷◌, ◌++◌, refl, sym, ap, subst, ◌∙◌, inl, inr, arith, rules, true, false}
-use Rattle.cob_source.specs.Tokens.{Lexeme, lexeme, lexemes}
+use Rattle.std.proofs.Common.{List, sym, ap, ◌∙◌}
+use Rattle.cob_source.specs.Tokens.{Lexeme, lexemes}
 use Rattle.cob_move_loops.specs.Passages.{ARun}
 use Rattle.cob_move_loops.proofs.OneLemmas.{are_others, others_one}
 use Rattle.cob_move_loops.proofs.front.run_at.Goals as goal

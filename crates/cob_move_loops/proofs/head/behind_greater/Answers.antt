@@ -1,5 +1,5 @@
-use Rattle.std.proofs.Common.{◌≡◌, List, [], ◌∷◌, ◌++◌, refl, sym, ap, subst, ◌∙◌, inl, inr, arith, rules, true, false}
-use Rattle.cob_source.specs.Tokens.{Lexeme, lexeme, lexemes}
+use Rattle.std.proofs.Common.{List, [], ◌∷◌, ap, ◌∙◌}
+use Rattle.cob_source.specs.Tokens.{Lexeme}
 use Rattle.cob_move_loops.proofs.head.behind_greater.Goals as goal
 
 pub returns-in-Some-clause-found : goal.returns-in-Some-clause-found

@@ -1,5 +1,5 @@
-use Rattle.std.proofs.Common.{◌≡◌, List, [], ◌∷◌, ◌++◌, refl, sym, ap, subst, ◌∙◌, inl, inr, arith, rules, true, false}
-use Rattle.cob_source.specs.Tokens.{Lexeme, lexeme, lexemes}
+use Rattle.std.proofs.Common.{[], ◌∷◌, refl, inl}
+use Rattle.cob_source.specs.Tokens.{lexemes}
 use Rattle.cob_copybook_clauses.specs.Reading.{StandInFront}
 use Rattle.cob_move_loops.specs.Passages.{IsGreater, IsPastWord}
 use Rattle.cob_move_loops.proofs.HeadLemmas.{past_behind, some_weaker}

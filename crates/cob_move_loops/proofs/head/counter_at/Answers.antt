@@ -1,5 +1,5 @@
-use Rattle.std.proofs.Common.{◌≡◌, List, [], ◌∷◌, ◌++◌, refl, sym, ap, subst, ◌∙◌, inl, inr, arith, rules, true, false}
-use Rattle.cob_source.specs.Tokens.{Lexeme, lexeme, lexemes}
+use Rattle.std.proofs.Common.{sym, ap}
+use Rattle.cob_source.specs.Tokens.{lexeme, lexemes}
 use Rattle.cob_move_loops.proofs.head.counter_at.Goals as goal
 
 pub returns-clause-found : goal.returns-clause-found

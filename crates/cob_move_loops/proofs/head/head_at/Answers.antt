@@ -1,5 +1,5 @@
-use Rattle.std.proofs.Common.{◌≡◌, List, [], ◌∷◌, ◌++◌, refl, sym, ap, subst, ◌∙◌, inl, inr, arith, rules, true, false}
-use Rattle.cob_source.specs.Tokens.{Lexeme, lexeme, lexemes}
+use Rattle.std.proofs.Common.{List, ◌++◌, refl, sym, ap, ◌∙◌}
+use Rattle.cob_source.specs.Tokens.{Lexeme, lexemes}
 use Rattle.cob_move_loops.proofs.HeadLemmas.{head_split, head_words}
 use Rattle.cob_move_loops.proofs.head.head_at.Goals as goal
 

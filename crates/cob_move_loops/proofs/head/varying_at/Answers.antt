@@ -1,5 +1,5 @@
-use Rattle.std.proofs.Common.{◌≡◌, List, [], ◌∷◌, ◌++◌, refl, sym, ap, subst, ◌∙◌, inl, inr, arith, rules, true, false}
-use Rattle.cob_source.specs.Tokens.{Lexeme, lexeme, lexemes}
+use Rattle.std.proofs.Common.{List, [], ◌∷◌, refl, ap, ◌∙◌}
+use Rattle.cob_source.specs.Tokens.{Lexeme}
 use Rattle.cob_move_loops.specs.Words.{first_line}
 use Rattle.cob_move_loops.proofs.head.varying_at.Goals as goal
 

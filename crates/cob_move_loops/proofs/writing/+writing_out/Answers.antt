@@ -1,8 +1,7 @@
-use Rattle.std.proofs.Common.{◌≡◌, ◌++◌, ◌∷◌, [], List, length, ◌∙◌, ap, arith, refl}
+use Rattle.std.proofs.Common.{◌≡◌, ◌++◌, ◌∷◌, [], List, ◌∙◌, ap, arith, refl}
 use Rattle.cob_source.specs.Tokens.{lexemes}
 use Rattle.cob_move_loops.specs.Reading.{all_runs, counters, front_of, written_loop}
 use Rattle.cob_move_loops.specs.Turns.{Counted, counter_at, written_out}
-use Rattle.cob_move_loops.proofs.FrontLemmas.{front_smaller}
 use Rattle.cob_move_loops.proofs.PassageLemmas.{shorter}
 use Rattle.cob_move_loops.proofs.WritingLemmas.{counters_more, left_end, left_first, left_more, turns_done, turns_first, turns_next}
 use Rattle.cob_move_loops.proofs.writing.+writing_out.Goals as goal
