@@ -12,8 +12,15 @@ use Rattle.cob_move_statements.specs.declared.fault.MoveRule.TheVariants as rule
 use Rattle.cob_move_statements.specs.Reading.{Refused}
 use Rattle.cob_move_statements.specs.Statements.{IsEndedStatement, IsLineIn, Several}
 use Rattle.cob_move_statements.specs.Written.{WrittenStatement}
-use Rattle.cob_move.specs.Loops.{AreItsLoops, HasChecked, HasJudged, IsClashOf}
-use Rattle.cob_move.specs.Paragraphs.{AreSpelled, BreaksCounters, IsNoEntry, IsPassageRefusal, RunIsRefused}
+use Rattle.cob_move_data.specs.declared.operands.StatementMoves.{StatementMoves}
+use Rattle.cob_move_data.specs.Moves.{moves}
+use Rattle.cob_source.specs.Words.{AreParagraphWordsOf}
+use Rattle.cob_move.specs.declared.entries.Entries.{Entries}
+use Rattle.cob_move.specs.Among.{nameable}
+use Rattle.cob_move.specs.Entries.{AllMayBeNamed, records_of}
+use Rattle.cob_move.specs.Loops.{AreItsLoops, BodyRefused, HasChecked, HasJudged, IsClashOf, SaysBody}
+use Rattle.cob_move.specs.Paragraphs.{AreCounters, AreSpelled, BreaksCounters, IsBodyIn, IsBodyRefusal, IsNoEntry, IsParagraphOf, IsPassageRefusal, IsRefusalOf, RunIsRefused}
+use Rattle.cob_move.proofs.MeaningLemmas.{meant_here}
 
 pub judged : (all : List Candidate) (body : List Lexeme) (ls : List WrittenLoop) → HasChecked body → AreItsLoops body ls → AllByRecursion (λ (l : WrittenLoop). IsNoEntry all l.counter) ls → HasJudged all body
 judged all body ls h are none =
@@ -60,3 +67,38 @@ pub spelled_more : (runs : List (List Lexeme)) (ws : List Lexeme) (ss own : List
 spelled_more [] ws ss own none is = (own, [], is, refl, ap (λ (t : List WrittenStatement). t ++ own) none ∙ sym (append-nil own))
 spelled_more (us ∷ runs) ws ss own (first, rest, are, others, e) is =
     (first, rest ++ own, are, spelled_more runs ws rest own others is, ap (λ (t : List WrittenStatement). t ++ own) e ∙ append_assoc first rest own)
+
+-- ---- the words of a text
+
+pub says_paragraph : (text : List ℕ) (words body : List Lexeme) (e : Entries) (list : List StatementMoves) → AreParagraphWordsOf text words → IsBodyIn words body → SaysBody e body list → AllMayBeNamed e
+    → IsParagraphOf text e.input.now e.output.now (moves (records_of e) list)
+says_paragraph text words body e list are is says named = record {
+  words = words;
+  passage = says.judged.passage;
+  statements = says.statements;
+  are_words = are;
+  has = record {
+    heading = is.heading;
+    body = body;
+    named = is.named;
+    others = is.others;
+    words_are = is.words_are;
+    some = says.judged.some;
+    says = says.judged.says;
+    shallow = says.judged.shallow;
+    few = says.judged.few;
+  };
+  counters = subst (λ (all : List Candidate). AreCounters all says.judged.passage) named says.judged.counters;
+  spelled = says.spelled;
+  meant = meant_here (nameable e) (records_of e) says.statements list named says.meant;
+}
+
+pub body_refused : (text : List ℕ) (words body : List Lexeme) (e : Entries) (f : MoveFault) → AreParagraphWordsOf text words → IsBodyIn words body → BodyRefused f e body → AllMayBeNamed e
+    → IsRefusalOf f text e.input.now e.output.now
+body_refused text words body e f are is refused named = inr (record {
+  words = words;
+  body = body;
+  are_words = are;
+  is_body = is;
+  refused = subst (λ (all : List Candidate). IsBodyRefusal f all e.input.now e.output.now body) named refused;
+})
