@@ -1,26 +1,39 @@
 -- Readers of paragraphs with loops.
-use Rattle.std.proofs.Common.{◌≡◌, ◌⊎◌, inl, inr, ℕ, List, [], ◌∷◌, ◌++◌, refl, sym, ap, subst, ◌∙◌, append_assoc, append-nil}
+use Rattle.std.proofs.Common.{◌≡◌, ◌⊎◌, inl, inr, ℕ, ◌+◌, ◌<◌, ◌≤◌, List, [], ◌∷◌, ◌++◌, length, map, get_or, drop, refl, sym, ap, subst, ◌∙◌, append_assoc, append-nil, arith}
+use Rattle.std.proofs.lemmas.List.{drop_all}
+use Rattle.std.proofs.lemmas.Grind.{flat_map-append}
 use Rattle.std.specs.List.{AllByRecursion}
 use Rattle.cob_source.specs.Tokens.{Lexeme}
+use Rattle.cob_source.specs.declared.token.TokenKind.{TokenKind}
+use Rattle.cob_copybook_names.specs.Naming.{named}
 use Rattle.cob_copybook_tree.specs.Forests.{Forest}
 use Rattle.cob_copybook_tree.specs.Nodes.{Resolved}
-use Rattle.cob_move_loops.specs.Passages.{WrittenLoop}
+use Rattle.cob_move_loops.specs.Passages.{IsPassage, Passage, WrittenLoop}
+use Rattle.cob_move_loops.specs.Turns.{written_out}
+use Rattle.cob_move_loops.specs.Words.{IsOther, loop_word_of_kind}
 use Rattle.cob_move_names.specs.Candidates.{Candidate}
+use Rattle.cob_move_names.specs.References.{BreaksReference, NamesOperand}
+use Rattle.cob_move_apply.specs.Some.{SomeOf}
 use Rattle.cob_move_statements.specs.declared.fault.MoveFault.{MoveFault}
 use Rattle.cob_move_statements.specs.declared.fault.MoveRule.{MoveRule}
 use Rattle.cob_move_statements.specs.declared.fault.MoveRule.TheVariants as rule
 use Rattle.cob_move_statements.specs.Reading.{Refused}
-use Rattle.cob_move_statements.specs.Statements.{IsEndedStatement, IsLineIn, Several}
-use Rattle.cob_move_statements.specs.Written.{WrittenStatement}
+use Rattle.cob_move_statements.specs.Statements.{IsBody, IsEndedStatement, IsHeading, IsLineIn, IsPeriod, Several}
+use Rattle.cob_move_statements.specs.Written.{WrittenReference, WrittenStatement}
 use Rattle.cob_move_data.specs.declared.operands.StatementMoves.{StatementMoves}
-use Rattle.cob_move_data.specs.Moves.{moves}
+use Rattle.cob_move_data.specs.Moves.{Move, moves, statement_moves}
+use Rattle.cob_move_data.specs.declared.operands.Operand.{Operand}
+use Rattle.cob_move_data.specs.declared.operands.Side.{Side}
 use Rattle.cob_source.specs.Words.{AreParagraphWordsOf}
 use Rattle.cob_move.specs.declared.entries.Entries.{Entries}
-use Rattle.cob_move.specs.Among.{nameable}
+use Rattle.cob_move.specs.Among.{AreMeaningsAmong, nameable}
 use Rattle.cob_move.specs.Entries.{AllMayBeNamed, records_of}
-use Rattle.cob_move.specs.Loops.{AreItsLoops, BodyRefused, HasChecked, HasJudged, IsClashOf, SaysBody}
+use Rattle.cob_move.specs.Meaning.{AreMeanings}
+use Rattle.cob_move.specs.Loops.{AddsRun, AreItsLoops, BodyRefused, HasChecked, HasJudged, IsClashOf, RunRefused, SayRuns, SaysBody}
 use Rattle.cob_move.specs.Paragraphs.{AreCounters, AreSpelled, BreaksCounters, IsBodyIn, IsBodyRefusal, IsNoEntry, IsParagraphOf, IsPassageRefusal, IsRefusalOf, RunIsRefused}
 use Rattle.cob_move.proofs.MeaningLemmas.{meant_here}
+use Rattle.cob_move.proofs.PieceLemmas.{meanings_both}
+use Rattle.cob_move.proofs.SomeLemmas.{next}
 
 pub judged : (all : List Candidate) (body : List Lexeme) (ls : List WrittenLoop) → HasChecked body → AreItsLoops body ls → AllByRecursion (λ (l : WrittenLoop). IsNoEntry all l.counter) ls → HasJudged all body
 judged all body ls h are none =
@@ -63,10 +76,130 @@ run_refused rule.Counter line all input output ws fault is = absurd is
 run_refused rule.TooMany line all input output ws fault is = absurd is
 
 -- one run more
-pub spelled_more : (runs : List (List Lexeme)) (ws : List Lexeme) (ss own : List WrittenStatement) → AreSpelled runs ss → Several IsEndedStatement own ws → AreSpelled (runs ++ ws ∷ []) (ss ++ own)
+spelled_more : (runs : List (List Lexeme)) (ws : List Lexeme) (ss own : List WrittenStatement) → AreSpelled runs ss → Several IsEndedStatement own ws → AreSpelled (runs ++ ws ∷ []) (ss ++ own)
 spelled_more [] ws ss own none is = (own, [], is, refl, ap (λ (t : List WrittenStatement). t ++ own) none ∙ sym (append-nil own))
 spelled_more (us ∷ runs) ws ss own (first, rest, are, others, e) is =
     (first, rest ++ own, are, spelled_more runs ws rest own others is, ap (λ (t : List WrittenStatement). t ++ own) e ∙ append_assoc first rest own)
+
+pub runs_begin : (e : Entries) (list : List StatementMoves) → list ≡ [] → SayRuns e [] list
+runs_begin e list none = record {
+  statements = [];
+  spelled = refl;
+  meant = subst (λ (vs : List StatementMoves). AreMeaningsAmong e [] vs) (sym none) refl;
+}
+
+pub runs_more : (e : Entries) (runs : List (List Lexeme)) (ws : List Lexeme) (old new : List StatementMoves) → SayRuns e runs old → AddsRun e ws old new → SayRuns e (runs ++ ws ∷ []) new
+runs_more e runs ws old new h a =
+    let same : moves (records_of e) old ++ moves (records_of e) a.own ≡ moves (records_of e) new =
+    sym (ap (λ (t : List StatementMoves). moves (records_of e) t) a.added ∙ flat_map-append (statement_moves (records_of e)) old a.own) in
+    record {
+      statements = h.statements ++ a.statements;
+      spelled = spelled_more runs ws h.statements a.statements h.spelled a.spelled;
+      meant = subst (λ (t : List Move). AreMeanings (nameable e) e.input.now e.output.now (h.statements ++ a.statements) t) same
+          (meanings_both (nameable e) e.input.now e.output.now h.statements a.statements (moves (records_of e) old) (moves (records_of e) a.own) h.meant a.meant);
+    }
+
+pub says_body : (e : Entries) (body : List Lexeme) (runs : List (List Lexeme)) (list : List StatementMoves) → HasJudged (nameable e) body → ((p : Passage) → IsPassage p body → runs ≡ written_out [] p) → SayRuns e runs list
+    → SaysBody e body list
+says_body e body runs list h out says = record {
+  judged = h;
+  statements = says.statements;
+  spelled = subst (λ (rs : List (List Lexeme)). AreSpelled rs says.statements) (out h.passage h.says) says.spelled;
+  meant = says.meant;
+}
+
+pub runs_refused : (f : MoveFault) (e : Entries) (body : List Lexeme) (runs : List (List Lexeme)) → HasJudged (nameable e) body → ((p : Passage) → IsPassage p body → runs ≡ written_out [] p) → SomeOf (RunRefused f e) runs
+    → BodyRefused f e body
+runs_refused f e body runs h out refused = inr (h.passage, h.says, subst (λ (rs : List (List Lexeme)). SomeOf (RunRefused f e) rs) (out h.passage h.says) refused)
+
+-- ---- the names of counters
+
+-- where nothing has a name, the rule that a reference with it breaks is that it is unknown
+pub unknown_entry : (all : List Candidate) (w : WrittenReference) (r : MoveRule) → BreaksReference r all w → named w.name w.qualifiers all ≡ [] → r ≡ rule.Unknown
+unknown_entry all w rule.Unknown broken none = refl
+unknown_entry all w rule.Ambiguous broken none = absurd (omega (arith, broken, ap length none))
+unknown_entry all w rule.Subscripts (c, one, not) none = let never : c ∷ [] ≡ [] = sym one ∙ none in absurd cc
+unknown_entry all w rule.Grammar broken none = absurd broken
+unknown_entry all w (rule.Source s) broken none = absurd broken
+unknown_entry all w rule.Receiver broken none = absurd broken
+unknown_entry all w rule.NotAllowed broken none = absurd broken
+unknown_entry all w rule.Literal broken none = absurd broken
+unknown_entry all w rule.Groups broken none = absurd broken
+unknown_entry all w rule.Twice broken none = absurd broken
+unknown_entry all w rule.TooLong broken none = absurd broken
+unknown_entry all w rule.Counter broken none = absurd broken
+unknown_entry all w rule.TooMany broken none = absurd broken
+unknown_entry all w rule.Memory broken none = absurd broken
+
+pub entry_unknown : (all : List Candidate) (w : WrittenReference) (r : MoveRule) → BreaksReference r all w → r ≡ rule.Unknown → named w.name w.qualifiers all ≡ []
+entry_unknown all w r broken same = subst (λ (q : MoveRule). BreaksReference q all w) same broken
+
+-- what a reference names has its name
+pub named_entry : (all : List Candidate) (w : WrittenReference) (side : Side) (o : Operand) → NamesOperand all w side o → named w.name w.qualifiers all ≡ [] → ⊥
+named_entry all w side o is none = let never : is.bearer ∷ [] ≡ [] = sym is.only ∙ none in cc
+
+-- ---- the words behind the heading
+
+period_other : (w : Lexeme) → IsPeriod w → IsOther w
+period_other w is = ap (λ (k : TokenKind). loop_word_of_kind k w.text) is
+
+heading_other : (words heading body : List Lexeme) (w : Lexeme) (more : List Lexeme) → words ≡ w ∷ more → IsOther w → IsHeading heading → words ≡ heading ++ body → AllByRecursion IsOther heading
+heading_other words [] body w more e other named is = tt
+heading_other words (v ∷ []) body w more e other named is = absurd named
+heading_other words (v ∷ stop ∷ []) body w more e other named is =
+    let same : w ∷ more ≡ v ∷ (stop ∷ body) = sym e ∙ is in
+    let first : w ≡ v = cc in
+    (subst IsOther first other, period_other stop named.1, tt)
+heading_other words (v ∷ stop ∷ u ∷ us) body w more e other named is = absurd named
+
+-- behind a heading whose name is no word of loops
+pub body_others : (words body : List Lexeme) (w : Lexeme) (more : List Lexeme) → words ≡ w ∷ more → IsOther w → IsBody words body → IsBodyIn words body
+body_others words body w more e other is = record {
+  heading = is.heading;
+  named = is.named;
+  others = heading_other words is.heading body w more e other is.named is.words_are;
+  words_are = is.words_are;
+  longest = λ others behind h all some cut. is.longest others behind h some cut;
+}
+
+no_other_first : (words : List Lexeme) (w : Lexeme) (rest heading body : List Lexeme) → words ≡ w ∷ rest → (IsOther w → ⊥) → AllByRecursion IsOther heading → 0 < length heading → words ≡ heading ++ body → ⊥
+no_other_first words w rest [] body e loop all some is = omega (arith, some)
+no_other_first words w rest (v ∷ vs) body e loop all some is =
+    let same : w ∷ rest ≡ v ∷ (vs ++ body) = sym e ∙ is in
+    let first : v ≡ w = cc in
+    loop (subst IsOther first all.0)
+
+-- a word of loops comes first: there is no heading
+pub body_looped : (words : List Lexeme) (w : Lexeme) (rest : List Lexeme) → words ≡ w ∷ rest → (IsOther w → ⊥) → IsBodyIn words words
+body_looped words w rest e loop = record {
+  heading = [];
+  named = tt;
+  others = tt;
+  words_are = refl;
+  longest = λ other more h all some cut. absurd (no_other_first words w rest other more e loop all some cut);
+}
+
+none_heading : (words heading more : List Lexeme) → words ≡ [] → 0 < length heading → words ≡ heading ++ more → ⊥
+none_heading words [] more none some cut = omega (arith, some)
+none_heading words (w ∷ ws) more none some cut = let never : [] ≡ w ∷ (ws ++ more) = sym none ∙ cut in cc
+
+-- no words have no heading
+pub body_none : (words : List Lexeme) → words ≡ [] → IsBodyIn words words
+body_none words none = record {
+  heading = [];
+  named = tt;
+  others = tt;
+  words_are = refl;
+  longest = λ other more h all some cut. absurd (none_heading words other more none some cut);
+}
+
+-- ---- loops one after another
+
+pub loops_later : {A B : Type 0} (f : A → B) (P : B → Type 0) (xs : List A) (i : ℕ) (x : A) → i < length xs → x ≡ get_or xs i x → P (f x) → AllByRecursion P (map f (drop (i + 1) xs)) → AllByRecursion P (map f (drop i xs))
+loops_later {A} {B} f P xs i x lt is here all = subst (λ (ys : List A). AllByRecursion P (map f ys)) (sym (next xs i x lt is)) (here, all)
+
+pub loops_end : {A B : Type 0} (f : A → B) (P : B → Type 0) (xs : List A) (i : ℕ) → length xs ≤ i → AllByRecursion P (map f (drop i xs))
+loops_end {A} {B} f P xs i past = subst (λ (ys : List A). AllByRecursion P (map f ys)) (sym (drop_all i xs past)) tt
 
 -- ---- the words of a text
 

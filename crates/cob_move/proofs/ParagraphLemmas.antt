@@ -21,7 +21,7 @@ use Rattle.cob_move_apply.specs.Some.{SomeOf}
 use Rattle.cob_move_loops.specs.Laws.{BreaksNone, OnePassage}
 use Rattle.cob_move_loops.specs.Passages.{IsPassage, Passage}
 use Rattle.cob_move_loops.specs.Turns.{written_out}
-use Rattle.cob_move.specs.Paragraphs.{AreSpelled, BreaksText, HasPassage, IsBodyIn, IsBodyRefusal, IsParagraphOf, IsRefusalOf, RunIsRefused}
+use Rattle.cob_move.specs.Paragraphs.{AreSpelled, BreaksFormat, HasPassage, IsBodyIn, IsBodyRefusal, IsParagraphOf, IsRefusalOf, RunIsRefused}
 use Rattle.cob_move.proofs.PassageLemmas.{body_of_passage, passage_body, passage_unbroken, runs_unbroken, spelled_one}
 use Rattle.cob_move.specs.Laws.{OneParagraph, ParagraphBreaksNoRule}
 
@@ -50,7 +50,7 @@ one_paragraph words_one passage_one ended_one meant_one text input output a b p 
     meant_one (all_entries input output) input output p.statements a b p.meant (subst (λ (ss : List WrittenStatement). AreMeant input output ss b) same q.meant)
 
 text_unbroken : (r : MoveRule) (line : ℕ) (text : List ℕ) (input output : Forest Resolved) (ms : List Move)
-    → IsParagraphOf text input output ms → BreaksText r line text → r ≡ rule.Memory
+    → IsParagraphOf text input output ms → BreaksFormat r line text → r ≡ rule.Memory
 text_unbroken (rule.Source r) line text input output ms p broken = absurd (p.are_words.breaks_none r line broken)
 text_unbroken rule.Memory line text input output ms p broken = refl
 text_unbroken rule.Grammar line text input output ms p broken = absurd broken

@@ -32,7 +32,7 @@ several_both Is [] b ws us none h = subst (λ (t : List Lexeme). Several Is b (t
 several_both Is (v ∷ a) b ws us (own, rest, is, cut, others) h =
     (own, rest ++ us, is, ap (λ (t : List Lexeme). t ++ us) cut ∙ append_assoc own rest us, several_both Is a b rest us others h)
 
-meanings_both : (all : List Candidate) (input output : Forest Resolved) (ss ts : List WrittenStatement) (ms ns : List Move) → AreMeanings all input output ss ms → AreMeanings all input output ts ns → AreMeanings all input output (ss ++ ts) (ms ++ ns)
+pub meanings_both : (all : List Candidate) (input output : Forest Resolved) (ss ts : List WrittenStatement) (ms ns : List Move) → AreMeanings all input output ss ms → AreMeanings all input output ts ns → AreMeanings all input output (ss ++ ts) (ms ++ ns)
 meanings_both all input output [] ts ms ns none h = subst (λ (t : List Move). AreMeanings all input output ts (t ++ ns)) (sym none) h
 meanings_both all input output (s ∷ ss) ts ms ns (own, more, is, others, cut) h =
     (own, more ++ ns, is, meanings_both all input output ss ts more ns others h, ap (λ (t : List Move). t ++ ns) cut ∙ append_assoc own more ns)

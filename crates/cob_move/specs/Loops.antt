@@ -53,13 +53,11 @@ pub record AddsRun (e : Entries) (words : List Lexeme) (old new : List Statement
   pub meant : AreMeaningsAmong e statements own
   pub added : new ≡ old ++ own
 
--- runs spell statements, and what these mean stands behind the moves so far
-pub record AddsRuns (e : Entries) (runs : List (List Lexeme)) (old new : List StatementMoves) : Type 0 where
+-- runs spell statements, and these mean the moves
+pub record SayRuns (e : Entries) (runs : List (List Lexeme)) (list : List StatementMoves) : Type 0 where
   pub statements : List WrittenStatement
-  pub own : List StatementMoves
   pub spelled : AreSpelled runs statements
-  pub meant : AreMeaningsAmong e statements own
-  pub added : new ≡ old ++ own
+  pub meant : AreMeaningsAmong e statements list
 
 -- words are no statements, or one of them breaks a rule, or memory was refused
 abbrev pub RunRefused : MoveFault → Entries → List Lexeme → Type 0

@@ -122,10 +122,10 @@ IsBodyRefusal f all input output body =
     ⊎ ((p : Passage) × IsPassage p body × SomeOf (RunIsRefused f all input output) (written_out [] p))
 
 -- The text breaks a rule of the reference format on this line; refused memory has line 0.
-abbrev pub BreaksText : MoveRule → ℕ → List ℕ → Type 0
-BreaksText (rule.Source r) line text = BreaksSource r line text
-BreaksText rule.Memory line text = line ≡ 0
-BreaksText other line text = ⊥
+abbrev pub BreaksFormat : MoveRule → ℕ → List ℕ → Type 0
+BreaksFormat (rule.Source r) line text = BreaksSource r line text
+BreaksFormat rule.Memory line text = line ≡ 0
+BreaksFormat other line text = ⊥
 
 -- the words of the text, behind their heading, are refused
 pub record BreaksWords (f : MoveFault) (text : List ℕ) (input output : Forest Resolved) : Type 0 where
@@ -137,7 +137,7 @@ pub record BreaksWords (f : MoveFault) (text : List ℕ) (input output : Forest 
 
 -- A refusal names a rule that is broken: by the text, by its words, or by one of its statements.
 abbrev pub IsRefusalOf : MoveFault → List ℕ → Forest Resolved → Forest Resolved → Type 0
-IsRefusalOf f text input output = BreaksText f.rule f.line text ⊎ BreaksWords f text input output
+IsRefusalOf f text input output = BreaksFormat f.rule f.line text ⊎ BreaksWords f text input output
 
 -- the moves of a paragraph between two records, in their order
 abbrev pub moves_in : Records → Paragraph → List Move

@@ -2,11 +2,12 @@
 
 ghost use Rattle.std.specs.Prelude.{◌≡◌, ◌↔◌, IfErr, IfOk, IsTrue, OnOk};
 ghost use Rattle.std.specs.List.{AllByRecursion};
-ghost use Rattle.cob_move_loops.specs.Reading.{run_words, written_loops};
+ghost use Rattle.cob_move_loops.specs.Reading.{all_runs, run_words, written_loops};
 ghost use Rattle.cob_move_names.specs.Directory.{entries_named};
+ghost use Rattle.cob_move_apply.specs.Some.{SomeOf};
 ghost use Rattle.cob_move.specs.Between.{ArePairsOf};
 ghost use Rattle.cob_move.specs.Entries.{AllMayBeNamed, records_of};
-ghost use Rattle.cob_move.specs.Loops.{AddsRun, AreItsLoops, BodyRefused, BreaksAnywhere, HasChecked, HasJudged, IsClashOf, RunRefused, SaysBody};
+ghost use Rattle.cob_move.specs.Loops.{AddsRun, AreItsLoops, BodyRefused, BreaksAnywhere, HasChecked, HasJudged, IsClashOf, RunRefused, SayRuns, SaysBody};
 ghost use Rattle.cob_move.specs.Paragraphs.{BreaksCounters, IsBodyIn, IsNoEntry, IsPassageRefusal};
 ghost use Rattle.cob_source.specs.Tokens.{lexemes};
 
@@ -42,6 +43,13 @@ fn fault_of(rule: MoveRule, line: u32) -> MoveFault
     MoveFault { rule, line }
 }
 
+/// Whether a rule is that a reference names no entry.
+fn is_unknown(rule: MoveRule) -> bool
+    ensures { IsTrue result ↔ rule ≡ MoveRule.Unknown }
+{
+    matches!(rule, MoveRule::Unknown)
+}
+
 /// Whether no entry of the two records has this name.
 fn is_no_entry(names: &Names<'_>, name: &[u8]) -> bool
     ensures { IsTrue result ↔ IsNoEntry (entries_named names.now) name.now }
@@ -53,7 +61,7 @@ fn is_no_entry(names: &Names<'_>, name: &[u8]) -> bool
     };
     match names.find(&reference) {
         Ok(_) => false,
-        Err(rule) => matches!(rule, MoveRule::Unknown),
+        Err(rule) => is_unknown(rule),
     }
 }
 
@@ -151,8 +159,9 @@ fn add_words(
     ensures pairs { ArePairsOf (records_of entries.now) pairs.new }
 {
     let statements = ended_statements(alloc, words)?;
-    let mut own = meanings_of(alloc, entries, pairs, statements.as_slice())?;
-    list.append(&mut own)?;
+    let own = meanings_of(alloc, entries, pairs, statements.as_slice())?;
+    let mut added = own;
+    list.append(&mut added)?;
     Ok(())
 }
 
@@ -184,6 +193,29 @@ fn add_run(
     add_words(alloc, entries, pairs, words.as_slice(), list)
 }
 
+/// The moves of runs, one run's behind another's.
+///
+/// # Errors
+///
+/// The rule that the words of a run or one of their statements break, with its line; `Memory`.
+fn moves_of_runs(
+    alloc: Global,
+    entries: &Entries<'_, '_>,
+    pairs: &mut Correspondences<'_>,
+    runs: &[Run<'_>],
+) -> Result<Vec<StatementMoves>, MoveFault>
+    requires named { AllMayBeNamed entries.now }
+    requires pairs { ArePairsOf (records_of entries.now) pairs.old }
+    ensures found { IfOk result (λ v. SayRuns entries.now (all_runs runs.now) v.items) }
+    ensures fault { IfErr result (λ f. SomeOf (RunRefused f entries.now) (all_runs runs.now)) }
+{
+    let mut list = Vec::new(alloc);
+    for run in runs {
+        add_run(alloc, entries, pairs, run, &mut list)?;
+    }
+    Ok(list)
+}
+
 /// The moves that words behind a heading say.
 ///
 /// # Errors
@@ -202,9 +234,6 @@ pub(crate) fn moves_of_body(
 {
     judge(alloc, entries.names, body)?;
     let runs = write_out(alloc, body)?;
-    let mut list = Vec::new(alloc);
-    for run in runs.as_slice() {
-        add_run(alloc, entries, pairs, run, &mut list)?;
-    }
+    let list = moves_of_runs(alloc, entries, pairs, runs.as_slice())?;
     Ok(list)
 }

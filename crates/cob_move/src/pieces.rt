@@ -52,7 +52,14 @@ fn statements_follow(words: &[Token]) -> bool
 fn have_no_loop_word(words: &[Token]) -> bool
     ensures { IsTrue result ↔ AllByRecursion IsOther (lexemes words.now) }
 {
-    words.iter().all(|word| loop_word(word).is_none())
+    let mut rest = words;
+    while let Some((first, more)) = rest.split_first() {
+        if loop_word(first).is_some() {
+            return false;
+        }
+        rest = more;
+    }
+    true
 }
 
 /// Reads the words of the next piece in the place of those before, and answers whether more are left; None where the text breaks a rule.
