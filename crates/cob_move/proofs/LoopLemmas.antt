@@ -1,15 +1,22 @@
 -- Readers of paragraphs with loops.
-use Rattle.std.proofs.Common.{◌≡◌, ◌⊎◌, inl, inr, ℕ, ◌+◌, ◌<◌, ◌≤◌, List, [], ◌∷◌, ◌++◌, length, map, get_or, drop, refl, sym, ap, subst, ◌∙◌, append_assoc, append-nil, arith}
-use Rattle.std.proofs.lemmas.List.{drop_all}
+use Rattle.std.proofs.Common.{◌≡◌, ◌⊎◌, inl, inr, ℕ, ◌+◌, ◌<◌, ◌≤◌, List, [], ◌∷◌, ◌++◌, length, map, get_or, drop, take, Bool, true, false, refl, sym, ap, subst, ◌∙◌, append_assoc, append-nil, arith}
+use Rattle.std.proofs.lemmas.List.{drop_all, map-append, take_more}
+use Rattle.std.proofs.lemmas.Bool.Decides.{Decides-eqb}
 use Rattle.std.proofs.lemmas.Grind.{flat_map-append}
+use Rattle.std.specs.Prelude.{◌==◌}
 use Rattle.std.specs.List.{AllByRecursion}
-use Rattle.cob_source.specs.Tokens.{Lexeme}
+use Rattle.cob_source.specs.Tokens.{Lexeme, lexemes}
 use Rattle.cob_source.specs.declared.token.TokenKind.{TokenKind}
 use Rattle.cob_copybook_names.specs.Naming.{named}
 use Rattle.cob_copybook_tree.specs.Forests.{Forest}
 use Rattle.cob_copybook_tree.specs.Nodes.{Resolved}
 use Rattle.cob_move_loops.specs.Passages.{IsPassage, Passage, WrittenLoop}
-use Rattle.cob_move_loops.specs.Turns.{written_out}
+use Rattle.cob_move_loops.specs.Few.{Clashes, IsFew, IsShallow, loop_line}
+use Rattle.cob_move_loops.specs.Laws.{NoTurn}
+use Rattle.cob_move_loops.specs.Reading.{ClashesIn, all_runs, counters, run_words}
+use Rattle.cob_move_loops.specs.declared.turn.Counter.{Counter}
+use Rattle.cob_move_loops.specs.declared.writing.Run.{Run}
+use Rattle.cob_move_loops.specs.Turns.{in_turn, written_out}
 use Rattle.cob_move_loops.specs.Words.{IsOther, loop_word_of_kind}
 use Rattle.cob_move_names.specs.Candidates.{Candidate}
 use Rattle.cob_move_names.specs.References.{BreaksReference, NamesOperand}
@@ -29,11 +36,32 @@ use Rattle.cob_move.specs.declared.entries.Entries.{Entries}
 use Rattle.cob_move.specs.Among.{AreMeaningsAmong, nameable}
 use Rattle.cob_move.specs.Entries.{AllMayBeNamed, records_of}
 use Rattle.cob_move.specs.Meaning.{AreMeanings}
-use Rattle.cob_move.specs.Loops.{AddsRun, AreItsLoops, BodyRefused, HasChecked, HasJudged, IsClashOf, RunRefused, SayRuns, SaysBody}
-use Rattle.cob_move.specs.Paragraphs.{AreCounters, AreSpelled, BreaksCounters, IsBodyIn, IsBodyRefusal, IsNoEntry, IsParagraphOf, IsPassageRefusal, IsRefusalOf, RunIsRefused}
+use Rattle.cob_move.specs.Loops.{AddsRun, AreItsLoops, BodyRefused, BreaksAnywhere, HasChecked, HasJudged, IsClashOf, RunRefused, SayRuns, SaysBody}
+use Rattle.cob_move.specs.Paragraphs.{AreCounters, AreSpelled, BreaksCounters, BreaksFew, BreaksPassage, IsBodyIn, IsBodyRefusal, IsNoEntry, IsParagraphOf, IsPassageRefusal, IsRefusalOf, RunIsRefused}
 use Rattle.cob_move.proofs.MeaningLemmas.{meant_here}
 use Rattle.cob_move.proofs.PieceLemmas.{meanings_both}
 use Rattle.cob_move.proofs.SomeLemmas.{next}
+
+-- ---- rules of passages
+
+pub not_true : (b : Bool) → b ≡ false → b ≡ true → ⊥
+not_true b f t = let never : true ≡ false = sym t ∙ f in cc
+
+pub grammar_refused : (f : MoveFault) (line : ℕ) (body : List Lexeme) → f.rule ≡ rule.Grammar → f.line ≡ line → BreaksPassage body line → BreaksAnywhere f body
+grammar_refused f line body same at broken = λ all. subst (λ (r : MoveRule). IsPassageRefusal r f.line all body) (sym same) (subst (λ (n : ℕ). BreaksPassage body n) (sym at) broken)
+
+many_refused : (f : MoveFault) (body : List Lexeme) → f.rule ≡ rule.TooMany → f.line ≡ loop_line body → BreaksFew body → BreaksAnywhere f body
+many_refused f body same at many = λ all. subst (λ (r : MoveRule). IsPassageRefusal r f.line all body) (sym same) (many, at)
+
+pub deep_refused : (f : MoveFault) (line : ℕ) (body : List Lexeme) (shallow : Bool) → f.rule ≡ rule.TooMany → f.line ≡ line → line ≡ loop_line body → shallow ≡ false → (IsShallow body → shallow ≡ true) → BreaksAnywhere f body
+deep_refused f line body shallow same at first no_so must = many_refused f body same (at ∙ first) (inl (λ is. not_true shallow no_so (must is)))
+
+pub long_refused : (f : MoveFault) (line : ℕ) (body : List Lexeme) (few : Bool) (p : Passage) → IsPassage p body → f.rule ≡ rule.TooMany → f.line ≡ line → line ≡ loop_line body → few ≡ false → (IsFew p → few ≡ true)
+    → BreaksAnywhere f body
+long_refused f line body few p says same at first no_so must = many_refused f body same (at ∙ first) (inr (p, says, λ is. not_true few no_so (must is)))
+
+pub clash_says : (f : MoveFault) (line : ℕ) (body : List Lexeme) → f.rule ≡ rule.Counter → f.line ≡ line → ClashesIn [] body line → IsClashOf f body
+clash_says f line body same at clash = inr (same, λ p is. subst (λ (n : ℕ). Clashes [] p n) (sym at) (clash p is))
 
 pub judged : (all : List Candidate) (body : List Lexeme) (ls : List WrittenLoop) → HasChecked body → AreItsLoops body ls → AllByRecursion (λ (l : WrittenLoop). IsNoEntry all l.counter) ls → HasJudged all body
 judged all body ls h are none =
@@ -75,6 +103,20 @@ run_refused rule.TooLong line all input output ws fault is = absurd is
 run_refused rule.Counter line all input output ws fault is = absurd is
 run_refused rule.TooMany line all input output ws fault is = absurd is
 
+-- words of a run outside of loops
+none_in : {A : Type 0} (xs : List A) → length xs ≡ 0 → xs ≡ []
+none_in {A} [] e = refl
+none_in {A} (x ∷ xs) e = absurd (omega (arith, e))
+
+pub plain_run : NoTurn → (r : Run) (turn : List Counter) (b : Bool) → turn ≡ r.turn.items → b ≡ (length turn == 0) → b ≡ true → lexemes r.words.now ≡ run_words r
+plain_run no_turn r turn b same e is =
+    let none : r.turn.items ≡ [] = sym same ∙ none_in turn ((Decides-eqb (length turn) 0).0 (sym e ∙ is)) in
+    sym (ap (λ (cs : List Counter). in_turn (counters cs) false 0 (lexemes r.words.now)) none ∙ no_turn (lexemes r.words.now))
+
+-- and in a turn
+pub turned_run : (r : Run) (turn : List Counter) (ws : List Lexeme) → turn ≡ r.turn.items → ws ≡ in_turn (counters turn) false 0 (lexemes r.words.now) → ws ≡ run_words r
+turned_run r turn ws same are = are ∙ ap (λ (cs : List Counter). in_turn (counters cs) false 0 (lexemes r.words.now)) same
+
 -- one run more
 spelled_more : (runs : List (List Lexeme)) (ws : List Lexeme) (ss own : List WrittenStatement) → AreSpelled runs ss → Several IsEndedStatement own ws → AreSpelled (runs ++ ws ∷ []) (ss ++ own)
 spelled_more [] ws ss own none is = (own, [], is, refl, ap (λ (t : List WrittenStatement). t ++ own) none ∙ sym (append-nil own))
@@ -99,6 +141,13 @@ runs_more e runs ws old new h a =
           (meanings_both (nameable e) e.input.now e.output.now h.statements a.statements (moves (records_of e) old) (moves (records_of e) a.own) h.meant a.meant);
     }
 
+pub runs_next : (e : Entries) (runs : List Run) (i : ℕ) (r : Run) (old new : List StatementMoves) → i < length runs → r ≡ get_or runs i r → SayRuns e (all_runs (take i runs)) old → AddsRun e (run_words r) old new
+    → SayRuns e (all_runs (take (i + 1) runs)) new
+runs_next e runs i r old new lt is h a =
+    let all : all_runs (take (i + 1) runs) ≡ all_runs (take i runs) ++ run_words r ∷ [] =
+    ap all_runs (take_more runs i r lt ∙ ap (λ (q : Run). take i runs ++ q ∷ []) (sym is)) ∙ map-append run_words (take i runs) (r ∷ []) in
+    subst (λ (rs : List (List Lexeme)). SayRuns e rs new) (sym all) (runs_more e (all_runs (take i runs)) (run_words r) old new h a)
+
 pub says_body : (e : Entries) (body : List Lexeme) (runs : List (List Lexeme)) (list : List StatementMoves) → HasJudged (nameable e) body → ((p : Passage) → IsPassage p body → runs ≡ written_out [] p) → SayRuns e runs list
     → SaysBody e body list
 says_body e body runs list h out says = record {
@@ -118,7 +167,7 @@ runs_refused f e body runs h out refused = inr (h.passage, h.says, subst (λ (rs
 pub unknown_entry : (all : List Candidate) (w : WrittenReference) (r : MoveRule) → BreaksReference r all w → named w.name w.qualifiers all ≡ [] → r ≡ rule.Unknown
 unknown_entry all w rule.Unknown broken none = refl
 unknown_entry all w rule.Ambiguous broken none = absurd (omega (arith, broken, ap length none))
-unknown_entry all w rule.Subscripts (c, one, not) none = let never : c ∷ [] ≡ [] = sym one ∙ none in absurd cc
+unknown_entry all w rule.Subscripts (c, one, bad) none = let never : c ∷ [] ≡ [] = sym one ∙ none in absurd cc
 unknown_entry all w rule.Grammar broken none = absurd broken
 unknown_entry all w (rule.Source s) broken none = absurd broken
 unknown_entry all w rule.Receiver broken none = absurd broken

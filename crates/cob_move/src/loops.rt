@@ -2,6 +2,7 @@
 
 ghost use Rattle.std.specs.Prelude.{◌≡◌, ◌↔◌, IfErr, IfOk, IsTrue, OnOk};
 ghost use Rattle.std.specs.List.{AllByRecursion};
+ghost use Rattle.cob_move_loops.specs.Passages.{IsPassage, Passage};
 ghost use Rattle.cob_move_loops.specs.Reading.{all_runs, run_words, written_loops};
 ghost use Rattle.cob_move_names.specs.Directory.{entries_named};
 ghost use Rattle.cob_move_apply.specs.Some.{SomeOf};
@@ -13,6 +14,7 @@ ghost use Rattle.cob_source.specs.Tokens.{lexemes};
 
 use crate::entries::Entries;
 use crate::meaning::meanings_of;
+use crate::pieces::refused_memory;
 use cob_move_data::StatementMoves;
 use cob_move_loops::{
     Loop, LoopFault, Run, check, in_turn, is_few, is_shallow, loop_line, loop_word, loops, no_turn,
@@ -96,7 +98,22 @@ fn apart_loops(alloc: Global, body: &[Token]) -> Result<Vec<Loop<'_>>, MoveFault
     match loops(alloc, body) {
         Ok(heads) => Ok(heads),
         Err(LoopFault::Clash(line)) => Err(fault_of(MoveRule::Counter, line)),
-        Err(LoopFault::Memory) => Err(fault_of(MoveRule::Memory, 0)),
+        Err(LoopFault::Memory) => Err(refused_memory()),
+    }
+}
+
+/// Checks that words are a passage.
+///
+/// # Errors
+///
+/// `Grammar`.
+fn check_grammar(body: &[Token]) -> Result<(), MoveFault>
+    ensures found { OnOk result ((p : Passage) × IsPassage p (lexemes body.now)) }
+    ensures fault { IfErr result (λ f. BreaksAnywhere f (lexemes body.now)) }
+{
+    match check(body) {
+        Ok(()) => Ok(()),
+        Err(line) => Err(fault_of(MoveRule::Grammar, line)),
     }
 }
 
@@ -115,9 +132,7 @@ fn check_passage(body: &[Token]) -> Result<(), MoveFault>
     if !is_shallow(body) {
         return Err(fault_of(MoveRule::TooMany, loop_line(body)));
     }
-    if let Err(line) = check(body) {
-        return Err(fault_of(MoveRule::Grammar, line));
-    }
+    check_grammar(body)?;
     if !is_few(body) {
         return Err(fault_of(MoveRule::TooMany, loop_line(body)));
     }
@@ -136,7 +151,8 @@ fn judge(alloc: Global, names: &Names<'_>, body: &[Token]) -> Result<(), MoveFau
 {
     check_passage(body)?;
     let heads = apart_loops(alloc, body)?;
-    check_names(names, heads.as_slice())
+    check_names(names, heads.as_slice())?;
+    Ok(())
 }
 
 /// Puts the moves of words behind those so far.
@@ -186,11 +202,14 @@ fn add_run(
 {
     // Outside of loops words are as they are written.
     no_turn();
-    if run.turn.is_empty() {
-        return add_words(alloc, entries, pairs, run.words, list);
+    let turn = run.turn.as_slice();
+    if turn.is_empty() {
+        add_words(alloc, entries, pairs, run.words, list)?;
+        return Ok(());
     }
-    let words = in_turn(alloc, run.words, run.turn.as_slice())?;
-    add_words(alloc, entries, pairs, words.as_slice(), list)
+    let words = in_turn(alloc, run.words, turn)?;
+    add_words(alloc, entries, pairs, words.as_slice(), list)?;
+    Ok(())
 }
 
 /// The moves of runs, one run's behind another's.

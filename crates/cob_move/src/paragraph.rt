@@ -57,7 +57,9 @@ fn moves_of_whole(
         input,
         output,
     };
-    moves_of_body(alloc, &entries, &mut pairs, body_of(words.as_slice()))
+    let body = body_of(words.as_slice());
+    let list = moves_of_body(alloc, &entries, &mut pairs, body)?;
+    Ok(list)
 }
 
 /// The moves that a text says between two records. It is read piece by piece, and where a piece isn't read alone, at once: so what is wrong is told of

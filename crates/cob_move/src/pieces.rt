@@ -29,7 +29,7 @@ use std::alloc::Global;
 const STATEMENT_BYTES: usize = 24;
 
 /// The fault of refused memory.
-fn refused_memory() -> MoveFault
+pub(crate) fn refused_memory() -> MoveFault
     ensures { IsRefusedMemory result }
 {
     MoveFault {
