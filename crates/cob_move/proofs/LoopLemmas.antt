@@ -37,7 +37,7 @@ use Rattle.cob_move.specs.Among.{AreMeaningsAmong, nameable}
 use Rattle.cob_move.specs.Entries.{AllMayBeNamed, records_of}
 use Rattle.cob_move.specs.Meaning.{AreMeanings}
 use Rattle.cob_move.specs.Loops.{AddsRun, AreItsLoops, BodyRefused, BreaksAnywhere, HasChecked, HasJudged, IsClashOf, RunRefused, SayRuns, SaysBody}
-use Rattle.cob_move.specs.Paragraphs.{AreCounters, AreSpelled, BreaksCounters, BreaksFew, BreaksPassage, IsBodyIn, IsBodyRefusal, IsNoEntry, IsParagraphOf, IsPassageRefusal, IsRefusalOf, RunIsRefused}
+use Rattle.cob_move.specs.Paragraphs.{AreCounters, AreSpelled, BreaksCounters, BreaksFew, BreaksPassage, IsBodyIn, IsBodyRefusal, IsNoEntry, IsParagraphOf, IsPassageRefusal, IsRefusalOf, IsRunRefusal}
 use Rattle.cob_move.proofs.MeaningLemmas.{meant_here}
 use Rattle.cob_move.proofs.PieceLemmas.{meanings_both}
 use Rattle.cob_move.proofs.SomeLemmas.{next}
@@ -84,24 +84,24 @@ names_refused all body ls f h are same broken =
     subst (λ (r : MoveRule). IsPassageRefusal r f.line all body) (sym same) (h.passage, h.says, inr (subst (λ (ks : List WrittenLoop). BreaksCounters all f.line ks) (are h.passage h.says).1 broken))
 
 -- words that are no statements refuse a run
-pub run_refused : (r : MoveRule) (line : ℕ) (all : List Candidate) (input output : Forest Resolved) (ws : List Lexeme)
+pub run_refused : (r : MoveRule) (line : ℕ) (ws : List Lexeme)
     → (r ≡ rule.Memory) ⊎ ((r ≡ rule.Grammar) × ((ss : List WrittenStatement) → Several IsEndedStatement ss ws → ⊥)) → IsLineIn r line ws
-    → RunIsRefused (record { rule = r; line = line }) all input output ws
-run_refused rule.Memory line all input output ws fault is = inl is
-run_refused rule.Grammar line all input output ws (inl memory) is = let never : rule.Grammar ≡ rule.Memory = memory in absurd cc
-run_refused rule.Grammar line all input output ws (inr (same, none)) is = inl (record { none = none; line_is = is })
-run_refused (rule.Source s) line all input output ws fault is = absurd is
-run_refused rule.Unknown line all input output ws fault is = absurd is
-run_refused rule.Ambiguous line all input output ws fault is = absurd is
-run_refused rule.Subscripts line all input output ws fault is = absurd is
-run_refused rule.Receiver line all input output ws fault is = absurd is
-run_refused rule.NotAllowed line all input output ws fault is = absurd is
-run_refused rule.Literal line all input output ws fault is = absurd is
-run_refused rule.Groups line all input output ws fault is = absurd is
-run_refused rule.Twice line all input output ws fault is = absurd is
-run_refused rule.TooLong line all input output ws fault is = absurd is
-run_refused rule.Counter line all input output ws fault is = absurd is
-run_refused rule.TooMany line all input output ws fault is = absurd is
+    → IsRunRefusal r line ws
+run_refused rule.Memory line ws fault is = is
+run_refused rule.Grammar line ws (inl memory) is = let never : rule.Grammar ≡ rule.Memory = memory in absurd cc
+run_refused rule.Grammar line ws (inr (same, none)) is = record { none = none; line_is = is }
+run_refused (rule.Source s) line ws fault is = absurd is
+run_refused rule.Unknown line ws fault is = absurd is
+run_refused rule.Ambiguous line ws fault is = absurd is
+run_refused rule.Subscripts line ws fault is = absurd is
+run_refused rule.Receiver line ws fault is = absurd is
+run_refused rule.NotAllowed line ws fault is = absurd is
+run_refused rule.Literal line ws fault is = absurd is
+run_refused rule.Groups line ws fault is = absurd is
+run_refused rule.Twice line ws fault is = absurd is
+run_refused rule.TooLong line ws fault is = absurd is
+run_refused rule.Counter line ws fault is = absurd is
+run_refused rule.TooMany line ws fault is = absurd is
 
 -- words of a run outside of loops
 none_in : {A : Type 0} (xs : List A) → length xs ≡ 0 → xs ≡ []

@@ -14,11 +14,10 @@ ghost use Rattle.cob_source.specs.Tokens.{lexemes};
 
 use crate::entries::Entries;
 use crate::meaning::meanings_of;
-use crate::pieces::refused_memory;
+use crate::pieces::{is_other, refused_memory};
 use cob_move_data::StatementMoves;
 use cob_move_loops::{
-    Loop, LoopFault, Run, check, in_turn, is_few, is_shallow, loop_line, loop_word, loops, no_turn,
-    write_out,
+    Loop, LoopFault, Run, check, in_turn, is_few, is_shallow, loop_line, loops, no_turn, write_out,
 };
 use cob_move_names::{Correspondences, Names};
 use cob_move_statements::{MoveFault, MoveRule, Reference, behind_heading, ended_statements};
@@ -29,13 +28,13 @@ use std::alloc::Global;
 pub(crate) fn body_of(words: &[Token]) -> &[Token]
     ensures { IsBodyIn (lexemes words.now) (lexemes result.now) }
 {
-    match words.split_first() {
-        Some((first, _)) => match loop_word(first) {
-            Some(_) => words,
-            None => behind_heading(words),
-        },
-        None => words,
+    let Some((first, _)) = words.split_first() else {
+        return words;
+    };
+    if !is_other(first) {
+        return words;
     }
+    behind_heading(words)
 }
 
 /// A fault of loops on this line.

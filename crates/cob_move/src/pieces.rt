@@ -12,7 +12,7 @@ ghost use Rattle.cob_move.specs.Pieces.{AddsMoves, IsParagraphAmong, IsRefusedMe
 ghost use Rattle.cob_move_statements.specs.Statements.{FollowsStatements, IsParagraph};
 ghost use Rattle.cob_move_statements.specs.Written.{written_statements};
 ghost use Rattle.cob_source.specs.Ahead.{HaveLineNumbers, IsNoted, IsReadTo};
-ghost use Rattle.cob_source.specs.Tokens.{lexemes};
+ghost use Rattle.cob_source.specs.Tokens.{lexeme, lexemes};
 
 use crate::entries::Entries;
 use crate::meaning::meanings_of;
@@ -48,13 +48,23 @@ fn statements_follow(words: &[Token]) -> bool
     }
 }
 
+/// Whether a word is no word of loops.
+pub(crate) fn is_other(word: &Token) -> bool
+    ensures { IsTrue result ↔ IsOther (lexeme word.now) }
+{
+    match loop_word(word) {
+        Some(_) => false,
+        None => true,
+    }
+}
+
 /// Whether no word of loops is among words.
 fn have_no_loop_word(words: &[Token]) -> bool
     ensures { IsTrue result ↔ AllByRecursion IsOther (lexemes words.now) }
 {
     let mut rest = words;
     while let Some((first, more)) = rest.split_first() {
-        if loop_word(first).is_some() {
+        if !is_other(first) {
             return false;
         }
         rest = more;
