@@ -18,7 +18,7 @@ use Rattle.cob_move_loops.specs.declared.turn.Counter.{Counter}
 use Rattle.cob_move_loops.specs.declared.writing.Run.{Run}
 use Rattle.cob_move_loops.specs.Turns.{in_turn, written_out}
 use Rattle.cob_move_loops.specs.Words.{IsOther, loop_word_of_kind}
-use Rattle.cob_move_names.specs.Candidates.{Candidate}
+use Rattle.cob_move_names.specs.Candidates.{Candidate, all_entries}
 use Rattle.cob_move_names.specs.References.{BreaksReference, NamesOperand}
 use Rattle.cob_move_apply.specs.Some.{SomeOf}
 use Rattle.cob_move_statements.specs.declared.fault.MoveFault.{MoveFault}
@@ -104,7 +104,7 @@ run_refused rule.Counter line ws fault is = absurd is
 run_refused rule.TooMany line ws fault is = absurd is
 
 -- words of a run outside of loops
-none_in : {A : Type 0} (xs : List A) → length xs ≡ 0 → xs ≡ []
+pub none_in : {A : Type 0} (xs : List A) → length xs ≡ 0 → xs ≡ []
 none_in {A} [] e = refl
 none_in {A} (x ∷ xs) e = absurd (omega (arith, e))
 
@@ -193,13 +193,13 @@ period_other : (w : Lexeme) → IsPeriod w → IsOther w
 period_other w is = ap (λ (k : TokenKind). loop_word_of_kind k w.text) is
 
 heading_other : (words heading body : List Lexeme) (w : Lexeme) (more : List Lexeme) → words ≡ w ∷ more → IsOther w → IsHeading heading → words ≡ heading ++ body → AllByRecursion IsOther heading
-heading_other words [] body w more e other named is = tt
-heading_other words (v ∷ []) body w more e other named is = absurd named
-heading_other words (v ∷ stop ∷ []) body w more e other named is =
+heading_other words [] body w more e other are is = tt
+heading_other words (v ∷ []) body w more e other are is = absurd are
+heading_other words (v ∷ stop ∷ []) body w more e other are is =
     let same : w ∷ more ≡ v ∷ (stop ∷ body) = sym e ∙ is in
     let first : w ≡ v = cc in
-    (subst IsOther first other, period_other stop named.1, tt)
-heading_other words (v ∷ stop ∷ u ∷ us) body w more e other named is = absurd named
+    (subst IsOther first other, (period_other stop are.1, tt))
+heading_other words (v ∷ stop ∷ u ∷ us) body w more e other are is = absurd are
 
 -- behind a heading whose name is no word of loops
 pub body_others : (words body : List Lexeme) (w : Lexeme) (more : List Lexeme) → words ≡ w ∷ more → IsOther w → IsBody words body → IsBodyIn words body
@@ -275,12 +275,12 @@ says_paragraph text words body e list are is says named = record {
   meant = meant_here (nameable e) (records_of e) says.statements list named says.meant;
 }
 
-pub body_refused : (text : List ℕ) (words body : List Lexeme) (e : Entries) (f : MoveFault) → AreParagraphWordsOf text words → IsBodyIn words body → BodyRefused f e body → AllMayBeNamed e
-    → IsRefusalOf f text e.input.now e.output.now
-body_refused text words body e f are is refused named = inr (record {
+pub body_refused : (text : List ℕ) (words body : List Lexeme) (all : List Candidate) (input output : Forest Resolved) (f : MoveFault) → AreParagraphWordsOf text words → IsBodyIn words body → IsBodyRefusal f all input output body
+    → all ≡ all_entries input output → IsRefusalOf f text input output
+body_refused text words body all input output f are is refused same = inr (record {
   words = words;
   body = body;
   are_words = are;
   is_body = is;
-  refused = subst (λ (all : List Candidate). IsBodyRefusal f all e.input.now e.output.now body) named refused;
+  refused = subst (λ (cs : List Candidate). IsBodyRefusal f cs input output body) same refused;
 })

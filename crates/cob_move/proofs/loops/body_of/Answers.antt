@@ -1,10 +1,10 @@
 use Rattle.std.proofs.Common.{ap}
 use Rattle.cob_source.specs.Tokens.{lexeme, lexemes}
-use Rattle.cob_move.proofs.LoopLemmas.{body_looped, body_none, body_others, not_true}
+use Rattle.cob_move.proofs.LoopLemmas.{body_looped, body_none, body_others, none_in, not_true}
 use Rattle.cob_move.proofs.loops.body_of.Goals as goal
 
 pub returns-in_default : goal.returns-in_default
-returns-in_default c = body_none (lexemes c.args.words.now) ?
+returns-in_default c = body_none (lexemes c.args.words.now) (ap lexemes (none_in c.args.words.now c.in_default.ensures.cases))
 
 pub returns-then-not-is_other : goal.returns-then-not-is_other
 returns-then-not-is_other c =

@@ -1,7 +1,7 @@
 use Rattle.std.proofs.lemmas.Result.{err_from_is_err_and}
 use Rattle.cob_source.specs.Tokens.{lexemes}
 use Rattle.cob_source.specs.Words.{AreParagraphWordsOf}
-use Rattle.cob_move.specs.declared.entries.Entries.{Entries}
+use Rattle.cob_move_names.specs.Directory.{entries_named}
 use Rattle.cob_move.proofs.LoopLemmas.{body_refused, says_paragraph}
 use Rattle.cob_move.proofs.ParagraphLemmas.{source_refused}
 use Rattle.cob_move.proofs.paragraph.moves_of_whole.Goals as goal
@@ -20,5 +20,4 @@ pub returns-in_err-list-clause-fault : goal.returns-in_err-list-clause-fault
 returns-in_err-list-clause-fault c =
     let p = err_from_is_err_and c.from_residual-in_err-list.result c.from_residual-in_err-list.ensures.1 in
     let are : AreParagraphWordsOf c.args.text.now (lexemes c.as_slice.result.now) = rw c.as_slice.ensures.value c.in_ok-words.ensures.words in
-    let e : Entries = record { names = record { now = c.in_ok-names.names }; input = c.args.input; output = c.args.output } in
-    rw (p.1, p.2) (body_refused c.args.text.now (lexemes c.as_slice.result.now) (lexemes c.body_of-body.result.now) e c.in_err-list.field-0.0 are c.body_of-body.ensures c.in_err-list.ensures.fault c.in_ok-names.ensures)
+    rw (p.1, p.2) (body_refused c.args.text.now (lexemes c.as_slice.result.now) (lexemes c.body_of-body.result.now) (entries_named c.in_ok-names.names) c.args.input.now c.args.output.now c.in_err-list.field-0.0 are c.body_of-body.ensures c.in_err-list.ensures.fault c.in_ok-names.ensures)
