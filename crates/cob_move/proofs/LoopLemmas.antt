@@ -24,7 +24,6 @@ use Rattle.cob_move_apply.specs.Some.{SomeOf}
 use Rattle.cob_move_statements.specs.declared.fault.MoveFault.{MoveFault}
 use Rattle.cob_move_statements.specs.declared.fault.MoveRule.{MoveRule}
 use Rattle.cob_move_statements.specs.declared.fault.MoveRule.TheVariants as rule
-use Rattle.cob_move_statements.specs.Reading.{Refused}
 use Rattle.cob_move_statements.specs.Statements.{IsBody, IsEndedStatement, IsHeading, IsLineIn, IsPeriod, Several}
 use Rattle.cob_move_statements.specs.Written.{WrittenReference, WrittenStatement}
 use Rattle.cob_move_data.specs.declared.operands.StatementMoves.{StatementMoves}

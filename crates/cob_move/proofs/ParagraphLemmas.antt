@@ -1,9 +1,9 @@
 -- Paragraphs.
-use Rattle.std.proofs.Common.{◌≡◌, ℕ, List, [], refl, sym, ap, subst, inl, inr, ◌⊎◌}
+use Rattle.std.proofs.Common.{◌≡◌, ℕ, List, [], refl, subst, inl, inr}
 use Rattle.cob_source.specs.Tokens.{Lexeme}
 use Rattle.cob_source.specs.declared.fault.SourceRule.{SourceRule}
 use Rattle.cob_source.specs.declared.fault.SourceRule.TheVariants as source
-use Rattle.cob_source.specs.Words.{AreParagraphWordsOf, IsSourceRefusal, ParagraphWordsAreOne}
+use Rattle.cob_source.specs.Words.{IsSourceRefusal, ParagraphWordsAreOne}
 use Rattle.cob_copybook.specs.Books.{IsRecordDescription}
 use Rattle.cob_copybook_tree.specs.Forests.{Forest}
 use Rattle.cob_copybook_tree.specs.Nodes.{Resolved}

@@ -1,5 +1,5 @@
 -- Paragraphs as passages: the words behind the heading, and runs that spell statements.
-use Rattle.std.proofs.Common.{◌≡◌, ◌⊎◌, inl, inr, ℕ, ◌<◌, List, [], ◌∷◌, ◌++◌, length, refl, sym, ap, subst, ◌∙◌, arith, Option, Some, None}
+use Rattle.std.proofs.Common.{◌≡◌, inl, inr, ℕ, List, [], ◌∷◌, ◌++◌, length, refl, sym, ap, subst, ◌∙◌, arith, Some, None}
 use Rattle.std.specs.List.{AllByRecursion}
 use Rattle.cob_source.specs.Tokens.{Lexeme}
 use Rattle.cob_copybook_clauses.proofs.TableLemmas.{name_plain}
@@ -14,8 +14,7 @@ use Rattle.cob_move_loops.specs.declared.words.LoopWord.TheVariants as loop
 use Rattle.cob_move_loops.specs.Few.{AreApart, Clashes, IsFew, IsShallow, loops_of}
 use Rattle.cob_move_loops.specs.Laws.{BreaksNone, OnePassage}
 use Rattle.cob_move_loops.specs.Passages.{ALoop, IsPassage, IsRun, Moves, NoMore, Passage, Pause, WrittenLoop}
-use Rattle.cob_move_loops.specs.Turns.{written_out}
-use Rattle.cob_move_loops.specs.Words.{IsLoopWord, IsOther, loop_word}
+use Rattle.cob_move_loops.specs.Words.{IsLoopWord, IsOther}
 use Rattle.cob_move_loops.proofs.PassageLemmas.{head_first}
 use Rattle.cob_move_statements.specs.declared.fault.MoveFault.{MoveFault}
 use Rattle.cob_move_statements.specs.declared.fault.MoveRule.{MoveRule}
@@ -27,7 +26,7 @@ use Rattle.cob_move_apply.specs.Some.{SomeOf}
 use Rattle.cob_move_names.specs.Candidates.{Candidate}
 use Rattle.cob_move.specs.Meaning.{AreMeanings}
 use Rattle.cob_move.specs.MeaningLaws.{MeantBreakNoRule}
-use Rattle.cob_move.specs.Paragraphs.{AreCounters, AreSpelled, BreaksCounters, BreaksPassage, HasPassage, IsBodyIn, IsNoEntry, IsPassageRefusal, IsRunRefusal, RunIsRefused}
+use Rattle.cob_move.specs.Paragraphs.{AreCounters, AreSpelled, BreaksCounters, HasPassage, IsBodyIn, IsNoEntry, IsPassageRefusal, IsRunRefusal, RunIsRefused}
 
 -- ---- the words behind the heading
 

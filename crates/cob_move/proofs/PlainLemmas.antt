@@ -1,25 +1,21 @@
 -- Paragraphs without loops.
-use Rattle.std.proofs.Common.{◌≡◌, ◌↔◌, ℕ, ◌<◌, List, [], ◌∷◌, ◌++◌, length, refl, sym, ap, subst, ◌∙◌, append-nil, arith, Option, Some, None}
+use Rattle.std.proofs.Common.{◌≡◌, ℕ, ◌<◌, List, [], ◌∷◌, ◌++◌, length, refl, sym, ap, subst, ◌∙◌, append-nil, arith, Option, Some, None}
 use Rattle.std.specs.List.{AllByRecursion}
 use Rattle.cob_source.specs.Tokens.{Lexeme}
-use Rattle.cob_source.specs.Words.{AreParagraphWordsOf, ParagraphWordsAreOne}
-use Rattle.cob_copybook_tree.specs.Forests.{Forest}
-use Rattle.cob_copybook_tree.specs.Nodes.{Resolved}
-use Rattle.cob_move_data.specs.Moves.{Move}
+use Rattle.cob_source.specs.Words.{ParagraphWordsAreOne}
 use Rattle.cob_move_loops.specs.declared.words.LoopWord.{LoopWord}
 use Rattle.cob_move_loops.specs.declared.words.LoopWord.TheVariants as loop
 use Rattle.cob_move_loops.specs.Few.{deepest}
 use Rattle.cob_move_loops.specs.Laws.{NoTurn}
-use Rattle.cob_move_loops.specs.Passages.{ALoop, Front, FrontStands, IsPassage, IsRun, Moves, NoMore, Passage, Pause, open_by}
+use Rattle.cob_move_loops.specs.Passages.{ALoop, IsPassage, IsRun, Moves, NoMore, Passage, Pause, open_by}
 use Rattle.cob_move_loops.specs.Turns.{written_out}
 use Rattle.cob_move_loops.specs.Words.{IsLoopWord, IsOther, LoopWordFirst, loop_word}
 use Rattle.cob_move_loops.proofs.PassageLemmas.{head_first, nothing_left, shorter}
 use Rattle.cob_move_statements.specs.Statements.{IsEndedStatement, IsParagraph, Several}
 use Rattle.cob_move_statements.specs.Written.{WrittenStatement}
 use Rattle.cob_move_statements.proofs.ParagraphLemmas.{statements_first}
-use Rattle.cob_move.specs.Meaning.{AreMeant}
 use Rattle.cob_move.specs.Laws.{PlainParagraph}
-use Rattle.cob_move.specs.Paragraphs.{AreSpelled, HasPassage, IsParagraphOf, IsPlainParagraphOf}
+use Rattle.cob_move.specs.Paragraphs.{AreSpelled, HasPassage}
 
 others_front : (a b : List Lexeme) → AllByRecursion IsOther (a ++ b) → AllByRecursion IsOther a
 others_front [] b all = tt

@@ -1,11 +1,10 @@
-use Rattle.std.proofs.Common.{◌≡◌, ◌∙◌, ◌++◌, [], ◌∷◌, List, ap, sym, subst, take}
-use Rattle.std.proofs.lemmas.List.{map-append, take_all, take_more}
+use Rattle.std.proofs.Common.{List, subst}
+use Rattle.std.proofs.lemmas.List.{take_all}
 use Rattle.std.proofs.lemmas.Result.{err_from_is_err_and}
-use Rattle.cob_source.specs.Tokens.{Lexeme}
 use Rattle.cob_move_loops.specs.Reading.{all_runs, run_words}
 use Rattle.cob_move_loops.specs.declared.writing.Run.{Run}
 use Rattle.cob_move.specs.Loops.{RunRefused, SayRuns}
-use Rattle.cob_move.proofs.LoopLemmas.{runs_begin, runs_more, runs_next}
+use Rattle.cob_move.proofs.LoopLemmas.{runs_begin, runs_next}
 use Rattle.cob_move.proofs.SomeLemmas.{some_here, some_later}
 use Rattle.cob_move.proofs.loops.moves_of_runs.Goals as goal
 
