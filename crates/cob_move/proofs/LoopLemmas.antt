@@ -16,7 +16,7 @@ use Rattle.cob_move_loops.specs.Laws.{NoTurn}
 use Rattle.cob_move_loops.specs.Reading.{ClashesIn, all_runs, counters, run_words}
 use Rattle.cob_move_loops.specs.declared.turn.Counter.{Counter}
 use Rattle.cob_move_loops.specs.declared.writing.Run.{Run}
-use Rattle.cob_move_loops.specs.Turns.{in_turn, written_out}
+use Rattle.cob_move_loops.specs.Turns.{in_turn, words_by_turn}
 use Rattle.cob_move_loops.specs.Words.{IsOther, loop_word_of_kind}
 use Rattle.cob_move_names.specs.Candidates.{Candidate, all_entries}
 use Rattle.cob_move_names.specs.References.{BreaksReference, NamesOperand}
@@ -147,7 +147,7 @@ runs_next e runs i r old new lt is h a =
     ap all_runs (take_more runs i r lt ∙ ap (λ (q : Run). take i runs ++ q ∷ []) (sym is)) ∙ map-append run_words (take i runs) (r ∷ []) in
     subst (λ (rs : List (List Lexeme)). SayRuns e rs new) (sym all) (runs_more e (all_runs (take i runs)) (run_words r) old new h a)
 
-pub says_body : (e : Entries) (body : List Lexeme) (runs : List (List Lexeme)) (list : List StatementMoves) → HasJudged (nameable e) body → ((p : Passage) → IsPassage p body → runs ≡ written_out [] p) → SayRuns e runs list
+pub says_body : (e : Entries) (body : List Lexeme) (runs : List (List Lexeme)) (list : List StatementMoves) → HasJudged (nameable e) body → ((p : Passage) → IsPassage p body → runs ≡ words_by_turn [] p) → SayRuns e runs list
     → SaysBody e body list
 says_body e body runs list h out says = record {
   judged = h;
@@ -156,7 +156,7 @@ says_body e body runs list h out says = record {
   meant = says.meant;
 }
 
-pub runs_refused : (f : MoveFault) (e : Entries) (body : List Lexeme) (runs : List (List Lexeme)) → HasJudged (nameable e) body → ((p : Passage) → IsPassage p body → runs ≡ written_out [] p) → SomeOf (RunRefused f e) runs
+pub runs_refused : (f : MoveFault) (e : Entries) (body : List Lexeme) (runs : List (List Lexeme)) → HasJudged (nameable e) body → ((p : Passage) → IsPassage p body → runs ≡ words_by_turn [] p) → SomeOf (RunRefused f e) runs
     → BodyRefused f e body
 runs_refused f e body runs h out refused = inr (h.passage, h.says, subst (λ (rs : List (List Lexeme)). SomeOf (RunRefused f e) rs) (out h.passage h.says) refused)
 

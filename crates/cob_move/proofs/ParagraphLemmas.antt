@@ -20,7 +20,7 @@ use Rattle.cob_move_names.specs.Candidates.{all_entries}
 use Rattle.cob_move_apply.specs.Some.{SomeOf}
 use Rattle.cob_move_loops.specs.Laws.{BreaksNone, OnePassage}
 use Rattle.cob_move_loops.specs.Passages.{IsPassage, Passage}
-use Rattle.cob_move_loops.specs.Turns.{written_out}
+use Rattle.cob_move_loops.specs.Turns.{words_by_turn}
 use Rattle.cob_move.specs.Paragraphs.{AreSpelled, BreaksFormat, HasPassage, IsBodyIn, IsBodyRefusal, IsParagraphOf, IsRefusalOf, RunIsRefused}
 use Rattle.cob_move.proofs.PassageLemmas.{body_of_passage, passage_body, passage_unbroken, runs_unbroken, spelled_one}
 use Rattle.cob_move.specs.Laws.{OneParagraph, ParagraphBreaksNoRule}
@@ -45,8 +45,8 @@ one_paragraph words_one passage_one ended_one meant_one text input output a b p 
     let has : HasPassage p.words q.passage = subst (λ (ws : List Lexeme). HasPassage ws q.passage) words q.has in
     let body : has.body ≡ p.has.body = passage_body p.words q.passage p.passage has p.has in
     let passage : q.passage ≡ p.passage = passage_one q.passage p.passage p.has.body (subst (λ (ws : List Lexeme). IsPassage q.passage ws) body has.says) p.has.says in
-    let spelled : AreSpelled (written_out [] p.passage) q.statements = subst (λ (d : Passage). AreSpelled (written_out [] d) q.statements) passage q.spelled in
-    let same : q.statements ≡ p.statements = spelled_one ended_one (written_out [] p.passage) q.statements p.statements spelled p.spelled in
+    let spelled : AreSpelled (words_by_turn [] p.passage) q.statements = subst (λ (d : Passage). AreSpelled (words_by_turn [] d) q.statements) passage q.spelled in
+    let same : q.statements ≡ p.statements = spelled_one ended_one (words_by_turn [] p.passage) q.statements p.statements spelled p.spelled in
     meant_one (all_entries input output) input output p.statements a b p.meant (subst (λ (ss : List WrittenStatement). AreMeant input output ss b) same q.meant)
 
 text_unbroken : (r : MoveRule) (line : ℕ) (text : List ℕ) (input output : Forest Resolved) (ms : List Move)
@@ -72,8 +72,8 @@ words_unbroken passage_one none ended_one unbroken text input output ms f p body
     passage_unbroken passage_one none f.rule f.line (all_entries input output) p.words body p.passage p.has p.counters same broken
 words_unbroken passage_one none ended_one unbroken text input output ms f p body same (inr (d, is, refused)) =
     let passage : d ≡ p.passage = passage_one d p.passage p.has.body (subst (λ (ws : List Lexeme). IsPassage d ws) same is) p.has.says in
-    runs_unbroken ended_one unbroken f (all_entries input output) input output (written_out [] p.passage) p.statements ms p.spelled p.meant
-    (subst (λ (k : Passage). SomeOf (RunIsRefused f (all_entries input output) input output) (written_out [] k)) passage refused)
+    runs_unbroken ended_one unbroken f (all_entries input output) input output (words_by_turn [] p.passage) p.statements ms p.spelled p.meant
+    (subst (λ (k : Passage). SomeOf (RunIsRefused f (all_entries input output) input output) (words_by_turn [] k)) passage refused)
 
 pub paragraph_breaks_no_rule : ParagraphWordsAreOne → OnePassage → BreaksNone → OneListOfEnded → MeantBreakNoRule → ParagraphBreaksNoRule
 paragraph_breaks_no_rule words_one passage_one none ended_one unbroken text input output ms f p (inl broken) = text_unbroken f.rule f.line text input output ms p broken

@@ -11,7 +11,7 @@ use Rattle.cob_copybook_tree.specs.Nodes.{Resolved}
 use Rattle.cob_move_data.specs.Moves.{Move}
 use Rattle.cob_move_loops.specs.declared.words.LoopWord.{LoopWord}
 use Rattle.cob_move_loops.specs.declared.words.LoopWord.TheVariants as loop
-use Rattle.cob_move_loops.specs.Few.{AreApart, Clashes, IsFew, IsShallow, loops_of}
+use Rattle.cob_move_loops.specs.Few.{AreLoopsApart, Clashes, IsFew, IsShallow, loops_of}
 use Rattle.cob_move_loops.specs.Laws.{BreaksNone, OnePassage}
 use Rattle.cob_move_loops.specs.Passages.{ALoop, IsPassage, IsRun, Moves, NoMore, Passage, Pause, WrittenLoop}
 use Rattle.cob_move_loops.specs.Words.{IsLoopWord, IsOther}
@@ -138,7 +138,7 @@ runs_unbroken one unbroken f all input output (ws ∷ runs) ss ms (own, rest, is
 
 -- ---- loops that are apart do not clash
 
-pub no_clash : (around : List WrittenLoop) (p : Passage) (line : ℕ) → AreApart around p → Clashes around p line → ⊥
+pub no_clash : (around : List WrittenLoop) (p : Passage) (line : ℕ) → AreLoopsApart around p → Clashes around p line → ⊥
 no_clash around NoMore line apart clash = clash
 no_clash around (Moves own more) line apart clash = no_clash around more line apart clash
 no_clash around (Pause more) line apart clash = no_clash around more line apart clash

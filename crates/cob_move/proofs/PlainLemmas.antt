@@ -8,7 +8,7 @@ use Rattle.cob_move_loops.specs.declared.words.LoopWord.TheVariants as loop
 use Rattle.cob_move_loops.specs.Few.{deepest}
 use Rattle.cob_move_loops.specs.Laws.{NoTurn}
 use Rattle.cob_move_loops.specs.Passages.{ALoop, IsPassage, IsRun, Moves, NoMore, Passage, Pause, open_by}
-use Rattle.cob_move_loops.specs.Turns.{written_out}
+use Rattle.cob_move_loops.specs.Turns.{words_by_turn}
 use Rattle.cob_move_loops.specs.Words.{IsLoopWord, IsOther, LoopWordFirst, loop_word}
 use Rattle.cob_move_loops.proofs.PassageLemmas.{head_first, nothing_left, shorter}
 use Rattle.cob_move_statements.specs.Statements.{IsEndedStatement, IsParagraph, Several}
@@ -59,7 +59,7 @@ plain_passage words ss is all =
       few = omega arith;
     }
 
-pub plain_spelled : NoTurn → (body : List Lexeme) (ss : List WrittenStatement) → Several IsEndedStatement ss body → AreSpelled (written_out [] (Moves body NoMore)) ss
+pub plain_spelled : NoTurn → (body : List Lexeme) (ss : List WrittenStatement) → Several IsEndedStatement ss body → AreSpelled (words_by_turn [] (Moves body NoMore)) ss
 plain_spelled no_turn body ss are = (ss, [], subst (λ (ws : List Lexeme). Several IsEndedStatement ss ws) (sym (no_turn body)) are, refl, sym (append-nil ss))
 
 -- ---- and back
@@ -87,7 +87,7 @@ plain_is (ALoop l body more) ws (head, own, stops, rest, end, h, b, inner, word,
     let words : ws ≡ w ∷ (tail ++ (own ++ end ∷ (stops ++ rest))) = e ∙ ap (λ (t : List Lexeme). t ++ (own ++ end ∷ (stops ++ rest))) f in
     absurd (no_loop_word loop.Perform w first (subst (λ (t : List Lexeme). AllByRecursion IsOther t) words all).0)
 
-spelled_plain : NoTurn → (body : List Lexeme) (ss : List WrittenStatement) → AreSpelled (written_out [] (Moves body NoMore)) ss → Several IsEndedStatement ss body
+spelled_plain : NoTurn → (body : List Lexeme) (ss : List WrittenStatement) → AreSpelled (words_by_turn [] (Moves body NoMore)) ss → Several IsEndedStatement ss body
 spelled_plain no_turn body ss (own, rest, are, none, e) =
     let all : ss ≡ own = e ∙ ap (λ (t : List WrittenStatement). own ++ t) none ∙ append-nil own in
     subst (λ (t : List WrittenStatement). Several IsEndedStatement t body) (sym all) (subst (λ (ws : List Lexeme). Several IsEndedStatement own ws) (no_turn body) are)
@@ -96,11 +96,11 @@ some_statements : (ss : List WrittenStatement) (body : List Lexeme) → Several 
 some_statements [] body e some = absurd (omega (arith, some, ap length e))
 some_statements (s ∷ ss) body are some = omega arith
 
-plain_words : NoTurn → (words : List Lexeme) (p : Passage) (ss : List WrittenStatement) → AllByRecursion IsOther words → HasPassage words p → AreSpelled (written_out [] p) ss → IsParagraph words ss
+plain_words : NoTurn → (words : List Lexeme) (p : Passage) (ss : List WrittenStatement) → AllByRecursion IsOther words → HasPassage words p → AreSpelled (words_by_turn [] p) ss → IsParagraph words ss
 plain_words no_turn words p ss all h spelled =
     let parts : AllByRecursion IsOther (h.heading ++ h.body) = subst (λ (ws : List Lexeme). AllByRecursion IsOther ws) h.words_are all in
     let one : p ≡ Moves h.body NoMore = plain_is p h.body h.says (others_behind h.heading h.body parts) h.some in
-    let are : Several IsEndedStatement ss h.body = spelled_plain no_turn h.body ss (subst (λ (d : Passage). AreSpelled (written_out [] d) ss) one spelled) in
+    let are : Several IsEndedStatement ss h.body = spelled_plain no_turn h.body ss (subst (λ (d : Passage). AreSpelled (words_by_turn [] d) ss) one spelled) in
     record { heading = h.heading; body = h.body; named = h.named; some = some_statements ss h.body are h.some; statements = are; words = h.words_are }
 
 pub plain_paragraph : ParagraphWordsAreOne → NoTurn → PlainParagraph

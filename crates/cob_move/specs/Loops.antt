@@ -2,9 +2,9 @@
 use Rattle.std.specs.Prelude.{◌≡◌, ◌⊎◌, ◌<◌, List, [], ◌++◌, length}
 use Rattle.cob_source.specs.Tokens.{Lexeme}
 use Rattle.cob_move_data.specs.declared.operands.StatementMoves.{StatementMoves}
-use Rattle.cob_move_loops.specs.Few.{AreApart, Clashes, IsFew, IsShallow, loops_of}
+use Rattle.cob_move_loops.specs.Few.{AreLoopsApart, Clashes, IsFew, IsShallow, loops_of}
 use Rattle.cob_move_loops.specs.Passages.{IsPassage, Passage, WrittenLoop}
-use Rattle.cob_move_loops.specs.Turns.{written_out}
+use Rattle.cob_move_loops.specs.Turns.{words_by_turn}
 use Rattle.cob_move_names.specs.Candidates.{Candidate}
 use Rattle.cob_move_statements.specs.declared.fault.MoveFault.{MoveFault}
 use Rattle.cob_move_statements.specs.declared.fault.MoveRule.TheVariants as rule
@@ -34,7 +34,7 @@ IsClashOf f body =
 
 -- whatever passage words are, these are its loops, and none has another's counter
 abbrev pub AreItsLoops : List Lexeme → List WrittenLoop → Type 0
-AreItsLoops body ls = (p : Passage) → IsPassage p body → AreApart [] p × (ls ≡ loops_of p)
+AreItsLoops body ls = (p : Passage) → IsPassage p body → AreLoopsApart [] p × (ls ≡ loops_of p)
 
 -- words are a passage that is not empty, with few loops in one another, which come to few statements, and with counters of their own
 pub record HasJudged (all : List Candidate) (body : List Lexeme) : Type 0 where
@@ -71,5 +71,5 @@ BodyRefused f e body = IsBodyRefusal f (nameable e) e.input.now e.output.now bod
 pub record SaysBody (e : Entries) (body : List Lexeme) (list : List StatementMoves) : Type 0 where
   pub judged : HasJudged (nameable e) body
   pub statements : List WrittenStatement
-  pub spelled : AreSpelled (written_out [] judged.passage) statements
+  pub spelled : AreSpelled (words_by_turn [] judged.passage) statements
   pub meant : AreMeaningsAmong e statements list

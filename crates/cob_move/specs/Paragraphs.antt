@@ -6,9 +6,9 @@ use Rattle.cob_source.specs.Words.{AreParagraphWordsOf, BreaksSourceRule as Brea
 use Rattle.cob_copybook_names.specs.Naming.{named}
 use Rattle.cob_copybook_tree.specs.Forests.{Forest}
 use Rattle.cob_copybook_tree.specs.Nodes.{Resolved}
-use Rattle.cob_move_loops.specs.Few.{AreApart, Clashes, IsFew, IsShallow, loop_line, loops_of}
+use Rattle.cob_move_loops.specs.Few.{AreLoopsApart, Clashes, IsFew, IsShallow, loop_line, loops_of}
 use Rattle.cob_move_loops.specs.Passages.{Breaks, IsPassage, Passage, WrittenLoop}
-use Rattle.cob_move_loops.specs.Turns.{written_out}
+use Rattle.cob_move_loops.specs.Turns.{words_by_turn}
 use Rattle.cob_move_loops.specs.Words.{IsOther}
 use Rattle.cob_move_names.specs.Candidates.{Candidate, all_entries}
 use Rattle.cob_move_statements.specs.declared.fault.MoveFault.{MoveFault}
@@ -34,7 +34,7 @@ IsNoEntry all name = named name [] all ≡ []
 
 -- M11: each loop has a counter of its own, and none has the name of an entry
 pub record AreCounters (all : List Candidate) (p : Passage) : Type 0 where
-  pub apart : AreApart [] p
+  pub apart : AreLoopsApart [] p
   pub no_entries : AllByRecursion (λ l. IsNoEntry all l.counter) (loops_of p)
 
 -- The words of a paragraph: perhaps its name, which is no word of loops, and a passage that is not empty, with few loops in one another, which come to few statements (M12).
@@ -58,7 +58,7 @@ pub record IsParagraphOf (text : List ℕ) (input output : Forest Resolved) (ms 
   pub are_words : AreParagraphWordsOf text words
   pub has : HasPassage words passage
   pub counters : AreCounters (all_entries input output) passage
-  pub spelled : AreSpelled (written_out [] passage) statements
+  pub spelled : AreSpelled (words_by_turn [] passage) statements
   pub meant : AreMeant input output statements ms
 
 -- What a text without loops says: its words spell statements, and the statements mean these moves between two records, in their order.
@@ -119,7 +119,7 @@ RunIsRefused f all input output ws =
 abbrev pub IsBodyRefusal : MoveFault → List Candidate → Forest Resolved → Forest Resolved → List Lexeme → Type 0
 IsBodyRefusal f all input output body =
     IsPassageRefusal f.rule f.line all body
-    ⊎ ((p : Passage) × IsPassage p body × SomeOf (RunIsRefused f all input output) (written_out [] p))
+    ⊎ ((p : Passage) × IsPassage p body × SomeOf (RunIsRefused f all input output) (words_by_turn [] p))
 
 -- The text breaks a rule of the reference format on this line; refused memory has line 0.
 abbrev pub BreaksFormat : MoveRule → ℕ → List ℕ → Type 0

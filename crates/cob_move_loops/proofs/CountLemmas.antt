@@ -8,26 +8,26 @@ use Rattle.cob_move_loops.specs.declared.words.LoopWord.{LoopWord}
 use Rattle.cob_move_loops.specs.declared.words.LoopWord.TheVariants as loop
 use Rattle.cob_move_loops.specs.Few.{deepest, loop_line, loop_line_at, looped_of, statements_by, statements_in, statements_of}
 use Rattle.cob_move_loops.specs.Limits.{most_open}
-use Rattle.cob_move_loops.specs.Passages.{ALoop, ARun, APause, Front, FrontStands, IsPassage, IsRun, Looped, Moves, NoMore, Passage, Pause, open_by}
+use Rattle.cob_move_loops.specs.Passages.{ALoop, ARun, APause, PassageFront, FrontStands, IsPassage, IsRun, Looped, Moves, NoMore, Passage, Pause, open_by}
 use Rattle.cob_move_loops.specs.Reading.{Within, looped_front, statements_front}
-use Rattle.cob_move_loops.specs.Turns.{Counted, counter_at, turns, turns_of, written_out}
+use Rattle.cob_move_loops.specs.Turns.{Counted, counter_at, turns, turns_of, words_by_turn}
 use Rattle.cob_move_loops.specs.Words.{loop_word}
 use Rattle.cob_move_loops.proofs.PassageLemmas.{IsOnlyFront, Parted, joined, nothing_left, parted}
 
 -- a count of passages that adds up: none of nothing, and of what stands in front with the others
-pub record Adds (of : Passage → ℕ) (front : Front → Passage → ℕ) : Type 0 where
+pub record Adds (of : Passage → ℕ) (front : PassageFront → Passage → ℕ) : Type 0 where
   pub none : of NoMore ≡ 0
-  pub joins : (f : Front) (body more : Passage) → of (joined f body more) ≡ front f body + of more
+  pub joins : (f : PassageFront) (body more : Passage) → of (joined f body more) ≡ front f body + of more
 
 zero_plus : (n : ℕ) → n ≡ 0 + n
 zero_plus n = omega arith
 
-statements_joined : (f : Front) (body more : Passage) → statements_of (joined f body more) ≡ statements_front f body + statements_of more
+statements_joined : (f : PassageFront) (body more : Passage) → statements_of (joined f body more) ≡ statements_front f body + statements_of more
 statements_joined (ARun own) body more = refl
 statements_joined APause body more = zero_plus (statements_of more)
 statements_joined (Looped l own) body more = refl
 
-looped_joined : (f : Front) (body more : Passage) → looped_of (joined f body more) ≡ looped_front f body + looped_of more
+looped_joined : (f : PassageFront) (body more : Passage) → looped_of (joined f body more) ≡ looped_front f body + looped_of more
 looped_joined (ARun own) body more = zero_plus (looped_of more)
 looped_joined APause body more = zero_plus (looped_of more)
 looped_joined (Looped l own) body more = refl
@@ -45,16 +45,16 @@ LeftToCount of words rest count = (p : Passage) → IsPassage p words → (q : P
 pub count_first : (of : Passage → ℕ) (words : List Lexeme) → LeftToCount of words words 0
 count_first of words p is = (p, is, sym (zero_plus (of p)))
 
-pub count_more : (of : Passage → ℕ) (front : Front → Passage → ℕ) → Adds of front → (words rest more : List Lexeme) (f : Front) (count own sum : ℕ) → LeftToCount of words rest count
+pub count_more : (of : Passage → ℕ) (front : PassageFront → Passage → ℕ) → Adds of front → (words rest more : List Lexeme) (f : PassageFront) (count own sum : ℕ) → LeftToCount of words rest count
     → 0 < length rest → IsOnlyFront f rest more → ((body : Passage) → Within f body → own ≡ front f body) → sum ≡ count + own → LeftToCount of words more sum
-count_more of front adds words rest more f count own sum left some only counted is_sum p is =
+count_more of front adds words rest more f count own sum left some only counted_number is_sum p is =
     let (q, are, so) = left p is in
     let k : Parted f more q = parted f rest more q are some only in
     let all : of q ≡ front f k.body + of k.others = ap of k.same ∙ adds.joins f k.body k.others in
-    (k.others, k.is, omega (arith, counted k.body k.within, is_sum, all, so))
+    (k.others, k.is, omega (arith, counted_number k.body k.within, is_sum, all, so))
 
 -- what stands in front comes to too much
-pub count_over : (of : Passage → ℕ) (front : Front → Passage → ℕ) → Adds of front → (words rest more : List Lexeme) (f : Front) (count most : ℕ) → LeftToCount of words rest count
+pub count_over : (of : Passage → ℕ) (front : PassageFront → Passage → ℕ) → Adds of front → (words rest more : List Lexeme) (f : PassageFront) (count most : ℕ) → LeftToCount of words rest count
     → 0 < length rest → IsOnlyFront f rest more → ((body : Passage) → Within f body → most < front f body) → (p : Passage) → IsPassage p words → most < of p
 count_over of front adds words rest more f count most left some only over p is =
     let (q, are, so) = left p is in
@@ -63,16 +63,16 @@ count_over of front adds words rest more f count most left some only over p is =
     omega (arith, over k.body k.within, all, so)
 
 -- it does so with what was before
-pub sum_over : (of : Passage → ℕ) (front : Front → Passage → ℕ) → Adds of front → (words rest more : List Lexeme) (f : Front) (count own most : ℕ) → LeftToCount of words rest count
+pub sum_over : (of : Passage → ℕ) (front : PassageFront → Passage → ℕ) → Adds of front → (words rest more : List Lexeme) (f : PassageFront) (count own most : ℕ) → LeftToCount of words rest count
     → 0 < length rest → IsOnlyFront f rest more → ((body : Passage) → Within f body → own ≡ front f body) → most < count + own → (p : Passage) → IsPassage p words → most < of p
-sum_over of front adds words rest more f count own most left some only counted over p is =
+sum_over of front adds words rest more f count own most left some only counted_number over p is =
     let (q, are, so) = left p is in
     let k : Parted f more q = parted f rest more q are some only in
     let all : of q ≡ front f k.body + of k.others = ap of k.same ∙ adds.joins f k.body k.others in
-    omega (arith, counted k.body k.within, over, all, so)
+    omega (arith, counted_number k.body k.within, over, all, so)
 
-pub count_end : (of : Passage → ℕ) (front : Front → Passage → ℕ) → Adds of front → (words rest : List Lexeme) (count : ℕ) → LeftToCount of words rest count
-    → ((f : Front) (more : List Lexeme) → FrontStands f rest more → ⊥) → (p : Passage) → IsPassage p words → count ≡ of p
+pub count_end : (of : Passage → ℕ) (front : PassageFront → Passage → ℕ) → Adds of front → (words rest : List Lexeme) (count : ℕ) → LeftToCount of words rest count
+    → ((f : PassageFront) (more : List Lexeme) → FrontStands f rest more → ⊥) → (p : Passage) → IsPassage p words → count ≡ of p
 count_end of front adds words rest count left none p is =
     let (q, are, so) = left p is in
     let nothing : of q ≡ 0 = ap of (nothing_left q rest are none) ∙ adds.none in
@@ -110,17 +110,17 @@ none_turned f by (suc n) i s none product =
     none_turn f by (suc n) i (none (omega (arith, it, product)))
 
 -- a passage without statements is written out as nothing
-pub nothing_written : (ns : List Counted) (p : Passage) (ws : List Lexeme) → IsPassage p ws → statements_of p ≡ 0 → written_out ns p ≡ []
+pub nothing_written : (ns : List Counted) (p : Passage) (ws : List Lexeme) → IsPassage p ws → statements_of p ≡ 0 → words_by_turn ns p ≡ []
 nothing_written ns NoMore ws is none = refl
 nothing_written ns (Moves own more) ws (rest, run, first, e, is) none = absurd (omega (arith, run_counts own run, none))
 nothing_written ns (Pause more) ws (pause, stops, rest, word, are, e, is) none = nothing_written ns more rest is none
 nothing_written ns (ALoop l body more) ws (head, own, stops, rest, end, h, b, inner, word, are, e, is) none =
     let behind : statements_of more ≡ 0 = omega (arith, none) in
     let loop_none : turns_of l * statements_of body ≡ 0 = omega (arith, none) in
-    let f : ℕ → List (List Lexeme) = λ i. written_out (ns ++ counter_at l i ∷ []) body in
+    let f : ℕ → List (List Lexeme) = λ i. words_by_turn (ns ++ counter_at l i ∷ []) body in
     let turned : turns f l.by (turns_of l) l.from ≡ [] =
     none_turned f l.by (turns_of l) l.from (statements_of body) (λ nothing i. nothing_written (ns ++ counter_at l i ∷ []) body own inner nothing) loop_none in
-    ap (λ (xs : List (List Lexeme)). xs ++ written_out ns more) turned ∙ nothing_written ns more rest is behind
+    ap (λ (xs : List (List Lexeme)). xs ++ words_by_turn ns more) turned ∙ nothing_written ns more rest is behind
 
 -- ---- how deep loops stand
 

@@ -6,7 +6,7 @@ use Rattle.cob_move_loops.specs.declared.words.LoopWord.{LoopWord}
 use Rattle.cob_move_loops.specs.declared.words.LoopWord.TheVariants as loop
 use Rattle.cob_move_loops.specs.Reading.{ClosedInFront}
 use Rattle.cob_move_loops.specs.Words.{IsOther, IsPeriod, NoPeriod, loop_word}
-use Rattle.cob_move_loops.specs.Passages.{APause, ARun, Front, FrontStands, Looped, open_behind, open_by}
+use Rattle.cob_move_loops.specs.Passages.{APause, ARun, PassageFront, FrontStands, Looped, open_behind, open_by}
 use Rattle.cob_move_loops.proofs.CutLemmas.{cut_one, no_cut, open_append}
 use Rattle.cob_move_loops.proofs.PassageLemmas.{body_shorter, shorter}
 
@@ -83,12 +83,12 @@ never_closed words rest depth so few own more (end, closed, is, cut) =
     no_cut own more end depth closed is (ap (λ (t : List Lexeme). open_behind (Some 0) t) (sym cut ∙ all) ∙ so.opened)
 
 -- how many words are in what stands in front, if it is a loop
-abbrev pub front_size : Front → ℕ
+abbrev pub front_size : PassageFront → ℕ
 front_size (ARun own) = 0
 front_size APause = 0
 front_size (Looped l own) = length own
 
-pub front_smaller : (f : Front) (ws more : List Lexeme) → FrontStands f ws more → front_size f < length ws
+pub front_smaller : (f : PassageFront) (ws more : List Lexeme) → FrontStands f ws more → front_size f < length ws
 front_smaller (ARun own) ws more stands = omega (arith, shorter (ARun own) ws more stands)
 front_smaller APause ws more stands = omega (arith, shorter APause ws more stands)
 front_smaller (Looped l own) ws more stands = body_shorter l own ws more stands

@@ -5,7 +5,7 @@ use Rattle.cob_source.specs.Tokens.{Lexeme}
 use Rattle.cob_move_loops.specs.declared.words.LoopWord.{LoopWord}
 use Rattle.cob_move_loops.specs.declared.words.LoopWord.TheVariants as loop
 use Rattle.cob_move_loops.specs.Words.{IsOther, IsPeriod, LoopWordFirst, NoPeriod, loop_word}
-use Rattle.cob_move_loops.specs.Passages.{ALoop, APause, ARun, Front, FrontStands, IsPassage, IsRun, Looped, Moves, NoMore, Passage, Pause, breaks_behind, breaks_here, breaks_within}
+use Rattle.cob_move_loops.specs.Passages.{ALoop, APause, ARun, PassageFront, FrontStands, IsPassage, IsRun, Looped, Moves, NoMore, Passage, Pause, breaks_behind, breaks_here, breaks_within}
 use Rattle.cob_move_loops.specs.Reading.{Within}
 use Rattle.cob_move_loops.specs.Laws.{BreaksNone, OnePassage}
 use Rattle.cob_move_loops.proofs.CutLemmas.{cut_one}
@@ -33,12 +33,12 @@ periods_one (w ∷ n) [] a b p q f g e = absurd (subst NoPeriod (sym e) g p.0)
 periods_one (w ∷ n) (v ∷ m) a b p q f g e = let tail : n ++ a ≡ m ++ b = cc in periods_one n m a b p.1 q.1 f g tail
 
 -- the word of loops that stands first
-abbrev first_kind : Front → Option LoopWord
+abbrev first_kind : PassageFront → Option LoopWord
 first_kind (ARun own) = None
 first_kind APause = Some loop.Continue
 first_kind (Looped l own) = Some loop.Perform
 
-first_word : (f : Front) (ws more : List Lexeme) → FrontStands f ws more → (w : Lexeme) × (tail : List Lexeme) × (ws ≡ w ∷ tail) × (loop_word w ≡ first_kind f)
+first_word : (f : PassageFront) (ws more : List Lexeme) → FrontStands f ws more → (w : Lexeme) × (tail : List Lexeme) × (ws ≡ w ∷ tail) × (loop_word w ≡ first_kind f)
 first_word (ARun []) ws more (run, first, e) = absurd run
 first_word (ARun (w ∷ own)) ws more (run, first, e) = (w, own ++ more, e, run.1.0)
 first_word APause ws more (pause, stops, word, are, none, e) = (pause, stops ++ more, e, word)
@@ -46,7 +46,7 @@ first_word (Looped l own) ws more (head, stops, end, h, b, word, are, none, e) =
     let (w, tail, perform, f) = head_first l head h in
     (w, tail ++ (own ++ end ∷ (stops ++ more)), e ∙ ap (λ (t : List Lexeme). t ++ (own ++ end ∷ (stops ++ more))) f, perform)
 
-same_kind : (f g : Front) (ws more others : List Lexeme) → FrontStands f ws more → FrontStands g ws others → first_kind f ≡ first_kind g
+same_kind : (f g : PassageFront) (ws more others : List Lexeme) → FrontStands f ws more → FrontStands g ws others → first_kind f ≡ first_kind g
 same_kind f g ws more others p q =
     let (w, tail, e, x) = first_word f ws more p in
     let (v, liat, d, y) = first_word g ws others q in
@@ -55,7 +55,7 @@ same_kind f g ws more others p q =
     sym x ∙ ap loop_word first ∙ y
 
 -- one thing stands in front, and it leaves the same words
-pub one_front : (f g : Front) (ws more others : List Lexeme) → FrontStands f ws more → FrontStands g ws others → (f ≡ g) × (more ≡ others)
+pub one_front : (f g : PassageFront) (ws more others : List Lexeme) → FrontStands f ws more → FrontStands g ws others → (f ≡ g) × (more ≡ others)
 one_front (ARun own) (ARun us) ws more others (run, first, e) (nur, tsrif, d) =
     let one = others_one own us more others (are_others own run) (are_others us nur) first tsrif (sym e ∙ d) in
     (ap ARun one.0, one.1)
@@ -74,14 +74,14 @@ one_front (Looped l own) (Looped m us) ws more others (head, stops, end, h, b, w
     let cut = cut_one (Some 0) own us end dne (stops ++ more) (spots ++ others) b.closed word c.closed drow heads.1 in
     (λ i. Looped (heads.0 i) (cut.0 i), periods_one stops spots more others are era none enon cut.1)
 
-some_words : (f : Front) (ws more : List Lexeme) → FrontStands f ws more → 0 < length ws
+some_words : (f : PassageFront) (ws more : List Lexeme) → FrontStands f ws more → 0 < length ws
 some_words f ws more stands = omega (arith, shorter f ws more stands)
 
 nothing_first : (w : Lexeme) (ws : List Lexeme) → w ∷ ws ≡ [] → ⊥
 nothing_first w ws e = cc
 
 -- where nothing is left nothing stands in front
-none_stands : (f : Front) (ws more : List Lexeme) → FrontStands f ws more → ws ≡ [] → ⊥
+none_stands : (f : PassageFront) (ws more : List Lexeme) → FrontStands f ws more → ws ≡ [] → ⊥
 none_stands f ws more stands e = let (w, tail, d, x) = first_word f ws more stands in nothing_first w tail (sym d ∙ e)
 
 nothing_else : (q : Passage) (ws : List Lexeme) → IsPassage q ws → ws ≡ [] → NoMore ≡ q
@@ -93,7 +93,7 @@ nothing_else (ALoop l body more) ws (head, own, stops, rest, end, h, b, inner, w
     absurd (none_stands (Looped l own) ws rest (head, stops, end, h, b, word, are, no_period more rest is, cut) e)
 
 -- what is joined behind one thing in front is what another passage is joined of
-same_joined : (f : Front) (p q : Passage) (ws rest : List Lexeme) → FrontStands f ws rest → IsPassage p rest → (k : InFront q ws)
+same_joined : (f : PassageFront) (p q : Passage) (ws rest : List Lexeme) → FrontStands f ws rest → IsPassage p rest → (k : InFront q ws)
     → ((m : Passage) → IsPassage m rest → p ≡ m) → (p ≡ k.more) × (f ≡ k.front)
 same_joined f p q ws rest stands is k only =
     let one = one_front f k.front ws rest k.behind stands k.stands in
@@ -105,19 +105,19 @@ one_passage (Moves own more) q ws (rest, run, first, e, is) other =
     let stands : FrontStands (ARun own) ws rest = (run, first, e) in
     let k = in_front q ws other (some_words (ARun own) ws rest stands) in
     let same = same_joined (ARun own) more q ws rest stands is k (λ m it. one_passage more m rest is it) in
-    ap (λ (m : Passage). Moves own m) same.0 ∙ ap (λ (g : Front). joined g k.body k.more) same.1 ∙ sym k.same
+    ap (λ (m : Passage). Moves own m) same.0 ∙ ap (λ (g : PassageFront). joined g k.body k.more) same.1 ∙ sym k.same
 one_passage (Pause more) q ws (pause, stops, rest, word, are, e, is) other =
     let stands : FrontStands APause ws rest = (pause, stops, word, are, no_period more rest is, e) in
     let k = in_front q ws other (some_words APause ws rest stands) in
     let same = same_joined APause more q ws rest stands is k (λ m it. one_passage more m rest is it) in
-    ap (λ (m : Passage). Pause m) same.0 ∙ ap (λ (g : Front). joined g k.body k.more) same.1 ∙ sym k.same
+    ap (λ (m : Passage). Pause m) same.0 ∙ ap (λ (g : PassageFront). joined g k.body k.more) same.1 ∙ sym k.same
 one_passage (ALoop l body more) q ws (head, own, stops, rest, end, h, b, inner, word, are, e, is) other =
     let stands : FrontStands (Looped l own) ws rest = (head, stops, end, h, b, word, are, no_period more rest is, e) in
     let k = in_front q ws other (some_words (Looped l own) ws rest stands) in
     let same = same_joined (Looped l own) more q ws rest stands is k (λ m it. one_passage more m rest is it) in
-    let within : Within (Looped l own) k.body = subst (λ (g : Front). Within g k.body) (sym same.1) k.within in
+    let within : Within (Looped l own) k.body = subst (λ (g : PassageFront). Within g k.body) (sym same.1) k.within in
     let inside : body ≡ k.body = one_passage body k.body own inner within in
-    (λ i. ALoop l (inside i) (same.0 i)) ∙ ap (λ (g : Front). joined g k.body k.more) same.1 ∙ sym k.same
+    (λ i. ALoop l (inside i) (same.0 i)) ∙ ap (λ (g : PassageFront). joined g k.body k.more) same.1 ∙ sym k.same
 
 -- ---- where words break off they are no passage
 
@@ -127,7 +127,7 @@ breaks_none ws line (breaks_here us n some none e) p is =
 breaks_none ws line (breaks_within us own more l n stands inner) p is =
     let k = in_front p us is (some_words (Looped l own) us more stands) in
     let one = one_front (Looped l own) k.front us more k.behind stands k.stands in
-    let within : Within (Looped l own) k.body = subst (λ (g : Front). Within g k.body) (sym one.0) k.within in
+    let within : Within (Looped l own) k.body = subst (λ (g : PassageFront). Within g k.body) (sym one.0) k.within in
     breaks_none own n inner k.body within
 breaks_none ws line (breaks_behind us more f n stands rest) p is =
     let k = in_front p us is (some_words f us more stands) in

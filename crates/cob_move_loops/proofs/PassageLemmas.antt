@@ -10,12 +10,12 @@ use Rattle.cob_copybook_clauses.specs.declared.term.WordClass.TheVariants as ter
 use Rattle.cob_move_loops.specs.declared.words.LoopWord.{LoopWord}
 use Rattle.cob_move_loops.specs.declared.words.LoopWord.TheVariants as loop
 use Rattle.cob_move_loops.specs.Words.{IsLoopWord, IsPeriod, NoPeriod, loop_word_of_kind}
-use Rattle.cob_move_loops.specs.Passages.{ALoop, APause, ARun, Breaks, Front, FrontStands, IsHead, IsPassage, IsRun, Looped, Moves, NoMore, Passage, Pause, WrittenLoop, breaks_behind, breaks_within}
+use Rattle.cob_move_loops.specs.Passages.{ALoop, APause, ARun, Breaks, PassageFront, FrontStands, IsHead, IsPassage, IsRun, Looped, Moves, NoMore, Passage, Pause, WrittenLoop, breaks_behind, breaks_within}
 use Rattle.cob_move_loops.specs.Reading.{BreaksWithin, HasPassages, Within, written_front}
-use Rattle.cob_move_loops.specs.Turns.{Counted, written_out}
+use Rattle.cob_move_loops.specs.Turns.{Counted, words_by_turn}
 
 -- a passage of what stands in front, with its statements if it is a loop, and of the others
-abbrev pub joined : Front → Passage → Passage → Passage
+abbrev pub joined : PassageFront → Passage → Passage → Passage
 joined (ARun own) body more = Moves own more
 joined APause body more = Pause more
 joined (Looped l own) body more = ALoop l body more
@@ -44,7 +44,7 @@ no_period (ALoop l body more) ws (head, own, stops, rest, end, h, b, inner, word
 -- ---- what stands in front
 
 pub record InFront (p : Passage) (ws : List Lexeme) : Type 0 where
-  pub front : Front
+  pub front : PassageFront
   pub behind : List Lexeme
   pub body : Passage
   pub more : Passage
@@ -70,18 +70,18 @@ in_front (ALoop l body more) ws (head, own, stops, rest, end, h, b, inner, word,
   same = refl;
 }
 
-pub joined_is : (f : Front) (body more : Passage) (ws behind : List Lexeme) → FrontStands f ws behind → Within f body → IsPassage more behind → IsPassage (joined f body more) ws
+pub joined_is : (f : PassageFront) (body more : Passage) (ws behind : List Lexeme) → FrontStands f ws behind → Within f body → IsPassage more behind → IsPassage (joined f body more) ws
 joined_is (ARun own) body more ws behind (run, first, e) within is = (behind, run, first, e, is)
 joined_is APause body more ws behind (pause, stops, word, are, none, e) within is = (pause, stops, behind, word, are, e, is)
 joined_is (Looped l own) body more ws behind (head, stops, end, h, b, word, are, none, e) within is = (head, own, stops, behind, end, h, b, within, word, are, e, is)
 
-pub written_joined : (ns : List Counted) (f : Front) (body more : Passage) → written_out ns (joined f body more) ≡ written_front ns f body ++ written_out ns more
+pub written_joined : (ns : List Counted) (f : PassageFront) (body more : Passage) → words_by_turn ns (joined f body more) ≡ written_front ns f body ++ words_by_turn ns more
 written_joined ns (ARun own) body more = refl
 written_joined ns APause body more = refl
 written_joined ns (Looped l own) body more = refl
 
 -- where nothing stands in front that may, words are the passage of nothing
-pub nothing_left : (q : Passage) (rest : List Lexeme) → IsPassage q rest → ((f : Front) (more : List Lexeme) → FrontStands f rest more → ⊥) → q ≡ NoMore
+pub nothing_left : (q : Passage) (rest : List Lexeme) → IsPassage q rest → ((f : PassageFront) (more : List Lexeme) → FrontStands f rest more → ⊥) → q ≡ NoMore
 nothing_left NoMore rest is none = refl
 nothing_left (Moves own more) rest (behind, run, first, e, is) none = absurd (none (ARun own) behind (run, first, e))
 nothing_left (Pause more) rest (pause, stops, behind, word, are, e, is) none = absurd (none APause behind (pause, stops, word, are, no_period more behind is, e))
@@ -89,31 +89,31 @@ nothing_left (ALoop l body more) rest (head, own, stops, behind, end, h, b, inne
     absurd (none (Looped l own) behind (head, stops, end, h, b, word, are, no_period more behind is, e))
 
 -- a front is the only one, and leaves the same words
-abbrev pub IsOnlyFront : Front → List Lexeme → List Lexeme → Type 0
-IsOnlyFront f rest more = (g : Front) (others : List Lexeme) → FrontStands g rest others → (f ≡ g) × (more ≡ others)
+abbrev pub IsOnlyFront : PassageFront → List Lexeme → List Lexeme → Type 0
+IsOnlyFront f rest more = (g : PassageFront) (others : List Lexeme) → FrontStands g rest others → (f ≡ g) × (more ≡ others)
 
 -- a passage of words before which this stands: the statements of that, if it is a loop, and the others
-pub record Parted (f : Front) (more : List Lexeme) (q : Passage) : Type 0 where
+pub record Parted (f : PassageFront) (more : List Lexeme) (q : Passage) : Type 0 where
   pub body : Passage
   pub others : Passage
   pub within : Within f body
   pub is : IsPassage others more
   pub same : q ≡ joined f body others
 
-pub parted : (f : Front) (rest more : List Lexeme) (q : Passage) → IsPassage q rest → 0 < length rest → IsOnlyFront f rest more → Parted f more q
+pub parted : (f : PassageFront) (rest more : List Lexeme) (q : Passage) → IsPassage q rest → 0 < length rest → IsOnlyFront f rest more → Parted f more q
 parted f rest more q is some only =
     let k : InFront q rest = in_front q rest is some in
     let one = only k.front k.behind k.stands in record {
       body = k.body;
       others = k.more;
-      within = subst (λ (g : Front). Within g k.body) (sym one.0) k.within;
+      within = subst (λ (g : PassageFront). Within g k.body) (sym one.0) k.within;
       is = subst (λ (ws : List Lexeme). IsPassage k.more ws) (sym one.1) k.is;
-      same = k.same ∙ ap (λ (g : Front). joined g k.body k.more) (sym one.0);
+      same = k.same ∙ ap (λ (g : PassageFront). joined g k.body k.more) (sym one.0);
     }
 
 -- ---- the check
 
-has_body : (f : Front) → HasPassages f → (body : Passage) × Within f body
+has_body : (f : PassageFront) → HasPassages f → (body : Passage) × Within f body
 has_body (ARun own) has = (NoMore, tt)
 has_body APause has = (NoMore, tt)
 has_body (Looped l own) has = has
@@ -126,14 +126,14 @@ pub record Checked (words rest : List Lexeme) : Type 0 where
 pub checked_first : (words : List Lexeme) → Checked words words
 checked_first words = record { passage = λ p is. (p, is); broken = λ line is. is }
 
-pub checked_more : (words rest more : List Lexeme) (f : Front) → Checked words rest → FrontStands f rest more → HasPassages f → Checked words more
+pub checked_more : (words rest more : List Lexeme) (f : PassageFront) → Checked words rest → FrontStands f rest more → HasPassages f → Checked words more
 checked_more words rest more f so stands has =
     let (body, within) = has_body f has in record {
       passage = λ p is. so.passage (joined f body p) (joined_is f body p rest more stands within is);
       broken = λ line is. so.broken line (breaks_behind rest more f line stands is);
     }
 
-pub broken_within : (words rest more : List Lexeme) (f : Front) (line : ℕ) → Checked words rest → FrontStands f rest more → BreaksWithin f line → Breaks words line
+pub broken_within : (words rest more : List Lexeme) (f : PassageFront) (line : ℕ) → Checked words rest → FrontStands f rest more → BreaksWithin f line → Breaks words line
 broken_within words rest more (ARun own) line so stands broken = absurd broken
 broken_within words rest more APause line so stands broken = absurd broken
 broken_within words rest more (Looped l own) line so stands broken = so.broken line (breaks_within rest own more l line stands broken)
@@ -146,7 +146,7 @@ pub checked_all : (words rest : List Lexeme) → Checked words rest → rest ≡
 checked_all words rest so none = so.passage NoMore none
 
 -- what stands in front is a word at least
-pub shorter : (f : Front) (ws more : List Lexeme) → FrontStands f ws more → length more < length ws
+pub shorter : (f : PassageFront) (ws more : List Lexeme) → FrontStands f ws more → length more < length ws
 shorter (ARun []) ws more (run, first, e) = absurd run
 shorter (ARun (w ∷ own)) ws more (run, first, e) = omega (arith, ap length e, length-append own more)
 shorter APause ws more (pause, stops, word, are, none, e) = omega (arith, ap length e, length-append stops more)

@@ -67,11 +67,11 @@ pub record IsApart (around : List WrittenLoop) (l : WrittenLoop) : Type 0 where
   pub alone : AllByRecursion (λ other. other.counter ≢ l.counter) around
 
 -- each loop of a passage within these loops is so
-abbrev pub AreApart : List WrittenLoop → Passage → Type 0
-AreApart around NoMore = Unit {0}
-AreApart around (Moves own more) = AreApart around more
-AreApart around (Pause more) = AreApart around more
-AreApart around (ALoop l body more) = IsApart around l × AreApart (around ++ l ∷ []) body × AreApart around more
+abbrev pub AreLoopsApart : List WrittenLoop → Passage → Type 0
+AreLoopsApart around NoMore = Unit {0}
+AreLoopsApart around (Moves own more) = AreLoopsApart around more
+AreLoopsApart around (Pause more) = AreLoopsApart around more
+AreLoopsApart around (ALoop l body more) = IsApart around l × AreLoopsApart (around ++ l ∷ []) body × AreLoopsApart around more
 
 -- a loop on this line is not so
 abbrev pub Clashes : List WrittenLoop → Passage → ℕ → Type 0

@@ -83,7 +83,7 @@ open_behind depth [] = depth
 open_behind depth (w ∷ ws) = open_behind (open_by (loop_word w) depth) ws
 
 -- the words of the statements in a loop: there is one, each PERFORM has its END-PERFORM, and no period stands among them
-pub record IsBody (ws : List Lexeme) : Type 0 where
+pub record IsLoopBody (ws : List Lexeme) : Type 0 where
   pub some : 0 < length ws
   pub closed : open_behind (Some 0) ws ≡ Some 0
   pub no_period : AllByRecursion IsNoPeriod ws
@@ -95,27 +95,27 @@ IsPassage (Moves own more) ws = (rest : List Lexeme) × IsRun own × LoopWordFir
 IsPassage (Pause more) ws = (pause : Lexeme) × (stops rest : List Lexeme)
     × IsLoopWord loop.Continue pause × AllByRecursion IsPeriod stops × (ws ≡ pause ∷ (stops ++ rest)) × IsPassage more rest
 IsPassage (ALoop l body more) ws = (head own stops rest : List Lexeme) × (end : Lexeme)
-    × IsHead l head × IsBody own × IsPassage body own × IsLoopWord loop.EndPerform end × AllByRecursion IsPeriod stops
+    × IsHead l head × IsLoopBody own × IsPassage body own × IsLoopWord loop.EndPerform end × AllByRecursion IsPeriod stops
     × (ws ≡ head ++ (own ++ end ∷ (stops ++ rest))) × IsPassage more rest
 
 -- What stands in front of a passage: words of MOVE statements, CONTINUE, or a loop with the words of its statements.
-pub data Front : Type 0 where
-  ARun : List Lexeme → Front
-  APause : Front
-  Looped : WrittenLoop → List Lexeme → Front
+pub data PassageFront : Type 0 where
+  ARun : List Lexeme → PassageFront
+  APause : PassageFront
+  Looped : WrittenLoop → List Lexeme → PassageFront
 
 -- It stands in front, with all periods behind it, before these words.
-abbrev pub FrontStands : Front → List Lexeme → List Lexeme → Type 0
+abbrev pub FrontStands : PassageFront → List Lexeme → List Lexeme → Type 0
 FrontStands (ARun own) words more = IsRun own × LoopWordFirst more × (words ≡ own ++ more)
 FrontStands APause words more = (pause : Lexeme) × (stops : List Lexeme)
     × IsLoopWord loop.Continue pause × AllByRecursion IsPeriod stops × NoPeriod more × (words ≡ pause ∷ (stops ++ more))
 FrontStands (Looped l own) words more = (head stops : List Lexeme) × (end : Lexeme)
-    × IsHead l head × IsBody own × IsLoopWord loop.EndPerform end × AllByRecursion IsPeriod stops × NoPeriod more
+    × IsHead l head × IsLoopBody own × IsLoopWord loop.EndPerform end × AllByRecursion IsPeriod stops × NoPeriod more
     × (words ≡ head ++ (own ++ end ∷ (stops ++ more)))
 
 -- Where words are no passage, and on which line: nothing stands in front that may, and this is the line there; or it is so within a loop in front, or
 -- behind what stands in front.
 pub data Breaks : List Lexeme → ℕ → Type 0 where
-  breaks_here : (ws : List Lexeme) (line : ℕ) → 0 < length ws → ((f : Front) (more : List Lexeme) → FrontStands f ws more → ⊥) → line ≡ first_line ws → Breaks ws line
+  breaks_here : (ws : List Lexeme) (line : ℕ) → 0 < length ws → ((f : PassageFront) (more : List Lexeme) → FrontStands f ws more → ⊥) → line ≡ first_line ws → Breaks ws line
   breaks_within : (ws own more : List Lexeme) (l : WrittenLoop) (line : ℕ) → FrontStands (Looped l own) ws more → Breaks own line → Breaks ws line
-  breaks_behind : (ws more : List Lexeme) (f : Front) (line : ℕ) → FrontStands f ws more → Breaks more line → Breaks ws line
+  breaks_behind : (ws more : List Lexeme) (f : PassageFront) (line : ℕ) → FrontStands f ws more → Breaks more line → Breaks ws line

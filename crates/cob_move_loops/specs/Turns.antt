@@ -29,16 +29,16 @@ counted_of_kind ns kind.Literal text = None
 counted_of_kind ns kind.Stop text = None
 
 -- the number of the counter that a word is, if it is one
-abbrev pub counted : List Counted → Lexeme → Option ℕ
-counted ns w = counted_of_kind ns w.kind w.text
+abbrev pub counted_number : List Counted → Lexeme → Option ℕ
+counted_number ns w = counted_of_kind ns w.kind w.text
 
 -- a character is a digit
-abbrev pub is_digit : ℕ → Bool
-is_digit c = nat_le 48 c && nat_lt c 58
+abbrev pub is_decimal_digit : ℕ → Bool
+is_decimal_digit c = nat_le 48 c && nat_lt c 58
 
 -- the number that one to nine digits spell
 abbrev pub whole_in : List ℕ → Option ℕ
-whole_in text = if nat_lt 0 (length text) && (nat_le (length text) most_counter_digits && list_all is_digit text) then Some (number_of (digits_in text)) else None
+whole_in text = if nat_lt 0 (length text) && (nat_le (length text) most_counter_digits && list_all is_decimal_digit text) then Some (number_of (digits_in text)) else None
 
 -- the number of a word of digits
 abbrev pub amount_of_kind : TokenKind → List ℕ → Option ℕ
@@ -47,8 +47,8 @@ amount_of_kind kind.Literal text = None
 amount_of_kind kind.Stop text = None
 
 -- A number with another added to it, behind +, or taken away from it, behind -; that goes no further than 0, which no element has.
-abbrev pub shifted : List ℕ → ℕ → ℕ → Option ℕ
-shifted sign n amount =
+abbrev pub shifted_number : List ℕ → ℕ → ℕ → Option ℕ
+shifted_number sign n amount =
     if bytes_eq sign (codes "+") then Some (n + amount)
     else if bytes_eq sign (codes "-") then Some (n - amount)
     else None
@@ -56,7 +56,7 @@ shifted sign n amount =
 -- the same where there is another
 abbrev pub shifted_by : List ℕ → ℕ → Option ℕ → Option ℕ
 shifted_by sign n None = None
-shifted_by sign n (Some amount) = shifted sign n amount
+shifted_by sign n (Some amount) = shifted_number sign n amount
 
 -- a sign is a word
 abbrev pub shifted_of_kind : TokenKind → List ℕ → ℕ → Option ℕ → Option ℕ
@@ -106,7 +106,7 @@ abbrev pub in_turn : List Counted → Bool → ℕ → List Lexeme → List Lexe
 in_turn ns inside passed [] = []
 in_turn ns inside (suc passed) (w ∷ ws) = in_turn ns inside passed ws
 in_turn ns inside zero (w ∷ ws) =
-    word_by inside w ws (counted ns w) ∷ in_turn ns (open_by inside (word_class w)) (passed_by inside ws (counted ns w)) ws
+    word_by inside w ws (counted_number ns w) ∷ in_turn ns (open_by inside (word_class w)) (passed_by inside ws (counted_number ns w)) ws
 
 -- what so many turns come to, from this number on, which grows by so much from turn to turn
 abbrev pub turns : {A : Type 0} → (ℕ → List A) → ℕ → ℕ → ℕ → List A
@@ -127,8 +127,8 @@ turns_of l = turns_between l.from l.by l.bound
 
 -- A passage written out, where the counters round it have these numbers: the words of MOVE statements, each turn's behind those of the turn before, each
 -- as they are in their turn.
-abbrev pub written_out : List Counted → Passage → List (List Lexeme)
-written_out ns NoMore = []
-written_out ns (Moves own more) = in_turn ns false 0 own ∷ written_out ns more
-written_out ns (Pause more) = written_out ns more
-written_out ns (ALoop l body more) = turns (λ i. written_out (ns ++ counter_at l i ∷ []) body) l.by (turns_of l) l.from ++ written_out ns more
+abbrev pub words_by_turn : List Counted → Passage → List (List Lexeme)
+words_by_turn ns NoMore = []
+words_by_turn ns (Moves own more) = in_turn ns false 0 own ∷ words_by_turn ns more
+words_by_turn ns (Pause more) = words_by_turn ns more
+words_by_turn ns (ALoop l body more) = turns (λ i. words_by_turn (ns ++ counter_at l i ∷ []) body) l.by (turns_of l) l.from ++ words_by_turn ns more

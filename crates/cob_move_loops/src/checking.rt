@@ -2,8 +2,8 @@
 
 ghost use Rattle.std.specs.Prelude.{◌≡◌, ℕ, ◌<◌, IfErr, OnOk, length, List};
 ghost use Rattle.cob_source.specs.Tokens.{lexemes};
-ghost use Rattle.cob_move_loops.specs.Passages.{APause, ARun, Breaks, Front, IsPassage, Looped, Passage};
-ghost use Rattle.cob_move_loops.specs.Reading.{HasPassages, BreaksWithin, front_of};
+ghost use Rattle.cob_move_loops.specs.Passages.{APause, ARun, Breaks, PassageFront, IsPassage, Looped, Passage};
+ghost use Rattle.cob_move_loops.specs.Reading.{HasPassages, BreaksWithin, item_front};
 
 use crate::front::{Item, item_at};
 use crate::words::line_of;
@@ -16,8 +16,8 @@ use cob_source::Token;
 /// The line where they are none.
 #[cycle(checking)]
 fn check_item(item: &Item<'_>) -> Result<(), u32>
-    ensures found { OnOk result (HasPassages (front_of item.now)) }
-    ensures line { IfErr result (λ line. BreaksWithin (front_of item.now) line) }
+    ensures found { OnOk result (HasPassages (item_front item.now)) }
+    ensures line { IfErr result (λ line. BreaksWithin (item_front item.now) line) }
 {
     match item {
         Item::Loop { body, .. } => check(body),

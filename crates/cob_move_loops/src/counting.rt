@@ -5,7 +5,7 @@ ghost use Rattle.cob_source.specs.Tokens.{lexeme, lexemes};
 ghost use Rattle.cob_move_loops.specs.Few.{IsFew, IsShallow, loop_line, looped_of, statements_in, statements_of};
 ghost use Rattle.cob_move_loops.specs.Limits.{most_written_out};
 ghost use Rattle.cob_move_loops.specs.Passages.{IsPassage, Passage};
-ghost use Rattle.cob_move_loops.specs.Reading.{Within, front_of, looped_front, statements_front, written_loop};
+ghost use Rattle.cob_move_loops.specs.Reading.{Within, item_front, looped_front, statements_front, written_loop};
 ghost use Rattle.cob_move_loops.specs.Turns.{turns_of};
 ghost use Rattle.cob_move_loops.specs.Words.{loop_word};
 
@@ -100,11 +100,11 @@ fn count_turns(head: &Loop<'_>, body: &[Token]) -> Option<u64>
 /// The statements of what stands in front once it is written out, where they are not over the most.
 #[cycle(counting)]
 fn count_item(item: &Item<'_>) -> Option<u64>
-    ensures some { IfSome result (λ n. (p : Passage) → Within (front_of item.now) p
-        → n ≡ statements_front (front_of item.now) p) }
+    ensures some { IfSome result (λ n. (p : Passage) → Within (item_front item.now) p
+        → n ≡ statements_front (item_front item.now) p) }
     ensures most { IfSome result (λ n. n ≤ most_written_out) }
-    ensures none { IfNone result ((p : Passage) → Within (front_of item.now) p
-        → most_written_out < statements_front (front_of item.now) p) }
+    ensures none { IfNone result ((p : Passage) → Within (item_front item.now) p
+        → most_written_out < statements_front (item_front item.now) p) }
 {
     match item {
         Item::Run(words) => statements_in(words),
@@ -135,11 +135,11 @@ pub(crate) fn count_all(words: &[Token]) -> Option<u64>
 
 /// The statements of what stands in front once it is written out, if it is a loop, where they are not over the most.
 fn count_looped(item: &Item<'_>) -> Option<u64>
-    ensures some { IfSome result (λ n. (p : Passage) → Within (front_of item.now) p
-        → n ≡ looped_front (front_of item.now) p) }
+    ensures some { IfSome result (λ n. (p : Passage) → Within (item_front item.now) p
+        → n ≡ looped_front (item_front item.now) p) }
     ensures most { IfSome result (λ n. n ≤ most_written_out) }
-    ensures none { IfNone result ((p : Passage) → Within (front_of item.now) p
-        → most_written_out < looped_front (front_of item.now) p) }
+    ensures none { IfNone result ((p : Passage) → Within (item_front item.now) p
+        → most_written_out < looped_front (item_front item.now) p) }
 {
     match item {
         Item::Run(_) | Item::Pause => Some(0),

@@ -4,8 +4,8 @@ ghost use Rattle.std.specs.Prelude.{◌≡◌, ◌↔◌, ℕ, ◌<◌, ◌≤�
 ghost use Rattle.std.specs.List.{AllByRecursion};
 ghost use Rattle.cob_source.specs.Tokens.{Lexeme, lexeme, lexemes};
 ghost use Rattle.cob_move_loops.specs.Words.{IsNoPeriod, IsOther, IsPeriod, LoopWordFirst, NoPeriod, loop_word};
-ghost use Rattle.cob_move_loops.specs.Passages.{APause, ARun, Front, FrontStands, IsBody, IsRun, Looped, WrittenLoop, open_behind, open_by};
-ghost use Rattle.cob_move_loops.specs.Reading.{AnswersFront, ClosedInFront, front_of};
+ghost use Rattle.cob_move_loops.specs.Passages.{APause, ARun, PassageFront, FrontStands, IsLoopBody, IsRun, Looped, WrittenLoop, open_behind, open_by};
+ghost use Rattle.cob_move_loops.specs.Reading.{AnswersFront, ClosedInFront, item_front};
 
 use crate::head::head_at;
 use crate::parts::Loop;
@@ -100,7 +100,7 @@ fn is_run(words: &[Token]) -> bool
 /// The words of MOVE statements in front, and what is behind them.
 fn run_at(words: &[Token]) -> Option<(Item<'_>, &[Token])>
     ensures found { IfSome result
-        (λ r. FrontStands (front_of r.0) (lexemes words.now) (lexemes r.1.now)) }
+        (λ r. FrontStands (item_front r.0) (lexemes words.now) (lexemes r.1.now)) }
     ensures only { (own more : List Lexeme) → FrontStands (ARun own) (lexemes words.now) more
         → AnswersFront result (ARun own) more }
 {
@@ -114,7 +114,7 @@ fn run_at(words: &[Token]) -> Option<(Item<'_>, &[Token])>
 /// CONTINUE in front, and what is behind it and its periods.
 fn pause_at(words: &[Token]) -> Option<(Item<'_>, &[Token])>
     ensures found { IfSome result
-        (λ r. FrontStands (front_of r.0) (lexemes words.now) (lexemes r.1.now)) }
+        (λ r. FrontStands (item_front r.0) (lexemes words.now) (lexemes r.1.now)) }
     ensures only { (more : List Lexeme) → FrontStands APause (lexemes words.now) more
         → AnswersFront result APause more }
 {
@@ -173,7 +173,7 @@ fn has_no_period(words: &[Token]) -> bool
 /// Whether words in which as many loops are closed as are opened may be the statements of a loop.
 fn is_body(words: &[Token]) -> bool
     requires { open_behind (Some 0) (lexemes words.now) ≡ Some 0 }
-    ensures { IsTrue result ↔ IsBody (lexemes words.now) }
+    ensures { IsTrue result ↔ IsLoopBody (lexemes words.now) }
 {
     !words.is_empty() && has_no_period(words)
 }
@@ -181,7 +181,7 @@ fn is_body(words: &[Token]) -> bool
 /// The loop in front, and what is behind it and its periods.
 fn loop_at(words: &[Token]) -> Option<(Item<'_>, &[Token])>
     ensures found { IfSome result
-        (λ r. FrontStands (front_of r.0) (lexemes words.now) (lexemes r.1.now)) }
+        (λ r. FrontStands (item_front r.0) (lexemes words.now) (lexemes r.1.now)) }
     ensures only { (l : WrittenLoop) (own more : List Lexeme)
         → FrontStands (Looped l own) (lexemes words.now) more
         → AnswersFront result (Looped l own) more }
@@ -197,8 +197,8 @@ fn loop_at(words: &[Token]) -> Option<(Item<'_>, &[Token])>
 /// What stands in front of a passage, and what is behind it and its periods.
 pub(crate) fn item_at(words: &[Token]) -> Option<(Item<'_>, &[Token])>
     ensures found { IfSome result
-        (λ r. FrontStands (front_of r.0) (lexemes words.now) (lexemes r.1.now)) }
-    ensures only { (f : Front) (more : List Lexeme) → FrontStands f (lexemes words.now) more
+        (λ r. FrontStands (item_front r.0) (lexemes words.now) (lexemes r.1.now)) }
+    ensures only { (f : PassageFront) (more : List Lexeme) → FrontStands f (lexemes words.now) more
         → AnswersFront result f more }
 {
     let (first, _) = words.split_first()?;

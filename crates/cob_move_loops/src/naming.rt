@@ -4,9 +4,9 @@ ghost use Rattle.std.specs.Prelude.{◌≡◌, ◌⊎◌, ◌≢◌, ◌↔◌, 
 ghost use Rattle.std.specs.List.{AllByRecursion};
 ghost use Rattle.cob_source.specs.Tokens.{lexemes};
 ghost use Rattle.cob_move_loops.specs.declared.naming.LoopFault.TheVariants.{Memory};
-ghost use Rattle.cob_move_loops.specs.Few.{AreApart, Clashes, IsApart, loops_of};
+ghost use Rattle.cob_move_loops.specs.Few.{AreLoopsApart, Clashes, IsApart, loops_of};
 ghost use Rattle.cob_move_loops.specs.Passages.{IsPassage, Passage};
-ghost use Rattle.cob_move_loops.specs.Reading.{AddsLoops, AddsLoopsFront, ClashesIn, ClashesInFront, IsClash, front_of, written_loop, written_loops};
+ghost use Rattle.cob_move_loops.specs.Reading.{AddsLoops, AddsLoopsFront, ClashesIn, ClashesInFront, IsClash, item_front, written_loop, written_loops};
 
 use crate::front::{Item, item_at};
 use crate::parts::Loop;
@@ -92,7 +92,7 @@ fn add_loop<'a>(
 ) -> Result<(), LoopFault>
     ensures named { OnOk result ((p : Passage) → IsPassage p (lexemes body.now)
         → (IsApart (written_loops around.now) (written_loop head.now)
-        × AreApart (written_loops around.now ++ written_loop head.now ∷ []) p)
+        × AreLoopsApart (written_loops around.now ++ written_loop head.now ∷ []) p)
         × (written_loops out.new.items
         ≡ written_loops out.old.items ++ written_loop head.now ∷ loops_of p)) }
     ensures clash { IfErr result (IsClash (λ line. (p : Passage) → IsPassage p (lexemes body.now)
@@ -120,10 +120,10 @@ fn add_item<'a>(
     around: &[Loop<'a>],
     out: &mut Vec<Loop<'a>>,
 ) -> Result<(), LoopFault>
-    ensures named { OnOk result (AddsLoopsFront (written_loops around.now) (front_of item.now)
+    ensures named { OnOk result (AddsLoopsFront (written_loops around.now) (item_front item.now)
         out.old.items out.new.items) }
     ensures clash { IfErr result
-        (IsClash (ClashesInFront (written_loops around.now) (front_of item.now))) }
+        (IsClash (ClashesInFront (written_loops around.now) (item_front item.now))) }
 {
     match item {
         Item::Run(_) | Item::Pause => Ok(()),
@@ -163,7 +163,7 @@ fn add_loops<'a>(
 /// A loop whose counter clashes; want of memory.
 pub fn loops(alloc: Global, words: &[Token]) -> Result<Vec<Loop<'_>>, LoopFault>
     ensures found { IfOk result (λ v. (p : Passage) → IsPassage p (lexemes words.now)
-        → AreApart [] p × (written_loops v.items ≡ loops_of p)) }
+        → AreLoopsApart [] p × (written_loops v.items ≡ loops_of p)) }
     ensures clash { IfErr result (IsClash (ClashesIn [] (lexemes words.now))) }
 {
     let mut out = Vec::new(alloc);

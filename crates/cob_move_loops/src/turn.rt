@@ -4,7 +4,7 @@ ghost use Rattle.std.specs.Prelude.{◌≡◌, ℕ, drop, false, Some, IfOk, IfS
 ghost use Rattle.cob_copybook_clauses.specs.Terms.{word_class};
 ghost use Rattle.cob_source.specs.Tokens.{lexeme, lexemes};
 ghost use Rattle.cob_move_loops.specs.Reading.{counters};
-ghost use Rattle.cob_move_loops.specs.Turns.{amount_of_kind, counted, in_turn, numeral, number_of_name, open_by, passed_by, shifted, shifted_of_kind, sum_in, whole_in, word_by};
+ghost use Rattle.cob_move_loops.specs.Turns.{amount_of_kind, counted_number, in_turn, numeral, number_of_name, open_by, passed_by, shifted_number, shifted_of_kind, sum_in, whole_in, word_by};
 
 use crate::number::whole;
 use cob_copybook_clauses::{WordClass, word_class};
@@ -31,8 +31,8 @@ fn number_of_name(turn: &[Counter<'_>], name: &[u8]) -> Option<u32>
 }
 
 /// The number of the counter that a word is, if it is one.
-fn counted(turn: &[Counter<'_>], token: &Token) -> Option<u32>
-    ensures { result ≡ counted (counters turn.now) (lexeme token.now) }
+fn counted_number(turn: &[Counter<'_>], token: &Token) -> Option<u32>
+    ensures { result ≡ counted_number (counters turn.now) (lexeme token.now) }
 {
     match token.kind {
         TokenKind::Word => number_of_name(turn, token.text.as_slice()),
@@ -93,8 +93,8 @@ fn amount_in(token: &Token) -> Option<u32>
 }
 
 /// A number with another added to it, behind +, or taken away from it, behind -.
-fn shifted(sign: &[u8], number: u32, amount: u32) -> Option<u64>
-    ensures { result ≡ shifted sign.now number amount }
+fn shifted_number(sign: &[u8], number: u32, amount: u32) -> Option<u64>
+    ensures { result ≡ shifted_number sign.now number amount }
 {
     if sign == b"+".as_slice() {
         return Some(u64::from(number) + u64::from(amount));
@@ -110,7 +110,7 @@ fn shifted_by(sign: &Token, number: u32, amount: u32) -> Option<u64>
     ensures { result ≡ shifted_of_kind (lexeme sign.now).kind (lexeme sign.now).text number (Some amount) }
 {
     match sign.kind {
-        TokenKind::Word => shifted(sign.text.as_slice(), number, amount),
+        TokenKind::Word => shifted_number(sign.text.as_slice(), number, amount),
         TokenKind::Literal | TokenKind::Stop => None,
     }
 }
@@ -143,11 +143,11 @@ fn word_in<'a>(
     more: &'a [Token],
 ) -> Result<(Token, &'a [Token]), AllocError>
     ensures word { IfOk result (λ r. lexeme r.0 ≡ word_by inside (lexeme first.now)
-        (lexemes more.now) (counted (counters turn.now) (lexeme first.now))) }
+        (lexemes more.now) (counted_number (counters turn.now) (lexeme first.now))) }
     ensures rest { IfOk result (λ r. lexemes r.1.now ≡ drop (passed_by inside (lexemes more.now)
-        (counted (counters turn.now) (lexeme first.now))) (lexemes more.now)) }
+        (counted_number (counters turn.now) (lexeme first.now))) (lexemes more.now)) }
 {
-    let Some(number) = counted(turn, first) else {
+    let Some(number) = counted_number(turn, first) else {
         return Ok((copy_of(alloc, first)?, more));
     };
     match sum_in(inside, number, more) {

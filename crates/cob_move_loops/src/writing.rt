@@ -4,8 +4,8 @@ ghost use Rattle.std.specs.Prelude.{◌≡◌, ◌⊎◌, ◌+◌, ◌<◌, ◌+
 ghost use Rattle.cob_source.specs.Tokens.{lexemes};
 ghost use Rattle.cob_move_loops.specs.Few.{statements_of};
 ghost use Rattle.cob_move_loops.specs.Passages.{IsPassage, Passage};
-ghost use Rattle.cob_move_loops.specs.Reading.{Within, all_runs, counters, front_of, written_front, written_loop};
-ghost use Rattle.cob_move_loops.specs.Turns.{counter_at, in_turn, turns, turns_of, written_out};
+ghost use Rattle.cob_move_loops.specs.Reading.{Within, all_runs, counters, item_front, written_front, written_loop};
+ghost use Rattle.cob_move_loops.specs.Turns.{counter_at, in_turn, turns, turns_of, words_by_turn};
 
 use crate::counting::{count_all, turns_of};
 use crate::front::{Item, item_at};
@@ -114,7 +114,7 @@ fn write_turns<'a>(
 ) -> Result<(), AllocError>
     ensures { OnOk result ((p : Passage) → IsPassage p (lexemes body.now)
         → all_runs out.new.items ≡ all_runs out.old.items
-        ++ turns (λ i. written_out (counters turn.now ++ counter_at (written_loop head.now) i ∷ []) p)
+        ++ turns (λ i. words_by_turn (counters turn.now ++ counter_at (written_loop head.now) i ∷ []) p)
         head.now.by (turns_of (written_loop head.now)) head.now.from) }
 {
     let mut left = turns_to_write(head, body);
@@ -145,9 +145,9 @@ fn write_item<'a>(
     turn: &[Counter<'a>],
     out: &mut Vec<Run<'a>>,
 ) -> Result<(), AllocError>
-    ensures { OnOk result ((p : Passage) → Within (front_of item.now) p
+    ensures { OnOk result ((p : Passage) → Within (item_front item.now) p
         → all_runs out.new.items
-        ≡ all_runs out.old.items ++ written_front (counters turn.now) (front_of item.now) p) }
+        ≡ all_runs out.old.items ++ written_front (counters turn.now) (item_front item.now) p) }
 {
     match item {
         Item::Run(words) => push_run(alloc, words, turn, out),
@@ -170,7 +170,7 @@ fn write_all<'a>(
 ) -> Result<(), AllocError>
     ensures { OnOk result ((p : Passage) → IsPassage p (lexemes words.now)
         → all_runs out.new.items
-        ≡ all_runs out.old.items ++ written_out (counters turn.now) p) }
+        ≡ all_runs out.old.items ++ words_by_turn (counters turn.now) p) }
 {
     let mut rest = words;
     while let Some((item, more)) = item_at(rest) {
@@ -187,7 +187,7 @@ fn write_all<'a>(
 /// Where no memory is left.
 pub fn write_out(alloc: Global, words: &[Token]) -> Result<Vec<Run<'_>>, AllocError>
     ensures { IfOk result (λ runs. (p : Passage) → IsPassage p (lexemes words.now)
-        → all_runs runs.items ≡ written_out [] p) }
+        → all_runs runs.items ≡ words_by_turn [] p) }
 {
     let mut out = Vec::new(alloc);
     write_all(alloc, words, &[], &mut out)?;

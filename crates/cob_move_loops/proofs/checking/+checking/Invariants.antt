@@ -1,6 +1,6 @@
 use Rattle.std.proofs.Common.{◌≤◌, ◌+◌, ◌*◌, length}
 use Rattle.cob_source.specs.Tokens.{lexemes}
-use Rattle.cob_move_loops.specs.Reading.{front_of}
+use Rattle.cob_move_loops.specs.Reading.{item_front}
 use Rattle.cob_move_loops.proofs.FrontLemmas.{front_size}
 use Rattle.cob_move_loops.proofs.PassageLemmas.{Checked}
 use Rattle.cob_move_loops.proofs.checking.+checking.Given as goal
@@ -9,7 +9,7 @@ abbrev pub decreases-check : goal.decreases-check
 decreases-check l = 2 * length (lexemes l.words.now)
 
 abbrev pub decreases-check_item : goal.decreases-check_item
-decreases-check_item l = 2 * front_size (front_of l.item.now) + 1
+decreases-check_item l = 2 * front_size (item_front l.item.now) + 1
 
 abbrev pub invariant-check-loop-rest : goal.invariant-check-loop-rest
 invariant-check-loop-rest l = record {

@@ -1,7 +1,7 @@
 use Rattle.std.proofs.Common.{arith}
 use Rattle.std.proofs.lemmas.Result.{err_from_is_err_and}
 use Rattle.cob_source.specs.Tokens.{lexemes}
-use Rattle.cob_move_loops.specs.Reading.{ClashesIn, ClashesInFront, front_of, written_loops}
+use Rattle.cob_move_loops.specs.Reading.{ClashesIn, ClashesInFront, item_front, written_loops}
 use Rattle.cob_move_loops.proofs.NamingLemmas.{clash_weaker, loops_clash, loops_end, loops_first, loops_more}
 use Rattle.cob_move_loops.proofs.PassageLemmas.{shorter}
 use Rattle.cob_move_loops.proofs.naming.+naming.Goals as goal
@@ -11,7 +11,7 @@ add_loops-loop-item-init t c = record { left = loops_first (written_loops c.args
 
 pub add_loops-loop-item-preserved : goal.add_loops-loop-item-preserved
 add_loops-loop-item-preserved t c =
-    let f = front_of c.in-Some.item in
+    let f = item_front c.in-Some.item in
     let less = shorter f (lexemes c.loop-item.rest.now) (lexemes c.in-Some.more.now) c.in-Some.ensures.found in record {
       left = loops_more (written_loops c.args.around.now) (lexemes c.args.words.now) (lexemes c.loop-item.rest.now) (lexemes c.in-Some.more.now) f c.args.out.now.items c.loop-item.out.items c.add_item.new.out.items
           c.loop-item.invariant.left (omega (arith, less)) c.in-Some.ensures.only c.in_ok-add_item.ensures.named;
@@ -19,7 +19,7 @@ add_loops-loop-item-preserved t c =
     }
 
 pub add_loops-loop-item-smaller : goal.add_loops-loop-item-smaller
-add_loops-loop-item-smaller t c = shorter (front_of c.in-Some.item) (lexemes c.loop-item.rest.now) (lexemes c.in-Some.more.now) c.in-Some.ensures.found
+add_loops-loop-item-smaller t c = shorter (item_front c.in-Some.item) (lexemes c.loop-item.rest.now) (lexemes c.in-Some.more.now) c.in-Some.ensures.found
 
 pub add_loops-returns-clause-named : goal.add_loops-returns-clause-named
 add_loops-returns-clause-named t c =
@@ -28,7 +28,7 @@ add_loops-returns-clause-named t c =
 pub add_loops-returns-in_err-add_item-clause-clash : goal.add_loops-returns-in_err-add_item-clause-clash
 add_loops-returns-in_err-add_item-clause-clash t c =
     let around = written_loops c.args.around.now in
-    let f = front_of c.in-Some.item in
+    let f = item_front c.in-Some.item in
     let less = shorter f (lexemes c.loop-item.rest.now) (lexemes c.in-Some.more.now) c.in-Some.ensures.found in
     let p = err_from_is_err_and c.from_residual.result c.from_residual.ensures.1 in
     rw (p.1, p.2) (clash_weaker (ClashesInFront around f) (ClashesIn around (lexemes c.args.words.now)) c.in_err-add_item.field-0.0

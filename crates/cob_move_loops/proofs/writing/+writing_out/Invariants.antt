@@ -1,6 +1,6 @@
 use Rattle.std.proofs.Common.{◌≤◌, ◌+◌, ◌*◌, length}
 use Rattle.cob_source.specs.Tokens.{lexemes}
-use Rattle.cob_move_loops.specs.Reading.{counters, front_of, written_loop}
+use Rattle.cob_move_loops.specs.Reading.{counters, item_front, written_loop}
 use Rattle.cob_move_loops.proofs.FrontLemmas.{front_size}
 use Rattle.cob_move_loops.proofs.WritingLemmas.{LeftOfTurns, LeftOfWords}
 use Rattle.cob_move_loops.proofs.writing.+writing_out.Given as goal
@@ -9,7 +9,7 @@ abbrev pub decreases-write_all : goal.decreases-write_all
 decreases-write_all l = 3 * length (lexemes l.words.now)
 
 abbrev pub decreases-write_item : goal.decreases-write_item
-decreases-write_item l = 3 * front_size (front_of l.item.now) + 2
+decreases-write_item l = 3 * front_size (item_front l.item.now) + 2
 
 abbrev pub decreases-write_turns : goal.decreases-write_turns
 decreases-write_turns l = 3 * length (lexemes l.body.now) + 1
