@@ -17,14 +17,14 @@ use Rattle.cob_move_loops.specs.Reading.{ClashesIn, all_runs, counters, run_word
 use Rattle.cob_move_loops.specs.declared.turn.Counter.{Counter}
 use Rattle.cob_move_loops.specs.declared.writing.Run.{Run}
 use Rattle.cob_move_loops.specs.Turns.{in_turn, words_by_turn}
-use Rattle.cob_move_loops.specs.Words.{IsOther, loop_word_of_kind}
+use Rattle.cob_move_loops.specs.Words.{IsOther, IsPeriod, loop_word_of_kind}
 use Rattle.cob_move_names.specs.Candidates.{Candidate, all_entries}
 use Rattle.cob_move_names.specs.References.{BreaksReference, NamesOperand}
 use Rattle.cob_move_apply.specs.Some.{SomeOf}
 use Rattle.cob_move_statements.specs.declared.fault.MoveFault.{MoveFault}
 use Rattle.cob_move_statements.specs.declared.fault.MoveRule.{MoveRule}
 use Rattle.cob_move_statements.specs.declared.fault.MoveRule.TheVariants as rule
-use Rattle.cob_move_statements.specs.Statements.{IsBody, IsEndedStatement, IsHeading, IsLineIn, IsPeriod, Several}
+use Rattle.cob_move_statements.specs.Statements.{IsBody, IsEndedStatement, IsHeading, IsLineIn, Several}
 use Rattle.cob_move_statements.specs.Written.{WrittenReference, WrittenStatement}
 use Rattle.cob_move_data.specs.declared.operands.StatementMoves.{StatementMoves}
 use Rattle.cob_move_data.specs.Moves.{Move, moves, statement_moves}

@@ -1,4 +1,5 @@
 -- Words are the statements of a paragraph in one way.
+use Rattle.cob_move_loops.specs.Words.{IsPeriod, NoPeriod}
 use Rattle.std.proofs.Common.{◌≡◌, List, [], ◌∷◌, ◌++◌, ℕ, refl, sym, ap, subst, ◌∙◌, append_assoc, append-nil}
 use Rattle.std.specs.List.{AllByRecursion}
 use Rattle.cob_source.specs.Tokens.{Lexeme}
@@ -8,7 +9,7 @@ use Rattle.cob_copybook_clauses.specs.Reading.{NotFirstWord}
 use Rattle.cob_copybook_clauses.specs.Written.{WrittenValue, Word, Quoted, Figure, Repeated}
 use Rattle.cob_copybook_clauses.proofs.OneLemmas.{qualifiers_cut, constant_cut}
 use Rattle.cob_move_statements.specs.Written.{WrittenReference, WrittenSender, SentReference, SentConstant, WrittenAction, MoveTo, MoveCorresponding, WrittenStatement, word_texts}
-use Rattle.cob_move_statements.specs.Statements.{AreSubscripts, EndsReferences, FitsReference, FollowsStatements, IsAction, IsEndedStatement, IsHeading, IsNumeral, IsPeriod, IsReference, IsStatement, IsWrittenSender, NoName, NoPeriod, Several}
+use Rattle.cob_move_statements.specs.Statements.{AreSubscripts, EndsReferences, FitsReference, FollowsStatements, IsAction, IsEndedStatement, IsHeading, IsNumeral, IsReference, IsStatement, IsWrittenSender, NoName, Several}
 use Rattle.cob_move_statements.specs.Laws.{OneListOfEnded, OneListOfStatements}
 use Rattle.cob_move_statements.proofs.Runs.{IsRun, fits}
 use Rattle.cob_move_statements.proofs.ReferenceLemmas.{brackets, not_of, reference_split, same_reference, references_run}

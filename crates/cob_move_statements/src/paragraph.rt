@@ -1,3 +1,4 @@
+ghost use Rattle.cob_move_loops.specs.Words.{IsPeriod, NoPeriod, first_line};
 ghost use Rattle.std.specs.Prelude.{
   ◌≡◌,
   ◌⊎◌,
@@ -30,12 +31,9 @@ ghost use Rattle.cob_move_statements.specs.Statements.{
   IsParagraph,
   IsEndedStatement,
   IsStatement,
-  IsPeriod,
   NoName,
-  NoPeriod,
   Several,
   StatementStands,
-  first_line,
 };
 
 use crate::actions::action_at;
