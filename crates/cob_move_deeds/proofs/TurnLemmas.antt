@@ -1,0 +1,116 @@
+-- Loops, and what they are written out as.
+use Rattle.std.proofs.Common.{◌≡◌, ℕ, zero, suc, ◌+◌, ◌<◌, ◌≤◌, Bool, true, false, List, refl, sym, ap, subst, arith, inl, inr, Ok, Result, nat_lt, Option, Some, None}
+use Rattle.cob_move_data.specs.Moves.{Move, Records}
+use Rattle.cob_move_apply.specs.declared.stop.Stop.{Stop}
+use Rattle.cob_move_apply.specs.Applied.{Applied, Ending, done, stopped}
+use Rattle.cob_move_apply.proofs.OneLemmas.{ok_is, ok_not}
+use Rattle.cob_move_deeds.specs.Deeds.{Carried, Deeds, Judging, Moving, Nothing, both}
+use Rattle.cob_move_deeds.specs.Turns.{IsPast, Performed, loop_ends, loop_stops, loop_turns, loop_breaks, moves_of_turns, number_behind, turns_from}
+use Rattle.cob_move_deeds.proofs.DeedLemmas.{both_apart, both_together, done_then, moves_apart, moves_together, to_nothing, with_nothing}
+
+-- past this number of the counter the test holds, or something is missing for it
+abbrev pub EndsPast : {T : Type 0} → Judging T → (ℕ → T) → ℕ → Type 0
+EndsPast judged until most = (i : ℕ) (input output : List ℕ) → judged (until i) input output (Ok false) → i ≤ most
+
+further : (most i n by : ℕ) → most < number_behind by (suc n) i → most < number_behind by n (i + by)
+further most i n by far = far
+
+pub loop_there : {T : Type 0} (judged : Judging T) (r : Records) (until : ℕ → T) (body : ℕ → Deeds T) (by most n i : ℕ) (input before : List ℕ) (end : Ending)
+    → EndsPast judged until most → most < number_behind by n i → Carried judged r (turns_from until body by n i) input before end → Performed judged r until body by input i before end
+loop_there judged r until body by most zero i input before end past far (inl (is, x)) =
+    loop_ends i before end is (done_then before (λ after last. last ≡ done after) end x)
+loop_there judged r until body by most zero i input before end past far (inr (inl (is, x))) = absurd (let le : i ≤ most = past i input before is in omega (arith, le, far))
+loop_there judged r until body by most zero i input before end past far (inr (inr (stop, is, e))) = loop_stops i before end stop is e
+loop_there judged r until body by most (suc n) i input before end past far (inl (is, x)) =
+    loop_ends i before end is (done_then before (λ after last. last ≡ done after) end x)
+loop_there judged r until body by most (suc n) i input before end past far (inr (inl (is, x))) =
+    elim (both_apart judged r (body i) (turns_from until body by n (i + by)) input before end (to_nothing judged r (both (body i) (turns_from until body by n (i + by))) input before end x)) [
+      | inl (after, y, z) ↦ loop_turns i before end after is y (loop_there judged r until body by most n (i + by) input after end past (further most i n by far) z)
+      | inr (stop, after, y, e) ↦ loop_breaks i before end stop after is y e
+    ]
+loop_there judged r until body by most (suc n) i input before end past far (inr (inr (stop, is, e))) = loop_stops i before end stop is e
+
+pub loop_back : {T : Type 0} (judged : Judging T) (r : Records) (until : ℕ → T) (body : ℕ → Deeds T) (by most n i : ℕ) (input before : List ℕ) (end : Ending)
+    → EndsPast judged until most → most < number_behind by n i → Performed judged r until body by input i before end → Carried judged r (turns_from until body by n i) input before end
+loop_back judged r until body by most zero i input before end past far (loop_ends _ _ _ is e) = inl (is, inl (before, refl, e))
+loop_back judged r until body by most zero i input before end past far (loop_stops _ _ _ stop is e) = inr (inr (stop, is, e))
+loop_back judged r until body by most zero i input before end past far (loop_turns _ _ _ after is x more) = absurd (let le : i ≤ most = past i input before is in omega (arith, le, far))
+loop_back judged r until body by most zero i input before end past far (loop_breaks _ _ _ stop after is x e) = absurd (let le : i ≤ most = past i input before is in omega (arith, le, far))
+loop_back judged r until body by most (suc n) i input before end past far (loop_ends _ _ _ is e) = inl (is, inl (before, refl, e))
+loop_back judged r until body by most (suc n) i input before end past far (loop_stops _ _ _ stop is e) = inr (inr (stop, is, e))
+loop_back judged r until body by most (suc n) i input before end past far (loop_turns _ _ _ after is x more) =
+    inr (inl (
+      is,
+      with_nothing judged r (both (body i) (turns_from until body by n (i + by))) input before end
+          (both_together judged r (body i) (turns_from until body by n (i + by)) input before end
+          (inl (after, x, loop_back judged r until body by most n (i + by) input after end past (further most i n by far) more))),
+    ))
+loop_back judged r until body by most (suc n) i input before end past far (loop_breaks _ _ _ stop after is x e) =
+    inr (inl (
+      is,
+      with_nothing judged r (both (body i) (turns_from until body by n (i + by))) input before end
+          (both_together judged r (body i) (turns_from until body by n (i + by)) input before end (inr (stop, after, x, e))),
+    ))
+
+-- ---- a literal bound
+
+past_not : (bound i : ℕ) → i ≤ bound → nat_lt bound i ≡ false
+past_not bound i le = grind (arith, le)
+
+past_is : (bound i : ℕ) → bound < i → nat_lt bound i ≡ true
+past_is bound i lt = grind (arith, lt)
+
+goes_on : (bound i : ℕ) → bound < i → ◌≡◌ {A = Result Bool Stop} (Ok false) (Ok (nat_lt bound i)) → ⊥
+goes_on bound i lt is = let same : false ≡ nat_lt bound i = ok_is {E = Stop} false (nat_lt bound i) is in let past : nat_lt bound i ≡ true = past_is bound i lt in cc
+
+ends_early : (bound i : ℕ) → i ≤ bound → ◌≡◌ {A = Result Bool Stop} (Ok true) (Ok (nat_lt bound i)) → ⊥
+ends_early bound i le is = let same : true ≡ nat_lt bound i = ok_is {E = Stop} true (nat_lt bound i) is in let not_past : nat_lt bound i ≡ false = past_not bound i le in cc
+
+least : (by n i : ℕ) → i ≤ number_behind by n i
+least by zero i = omega arith
+least by (suc n) i = omega (arith, least by n (i + by))
+
+before_last : (bound i n by : ℕ) → number_behind by (suc n) i ≤ bound + by → i ≤ bound
+before_last bound i n by near = omega (arith, least by n (i + by), near)
+
+nearer : (bound i n by : ℕ) → number_behind by (suc n) i ≤ bound + by → number_behind by n (i + by) ≤ bound + by
+nearer bound i n by near = near
+
+with_moves : {T : Type 0} (judged : Judging T) (r : Records) (ms : List Move) (input before : List ℕ) (stop : Option Stop) (storage : List ℕ)
+    → Applied r ms input before (record { stop = stop; storage = storage }) → Carried judged r (Moving ms Nothing) input before (record { stop = stop; storage = storage })
+with_moves judged r ms input before None storage x = inl (storage, x, refl)
+with_moves judged r ms input before (Some stop) storage x = inr (stop, storage, x, refl)
+
+moves_alone : {T : Type 0} (judged : Judging T) (r : Records) (ms : List Move) (input before : List ℕ) (end : Ending)
+    → Carried judged r (Moving ms Nothing) input before end → Applied r ms input before end
+moves_alone judged r ms input before end (inl (after, x, e)) = subst (λ (k : Ending). Applied r ms input before k) (sym e) x
+moves_alone judged r ms input before end (inr (stop, after, x, e)) = subst (λ (k : Ending). Applied r ms input before k) (sym e) x
+
+alone : (r : Records) (judged : Judging ℕ) (ms : List Move) (input before : List ℕ) (end : Ending) → Applied r ms input before end → Carried judged r (Moving ms Nothing) input before end
+alone r judged ms input before end x = with_moves judged r ms input before end.stop end.storage x
+
+pub literal_there : (r : Records) (body : ℕ → List Move) (by bound n i : ℕ) (input before : List ℕ) (end : Ending) → number_behind by n i ≤ bound + by → bound < number_behind by n i
+    → Applied r (moves_of_turns body by n i) input before end → Performed (IsPast bound) r (λ k. k) (λ k. Moving (body k) Nothing) by input i before end
+literal_there r body by bound zero i input before end near far x =
+    loop_ends i before end (ap (λ (b : Bool). Ok b) (sym (past_is bound i (omega (arith, far))))) x
+literal_there r body by bound (suc n) i input before end near far x =
+    let not_past : nat_lt bound i ≡ false = past_not bound i (before_last bound i n by near) in
+    elim (moves_apart r (body i) (moves_of_turns body by n (i + by)) input before end x) [
+      | inl (after, y, z) ↦ loop_turns i before end after (ap (λ (b : Bool). Ok b) (sym not_past)) (alone r (IsPast bound) (body i) input before (done after) y)
+          (literal_there r body by bound n (i + by) input after end (nearer bound i n by near) (further bound i n by far) z)
+      | inr (stop, after, y, e) ↦ loop_breaks i before end stop after (ap (λ (b : Bool). Ok b) (sym not_past)) (alone r (IsPast bound) (body i) input before (stopped stop after) y) e
+    ]
+
+pub literal_back : (r : Records) (body : ℕ → List Move) (by bound n i : ℕ) (input before : List ℕ) (end : Ending) → number_behind by n i ≤ bound + by → bound < number_behind by n i
+    → Performed (IsPast bound) r (λ k. k) (λ k. Moving (body k) Nothing) by input i before end → Applied r (moves_of_turns body by n i) input before end
+literal_back r body by bound zero i input before end near far (loop_ends _ _ _ is e) = e
+literal_back r body by bound zero i input before end near far (loop_stops _ _ _ stop is e) = absurd (ok_not {A = Bool} (nat_lt bound i) stop (sym is))
+literal_back r body by bound zero i input before end near far (loop_turns _ _ _ after is x more) = absurd (goes_on bound i (omega (arith, far)) is)
+literal_back r body by bound zero i input before end near far (loop_breaks _ _ _ stop after is x e) = absurd (goes_on bound i (omega (arith, far)) is)
+literal_back r body by bound (suc n) i input before end near far (loop_ends _ _ _ is e) = absurd (ends_early bound i (before_last bound i n by near) is)
+literal_back r body by bound (suc n) i input before end near far (loop_stops _ _ _ stop is e) = absurd (ok_not {A = Bool} (nat_lt bound i) stop (sym is))
+literal_back r body by bound (suc n) i input before end near far (loop_turns _ _ _ after is x more) =
+    moves_together r (body i) (moves_of_turns body by n (i + by)) input before end
+    (inl (after, moves_alone (IsPast bound) r (body i) input before (done after) x, literal_back r body by bound n (i + by) input after end (nearer bound i n by near) (further bound i n by far) more))
+literal_back r body by bound (suc n) i input before end near far (loop_breaks _ _ _ stop after is x e) =
+    moves_together r (body i) (moves_of_turns body by n (i + by)) input before end (inr (stop, after, moves_alone (IsPast bound) r (body i) input before (stopped stop after) x, e))
