@@ -1,0 +1,108 @@
+//! Elements that one count decides, and that only by whether they are there.
+//!
+//! In most records an element of a table that varies stands at one place wherever it is there: no other table that varies begins before it, and none holds
+//! it. So it is found once, and a record is asked only whether the table has so many elements.
+
+ghost use Rattle.std.specs.Prelude.{◌≡◌, IfSome, IsTrue};
+ghost use Rattle.cob_layout_places.specs.References.{Refers};
+ghost use Rattle.cob_layout.specs.Elements.{AllStay, IsElementPlace, IsOnlyNeeded, IsThereBy, KeptPlaceElements};
+
+use crate::counts::Counts;
+use crate::fields::Place;
+use crate::footings::shift_at;
+use crate::keeping::Needed;
+use crate::laws::kept_give_needed;
+use crate::layout::Layout;
+use crate::reads::none_needed;
+use crate::shifts::Shift;
+use crate::sound::records_are_sound;
+use crate::ways::tables_at;
+use cob_layout_places::{Ref, Table, is_needed, needs_are_read};
+
+/// Where an element of the first table that varies stands, which that table's count alone decides.
+#[derive(Clone, Copy)]
+pub struct ElementPlace {
+    /// Where it stands, wherever it is there.
+    pub place: Place,
+    /// So many elements the table has at least where this one is there.
+    pub least: u32,
+}
+
+/// The first of these tables, where it is the only one that is needed.
+fn only_needed(tables: &[Table], needed: Needed) -> Option<Table>
+    ensures { IfSome result (IsOnlyNeeded needed tables.now) }
+{
+    let (first, others) = tables.split_first()?;
+    if is_needed(needed.behind, needed.last, needed.number, *first)
+        && none_needed(others, needed.behind, needed.last, needed.number)
+    {
+        Some(*first)
+    } else {
+        None
+    }
+}
+
+/// Whether no table that grows ends before the first element of any of these entries does.
+fn all_stay(shifts: &[Shift], numbers: &[usize]) -> bool
+    ensures { IsTrue result → AllStay shifts.now numbers.now }
+{
+    for number in numbers {
+        if shift_at(shifts, *number).through > 0 {
+            return false;
+        }
+    }
+    true
+}
+
+impl Layout {
+    /// Where the element of a reference stands that reads the count of one table alone, where that decides only whether the element is there. None where
+    /// it reads another count too, or none, and where the place moves with a count: such a reference is found in each storage ([`Layout::find`]).
+    pub fn element_place(&self, reference: &Ref, receiving: bool) -> Option<ElementPlace>
+        requires refers { Refers reference.now.node reference.now.subscripts.items self.now }
+        ensures { IfSome result (IsElementPlace self.now reference.now receiving) }
+    {
+        // The counts that are read are those that the reference needs, and a record description is sound.
+        needs_are_read();
+        records_are_sound();
+        let needed = self.needed_by(reference.node, receiving);
+        let table = only_needed(&self.tables, needed)?;
+        let tables = tables_at(&self.ways, reference.node);
+        let outermost = tables.first()?;
+        let least = reference.subscripts.as_slice().first()?;
+        if *outermost != table.number
+            || !all_stay(&self.shifts, tables)
+            || shift_at(&self.shifts, reference.node).through > 0
+        {
+            return None;
+        }
+        match self.place_in(reference, &self.counts) {
+            Ok(place) => Some(ElementPlace {
+                place,
+                least: *least,
+            }),
+            Err(_) => None,
+        }
+    }
+}
+
+impl Counts {
+    /// Where an element stands, where the count of the first table that varies is kept and the element is there by that.
+    #[inline(always)]
+    pub fn place_of(&self, element: ElementPlace) -> Option<Place>
+        ensures there { IfSome result (λ p. (p ≡ element.place)
+            × IsThereBy self.now.kept element) }
+    {
+        match self.kept.first() {
+            Some(Some(stored)) if stored.number >= element.least => Some(element.place),
+            _ => None,
+        }
+    }
+}
+
+/// Where the count of its table is kept and an element is there by that, it stands there.
+pub fn kept_place_elements()
+    ensures { KeptPlaceElements }
+{
+    kept_give_needed();
+    needs_are_read();
+}
