@@ -5,7 +5,7 @@
 
 ghost use Rattle.std.specs.Prelude.{◌≡◌, IfSome, IsTrue};
 ghost use Rattle.cob_layout_places.specs.References.{Refers};
-ghost use Rattle.cob_layout.specs.Elements.{AllStay, IsElementPlace, IsOnlyNeeded, IsThereBy, KeptPlaceElements};
+ghost use Rattle.cob_layout.specs.Elements.{AllStay, IsElementPlace, IsOnlyNeeded, IsThereBy, KeptPlaceElements, RestsOn, Stays};
 
 use crate::counts::Counts;
 use crate::fields::Place;
@@ -15,7 +15,6 @@ use crate::laws::kept_give_needed;
 use crate::layout::Layout;
 use crate::reads::none_needed;
 use crate::shifts::Shift;
-use crate::sound::records_are_sound;
 use crate::ways::tables_at;
 use cob_layout_places::{Ref, Table, is_needed, needs_are_read};
 
@@ -42,16 +41,37 @@ fn only_needed(tables: &[Table], needed: Needed) -> Option<Table>
     }
 }
 
-/// Whether no table that grows ends before the first element of any of these entries does.
-fn all_stay(shifts: &[Shift], numbers: &[usize]) -> bool
-    ensures { IsTrue result → AllStay shifts.now numbers.now }
+/// Whether no table that grows ends before the first element of this entry does.
+fn stays(shifts: &[Shift], number: usize) -> bool
+    ensures { IsTrue result → Stays shifts.now number }
+{
+    shift_at(shifts, number).through == 0
+}
+
+/// Whether that is so of all these tables, none of which is this one.
+fn all_stay(shifts: &[Shift], numbers: &[usize], table: usize) -> bool
+    ensures { IsTrue result → AllStay shifts.now numbers.now table }
 {
     for number in numbers {
-        if shift_at(shifts, *number).through > 0 {
+        if !stays(shifts, *number) || *number == table {
             return false;
         }
     }
     true
+}
+
+/// Whether the outermost of these tables, which hold an entry or which it is, is this one, and no table that grows ends before the first element of any does,
+/// nor before that of the entry.
+fn rests_on(shifts: &[Shift], tables: &[usize], table: usize, number: usize) -> bool
+    ensures { IsTrue result → RestsOn shifts.now tables.now table number }
+{
+    let Some((outermost, inner)) = tables.split_first() else {
+        return false;
+    };
+    *outermost == table
+        && stays(shifts, table)
+        && stays(shifts, number)
+        && all_stay(shifts, inner, table)
 }
 
 impl Layout {
@@ -61,18 +81,11 @@ impl Layout {
         requires refers { Refers reference.now.node reference.now.subscripts.items self.now }
         ensures { IfSome result (IsElementPlace self.now reference.now receiving) }
     {
-        // The counts that are read are those that the reference needs, and a record description is sound.
-        needs_are_read();
-        records_are_sound();
         let needed = self.needed_by(reference.node, receiving);
         let table = only_needed(&self.tables, needed)?;
-        let tables = tables_at(&self.ways, reference.node);
-        let outermost = tables.first()?;
         let least = reference.subscripts.as_slice().first()?;
-        if *outermost != table.number
-            || !all_stay(&self.shifts, tables)
-            || shift_at(&self.shifts, reference.node).through > 0
-        {
+        let tables = tables_at(&self.ways, reference.node);
+        if !rests_on(&self.shifts, tables, table.number, reference.node) {
             return None;
         }
         match self.place_in(reference, &self.counts) {
