@@ -1,5 +1,5 @@
 -- Elements that one count decides, and that only by whether they are there.
-use Rattle.std.specs.Prelude.{◌≡◌, ℕ, ◌+◌, ◌≤◌, Bool, true, List, [], ◌∷◌, length, Option, Some, Ok, slice_set}
+use Rattle.std.specs.Prelude.{◌≡◌, ◌⊎◌, ℕ, ◌+◌, ◌≤◌, Bool, true, List, [], ◌∷◌, length, Option, Some, Ok, slice_set}
 use Rattle.cob_copybook_tree.specs.Forests.{Forest}
 use Rattle.cob_copybook_tree.specs.Nodes.{Resolved}
 use Rattle.cob_layout_places.specs.declared.reference.Ref.{Ref}
@@ -38,6 +38,10 @@ pub record IsElementPlace (tree : Forest Resolved) (r : Ref) (receiving : Bool) 
 -- the count of the first table that varies is kept, and by that it has so many elements
 abbrev pub IsThereBy : List (Option StoredCount) → ElementPlace → Type 0
 IsThereBy ks e = (k : StoredCount) × (others : List (Option StoredCount)) × (ks ≡ Some k ∷ others) × (e.least ≤ k.number)
+
+-- none is asked for, or the count of the first table that varies is kept and by that it has so many elements
+abbrev pub HaveSoMany : List (Option StoredCount) → ℕ → Type 0
+HaveSoMany ks least = (least ≡ 0) ⊎ ((k : StoredCount) × (others : List (Option StoredCount)) × (ks ≡ Some k ∷ others) × (least ≤ k.number))
 
 -- Law: where the count of its table is kept and the element is there by that, the reference stands there in the storage of which it is kept.
 abbrev pub KeptPlaceElements : Type 0

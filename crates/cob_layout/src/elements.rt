@@ -5,7 +5,7 @@
 
 ghost use Rattle.std.specs.Prelude.{◌≡◌, IfSome, IsTrue};
 ghost use Rattle.cob_layout_places.specs.References.{Refers};
-ghost use Rattle.cob_layout.specs.Elements.{AllStay, IsElementPlace, IsOnlyNeeded, IsThereBy, KeptPlaceElements, RestsOn, Stays};
+ghost use Rattle.cob_layout.specs.Elements.{AllStay, IsElementPlace, IsOnlyNeeded, HaveSoMany, IsThereBy, KeptPlaceElements, RestsOn, Stays};
 
 use crate::counts::Counts;
 use crate::fields::Place;
@@ -108,6 +108,22 @@ impl Counts {
         match self.kept.first() {
             Some(Some(stored)) if stored.number >= element.least => Some(element.place),
             _ => None,
+        }
+    }
+}
+
+impl Counts {
+    /// Whether the first table that varies has so many elements by its count that is kept; 0 asks for none.
+    #[inline(always)]
+    pub fn have(&self, least: u16) -> bool
+        ensures { IsTrue result → HaveSoMany self.now.kept least }
+    {
+        if least == 0 {
+            return true;
+        }
+        match self.kept.first() {
+            Some(Some(stored)) => stored.number >= u32::from(least),
+            _ => false,
         }
     }
 }
