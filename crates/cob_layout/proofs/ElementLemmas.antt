@@ -1,6 +1,6 @@
 -- Elements that one count decides, and that only by whether they are there.
 use Rattle.std.proofs.Common.{◌≡◌, ℕ, ◌+◌, ◌-◌, ◌*◌, ◌<◌, ◌≤◌, ◌&&◌, nat_le, min, max, Bool, true, false, List, [], ◌∷◌, length, map, refl, sym, ap, subst, ◌∙◌, arith, inl, inr, Option, Some, None, Ok, Err, Result}
-use Rattle.std.specs.Prelude.{if◌then◌else◌, slice_index, slice_set, option_map}
+use Rattle.std.specs.Prelude.{◌==◌, if◌then◌else◌, slice_get, slice_index, slice_set, option_map}
 use Rattle.std.proofs.lemmas.Bool.Decides.{nat_tests}
 use Rattle.std.proofs.lemmas.Bool.{cases_lt}
 use Rattle.cob_copybook_tree.specs.Forests.{Forest, entries_in}
@@ -12,12 +12,13 @@ use Rattle.cob_layout_places.specs.declared.spots.Spot.{Spot}
 use Rattle.cob_layout_places.specs.declared.varying.Table.{Table}
 use Rattle.cob_layout_places.specs.Counts.{tables_of}
 use Rattle.cob_layout_places.specs.Lengths.{times}
-use Rattle.cob_layout_places.specs.Needs.{NeedsAreRead, is_read, keep, needed_tables}
+use Rattle.cob_layout_places.specs.Needs.{NeedsAreRead, is_needed, is_read, keep, needed_tables, number_behind}
 use Rattle.cob_layout_places.specs.Places.{place_of}
 use Rattle.cob_layout_places.specs.References.{Refers}
 use Rattle.cob_layout.specs.declared.counts.StoredCount.{StoredCount}
 use Rattle.cob_layout.specs.declared.elements.ElementPlace.{ElementPlace}
 use Rattle.cob_layout.specs.declared.fields.Place.{Place}
+use Rattle.cob_layout.specs.declared.keeping.Needed.{Needed}
 use Rattle.cob_layout.specs.declared.layout.PlaceFault.{PlaceFault}
 use Rattle.cob_layout.specs.declared.shifts.Growth.{Growth}
 use Rattle.cob_layout.specs.declared.shifts.Shift.{Shift}
@@ -25,7 +26,7 @@ use Rattle.cob_layout.specs.declared.ways.Way.{Way}
 use Rattle.cob_layout.specs.Counting.{greatest_counts}
 use Rattle.cob_layout.specs.Elements.{AllStay, IsElementPlace, IsThereBy, KeptPlaceElements, RestsOn, Stays, counts_with}
 use Rattle.cob_layout.specs.Footings.{shift_at}
-use Rattle.cob_layout.specs.Kept.{AreKept, AreKeptOf, IsKeptAs, IsStoredCount, KeptGiveNeeded, TakenAnew, TakenBy, counted, kept_numbers}
+use Rattle.cob_layout.specs.Kept.{AreKept, AreKeptOf, IsKeptAs, IsStoredCount, KeptGiveNeeded, TakenAnew, TakenBy, counted, is_asked_by, kept_numbers}
 use Rattle.cob_layout.specs.Placed.{placed}
 use Rattle.cob_layout.specs.Shifts.{CanShift, FitsSums, all_shifted, shifted_spot, sums_of}
 use Rattle.cob_layout.specs.Sound.{IsSound}
@@ -145,7 +146,7 @@ alike_outer t least shifts growths c x v s ts subscripts g lt below stays more l
     let one : spot_at (spots_under t shifts least c) x ≡ steady shifts least (slice_index c x) x = spot_stays t least shifts growths c x g lt stays in
     let own : spot_at (spots_under t shifts least (slice_set c x v)) x ≡ steady shifts least v x =
     spot_stays t least shifts growths (slice_set c x v) x g lt stays ∙ ap (λ (n : ℕ). steady shifts least n x) (own_index c x x v refl below) in (
-      ap (λ (p : Spot). p.length) (one ∙ sym own),
+      ap (λ (p : Spot). p.length) one ∙ sym (ap (λ (p : Spot). p.length) own),
       λ h. subst (λ (p : Spot). nat_le s p.times ≡ true) (sym own)
           (of_le s (steady shifts least v x).times (still_there s (spot_at least x).times (shift_at shifts x).most (slice_index c x) v
           (le_of s (steady shifts least (slice_index c x) x).times (subst (λ (p : Spot). nat_le s p.times ≡ true) one h)) le)),
@@ -240,3 +241,28 @@ kept_places given needs t bytes ks r receiving e sound refers long kept is (k, j
 pub none_are : (xs : List Table) → are_none xs ≡ true → xs ≡ []
 none_are [] h = refl
 none_are (x ∷ xs) h = absurd (cc)
+
+-- what stands first
+first_split : {A : Type 0} (xs ys : List A) (a : A) → xs ≡ ys → Some a ≡ slice_get xs 0 → (others : List A) × (ys ≡ a ∷ others)
+first_split [] ys a same is = absurd (none_some a is)
+  where
+    none_some : {A : Type 0} (a : A) → ◌≡◌ {A = Option A} (Some a) None → ⊥
+    none_some a e = cc
+first_split (x ∷ xs) ys a same is = (xs, sym same ∙ ap (λ z. z ∷ xs) (sym (some_is a x is)))
+  where
+    some_is : {A : Type 0} (a b : A) → Some a ≡ Some b → a ≡ b
+    some_is a b e = cc
+
+pub first_number_is : (xs ys : List ℕ) (a : ℕ) → xs ≡ ys → Some a ≡ slice_get xs 0 → (others : List ℕ) × (ys ≡ a ∷ others)
+first_number_is xs ys a same is = first_split xs ys a same is
+
+-- the first count is kept
+pub first_stored : (xs ks : List (Option StoredCount)) (o : Option StoredCount) (k : StoredCount) → xs ≡ ks → Some o ≡ slice_get xs 0 → o ≡ Some k → (others : List (Option StoredCount)) × (ks ≡ Some k ∷ others)
+first_stored xs ks o k same is kept =
+    let (others, cut) = first_split xs ks o same is in
+    (others, cut ∙ ap (λ (z : Option StoredCount). z ∷ others) kept)
+
+-- what is asked of a table is what a reference asks
+pub asked_as : (u : Forest Resolved) (r : ℕ) (receiving : Bool) (needed : Needed) → needed.behind ≡ number_behind true r u → needed.last ≡ (receiving && (number_behind false r u == entries_in u)) → needed.number ≡ r
+    → is_asked_by needed ≡ is_read u r receiving
+asked_as u r receiving needed behind last number = λ i x. is_needed (behind i) (last i) (number i) x

@@ -121,8 +121,9 @@ impl Counts {
         if least == 0 {
             return true;
         }
+        let wanted = u32::from(least);
         match self.kept.first() {
-            Some(Some(stored)) => stored.number >= u32::from(least),
+            Some(Some(stored)) if stored.number >= wanted => true,
             _ => false,
         }
     }
