@@ -184,7 +184,22 @@ fn run_there(
     if !space.input.counts.have(one.sent) || !space.output.counts.have(one.received) {
         return false;
     }
-    run_known(plan, &one.one, layouts, input, output, space)
+    let places = &one.one.places;
+    let prepared = &plan.prepared;
+    match one.one.step {
+        MoveStep::Number(number) => {
+            let step = MoveStep::Number(number);
+            match make_prepared(prepared, places, step, layouts, input, output, space) {
+                Ok(()) => true,
+                Err(_) => false,
+            }
+        }
+        MoveStep::Characters(step) => {
+            make_characters(prepared, places, step, layouts, input, output, space);
+            true
+        }
+        _ => run_known(plan, &one.one, layouts, input, output, space),
+    }
 }
 
 /// Carries out a step that was made ready, but for a move between two places that are found as it is carried out. False where it is another one, or
@@ -255,7 +270,7 @@ pub(crate) fn run_step<const VARIES: bool>(
         }
         Step::Part(_) => false,
         Step::Located(_) => false,
-        Step::There(one) => run_there(plan, one, layouts, input, output, space),
+        Step::There(one) => run_there(plan, one, &told, input, output, space),
         Step::Within(one) => run_within(plan, one, layouts, input, output, space),
         Step::WithinNumber(one) => {
             let step = MoveStep::Number(one.number);
