@@ -13,7 +13,7 @@ use Rattle.cob_move_apply.specs.Applied.{Applied, Ending, IsMoved}
 use Rattle.cob_move_apply.specs.Going.{IsBounded, Left, SpentSteps}
 use Rattle.cob_move_apply.specs.Seen.{entry_sent, operand_of, receivers_in}
 use Rattle.cob_move_apply.specs.Spent.{HaveSpent, IsSpent, MovesSpend}
-use Rattle.cob_move_apply.specs.Steps.{IsLocatedConstant, IsLocatedMove, IsMoveOfPart, IsPicturedPart, IsPreparedMove, IsStep, IsThereMove, StandFor, WritesAnywhere, constant_move, copied_move, support_of}
+use Rattle.cob_move_apply.specs.Steps.{IsLocatedConstant, IsLocatedMove, IsMoveOfPart, IsPicturedPart, IsPreparedMove, IsStep, StandFor, WritesAnywhere, constant_move, copied_move, support_of}
 use Rattle.cob_move_apply.specs.Surveyed.{records}
 use Rattle.cob_move_apply.specs.declared.basis.Basis.{Basis}
 use Rattle.cob_move_apply.specs.declared.basis.PlacedOperand.{PlacedOperand}
@@ -27,7 +27,6 @@ use Rattle.cob_move_apply.specs.declared.step.Part.{Part}
 use Rattle.cob_move_apply.specs.declared.step.PicturedMove.{PicturedMove}
 use Rattle.cob_move_apply.specs.declared.step.Plan.{Plan}
 use Rattle.cob_move_apply.specs.declared.step.Step.{Step}
-use Rattle.cob_move_apply.specs.declared.step.ThereMove.{ThereMove}
 use Rattle.cob_move_apply.specs.declared.stop.Stop.{Stop}
 use Rattle.cob_move_apply.specs.declared.survey.Survey.{Survey}
 use Rattle.cob_move_apply.specs.declared.workspace.Workspace.{Workspace}
@@ -79,10 +78,6 @@ PreparedMeans side plan places step l own = IsPreparedMove side l.reading (recor
 -- the single move with this number that was made ready wherever its items stand means these
 abbrev pub LocatedMeans : Plan → ℕ → Layouts → List Move → Type 0
 LocatedMeans plan number l own = IsLocatedMove In l.reading (records l) plan.prepared plan.pictured plan.located.items number own
-
--- so does one at known places
-abbrev pub ThereMeans : Plan → ThereMove → Layouts → List Move → Type 0
-ThereMeans plan t l own = IsThereMove l.reading (records l) plan.prepared plan.pictured plan.located.items t own
 
 -- so does that of an entry of the output record
 abbrev pub LocatedWithinMeans : Plan → ℕ → Layouts → List Move → Type 0

@@ -28,9 +28,7 @@ use Rattle.cob_move_steps.specs.declared.pool.MoveStep.{MoveStep}
 use Rattle.cob_move_steps.specs.declared.pool.MoveStep.TheVariants as move_step
 use Rattle.cob_move_steps.specs.declared.pool.MoveSteps.{MoveSteps}
 use Rattle.cob_move_apply.specs.declared.basis.Basis.{Basis}
-use Rattle.cob_move_apply.specs.declared.basis.Basis.TheVariants as basis
 use Rattle.cob_move_apply.specs.declared.step.ConstantMove.{ConstantMove}
-use Rattle.cob_move_apply.specs.declared.step.KnownPlace.{KnownPlace}
 use Rattle.cob_move_apply.specs.declared.step.LocatedConstant.{LocatedConstant}
 use Rattle.cob_move_apply.specs.declared.step.LocatedMove.{LocatedMove}
 use Rattle.cob_move_apply.specs.declared.step.LocatedStep.{LocatedStep}
@@ -43,7 +41,6 @@ use Rattle.cob_move_apply.specs.declared.step.Plan.{Plan}
 use Rattle.cob_move_apply.specs.declared.step.PreparedMove.{PreparedMove}
 use Rattle.cob_move_apply.specs.declared.step.Step.{Step}
 use Rattle.cob_move_apply.specs.declared.step.Step.TheVariants as step
-use Rattle.cob_move_apply.specs.declared.step.ThereMove.{ThereMove}
 
 -- a sender with one receiver
 abbrev pub alone : Sender → Operand → Move
@@ -187,38 +184,6 @@ IsOfConstant r steps own p = (constant : PlainValue) × IsReadyConstant r steps 
 abbrev pub IsLocatedConstant : Records → List ConstantStep → List LocatedConstant → ℕ → List Move → Type 0
 IsLocatedConstant r steps located number own = IsStepAt LocatedConstant (IsOfConstant r steps own) located number
 
--- what is noted of an entry's place says that it stands there wherever it is there, and how many elements its table has at least then
-abbrev pub IsKnown : Basis → KnownPlace → Type 0
-IsKnown (basis.Fixed p) k = (k.place ≡ p) × (k.least ≡ 0)
-IsKnown (basis.Element e) k = (k.place ≡ e.place) × (k.least ≡ e.least)
-IsKnown basis.Counted k = ⊥
-
--- between these places the step carries out what this one carries out wherever the items stand, whatever the reading
-abbrev pub IsStepFor : LocatedStep → MovePlaces → MoveStep → Type 0
-IsStepFor (located_step.Characters right) p s = s ≡ move_step.Characters (record { sent = p.from.length; right = right })
-IsStepFor (located_step.Always t) p s = s ≡ t
-IsStepFor (located_step.Pictured t) p s = ⊥
-IsStepFor located_step.Rule p s = ⊥
-
--- a move that was made ready wherever its items stand was made ready so at the places that are known of them
-pub record IsThereOf (p : LocatedMove) (t : ThereMove) : Type 0 where
-  pub sends : IsKnown p.from (record { place = t.one.places.from; least = t.sent })
-  pub receives : IsKnown p.to (record { place = t.one.places.to; least = t.received })
-  pub step : IsStepFor p.step t.one.places t.one.step
-
--- the step is that move, which has this number
-abbrev pub IsThereStep : LocatedMove → ℕ → Step → Type 0
-IsThereStep p number s = (t : ThereMove) × (s ≡ step.There t) × (t.number ≡ number) × IsThereOf p t
-
--- the step of the move with this number: at the places that are known, or wherever its items stand
-abbrev pub IsLocatedStep : LocatedMove → ℕ → Step → Type 0
-IsLocatedStep p number s = IsThereStep p number s ⊎ (s ≡ step.Located number)
-
--- these are the single move that was made ready so at known places
-abbrev pub IsThereMove : Reading → Records → MoveSteps → PicturedSteps → List LocatedMove → ThereMove → List Move → Type 0
-IsThereMove reading r steps pictured located t own =
-    IsStepAt LocatedMove (λ p. IsReadyAnywhere In r steps pictured p × IsThereOf p t × (own ≡ copied_move In reading r p.sent p.receiver ∷ [])) located t.number
-
 -- the bytes of the sender end before those of the receiver begin
 abbrev pub StandsBefore : MovePlaces → Type 0
 StandsBefore p = p.from.offset + p.from.length ≤ p.to.offset
@@ -241,7 +206,6 @@ IsStep reading r given on (step.Prepared p) own = IsPreparedMove In reading r on
 IsStep reading r given on (step.Pictured q p) own = (m : Move) × (own ≡ m ∷ []) × IsPicturedPart reading r given on.bases on.pictured q p m
 IsStep reading r given on (step.Constant c) own = IsConstantMove r on.constants c own
 IsStep reading r given on (step.Located number) own = IsLocatedMove In reading r on.prepared on.pictured on.located number own
-IsStep reading r given on (step.There t) own = IsThereMove reading r on.prepared on.pictured on.located t own
 IsStep reading r given on (step.LocatedConstant number) own = IsLocatedConstant r on.constants on.located_constants number own
 IsStep reading r given on (step.Copy places) own = AreCopied r places.from places.to own
 IsStep reading r given on (step.Within p) own = IsPreparedMove Out reading r on.prepared p own

@@ -244,10 +244,6 @@ fn make_step(
             Ok(())
         }
         Step::Located(number) => make_located(plan, *number, layouts, input, output, space),
-        Step::There(one) => {
-            let number = one.number as usize;
-            make_located(plan, number, layouts, input, output, space)
-        }
         Step::LocatedConstant(number) => {
             make_located_constant(plan, *number, layouts, input, output, space)
         }

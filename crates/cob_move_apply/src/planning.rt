@@ -35,7 +35,7 @@ use crate::ready::{
 };
 use crate::step::{
     ConstantMove, LocatedConstant, LocatedMove, MovePlaces, PicturedMove, Plan, PreparedMove, Step,
-    both_copies, located_step, part_of, prepared_step, within_step,
+    both_copies, part_of, prepared_step, within_step,
 };
 use cob_layout::{Layout, Ref, places_lie_in_storage, records_are_sound, tables};
 use cob_move_data::{Move, PairMoves, Sender, Side, StatementMoves};
@@ -140,7 +140,7 @@ fn joined(last: Step, places: MovePlaces) -> Option<Step>
 {
     match last {
         Step::Part(_) | Step::Pictured(_, _) | Step::Constant(_) => None,
-        Step::Located(_) | Step::LocatedConstant(_) | Step::There(_) => None,
+        Step::Located(_) | Step::LocatedConstant(_) => None,
         Step::Number(_) | Step::Wide(_) | Step::AnyNumber(_) => None,
         Step::Edited(_) | Step::Characters(_) | Step::Prepared(_) => None,
         Step::Within(_) | Step::WithinNumber(_) | Step::WithinEdited(_) => None,
@@ -247,9 +247,8 @@ fn push_located(one: LocatedMove, plan: &mut Plan) -> Result<(), AllocError>
     ensures added { OnOk result (HasOneMore plan.old.steps.items plan.new.steps.items) }
 {
     let number = plan.located.len();
-    let step = located_step(&one, number);
     plan.located.push(one)?;
-    plan.steps.push(step)?;
+    plan.steps.push(Step::Located(number))?;
     Ok(())
 }
 

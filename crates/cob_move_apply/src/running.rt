@@ -2,28 +2,25 @@
 //!
 //! A step that stops is carried out once more, as all others are (`application`), to say why.
 
-ghost use Rattle.std.specs.Prelude.{◌≡◌, ◌+◌, ◌≤◌, List, false, length, IsTrue};
+ghost use Rattle.std.specs.Prelude.{◌≡◌, List, false, length, IsTrue};
 ghost use Rattle.cob_layout.specs.Sound.{IsSound};
 ghost use Rattle.cob_layout.specs.Storage.{greatest_length, IsStorage};
 ghost use Rattle.cob_move_data.specs.declared.operands.StatementMoves.{StatementMoves as Said};
 ghost use Rattle.cob_move_data.specs.declared.operands.Side.TheVariants.{In};
 ghost use Rattle.cob_move_data.specs.Moves.{Move as Meant};
 ghost use Rattle.cob_move_apply.specs.Applied.{done};
-ghost use Rattle.cob_move_apply.specs.Promised.{AnyEnd, AnyHaveSpent, PicturedEnds, PicturedHasSpent, PicturedMeans, PreparedMeans, StepEnds, StepHasSpent, StepMeans, ThereMeans};
-ghost use Rattle.cob_move_apply.specs.Made.{IsMadeReady};
-ghost use Rattle.cob_move_apply.specs.Spent.{IsSpent, PlaceSpends};
+ghost use Rattle.cob_move_apply.specs.Promised.{AnyEnd, AnyHaveSpent, PicturedEnds, PicturedHasSpent, PicturedMeans, PreparedMeans, StepEnds, StepHasSpent, StepMeans};
+ghost use Rattle.cob_move_apply.specs.Spent.{IsSpent};
 ghost use Rattle.cob_move_apply.specs.Surveyed.{IsWorkspace, records};
-ghost use Rattle.cob_move_apply.specs.Written.{HasPlaces};
 ghost use Rattle.cob_move_apply.specs.declared.step.Part.{Part as PartOf};
-ghost use Rattle.cob_move_steps.specs.Pool.{IsMoveStep, MoveKinds};
 
 use crate::application::make_single;
 use crate::constant::{make_constant, run_located_constant};
 use crate::layouts::Layouts;
 use crate::located_within::run_located_within;
 use crate::pictured::run_pictured;
-use crate::prepared::{make_characters, make_prepared};
-use crate::step::{MovePlaces, PicturedMove, Plan, PreparedMove, Step, ThereMove, copy_across};
+use crate::prepared::make_characters;
+use crate::step::{MovePlaces, PicturedMove, Plan, PreparedMove, Step, copy_across};
 use crate::within::{run_onwards, run_within};
 use crate::workspace::Workspace;
 use cob_codec::Reading;
@@ -84,46 +81,6 @@ fn run_one(
     run_single(plan, places, one.step, layouts, input, output, space)
 }
 
-/// Carries out a single move between two places where its entries stand. False where a value of the sender is missing: all is as it was then. It isn't
-/// inlined, as [`run_one`] isn't.
-#[inline(never)]
-fn run_known(
-    plan: &Plan,
-    one: &PreparedMove,
-    layouts: &Layouts<'_>,
-    input: &[u8],
-    output: &mut [u8],
-    space: &mut Workspace,
-) -> bool
-    requires step { (k : MoveKinds) × IsMoveStep plan.now.prepared k one.now.step
-        × HasPlaces one.now.places k }
-    requires reads { one.now.places.from.offset + one.now.places.from.length ≤ length input.now }
-    requires writes { one.now.places.to.offset + one.now.places.to.length
-        ≤ greatest_length layouts.now.output.now }
-    requires output { length output.old ≡ greatest_length layouts.now.output.now }
-    requires space { IsWorkspace (records layouts.now) input.now output.old space.old }
-    ensures made { IsTrue result → IsMadeReady In one.now plan.now.prepared input.now output.old
-        (done output.new) }
-    ensures space { IsWorkspace (records layouts.now) input.now output.new space.new }
-    ensures spends { IsTrue result → PlaceSpends layouts.now.output.now output.old
-        one.now.places.to space.old.output space.new.output }
-    ensures same { result ≡ false → (output.new ≡ output.old) × (space.new ≡ space.old) }
-{
-    let prepared = &plan.prepared;
-    match make_prepared(
-        prepared,
-        &one.places,
-        one.step,
-        layouts,
-        input,
-        output,
-        space,
-    ) {
-        Ok(()) => true,
-        Err(_) => false,
-    }
-}
-
 /// Carries out a single move that was made ready where senders are read as their pictures say. False where they are read otherwise, or a value of the
 /// sender is missing: all is as it was then.
 #[inline(always)]
@@ -155,50 +112,6 @@ fn run_part(
             }
         }
         Reading::Whole => false,
-    }
-}
-
-/// Carries out a single move that was made ready, whose places are known wherever they are there. False where it isn't known that both are, or a value of the
-/// sender is missing: all is as it was then.
-#[inline(always)]
-fn run_there(
-    plan: &Plan,
-    one: &ThereMove,
-    layouts: &Layouts<'_>,
-    input: &[u8],
-    output: &mut [u8],
-    space: &mut Workspace,
-) -> bool
-    requires out_sound { IsSound layouts.now.output.now }
-    requires step { (own : List Meant) × ThereMeans plan.now one.now layouts.now own }
-    requires input { IsStorage layouts.now.input.now input.now }
-    requires output { length output.old ≡ greatest_length layouts.now.output.now }
-    requires space { IsWorkspace (records layouts.now) input.now output.old space.old }
-    ensures applied { IsTrue result → AnyEnd (ThereMeans plan.now one.now) layouts.now input.now
-        output.old (done output.new) }
-    ensures space { IsWorkspace (records layouts.now) input.now output.new space.new }
-    ensures spends { IsTrue result → AnyHaveSpent (ThereMeans plan.now one.now) layouts.now
-        input.now output.old output.new space.old space.new }
-    ensures same { result ≡ false → (output.new ≡ output.old) × (space.new ≡ space.old) }
-{
-    if !space.input.counts.have(one.sent) || !space.output.counts.have(one.received) {
-        return false;
-    }
-    let places = &one.one.places;
-    let prepared = &plan.prepared;
-    match one.one.step {
-        MoveStep::Number(number) => {
-            let step = MoveStep::Number(number);
-            match make_prepared(prepared, places, step, layouts, input, output, space) {
-                Ok(()) => true,
-                Err(_) => false,
-            }
-        }
-        MoveStep::Characters(step) => {
-            make_characters(prepared, places, step, layouts, input, output, space);
-            true
-        }
-        _ => run_known(plan, &one.one, layouts, input, output, space),
     }
 }
 
@@ -270,7 +183,6 @@ pub(crate) fn run_step<const VARIES: bool>(
         }
         Step::Part(_) => false,
         Step::Located(_) => false,
-        Step::There(one) => run_there(plan, one, &told, input, output, space),
         Step::Within(one) => run_within(plan, one, layouts, input, output, space),
         Step::WithinNumber(one) => {
             let step = MoveStep::Number(one.number);

@@ -5,7 +5,7 @@ ghost use Rattle.cob_limits.specs.Limits.{longest_record};
 ghost use Rattle.cob_layout.specs.Fields.{field_of, with_field};
 ghost use Rattle.cob_move_apply.specs.Joined.{copy_ends, goes_on_from};
 ghost use Rattle.cob_move_apply.specs.Planned.{AreWithinLongest, counted_steps, step_count, step_ends};
-ghost use Rattle.cob_move_apply.specs.Steps.{IsKnown, IsLocatedStep, IsStepFor, IsThereStep, StandsBefore, StandsForPrepared, StandsForWithin};
+ghost use Rattle.cob_move_apply.specs.Steps.{StandsBefore, StandsForPrepared, StandsForWithin};
 ghost use Rattle.cob_move_apply.specs.Told.{most_moves_told};
 ghost use Rattle.cob_move_apply.specs.Written.{IsBoth};
 
@@ -36,14 +36,6 @@ pub(crate) struct MovePlaces {
     pub(crate) to: Place,
 }
 
-/// Where an entry stands wherever it is there.
-#[derive(Clone, Copy)]
-pub(crate) struct KnownPlace {
-    pub(crate) place: Place,
-    /// So many elements the first table that varies has at least then; 0 where the entry is always there.
-    pub(crate) least: u16,
-}
-
 /// A single move between two places that are the same in every storage, made ready.
 #[derive(Clone, Copy)]
 pub(crate) struct PreparedMove {
@@ -51,19 +43,6 @@ pub(crate) struct PreparedMove {
     pub(crate) places: MovePlaces,
     /// What carries the move out.
     pub(crate) step: MoveStep,
-}
-
-/// A single move of an entry of the input record to one of the output record, made ready, whose places are known wherever they are there.
-#[derive(Clone, Copy)]
-pub(crate) struct ThereMove {
-    /// Where the sender and the receiver stand, and what carries the move out.
-    pub(crate) one: PreparedMove,
-    /// The number of the move among those that were made ready wherever their items stand.
-    pub(crate) number: u32,
-    /// So many elements the first table of the input record that varies has at least where the sender is there; 0 where it always is.
-    pub(crate) sent: u16,
-    /// So many that of the output record where the receiver is there.
-    pub(crate) received: u16,
 }
 
 /// A single move of a number between two such places, made ready.
@@ -163,8 +142,6 @@ pub(crate) enum Step {
     Constant(ConstantMove),
     /// A single move between items was made ready, and where they stand is found as the step is carried out: the one that has this number.
     Located(usize),
-    /// The same, of which both places are known wherever they are there.
-    There(ThereMove),
     /// The same of a constant: the one that has this number.
     LocatedConstant(usize),
     /// A single move from one place of the output record to another was made ready, whatever bytes these share.
@@ -328,73 +305,6 @@ pub(crate) fn within_step(one: PreparedMove) -> Step
     }
 }
 
-/// Where an entry stands wherever it is there, if that is known, and how many elements its table has at least then.
-fn known_place(basis: Basis) -> Option<KnownPlace>
-    ensures { IfSome result (IsKnown basis) }
-{
-    match basis {
-        Basis::Fixed(place) => Some(KnownPlace { place, least: 0 }),
-        Basis::Element(element) => match u16::try_from(element.least) {
-            Ok(least) => Some(KnownPlace {
-                place: element.place,
-                least,
-            }),
-            Err(_) => None,
-        },
-        Basis::Counted => None,
-    }
-}
-
-/// What carries out a single move between these places whatever the reading, if the move was made ready so.
-fn known_step(step: LocatedStep, places: MovePlaces) -> Option<MoveStep>
-    ensures { IfSome result (IsStepFor step places) }
-{
-    match step {
-        LocatedStep::Characters(right) => {
-            let sent = places.from.length as usize;
-            Some(MoveStep::Characters(CharactersStep { sent, right }))
-        }
-        LocatedStep::Always(step) => Some(step),
-        LocatedStep::Pictured(_) => None,
-        LocatedStep::Rule => None,
-    }
-}
-
-/// The step of the single move with this number among those that were made ready wherever their items stand, where both places are known wherever they are
-/// there.
-fn there_step(one: &LocatedMove, number: usize) -> Option<Step>
-    ensures { IfSome result (IsThereStep one.now number) }
-{
-    let from = known_place(one.from)?;
-    let to = known_place(one.to)?;
-    let places = MovePlaces {
-        from: from.place,
-        to: to.place,
-    };
-    let step = known_step(one.step, places)?;
-    match u32::try_from(number) {
-        Ok(number) => Some(Step::There(ThereMove {
-            one: PreparedMove { places, step },
-            number,
-            sent: from.least,
-            received: to.least,
-        })),
-        Err(_) => None,
-    }
-}
-
-/// The step of the single move with this number among those that were made ready wherever their items stand.
-pub(crate) fn located_step(one: &LocatedMove, number: usize) -> Step
-    ensures stands { IsLocatedStep one.now number result }
-    ensures counts { step_count result ≡ 1 }
-    ensures ends { step_ends result ≡ None }
-{
-    match there_step(one, number) {
-        Some(step) => step,
-        None => Step::Located(number),
-    }
-}
-
 /// For how many steps a step is counted: a part for each of its receivers.
 fn step_count(step: Step) -> usize
     ensures { result ≡ step_count step }
@@ -405,7 +315,6 @@ fn step_count(step: Step) -> usize
         Step::Characters(_) | Step::Prepared(_) => 1,
         Step::Pictured(_, _) | Step::Constant(_) => 1,
         Step::Located(_) | Step::LocatedConstant(_) | Step::Copy(_) => 1,
-        Step::There(_) => 1,
         Step::Within(_) | Step::WithinNumber(_) | Step::WithinEdited(_) => 1,
         Step::LocatedWithin(_) => 1,
     }
