@@ -29,7 +29,7 @@ pub struct Layouts<'a> {
 }
 
 /// Whether the number of a loop's counter is past what an item holds.
-#[derive(Debug, Drop)]
+#[derive(Drop)]
 pub struct Test {
     /// The number of the counter.
     pub number: u32,
@@ -41,7 +41,7 @@ pub struct Test {
 }
 
 /// Room for the counts that the places of tests rest on.
-#[derive(Debug, Drop)]
+#[derive(Drop)]
 pub struct TestRoom {
     pub(crate) inputs: Counts,
     pub(crate) outputs: Counts,
