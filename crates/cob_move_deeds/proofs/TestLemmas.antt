@@ -1,5 +1,5 @@
 -- A test says one thing of two storages.
-use Rattle.std.proofs.Common.{◌≡◌, ℕ, ◌≤◌, Bool, true, false, List, sym, ap, subst, ◌∙◌, arith, inl, inr, Ok, Err, Result, nat_lt, Some}
+use Rattle.std.proofs.Common.{◌≡◌, ℕ, ◌≤◌, Bool, true, false, List, refl, sym, ap, subst, ◌∙◌, arith, inl, inr, Ok, Err, Result, nat_lt, Some}
 use Rattle.std.specs.Prelude.{option_map}
 use Rattle.cob_copybook_tree.specs.declared.node.Item.{Item}
 use Rattle.cob_copybook_tree.specs.declared.node.Kind.{Kind}
@@ -14,6 +14,7 @@ use Rattle.cob_layout.specs.Placed.{placed}
 use Rattle.cob_layout_places.specs.declared.counts.CountFault.{CountFault}
 use Rattle.cob_move_data.specs.declared.operands.Operand.{Operand}
 use Rattle.cob_move_data.specs.declared.operands.Side.{Side}
+use Rattle.cob_move_data.specs.declared.operands.Side.TheVariants.{In}
 use Rattle.cob_layout_places.specs.declared.places.Found.{Found}
 use Rattle.cob_layout_places.specs.declared.varying.Table.{Table}
 use Rattle.cob_layout_places.specs.Lengths.{times}
@@ -28,7 +29,7 @@ use Rattle.cob_move_apply.specs.Applied.{storage_of}
 use Rattle.cob_move_apply.proofs.OneLemmas.{ok_is, ok_not, one_place}
 use Rattle.cob_move_deeds.proofs.DeedLemmas.{err_is}
 use Rattle.cob_move_deeds.specs.Deeds.{IsDetermined}
-use Rattle.cob_move_deeds.specs.Tests.{Judged, JudgedIn, Past, SaysOfBound, there, up_to, with_number}
+use Rattle.cob_move_deeds.specs.Tests.{GivesNumber, Judged, JudgedIn, Past, SaysOfBound, there, up_to, with_number}
 
 -- ---- a place, or a stop (as in cob_move_apply, where these are private)
 
@@ -103,3 +104,16 @@ ends_past r t i input output (inl (stop, x, e)) = absurd (ok_not {A = Bool} fals
 ends_past r t i input output (inr (p, item, x, is, (v, says, e))) =
     let below : i ≤ v = not_past v i e in
     omega (arith, below, says.1.most)
+
+-- ---- a bound of the input record
+
+pub says_of_input : (r : Records) (t : Past) (input before : List ℕ) (v : ℕ) → t.side ≡ In → GivesNumber r t input before v → (s : List ℕ) (j : ℕ) → Judged r (with_number t j) input s (Ok (nat_lt v j))
+says_of_input r t input before v in_ (p, i, located, kind, says) s j =
+    let same : storage_of t.side input before ≡ storage_of t.side input s = ap (λ (d : Side). storage_of d input before) in_ ∙ sym (ap (λ (d : Side). storage_of d input s) in_) in
+    inr (
+      p,
+      i,
+      subst (λ (b : List ℕ). Located t.side (record_of r t.side) false t.bound b (Ok p)) same located,
+      kind,
+      (v, subst (λ (b : List ℕ). SaysOfTable i (up_to t.most) (there p) b (Ok v)) same says, refl),
+    )

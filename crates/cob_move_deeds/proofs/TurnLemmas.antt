@@ -1,10 +1,10 @@
 -- Loops, and what they are written out as.
-use Rattle.std.proofs.Common.{◌≡◌, ℕ, zero, suc, ◌+◌, ◌<◌, ◌≤◌, Bool, true, false, List, refl, sym, ap, subst, arith, inl, inr, Ok, Result, nat_lt, Option, Some, None}
+use Rattle.std.proofs.Common.{◌≡◌, ℕ, zero, suc, ◌+◌, ◌<◌, ◌≤◌, Bool, true, false, List, refl, sym, ap, subst, arith, inl, inr, Ok, Err, Result, nat_lt, ◌⊎◌, Option, Some, None}
 use Rattle.cob_move_data.specs.Moves.{Move, Records}
 use Rattle.cob_move_apply.specs.declared.stop.Stop.{Stop}
 use Rattle.cob_move_apply.specs.Applied.{Applied, Ending, done, stopped}
 use Rattle.cob_move_apply.proofs.OneLemmas.{ok_is, ok_not}
-use Rattle.cob_move_deeds.specs.Deeds.{Carried, Deeds, Judging, Moving, Nothing, both}
+use Rattle.cob_move_deeds.specs.Deeds.{Carried, Deeds, IsDetermined, Judging, Moving, Nothing, both}
 use Rattle.cob_move_deeds.specs.Turns.{IsPast, Performed, loop_ends, loop_stops, loop_turns, loop_breaks, moves_of_turns, number_behind, turns_from}
 use Rattle.cob_move_deeds.proofs.DeedLemmas.{both_apart, both_together, done_then, moves_apart, moves_together, to_nothing, with_nothing}
 
@@ -114,3 +114,61 @@ literal_back r body by bound (suc n) i input before end near far (loop_turns _ _
     (inl (after, moves_alone (IsPast bound) r (body i) input before (done after) x, literal_back r body by bound n (i + by) input after end (nearer bound i n by near) (further bound i n by far) more))
 literal_back r body by bound (suc n) i input before end near far (loop_breaks _ _ _ stop after is x e) =
     moves_together r (body i) (moves_of_turns body by n (i + by)) input before end (inr (stop, after, moves_alone (IsPast bound) r (body i) input before (stopped stop after) x, e))
+
+-- ---- a bound that no move changes
+
+-- a counter that is past the bound makes no turn
+none_there : (r : Records) (body : ℕ → List Move) (by bound i : ℕ) (input before : List ℕ) (end : Ending) → bound < i
+    → Performed (IsPast bound) r (λ k. k) (λ k. Moving (body k) Nothing) by input i before end → end ≡ done before
+none_there r body by bound i input before end far (loop_ends _ _ _ is e) = e
+none_there r body by bound i input before end far (loop_stops _ _ _ stop is e) = absurd (ok_not {A = Bool} (nat_lt bound i) stop (sym is))
+none_there r body by bound i input before end far (loop_turns _ _ _ after is x more) = absurd (goes_on bound i far is)
+none_there r body by bound i input before end far (loop_breaks _ _ _ stop after is x e) = absurd (goes_on bound i far is)
+
+none_back : (r : Records) (body : ℕ → List Move) (by bound i : ℕ) (input before : List ℕ) (end : Ending) → bound < i → end ≡ done before
+    → Performed (IsPast bound) r (λ k. k) (λ k. Moving (body k) Nothing) by input i before end
+none_back r body by bound i input before end far e = loop_ends i before end (ap (λ (b : Bool). Ok b) (sym (past_is bound i far))) e
+
+-- tests that say of each number what a literal says
+abbrev pub SaysAs : {T : Type 0} → Judging T → (ℕ → T) → ℕ → List ℕ → Type 0
+SaysAs judged until v input = (s : List ℕ) (j : ℕ) → judged (until j) input s (Ok (nat_lt v j))
+
+known_back : {T : Type 0} (judged : Judging T) (r : Records) (until : ℕ → T) (body : ℕ → List Move) (by v : ℕ) (input : List ℕ) (i : ℕ) (before : List ℕ) (end : Ending) → SaysAs judged until v input
+    → Performed (IsPast v) r (λ k. k) (λ k. Moving (body k) Nothing) by input i before end → Performed judged r until (λ k. Moving (body k) Nothing) by input i before end
+known_back judged r until body by v input i before end says (loop_ends _ _ _ is e) =
+    loop_ends i before end (subst (λ (a : Result Bool Stop). judged (until i) input before a) (sym is) (says before i)) e
+known_back judged r until body by v input i before end says (loop_stops _ _ _ stop is e) = absurd (ok_not {A = Bool} (nat_lt v i) stop (sym is))
+known_back judged r until body by v input i before end says (loop_turns _ _ _ after is x more) =
+    loop_turns i before end after (subst (λ (a : Result Bool Stop). judged (until i) input before a) (sym is) (says before i)) x (known_back judged r until body by v input (i + by) after end says more)
+known_back judged r until body by v input i before end says (loop_breaks _ _ _ stop after is x e) =
+    loop_breaks i before end stop after (subst (λ (a : Result Bool Stop). judged (until i) input before a) (sym is) (says before i)) x e
+
+known_there : {T : Type 0} (judged : Judging T) (r : Records) (until : ℕ → T) (body : ℕ → List Move) (by v : ℕ) (input : List ℕ) (i : ℕ) (before : List ℕ) (end : Ending) → IsDetermined judged → SaysAs judged until v input
+    → Performed judged r until (λ k. Moving (body k) Nothing) by input i before end → Performed (IsPast v) r (λ k. k) (λ k. Moving (body k) Nothing) by input i before end
+known_there judged r until body by v input i before end law says (loop_ends _ _ _ is e) =
+    loop_ends i before end (law (until i) input before (Ok true) (Ok (nat_lt v i)) is (says before i)) e
+known_there judged r until body by v input i before end law says (loop_stops _ _ _ stop is e) =
+    absurd (ok_not {A = Bool} (nat_lt v i) stop (law (until i) input before (Ok (nat_lt v i)) (Err stop) (says before i) is))
+known_there judged r until body by v input i before end law says (loop_turns _ _ _ after is x more) =
+    loop_turns i before end after (law (until i) input before (Ok false) (Ok (nat_lt v i)) is (says before i)) x (known_there judged r until body by v input (i + by) after end law says more)
+known_there judged r until body by v input i before end law says (loop_breaks _ _ _ stop after is x e) =
+    loop_breaks i before end stop after (law (until i) input before (Ok false) (Ok (nat_lt v i)) is (says before i)) x e
+
+-- the literal loop is the moves of its turns, also where there is none
+literal_any : (r : Records) (body : ℕ → List Move) (by bound k i : ℕ) (input before : List ℕ) (end : Ending) → (k ≡ 0) ⊎ (number_behind by k i ≤ bound + by) → bound < number_behind by k i
+    → (Applied r (moves_of_turns body by k i) input before end → Performed (IsPast bound) r (λ j. j) (λ j. Moving (body j) Nothing) by input i before end)
+    × (Performed (IsPast bound) r (λ j. j) (λ j. Moving (body j) Nothing) by input i before end → Applied r (moves_of_turns body by k i) input before end)
+literal_any r body by bound zero i input before end near far = (none_back r body by bound i input before end far, none_there r body by bound i input before end far)
+literal_any r body by bound (suc n) i input before end (inl none) far = absurd (omega (arith, none))
+literal_any r body by bound (suc n) i input before end (inr near) far =
+    (literal_there r body by bound (suc n) i input before end near far, literal_back r body by bound (suc n) i input before end near far)
+
+pub known_is_moves : {T : Type 0} (judged : Judging T) (r : Records) (until : ℕ → T) (body : ℕ → List Move) (by most n k i v : ℕ) (input before : List ℕ) (end : Ending) → IsDetermined judged → EndsPast judged until most
+    → SaysAs judged until v input → most < number_behind by n i → (k ≡ 0) ⊎ (number_behind by k i ≤ v + by) → v < number_behind by k i
+    → (Carried judged r (turns_from until (λ j. Moving (body j) Nothing) by n i) input before end → Applied r (moves_of_turns body by k i) input before end)
+    × (Applied r (moves_of_turns body by k i) input before end → Carried judged r (turns_from until (λ j. Moving (body j) Nothing) by n i) input before end)
+known_is_moves judged r until body by most n k i v input before end law past says far near beyond =
+    let (to, back) = literal_any r body by v k i input before end near beyond in (
+      λ x. back (known_there judged r until body by v input i before end law says (loop_there judged r until (λ j. Moving (body j) Nothing) by most n i input before end past far x)),
+      λ x. loop_back judged r until (λ j. Moving (body j) Nothing) by most n i input before end past far (known_back judged r until body by v input i before end says (to x)),
+    )

@@ -1,9 +1,10 @@
 -- What follows from the definitions, said as laws.
-use Rattle.std.specs.Prelude.{◌≡◌, ℕ, ◌+◌, ◌<◌, ◌≤◌, List}
+use Rattle.std.specs.Prelude.{◌≡◌, ◌⊎◌, ℕ, ◌+◌, ◌<◌, ◌≤◌, List}
+use Rattle.cob_move_data.specs.declared.operands.Side.TheVariants.{In}
 use Rattle.cob_move_data.specs.Moves.{Move, Records}
 use Rattle.cob_move_apply.specs.Applied.{Applied, Ending}
 use Rattle.cob_move_deeds.specs.Deeds.{Carried, Deeds, IsStraight, Moving, Nothing, all_moves}
-use Rattle.cob_move_deeds.specs.Tests.{Judged, Past, with_number}
+use Rattle.cob_move_deeds.specs.Tests.{GivesNumber, Judged, Past, with_number}
 use Rattle.cob_move_deeds.specs.Turns.{IsPast, Performed, moves_of_turns, number_behind, turns_from}
 
 -- Law: what is done without a test is what its moves come to, in order.
@@ -29,3 +30,11 @@ abbrev pub LiteralLoopIsItsMoves : Type 0
 LiteralLoopIsItsMoves = (r : Records) (body : ℕ → List Move) (by bound n i : ℕ) (input before : List ℕ) (end : Ending) → number_behind by n i ≤ bound + by → bound < number_behind by n i
     → (Applied r (moves_of_turns body by n i) input before end → Performed (IsPast bound) r (λ k. k) (λ k. Moving (body k) Nothing) by input i before end)
     × (Performed (IsPast bound) r (λ k. k) (λ k. Moving (body k) Nothing) by input i before end → Applied r (moves_of_turns body by n i) input before end)
+
+-- Law: a loop to the number that an item of the input record holds, whose statements move alone, is the moves of its turns up to that number: no move changes
+-- the item, so it is the same before each turn. Where the first number of the counter is past it there is no turn.
+abbrev pub BoundOfInputIsKept : Type 0
+BoundOfInputIsKept = (r : Records) (t : Past) (body : ℕ → List Move) (by n k i v : ℕ) (input before : List ℕ) (end : Ending) → t.side ≡ In → GivesNumber r t input before v
+    → t.most < number_behind by n i → (k ≡ 0) ⊎ (number_behind by k i ≤ v + by) → v < number_behind by k i
+    → (Carried (Judged r) r (turns_from (with_number t) (λ j. Moving (body j) Nothing) by n i) input before end → Applied r (moves_of_turns body by k i) input before end)
+    × (Applied r (moves_of_turns body by k i) input before end → Carried (Judged r) r (turns_from (with_number t) (λ j. Moving (body j) Nothing) by n i) input before end)

@@ -75,6 +75,12 @@ JudgedIn tree t bytes answer =
 abbrev pub Judged : Records → Past → List ℕ → List ℕ → Result Bool Stop → Type 0
 Judged r t input output answer = JudgedIn (record_of r t.side) t (storage_of t.side input output) answer
 
+-- the bound of a test gives this number in the storages of two records
+abbrev pub GivesNumber : Records → Past → List ℕ → List ℕ → ℕ → Type 0
+GivesNumber r t input output v =
+    (p : Place) × (i : Item) × Located t.side (record_of r t.side) false t.bound (storage_of t.side input output) (Ok p) × (t.bound.kind ≡ ItemKind i)
+    × SaysOfTable i (up_to t.most) (there p) (storage_of t.side input output) (Ok v)
+
 -- the same test with another number of the counter
 abbrev pub with_number : Past → ℕ → Past
 with_number t i = record { number = i; most = t.most; side = t.side; bound = t.bound }

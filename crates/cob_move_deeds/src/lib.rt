@@ -11,14 +11,15 @@
 //! - [`choice`] and [`turn`] put flows together: a test with what follows where it holds and where it doesn't, and the turn of a loop.
 //! - Laws: what is done without a test is what its moves come to ([`straight_is_applied`]), and ends in one way ([`one_carried`]); a loop to the number
 //!   that an item holds is what it is written out as ([`loop_is_its_turns`], by `Performed` of specs/Turns.antt, which is the loop in the standard's own
-//!   words), and a loop with a literal bound is the moves of its turns ([`literal_loop_is_its_moves`]).
+//!   words), and a loop with a literal bound is the moves of its turns ([`literal_loop_is_its_moves`]); so is one whose bound stands in the input record, up to
+//!   the number that it gives there ([`bound_of_input_is_kept`]).
 //!
 //! [`carry_out`] takes no memory: its room is a [`TestRoom`] and the scratch of the moves.
 //!
 //! # Where it is proved
 //!
 //! The clause `carried` of `carry_out`; the clauses of `choice` and `turn`; the laws `straight_is_applied`, `one_carried`, `loop_is_its_turns`,
-//! `literal_loop_is_its_moves`.
+//! `literal_loop_is_its_moves`, `bound_of_input_is_kept`.
 #![tactic(auto)]
 
 mod building;
@@ -30,6 +31,9 @@ mod test;
 
 pub use building::{choice, turn};
 pub use flow::Flow;
-pub use laws::{literal_loop_is_its_moves, loop_is_its_turns, one_carried, straight_is_applied};
+pub use laws::{
+    bound_of_input_is_kept, literal_loop_is_its_moves, loop_is_its_turns, one_carried,
+    straight_is_applied,
+};
 pub use running::carry_out;
 pub use test::{Layouts, Test, TestRoom};
