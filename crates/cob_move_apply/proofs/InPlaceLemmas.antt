@@ -55,6 +55,7 @@ step_in_place law x r given on (step.Prepared p) own input now end is long size 
 step_in_place law x r given on (step.Pictured q p) own input now end is long size (m, same, part) h = single_in_place r own m input now end same size h
 step_in_place law x r given on (step.Constant c) own input now end is long size (constant, to, at, fixed) h = single_in_place r own fixed.single.0 input now end fixed.single.1 size h
 step_in_place law x r given on (step.Located number) own input now end is long size at h = let (ready, same) = at.is in single_in_place r own _ input now end same size h
+step_in_place law x r given on (step.There t) own input now end is long size at h = let (ready, there, same) = at.is in single_in_place r own _ input now end same size h
 step_in_place law x r given on (step.LocatedConstant number) own input now end is long size at h = let (constant, ready, same) = at.is in single_in_place r own _ input now end same size h
 step_in_place law x r given on (step.Copy places) own input now end is long size copied h =
     let there : AppliedInPlace r own input now (done (with_field now places.to (field_of places.from input))) = copied.are.written input now is long in

@@ -11,7 +11,7 @@ use Rattle.cob_move_data.specs.declared.operands.Side.TheVariants.{In, Out}
 use Rattle.cob_move_data.specs.declared.operands.StatementMoves.{StatementMoves}
 use Rattle.cob_move_data.specs.Moves.{Move, Records, Sender, moves_by, numbered_move_by, operand_in, record_of, statement_moves_by}
 use Rattle.cob_move_apply.specs.Placed.{IsPlaced, IsPlacedMove}
-use Rattle.cob_move_apply.specs.Steps.{AreMovesCut, AreSteps, BeginsWith, CarriesLocated, Gains, GainsCut, IsMoveOfPart, IsOfConstant, IsPicturedMove, IsLocatedMove, IsReadyAnywhere, IsReadyConstant, IsStep, StandFor, Support, WritesFor, alone, constant_move, copied_move, pair_at, singles, support_of}
+use Rattle.cob_move_apply.specs.Steps.{AreMovesCut, AreSteps, BeginsWith, CarriesLocated, Gains, GainsCut, IsMoveOfPart, IsOfConstant, IsPicturedMove, IsLocatedMove, IsReadyAnywhere, IsReadyConstant, IsStep, IsThereMove, IsThereOf, StandFor, Support, WritesFor, alone, constant_move, copied_move, pair_at, singles, support_of}
 use Rattle.cob_copybook_tree.specs.declared.node.Kind.{Kind}
 use Rattle.cob_copybook_entry.specs.Described.{PlainValue}
 use Rattle.cob_move_steps.specs.Copies.{IsConstantStep}
@@ -34,6 +34,7 @@ use Rattle.cob_move_apply.specs.declared.step.PicturedMove.{PicturedMove}
 use Rattle.cob_move_apply.specs.declared.step.Plan.{Plan}
 use Rattle.cob_move_apply.specs.declared.step.Step.{Step}
 use Rattle.cob_move_apply.specs.declared.step.Step.TheVariants as step
+use Rattle.cob_move_apply.specs.declared.step.ThereMove.{ThereMove}
 use Rattle.cob_move_apply.specs.Joined.{steps_in}
 use Rattle.cob_move_apply.specs.Planned.{AreMore, counted_steps}
 use Rattle.cob_move_apply.proofs.CutLemmas.{cut_both}
@@ -109,6 +110,14 @@ located_still side x r a b number own before now more longer is =
     (λ p (ready, same). (ready_still side r a b p more ready, same))
     (kept_at LocatedMove (λ p. IsReadyAnywhere side r a.prepared a.pictured p × (own ≡ copied_move side x r p.sent p.receiver ∷ [])) before now number longer is)
 
+-- so is one at known places
+there_still : (x : Reading) (r : Records) (a b : Support) (t : ThereMove) (own : List Move) → Grows a b → IsThereMove x r a.prepared a.pictured a.located t own → IsThereMove x r b.prepared b.pictured b.located t own
+there_still x r a b t own more is =
+    step_as LocatedMove (λ p. IsReadyAnywhere In r a.prepared a.pictured p × IsThereOf p t × (own ≡ copied_move In x r p.sent p.receiver ∷ []))
+    (λ p. IsReadyAnywhere In r b.prepared b.pictured p × IsThereOf p t × (own ≡ copied_move In x r p.sent p.receiver ∷ [])) b.located t.number
+    (λ p (ready, there, same). (ready_still In r a b p more ready, there, same))
+    (kept_at LocatedMove (λ p. IsReadyAnywhere In r a.prepared a.pictured p × IsThereOf p t × (own ≡ copied_move In x r p.sent p.receiver ∷ [])) a.located b.located t.number more.located is)
+
 step_still : (x : Reading) (r : Records) (given : List StatementMoves) (a b : Support) (s : Step) (own : List Move) → Grows a b → IsStep x r given a s own → IsStep x r given b s own
 step_still x r given a b (step.Part p) own more (m, is, part) =
     (m, is, subst (λ (bs : List Basis). IsMoveOfPart x r given bs p m) (sym more.bases) (part_still x r given a.bases more.more p m part))
@@ -129,6 +138,7 @@ step_still x r given a b (step.Pictured q p) own more (m, is, (part, so)) = (
 step_still x r given a b (step.Constant c) own more (constant, to, at, fixed) =
     (constant, to, kept_at ConstantStep (λ step. IsConstantStep constant to c.to.length step) a.constants b.constants c.number more.constants at, fixed)
 step_still x r given a b (step.Located number) own more is = located_still In x r a b number own a.located b.located more more.located is
+step_still x r given a b (step.There t) own more is = there_still x r a b t own more is
 step_still x r given a b (step.LocatedConstant number) own more is =
     step_as LocatedConstant (IsOfConstant r a.constants own) (IsOfConstant r b.constants own) b.located_constants number
     (λ p (constant, ready, same). (constant, constant_still r a b constant p more ready, same))
