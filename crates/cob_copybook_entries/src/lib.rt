@@ -12,6 +12,7 @@
 //! list of entries at most (`one_list_of_entries`), and words that are entries break no rule (`entries_break_no_rule`).
 //! [`name_of_text`] answers a name exactly for a text that is one (`found`, `only`). [`value_of`] answers what a constant as it is
 //! written means, or the rule that it breaks, the grammar of literals or the rule on values (`found`, `only`, `fault`).
+//! [`whole`] answers the number of a text of digits, as many as are asked for (`found`, `only`).
 //!
 //! The definitions stand in `specs/`: `Meaning` says what an entry's texts mean, `Parts` what a numeric literal of any length is, and `Books` which entries
 //! words are and which rules they break. `Breaks` says which rule a part of an entry breaks, a constant's among them; `Adds`, `Short` and `Signs` name the
@@ -34,5 +35,6 @@ mod value;
 pub use cob_copybook_clauses::ValueClause;
 pub use laws::{entries_break_no_rule, one_list_of_entries};
 pub use name::name_of_text;
+pub use number::whole;
 pub use reader::entries;
 pub use value::{is_numeric_literal, value_of};

@@ -8,7 +8,7 @@ ghost use Rattle.cob_copybook_entries.specs.Meaning.{IsIntegerText};
 use cob_decimal::are_digits;
 
 /// The number that a text of 1 to `most` digits spells.
-pub(crate) fn whole(text: &[u8], most: usize) -> Option<u32>
+pub fn whole(text: &[u8], most: usize) -> Option<u32>
     requires { most ≤ 9 }
     ensures found { IfSome result (λ n. IsIntegerText most text.now n) }
     ensures only { (n : ℕ) → IsIntegerText most text.now n → result ≡ Some n }

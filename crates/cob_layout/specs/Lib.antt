@@ -12,3 +12,4 @@ pub mod Kept
 pub mod Finding
 pub mod Shifts
 pub mod Footings
+pub mod Elements

@@ -31,7 +31,7 @@ const STAYS: Shift = Shift {
 };
 
 /// The shift of an entry.
-fn shift_at(shifts: &[Shift], number: usize) -> Shift
+pub(crate) fn shift_at(shifts: &[Shift], number: usize) -> Shift
     ensures { result ≡ shift_at shifts.now number }
 {
     match shifts.get(number) {

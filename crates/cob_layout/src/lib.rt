@@ -45,6 +45,9 @@
 //!   where the others stand.
 //! - [`Layout::kept_length`] is [`Layout::current_length`] too (`ok`, `least`, `most`, `err`), but reads only the counts that are not kept, and keeps
 //!   them all (`kept`, `keeps`).
+//! - [`Layout::element_place`] finds once the place of an element that one count alone decides, and that only by whether it is there (`IsElementPlace` of
+//!   specs/Elements.antt); [`Counts::place_of`] then asks only for that count, where it is kept, and the law [`kept_place_elements`] says that the
+//!   element stands there.
 //! - [`Layout::kind`] is what the entry with a number describes.
 //! - The bytes of a storage say one thing of all counts and of those that are needed ([`one_outcome_of_counts`]). Where all are valid, those
 //!   that are needed are, and the place is that under all counts, but for the tables that the reference is spared, which have their greatest
@@ -72,6 +75,7 @@
 mod by_sums;
 mod copy;
 mod counts;
+mod elements;
 mod fields;
 mod finding;
 mod footings;
@@ -100,6 +104,7 @@ pub use cob_layout_places::{
     CountFault, Ref, Spot, is_number_item, is_table, read_number, tables, times_of,
 };
 pub use counts::{Counts, StoredCount};
+pub use elements::{ElementPlace, kept_place_elements};
 pub use fields::{Place, field, field_mut};
 pub use finding::FindFault;
 pub use laws::{

@@ -53,6 +53,18 @@ greatest_scale = pos 31
 abbrev pub most_binary_digits : ℕ
 most_binary_digits = 18
 
+-- The loops of a paragraph come to at most 100,000 statements once they are written out.
+abbrev pub most_written_out : ℕ
+most_written_out = 100_000
+
+-- At most 16 loops are open at once.
+abbrev pub most_open : ℕ
+most_open = 16
+
+-- A number in a loop's head, and one that is added to a counter, has at most 9 digits.
+abbrev pub most_counter_digits : ℕ
+most_counter_digits = 9
+
 -- A block of records of varying length has at most 32,760 bytes.
 abbrev pub longest_block : ℕ
 longest_block = 32_760

@@ -21,9 +21,12 @@ ghost use Rattle.cob_limits.specs.Limits.{
   longest_record,
   longest_text,
   most_binary_digits,
+  most_counter_digits,
   most_digits,
   most_dimensions,
   most_entries,
+  most_open,
+  most_written_out,
 };
 
 /// The most bytes of a text: of a copybook or of a paragraph.
@@ -70,6 +73,15 @@ pub const MAX_SCALE: i8 = MAX_DIGITS as i8;
 /// The most digits of a binary item.
 pub const MAX_BINARY_DIGITS: u8 = 18;
 
+/// The most statements that the loops of a paragraph come to once they are written out.
+pub const MAX_WRITTEN_OUT: u64 = 100_000;
+
+/// The most loops that are open at once.
+pub const MAX_OPEN: usize = 16;
+
+/// The most digits of a number in a loop's head, and of one that is added to a counter.
+pub const MAX_COUNTER_DIGITS: usize = 9;
+
 /// The most bytes of a block of records.
 pub const MAX_BLOCK: u16 = 32_760;
 
@@ -89,5 +101,8 @@ pub fn constants_are_the_limits()
     ensures least { MIN_SCALE ≡ least_scale }
     ensures greatest { MAX_SCALE ≡ greatest_scale }
     ensures binary { MAX_BINARY_DIGITS ≡ most_binary_digits }
+    ensures written { MAX_WRITTEN_OUT ≡ most_written_out }
+    ensures open { MAX_OPEN ≡ most_open }
+    ensures counter { MAX_COUNTER_DIGITS ≡ most_counter_digits }
     ensures block { MAX_BLOCK ≡ longest_block }
 {}

@@ -67,6 +67,8 @@ pair_fault rule.Subscripts all from to input output g named h = absurd (none_of 
 pair_fault rule.Receiver all from to input output g named h = absurd (none_of (BreaksPair rule.Receiver) (λ p b. b) (pairs_of input output g) h)
 pair_fault rule.Groups all from to input output g named h = absurd (none_of (BreaksPair rule.Groups) (λ p b. b) (pairs_of input output g) h)
 pair_fault rule.Twice all from to input output g named h = absurd (none_of (BreaksPair rule.Twice) (λ p b. b) (pairs_of input output g) h)
+pair_fault rule.Counter all from to input output g named h = absurd (none_of (BreaksPair rule.Counter) (λ p b. b) (pairs_of input output g) h)
+pair_fault rule.TooMany all from to input output g named h = absurd (none_of (BreaksPair rule.TooMany) (λ p b. b) (pairs_of input output g) h)
 pair_fault (rule.Source s) all from to input output g named h = absurd (none_of (BreaksPair (rule.Source s)) (λ p b. b) (pairs_of input output g) h)
 
 twice_fault : (r : MoveRule) (all : List Candidate) (from to : WrittenReference) (input output : Forest Resolved) (g : TwoGroups) → AreGroupsOf all from to g

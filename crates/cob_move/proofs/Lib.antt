@@ -8,3 +8,6 @@ pub mod MoveLemmas
 pub mod CorrespondingLemmas
 pub mod MeaningLemmas
 pub mod PieceLemmas
+pub mod PassageLemmas
+pub mod PlainLemmas
+pub mod LoopLemmas

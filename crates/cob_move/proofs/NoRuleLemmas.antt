@@ -160,6 +160,8 @@ no_rule one law all input output a ms rule.Groups h b = absurd (no_group one all
 no_rule one law all input output a ms rule.Twice h b = absurd (no_twice one all input output a ms h b)
 no_rule one law all input output a ms rule.TooLong h b = absurd (no_single one rule.TooLong all input output a ms h b)
 no_rule one law all input output a ms rule.Memory h b = refl
+no_rule one law all input output a ms rule.Counter h b = absurd b
+no_rule one law all input output a ms rule.TooMany h b = absurd b
 no_rule one law all input output a ms (rule.Source s) h b = absurd b
 
 some_broken : MeaningsBreakNoRule → (all : List Candidate) (input output : Forest Resolved) (ss : List WrittenStatement) (ms : List Move) (f : MoveFault)

@@ -55,6 +55,8 @@ receipt_fault rule.Memory all s m ws input output is h = tt
 receipt_fault rule.Grammar all s m ws input output is h = absurd (none_of (BreaksReceipt rule.Grammar all m) (λ w b. left (λ q. q.2) b) ws h)
 receipt_fault rule.Groups all s m ws input output is h = absurd (none_of (BreaksReceipt rule.Groups all m) (λ w b. left (λ q. q.2) b) ws h)
 receipt_fault rule.Twice all s m ws input output is h = absurd (none_of (BreaksReceipt rule.Twice all m) (λ w b. left (λ q. q.2) b) ws h)
+receipt_fault rule.Counter all s m ws input output is h = absurd (none_of (BreaksReceipt rule.Counter all m) (λ w b. left (λ q. q.2) b) ws h)
+receipt_fault rule.TooMany all s m ws input output is h = absurd (none_of (BreaksReceipt rule.TooMany all m) (λ w b. left (λ q. q.2) b) ws h)
 receipt_fault (rule.Source f) all s m ws input output is h = absurd (none_of (BreaksReceipt (rule.Source f) all m) (λ w b. left (λ q. q.2) b) ws h)
 
 pub receivers_fault : (r : MoveRule) (all : List Candidate) (s : WrittenSender) (m : Sender) (ws : List WrittenReference) (input output : Forest Resolved)

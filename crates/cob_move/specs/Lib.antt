@@ -7,3 +7,4 @@ pub mod Refusals
 pub mod MeaningLaws
 pub mod Among
 pub mod Pieces
+pub mod Loops

@@ -116,6 +116,8 @@ BreaksStatement rule.Literal all input output a = BreaksValue (sent_constant a) 
 BreaksStatement rule.Groups all input output a = LacksGroup all a
 BreaksStatement rule.Twice all input output a = PairsTwice all input output a
 BreaksStatement rule.TooLong all input output a = SomeBreak rule.TooLong all input output a
+BreaksStatement rule.Counter all input output a = ⊥
+BreaksStatement rule.TooMany all input output a = ⊥
 BreaksStatement rule.Memory all input output a = Unit {0}
 BreaksStatement (rule.Source s) all input output a = ⊥
 

@@ -46,6 +46,7 @@
 mod corresponding;
 mod entries;
 mod laws;
+mod loops;
 mod meaning;
 mod meaning_laws;
 mod paragraph;
@@ -62,7 +63,7 @@ pub use cob_move_data::{Side, StatementMoves};
 pub use cob_move_initial::{initial, one_initial};
 pub use cob_move_names::pairs;
 pub use cob_move_statements::{MoveFault, MoveRule};
-pub use laws::{one_paragraph, paragraph_breaks_no_rule};
+pub use laws::{one_paragraph, paragraph_breaks_no_rule, plain_paragraph};
 pub use meaning::all_meant;
 pub use meaning_laws::{
     meanings_break_no_rule, meant_are_moves, meant_break_no_rule, one_meaning, one_meant,

@@ -14,15 +14,17 @@ ghost use Rattle.cob_move_statements.specs.Reading.{IsOrLacksMemory};
 ghost use Rattle.cob_move.specs.Among.{both};
 ghost use Rattle.cob_move.specs.Paragraphs.{IsParagraphOf, IsReadyFor, IsRefusalOf, moves_in};
 
+use crate::entries::Entries;
 use crate::laws::{one_paragraph, paragraph_breaks_no_rule};
-use crate::meaning::all_meant;
+use crate::loops::{body_of, moves_of_body};
 use crate::meaning_laws::meant_are_moves;
 use crate::pieces::meant_in_pieces;
 use cob_codec::Reading;
 use cob_layout::Layout;
 use cob_move_apply::{Moves, Scratch, Stop};
 use cob_move_data::StatementMoves;
-use cob_move_statements::{MoveFault, statements};
+use cob_move_names::{Correspondences, Names};
+use cob_move_statements::MoveFault;
 use cob_source::paragraph_tokens;
 use std::alloc::Global;
 
@@ -48,9 +50,16 @@ fn moves_of_whole(
     ensures fault { IfErr result (λ f. IsRefusalOf f text.now input.now output.now) }
 {
     let words = paragraph_tokens(alloc, text)?;
-    let statements = statements(alloc, words.as_slice())?;
-    let meant = all_meant(alloc, input, output, statements.as_slice())?;
-    Ok(meant)
+    let names = Names::of(alloc, input, output)?;
+    let mut pairs = Correspondences::new(alloc, input.root(), output.root());
+    let entries = Entries {
+        names: &names,
+        input,
+        output,
+    };
+    let body = body_of(words.as_slice());
+    let list = moves_of_body(alloc, &entries, &mut pairs, body)?;
+    Ok(list)
 }
 
 /// The moves that a text says between two records. It is read piece by piece, and where a piece isn't read alone, at once: so what is wrong is told of

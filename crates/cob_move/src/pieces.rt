@@ -1,6 +1,8 @@
 //! Paragraphs that are read piece by piece, so that the words and the statements of one piece alone are held.
 
-ghost use Rattle.std.specs.Prelude.{◌≡◌, ℕ, [], List, IfErr, IfOk, IfSome, IsTrue};
+ghost use Rattle.std.specs.Prelude.{◌≡◌, ◌↔◌, ℕ, [], List, IfErr, IfOk, IfSome, IsTrue};
+ghost use Rattle.std.specs.List.{AllByRecursion};
+ghost use Rattle.cob_move_loops.specs.Words.{IsOther};
 ghost use Rattle.cob_move_data.specs.Moves.{moves};
 ghost use Rattle.cob_move.specs.Among.{AreMeaningsAmong, both};
 ghost use Rattle.cob_move.specs.Between.{ArePairsOf};
@@ -10,13 +12,14 @@ ghost use Rattle.cob_move.specs.Pieces.{AddsMoves, IsParagraphAmong, IsRefusedMe
 ghost use Rattle.cob_move_statements.specs.Statements.{FollowsStatements, IsParagraph};
 ghost use Rattle.cob_move_statements.specs.Written.{written_statements};
 ghost use Rattle.cob_source.specs.Ahead.{HaveLineNumbers, IsNoted, IsReadTo};
-ghost use Rattle.cob_source.specs.Tokens.{lexemes};
+ghost use Rattle.cob_source.specs.Tokens.{lexeme, lexemes};
 
 use crate::entries::Entries;
 use crate::meaning::meanings_of;
 use cob_copybook_clauses::{WordClass, is_term};
 use cob_layout::Layout;
 use cob_move_data::StatementMoves;
+use cob_move_loops::{loop_word, no_turn};
 use cob_move_names::{Correspondences, Names};
 use cob_move_statements::{MoveFault, MoveRule, Statement, statements};
 use cob_source::{SourceRule, Token, WordsAhead};
@@ -26,7 +29,7 @@ use std::alloc::Global;
 const STATEMENT_BYTES: usize = 24;
 
 /// The fault of refused memory.
-fn refused_memory() -> MoveFault
+pub(crate) fn refused_memory() -> MoveFault
     ensures { IsRefusedMemory result }
 {
     MoveFault {
@@ -43,6 +46,30 @@ fn statements_follow(words: &[Token]) -> bool
         Some((first, _)) => is_term(first, WordClass::Move),
         None => true,
     }
+}
+
+/// Whether a word is no word of loops.
+pub(crate) fn is_other(word: &Token) -> bool
+    ensures { IsTrue result ↔ IsOther (lexeme word.now) }
+{
+    match loop_word(word) {
+        Some(_) => false,
+        None => true,
+    }
+}
+
+/// Whether no word of loops is among words.
+fn have_no_loop_word(words: &[Token]) -> bool
+    ensures { IsTrue result ↔ AllByRecursion IsOther (lexemes words.now) }
+{
+    let mut rest = words;
+    while let Some((first, more)) = rest.split_first() {
+        if !is_other(first) {
+            return false;
+        }
+        rest = more;
+    }
+    true
 }
 
 /// Reads the words of the next piece in the place of those before, and answers whether more are left; None where the text breaks a rule.
@@ -72,7 +99,7 @@ fn read_piece(
     }
 }
 
-/// The statements that words are; None where they are none.
+/// The statements that words are; None where they are none, or have words of loops among them.
 ///
 /// # Errors
 ///
@@ -83,8 +110,13 @@ fn statements_alone<'a>(
 ) -> Result<Option<Vec<Statement<'a>>>, MoveFault>
     ensures found { IfOk result (λ o. IfSome o
         (λ v. IsParagraph (lexemes words.now) (written_statements v.items))) }
+    ensures plain { IfOk result (λ o. IfSome o
+        (λ v. AllByRecursion IsOther (lexemes words.now))) }
     ensures fault { IfErr result IsRefusedMemory }
 {
+    if !have_no_loop_word(words) {
+        return Ok(None);
+    }
     match statements(alloc, words) {
         Ok(read) => Ok(Some(read)),
         Err(fault) => match fault.rule {
@@ -242,6 +274,8 @@ fn all_pieces(
         v.items)) }
     ensures fault { IfErr result IsRefusedMemory }
 {
+    // For `found`: words without loops are as they are written.
+    no_turn();
     let Some(start) = WordsAhead::new(alloc, text) else {
         return Ok(None);
     };

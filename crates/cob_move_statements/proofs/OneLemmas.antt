@@ -1,4 +1,5 @@
 -- Words are the statements of a paragraph in one way.
+use Rattle.cob_move_loops.specs.Words.{IsPeriod, NoPeriod}
 use Rattle.std.proofs.Common.{◌≡◌, List, [], ◌∷◌, ◌++◌, ℕ, refl, sym, ap, subst, ◌∙◌, append_assoc, append-nil}
 use Rattle.std.specs.List.{AllByRecursion}
 use Rattle.cob_source.specs.Tokens.{Lexeme}
@@ -8,8 +9,8 @@ use Rattle.cob_copybook_clauses.specs.Reading.{NotFirstWord}
 use Rattle.cob_copybook_clauses.specs.Written.{WrittenValue, Word, Quoted, Figure, Repeated}
 use Rattle.cob_copybook_clauses.proofs.OneLemmas.{qualifiers_cut, constant_cut}
 use Rattle.cob_move_statements.specs.Written.{WrittenReference, WrittenSender, SentReference, SentConstant, WrittenAction, MoveTo, MoveCorresponding, WrittenStatement, word_texts}
-use Rattle.cob_move_statements.specs.Statements.{AreSubscripts, EndsReferences, FitsReference, FollowsStatements, IsAction, IsEndedStatement, IsHeading, IsNumeral, IsPeriod, IsReference, IsStatement, IsWrittenSender, NoName, NoPeriod, Several}
-use Rattle.cob_move_statements.specs.Laws.{OneListOfStatements}
+use Rattle.cob_move_statements.specs.Statements.{AreSubscripts, EndsReferences, FitsReference, FollowsStatements, IsAction, IsEndedStatement, IsHeading, IsNumeral, IsReference, IsStatement, IsWrittenSender, NoName, Several}
+use Rattle.cob_move_statements.specs.Laws.{OneListOfEnded, OneListOfStatements}
 use Rattle.cob_move_statements.proofs.Runs.{IsRun, fits}
 use Rattle.cob_move_statements.proofs.ReferenceLemmas.{brackets, not_of, reference_split, same_reference, references_run}
 use Rattle.cob_move_statements.proofs.StatementLemmas.{to_fits, corresponding_split, move_split, same_move, never_both}
@@ -141,6 +142,10 @@ ended_one x y n m a b p q f g e =
     let r = statement_one x y p.own q.own (p.stops ++ a) (q.stops ++ b) p.statement q.statement
     (ends_fit (p.stops ++ a) (fits_ends p.stops a p.are_stops f)) (ends_fit (q.stops ++ b) (fits_ends q.stops b q.are_stops g)) it in
     (r.0, periods_one p.stops q.stops a b p.are_stops q.are_stops (fits_no_stop a f) (fits_no_stop b g) r.1)
+
+pub one_list_of_ended : OneListOfEnded
+one_list_of_ended ws a b p q =
+    (run_one IsEndedStatement FollowsStatements (λ (t : List Lexeme). t ≡ []) statements_run ended_one a b ws ws [] [] p q refl refl refl).0
 
 -- ---- a paragraph
 

@@ -1,4 +1,5 @@
 -- Statements with the periods behind them, and the words of a paragraph.
+use Rattle.cob_move_loops.specs.Words.{IsPeriod, NoPeriod, first_line}
 use Rattle.std.proofs.Common.{◌≡◌, ℕ, List, [], ◌∷◌, ◌++◌, refl, sym, ap, subst, ◌∙◌, append_assoc, append-nil, arith, length, ◌<◌, inl, inr}
 use Rattle.std.proofs.lemmas.List.{length-append, length-map}
 use Rattle.std.proofs.lemmas.Bool.Decides.{Decides-eqb}
@@ -15,7 +16,7 @@ use Rattle.cob_move_statements.specs.declared.fault.MoveFault.{MoveFault}
 use Rattle.cob_move_statements.specs.declared.fault.MoveRule.{MoveRule}
 use Rattle.cob_move_statements.specs.declared.fault.MoveRule.TheVariants as rule
 use Rattle.cob_move_statements.specs.Written.{WrittenAction, WrittenStatement}
-use Rattle.cob_move_statements.specs.Statements.{EndsReferences, FollowsStatements, EndsStatement, IsBody, IsEnd, IsHeading, IsLineIn, IsLineOf, IsParagraph, IsEndedStatement, IsPeriod, BreaksOff, NoName, NoPeriod, Several, StatementsStand, StatementStands, first_line}
+use Rattle.cob_move_statements.specs.Statements.{EndsReferences, FollowsStatements, EndsStatement, IsBody, IsEnd, IsHeading, IsLineIn, IsLineOf, IsParagraph, IsEndedStatement, BreaksOff, NoName, Several, StatementsStand, StatementStands}
 use Rattle.cob_move_statements.specs.Reading.{Refused}
 use Rattle.cob_move_statements.proofs.Runs.{IsRun, SoFar, begins, goes_on, ends_found, ends_only}
 
@@ -140,7 +141,7 @@ pub some_statements : (ss : List WrittenStatement) (ws : List Lexeme) → Severa
 some_statements [] ws several some = absurd (some several)
 some_statements (s ∷ ss) ws several some = omega arith
 
-statements_first : (ss : List WrittenStatement) (ws : List Lexeme) → 0 < length ss → Several IsEndedStatement ss ws → (w : Lexeme) × (behind : List Lexeme) × (word_class w ≡ term.Move) × (ws ≡ w ∷ behind)
+pub statements_first : (ss : List WrittenStatement) (ws : List Lexeme) → 0 < length ss → Several IsEndedStatement ss ws → (w : Lexeme) × (behind : List Lexeme) × (word_class w ≡ term.Move) × (ws ≡ w ∷ behind)
 statements_first [] ws some several = absurd (omega (arith, some))
 statements_first (s ∷ ss) ws some (own, rest, is, cut, several) =
     let (w, behind, move, e) = move_first s own rest is in

@@ -2,8 +2,12 @@
 use Rattle.std.specs.Prelude.{◌≡◌, List}
 use Rattle.cob_source.specs.Tokens.{Lexeme}
 use Rattle.cob_move_statements.specs.Written.{WrittenStatement}
-use Rattle.cob_move_statements.specs.Statements.{IsParagraph}
+use Rattle.cob_move_statements.specs.Statements.{IsEndedStatement, IsParagraph, Several}
 
 -- law: the words of a paragraph say its statements in one way
 abbrev pub OneListOfStatements : Type 0
 OneListOfStatements = (ws : List Lexeme) (a b : List WrittenStatement) → IsParagraph ws a → IsParagraph ws b → a ≡ b
+
+-- law: words are statements, each with the periods behind it, in one way
+abbrev pub OneListOfEnded : Type 0
+OneListOfEnded = (ws : List Lexeme) (a b : List WrittenStatement) → Several IsEndedStatement a ws → Several IsEndedStatement b ws → a ≡ b

@@ -1,9 +1,9 @@
 -- The words of a paragraph.
+use Rattle.cob_move_loops.specs.Words.{IsPeriod, NoPeriod, first_line}
 use Rattle.std.specs.Prelude.{◌≡◌, ◌⊎◌, ℕ, ◌<◌, List, [], ◌∷◌, ◌++◌, length}
 use Rattle.std.specs.List.{AllByRecursion}
 use Rattle.cob_decimal.specs.Literals.{AreDigits, Literal}
 use Rattle.cob_source.specs.Tokens.{Lexeme}
-use Rattle.cob_source.specs.declared.token.TokenKind.TheVariants as kind
 use Rattle.cob_copybook_clauses.specs.declared.term.WordClass.TheVariants as term
 use Rattle.cob_copybook_clauses.specs.Terms.{word_class}
 use Rattle.cob_copybook_clauses.specs.Clauses.{AreQualifiers, IsConstant, IsNameWord}
@@ -97,15 +97,6 @@ pub record IsStatement (s : WrittenStatement) (ws : List Lexeme) : Type 0 where
   pub acts : IsAction s.action behind
   pub words : ws ≡ move ∷ behind
 
--- a period, before a space or the end of a line
-abbrev pub IsPeriod : Lexeme → Type 0
-IsPeriod w = w.kind ≡ kind.Stop
-
--- no period comes first
-abbrev pub NoPeriod : List Lexeme → Type 0
-NoPeriod [] = Unit {0}
-NoPeriod (w ∷ ws) = IsPeriod w → ⊥
-
 -- nothing, a period or MOVE may follow a statement
 abbrev pub EndsStatement : List Lexeme → Type 0
 EndsStatement [] = Unit {0}
@@ -143,11 +134,6 @@ pub record IsParagraph (ws : List Lexeme) (ss : List WrittenStatement) : Type 0 
   pub some : 0 < length ss
   pub statements : Several IsEndedStatement ss body
   pub words : ws ≡ heading ++ body
-
--- the line of the first word, or 1 where there is none
-abbrev pub first_line : List Lexeme → ℕ
-first_line [] = 1
-first_line (w ∷ ws) = w.line
 
 -- a statement stands in front, with all periods behind it, before these words
 pub record StatementStands (s : WrittenStatement) (words more : List Lexeme) : Type 0 where

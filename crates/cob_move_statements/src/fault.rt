@@ -34,6 +34,10 @@ pub enum MoveRule {
     Twice,
     /// M10: an alphanumeric sender that is too long for a numeric receiver.
     TooLong,
+    /// M11: a loop that tests another name than its counter's, or whose counter has the name of an entry or of a counter round it.
+    Counter,
+    /// M12: loops that come to too many statements, or too many that hold one another.
+    TooMany,
     /// M19: memory was refused.
     Memory,
 }
@@ -52,6 +56,8 @@ impl fmt::Display for MoveRule {
             MoveRule::Groups => write!(f, "M8"),
             MoveRule::Twice => write!(f, "M9"),
             MoveRule::TooLong => write!(f, "M10"),
+            MoveRule::Counter => write!(f, "M11"),
+            MoveRule::TooMany => write!(f, "M12"),
             MoveRule::Memory => write!(f, "M19"),
         }
     }

@@ -1,6 +1,11 @@
-ghost use Rattle.cob_move_statements.specs.Laws.{OneListOfStatements};
+ghost use Rattle.cob_move_statements.specs.Laws.{OneListOfEnded, OneListOfStatements};
 
 /// The words of a paragraph say its statements in one way.
 pub fn one_list_of_statements()
     ensures { OneListOfStatements }
+{}
+
+/// Words are statements, each with the periods behind it, in one way.
+pub fn one_list_of_ended()
+    ensures { OneListOfEnded }
 {}

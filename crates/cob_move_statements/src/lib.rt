@@ -10,7 +10,7 @@
 //! memory, or the words are no paragraph (`fault`), and it names the line of the first word where no statement stands (`line`). Words are the
 //! statements of a paragraph in one way ([`one_list_of_statements`]).
 //!
-//! [`MoveRule`] names every rule that a paragraph may break, for all crates that read one, and prints as `M1` to `M10` and `M19`, or as the rule of
+//! [`MoveRule`] names every rule that a paragraph may break, for all crates that read one, and prints as `M1` to `M12` and `M19`, or as the rule of
 //! the text; [`MoveFault`] adds the line.
 //!
 //! # Where it is proved
@@ -28,6 +28,6 @@ mod senders;
 mod subscripts;
 
 pub use fault::{MoveFault, MoveRule};
-pub use laws::one_list_of_statements;
-pub use paragraph::statements;
+pub use laws::{one_list_of_ended, one_list_of_statements};
+pub use paragraph::{behind_heading, ended_statements, statements};
 pub use parts::{Action, Reference, Statement, StatementSender};

@@ -1,3 +1,4 @@
+ghost use Rattle.cob_move_loops.specs.Words.{IsPeriod, NoPeriod, first_line};
 ghost use Rattle.std.specs.Prelude.{
   ◌≡◌,
   ◌⊎◌,
@@ -30,12 +31,9 @@ ghost use Rattle.cob_move_statements.specs.Statements.{
   IsParagraph,
   IsEndedStatement,
   IsStatement,
-  IsPeriod,
   NoName,
-  NoPeriod,
   Several,
   StatementStands,
-  first_line,
 };
 
 use crate::actions::action_at;
@@ -171,7 +169,7 @@ fn ungrammatical(words: &[Token]) -> MoveFault
 /// # Errors
 ///
 /// The words are no statements, or memory was refused.
-fn ended_statements(alloc: Global, words: &[Token]) -> Result<Vec<Statement<'_>>, MoveFault>
+pub fn ended_statements(alloc: Global, words: &[Token]) -> Result<Vec<Statement<'_>>, MoveFault>
     ensures found { IfOk result
         (λ v. Several IsEndedStatement (written_statements v.items) (lexemes words.now)) }
     ensures only { (ss : List WrittenStatement) → Several IsEndedStatement ss (lexemes words.now)
@@ -208,7 +206,7 @@ fn heading_at(words: &[Token]) -> Option<&[Token]>
 }
 
 /// The words behind the paragraph's name and its period, if they come first.
-fn behind_heading(words: &[Token]) -> &[Token]
+pub fn behind_heading(words: &[Token]) -> &[Token]
     ensures found { IsBody (lexemes words.now) (lexemes result.now) }
     ensures only { (ws more : List Lexeme) → IsHeading ws → NoName more
         → lexemes words.now ≡ ws ++ more → lexemes result.now ≡ more }

@@ -1,7 +1,9 @@
 use Rattle.std.proofs.lemmas.Result.{err_from_is_err_and}
 use Rattle.cob_source.specs.Tokens.{lexemes}
 use Rattle.cob_source.specs.Words.{AreParagraphWordsOf}
-use Rattle.cob_move.proofs.ParagraphLemmas.{source_refused, words_refused}
+use Rattle.cob_move_names.specs.Directory.{entries_named}
+use Rattle.cob_move.proofs.LoopLemmas.{body_refused, says_paragraph}
+use Rattle.cob_move.proofs.ParagraphLemmas.{source_refused}
 use Rattle.cob_move.proofs.paragraph.moves_of_whole.Goals as goal
 
 pub returns-in_err-words-clause-fault : goal.returns-in_err-words-clause-fault
@@ -9,8 +11,13 @@ returns-in_err-words-clause-fault c =
     let p = err_from_is_err_and c.from_residual.result c.from_residual.ensures.1 in
     rw (p.1, p.2) (source_refused c.in_err-words.field-0.0.rule c.in_err-words.field-0.0.line c.args.text.now c.args.input.now c.args.output.now c.in_err-words.ensures.refused)
 
-pub returns-in_err-statements-clause-fault : goal.returns-in_err-statements-clause-fault
-returns-in_err-statements-clause-fault c =
-    let p = err_from_is_err_and c.from_residual-in_err-statements.result c.from_residual-in_err-statements.ensures.1 in
-    let words : AreParagraphWordsOf c.args.text.now (lexemes c.as_slice.result.now) = rw c.as_slice.ensures.value c.in_ok-words.ensures.words in
-    rw (p.1, p.2) (words_refused c.in_err-statements.field-0.0.rule c.in_err-statements.field-0.0.line c.args.text.now (lexemes c.as_slice.result.now) c.args.input.now c.args.output.now words c.in_err-statements.ensures.fault c.in_err-statements.ensures.line)
+pub returns-clause-found : goal.returns-clause-found
+returns-clause-found c =
+    let are : AreParagraphWordsOf c.args.text.now (lexemes c.as_slice.result.now) = rw c.as_slice.ensures.value c.in_ok-words.ensures.words in
+    says_paragraph c.args.text.now (lexemes c.as_slice.result.now) (lexemes c.body_of-body.result.now) _ c.in_ok-list.list.items are c.body_of-body.ensures c.in_ok-list.ensures.found c.in_ok-names.ensures
+
+pub returns-in_err-list-clause-fault : goal.returns-in_err-list-clause-fault
+returns-in_err-list-clause-fault c =
+    let p = err_from_is_err_and c.from_residual-in_err-list.result c.from_residual-in_err-list.ensures.1 in
+    let are : AreParagraphWordsOf c.args.text.now (lexemes c.as_slice.result.now) = rw c.as_slice.ensures.value c.in_ok-words.ensures.words in
+    rw (p.1, p.2) (body_refused c.args.text.now (lexemes c.as_slice.result.now) (lexemes c.body_of-body.result.now) (entries_named c.in_ok-names.names) c.args.input.now c.args.output.now c.in_err-list.field-0.0 are c.body_of-body.ensures c.in_err-list.ensures.fault c.in_ok-names.ensures)

@@ -12,6 +12,7 @@ pub returns-clause-added : goal.returns-clause-added
 returns-clause-added c = λ yes. record {
   statements = written_statements c.as_slice.result.now;
   own = c.in-Some-2.own.items;
+  plain = rw c.in-Some.is at c.in_ok-read.ensures.plain;
   spelled = let is = rw c.in-Some.is at c.in_ok-read.ensures.found in rw c.as_slice.ensures.value is;
   meant = rw c.in-Some-2.is at c.in_ok-own.ensures.found;
   added = c.in_ok-append.ensures.items;

@@ -19,4 +19,4 @@ loop-piece-preserved c = record {
 }
 
 pub returns-then-not-more-clause-found : goal.returns-then-not-more-clause-found
-returns-then-not-more-clause-found c = all_said c.args.text.now c.args.entries.now c.loop-piece.list.items c.loop-piece.ahead c.loop-piece.more c.loop-piece.invariant.says c.if-not-more.true c.requires.named
+returns-then-not-more-clause-found c = all_said c.args.text.now c.args.entries.now c.loop-piece.list.items c.loop-piece.ahead c.loop-piece.more c.loop-piece.invariant.says c.if-not-more.true c.requires.named c.no_turn.ensures

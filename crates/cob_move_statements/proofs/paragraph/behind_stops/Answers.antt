@@ -1,5 +1,5 @@
+use Rattle.cob_move_loops.specs.Words.{IsPeriod, NoPeriod}
 use Rattle.cob_source.specs.Tokens.{lexemes}
-use Rattle.cob_move_statements.specs.Statements.{IsPeriod, NoPeriod}
 use Rattle.cob_move_statements.proofs.ParagraphLemmas.{no_stop}
 use Rattle.cob_move_statements.proofs.Fronts.{begins, goes, ends}
 use Rattle.cob_move_statements.proofs.paragraph.behind_stops.Goals as goal

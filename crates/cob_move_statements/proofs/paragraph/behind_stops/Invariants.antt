@@ -1,6 +1,6 @@
+use Rattle.cob_move_loops.specs.Words.{IsPeriod, NoPeriod}
 use Rattle.std.proofs.Common.{length}
 use Rattle.cob_source.specs.Tokens.{lexemes}
-use Rattle.cob_move_statements.specs.Statements.{IsPeriod, NoPeriod}
 use Rattle.cob_move_statements.proofs.Fronts.{Front}
 use Rattle.cob_move_statements.proofs.paragraph.behind_stops.Given as goal
 

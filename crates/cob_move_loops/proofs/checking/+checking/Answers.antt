@@ -1,0 +1,34 @@
+use Rattle.std.proofs.Common.{arith}
+use Rattle.std.proofs.lemmas.Result.{err_from_is_err_and}
+use Rattle.cob_source.specs.Tokens.{lexemes}
+use Rattle.cob_move_loops.specs.Passages.{breaks_here}
+use Rattle.cob_move_loops.specs.Reading.{item_front}
+use Rattle.cob_move_loops.proofs.PassageLemmas.{broken_within, checked_all, checked_first, checked_more, none_left, shorter, some_left}
+use Rattle.cob_move_loops.proofs.checking.+checking.Goals as goal
+
+pub check-loop-rest-init : goal.check-loop-rest-init
+check-loop-rest-init t c = record { checked = checked_first (lexemes c.args.words.now); fewer = omega arith }
+
+pub check-loop-rest-preserved : goal.check-loop-rest-preserved
+check-loop-rest-preserved t c =
+    let f = item_front c.in-Some.item in
+    let less = shorter f (lexemes c.loop-rest.rest.now) (lexemes c.in-Some.more.now) c.in-Some.ensures.found in record {
+      checked = checked_more (lexemes c.args.words.now) (lexemes c.loop-rest.rest.now) (lexemes c.in-Some.more.now) f c.loop-rest.invariant.checked c.in-Some.ensures.found c.in_ok-check_item.ensures.found;
+      fewer = omega (arith, c.loop-rest.invariant.fewer, less);
+    }
+
+pub check-loop-rest-smaller : goal.check-loop-rest-smaller
+check-loop-rest-smaller t c = shorter (item_front c.in-Some.item) (lexemes c.loop-rest.rest.now) (lexemes c.in-Some.more.now) c.in-Some.ensures.found
+
+pub check-returns-in_err-check_item-clause-line : goal.check-returns-in_err-check_item-clause-line
+check-returns-in_err-check_item-clause-line t c =
+    let p = err_from_is_err_and c.from_residual.result c.from_residual.ensures.1 in
+    rw (p.1, p.2) (broken_within (lexemes c.args.words.now) (lexemes c.loop-rest.rest.now) (lexemes c.in-Some.more.now) (item_front c.in-Some.item) c.in_err-check_item.field-0.0 c.loop-rest.invariant.checked c.in-Some.ensures.found c.in_err-check_item.ensures.line)
+
+pub check-returns-in_default-clause-line : goal.check-returns-in_default-clause-line
+check-returns-in_default-clause-line t c =
+    c.loop-rest.invariant.checked.broken c.line_of.result (breaks_here (lexemes c.loop-rest.rest.now) c.line_of.result (some_left c.loop-rest.rest.now c.is_empty.result c.is_empty.ensures c.loop-rest-test.true) c.in_default.ensures.only c.line_of.ensures)
+
+pub check-returns-clause-found : goal.check-returns-clause-found
+check-returns-clause-found t c =
+    checked_all (lexemes c.args.words.now) (lexemes c.loop-rest.rest.now) c.loop-rest.invariant.checked (none_left c.loop-rest.rest.now c.is_empty.result c.is_empty.ensures c.loop-rest-test.false)

@@ -1,0 +1,10 @@
+use Rattle.std.proofs.Common.{length}
+use Rattle.cob_source.specs.Tokens.{lexemes}
+use Rattle.cob_move_loops.proofs.FrontLemmas.{Others}
+use Rattle.cob_move_loops.proofs.front.others_at.Given as goal
+
+abbrev pub invariant-loop-more : goal.invariant-loop-more
+invariant-loop-more l = Others (lexemes l.words) (lexemes l.rest)
+
+abbrev pub decreases-loop-more : goal.decreases-loop-more
+decreases-loop-more l = length (lexemes l.rest)

@@ -1,0 +1,71 @@
+-- The words of loops.
+use Rattle.std.specs.Prelude.{◌≡◌, ◌≢◌, ℕ, ◌<◌, if◌then◌else◌, bytes_eq, codes, List, [], ◌∷◌, Option, Some, None}
+use Rattle.cob_move_loops.specs.Limits.{most_counter_digits}
+use Rattle.cob_source.specs.Tokens.{Lexeme}
+use Rattle.cob_source.specs.declared.token.TokenKind.{TokenKind}
+use Rattle.cob_source.specs.declared.token.TokenKind.TheVariants as kind
+use Rattle.cob_copybook_clauses.specs.Clauses.{IsNameWord}
+use Rattle.cob_copybook_entries.specs.Meaning.{IsIntegerText}
+use Rattle.cob_move_loops.specs.declared.words.LoopWord.{LoopWord}
+use Rattle.cob_move_loops.specs.declared.words.LoopWord.TheVariants as loop
+
+-- the word of loops that a text is, if it is one
+abbrev pub loop_word_in : List ℕ → Option LoopWord
+loop_word_in text =
+    if bytes_eq text (codes "PERFORM") then Some loop.Perform
+    else if bytes_eq text (codes "END-PERFORM") then Some loop.EndPerform
+    else if bytes_eq text (codes "CONTINUE") then Some loop.Continue
+    else None
+
+-- a literal and a period are no words
+abbrev pub loop_word_of_kind : TokenKind → List ℕ → Option LoopWord
+loop_word_of_kind kind.Word text = loop_word_in text
+loop_word_of_kind kind.Literal text = None
+loop_word_of_kind kind.Stop text = None
+
+-- the word of loops that a word is, if it is one: none of these is a name in a paragraph
+abbrev pub loop_word : Lexeme → Option LoopWord
+loop_word w = loop_word_of_kind w.kind w.text
+
+-- this word of loops
+abbrev pub IsLoopWord : LoopWord → Lexeme → Type 0
+IsLoopWord l w = loop_word w ≡ Some l
+
+-- no word of loops
+abbrev pub IsOther : Lexeme → Type 0
+IsOther w = loop_word w ≡ None
+
+-- nothing comes first, or a word of loops
+abbrev pub LoopWordFirst : List Lexeme → Type 0
+LoopWordFirst [] = Unit {0}
+LoopWordFirst (w ∷ ws) = IsOther w → ⊥
+
+-- a period, before a space or the end of a line
+abbrev pub IsPeriod : Lexeme → Type 0
+IsPeriod w = w.kind ≡ kind.Stop
+
+-- no period comes first
+abbrev pub NoPeriod : List Lexeme → Type 0
+NoPeriod [] = Unit {0}
+NoPeriod (w ∷ ws) = IsPeriod w → ⊥
+
+-- no period
+abbrev pub IsNoPeriod : Lexeme → Type 0
+IsNoPeriod w = w.kind ≢ kind.Stop
+
+-- a name that a counter may have: no word of loops
+pub record IsCounter (name : List ℕ) (w : Lexeme) : Type 0 where
+  pub named : IsNameWord w
+  pub other : IsOther w
+  pub same : w.text ≡ name
+
+-- a number of a loop: a word of at most nine digits, which is not 0
+pub record IsNumber (n : ℕ) (w : Lexeme) : Type 0 where
+  pub word : w.kind ≡ kind.Word
+  pub spelled : IsIntegerText most_counter_digits w.text n
+  pub some : 0 < n
+
+-- the line of the first word, or 1 where there is none
+abbrev pub first_line : List Lexeme → ℕ
+first_line [] = 1
+first_line (w ∷ ws) = w.line

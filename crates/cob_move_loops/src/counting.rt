@@ -1,0 +1,219 @@
+//! How much passages come to.
+
+ghost use Rattle.std.specs.Prelude.{◌≡◌, ◌↔◌, ◌+◌, ◌*◌, ◌<◌, ◌≤◌, IfNone, IfSome, IsTrue, Some};
+ghost use Rattle.cob_source.specs.Tokens.{lexeme, lexemes};
+ghost use Rattle.cob_move_loops.specs.Few.{IsFew, IsShallow, loop_line, looped_of, statements_in, statements_of};
+ghost use Rattle.cob_move_loops.specs.Limits.{most_written_out};
+ghost use Rattle.cob_move_loops.specs.Passages.{IsPassage, Passage};
+ghost use Rattle.cob_move_loops.specs.Reading.{Within, item_front, looped_front, statements_front, written_loop};
+ghost use Rattle.cob_move_loops.specs.Turns.{turns_of};
+ghost use Rattle.cob_move_loops.specs.Words.{loop_word};
+
+use crate::front::{Item, depth_behind, item_at};
+use crate::parts::Loop;
+use crate::words::{LoopWord, loop_word};
+use cob_copybook_clauses::{WordClass, is_term};
+use cob_source::Token;
+
+/// The most statements that loops come to.
+const MAX_WRITTEN_OUT: u64 = 100_000;
+
+/// The most loops that are open.
+const MAX_OPEN: usize = 16;
+
+/// How many turns a loop has.
+pub(crate) fn turns_of(head: &Loop<'_>) -> u64
+    ensures { result ≡ turns_of (written_loop head.now) }
+{
+    if head.bound < head.from {
+        return 0;
+    }
+    u64::from(head.bound - head.from) / u64::from(head.by) + 1
+}
+
+/// A number of statements, where it is not over the most.
+fn within_most(count: u64) -> Option<u64>
+    ensures some { IfSome result (λ n. (n ≡ count) × (n ≤ most_written_out)) }
+    ensures none { IfNone result (most_written_out < count) }
+{
+    if count > MAX_WRITTEN_OUT {
+        return None;
+    }
+    Some(count)
+}
+
+/// The statements of two parts, where they are not over the most.
+fn sum_of(first: u64, second: u64) -> Option<u64>
+    requires first { first ≤ most_written_out }
+    requires second { second ≤ most_written_out }
+    ensures some { IfSome result (λ n. (n ≡ first + second) × (n ≤ most_written_out)) }
+    ensures none { IfNone result (most_written_out < first + second) }
+{
+    within_most(first + second)
+}
+
+/// The statements of so many turns, where they are not over the most.
+fn product_of(turns: u64, own: u64) -> Option<u64>
+    ensures some { IfSome result (λ n. (n ≡ turns * own) × (n ≤ most_written_out)) }
+    ensures none { IfNone result (most_written_out < turns * own) }
+{
+    match turns.checked_mul(own) {
+        Some(product) => within_most(product),
+        None => None,
+    }
+}
+
+/// The statements that begin in words, where they are not over the most.
+fn statements_in(words: &[Token]) -> Option<u64>
+    ensures some { IfSome result (λ n. (n ≡ statements_in (lexemes words.now))
+        × (n ≤ most_written_out)) }
+    ensures none { IfNone result (most_written_out < statements_in (lexemes words.now)) }
+{
+    let mut count: u64 = 0;
+    let mut rest = words;
+    while let Some((first, more)) = rest.split_first() {
+        if is_term(first, WordClass::Move) {
+            count = sum_of(count, 1)?;
+        }
+        rest = more;
+    }
+    Some(count)
+}
+
+/// The statements of a loop once it is written out, where they are not over the most.
+#[cycle(counting)]
+fn count_turns(head: &Loop<'_>, body: &[Token]) -> Option<u64>
+    ensures some { IfSome result (λ n. (p : Passage) → IsPassage p (lexemes body.now)
+        → n ≡ turns_of (written_loop head.now) * statements_of p) }
+    ensures most { IfSome result (λ n. n ≤ most_written_out) }
+    ensures none { IfNone result ((p : Passage) → IsPassage p (lexemes body.now)
+        → most_written_out < turns_of (written_loop head.now) * statements_of p) }
+{
+    let turns = turns_of(head);
+    if turns == 0 {
+        return Some(0);
+    }
+    let own = count_all(body)?;
+    product_of(turns, own)
+}
+
+/// The statements of what stands in front once it is written out, where they are not over the most.
+#[cycle(counting)]
+fn count_item(item: &Item<'_>) -> Option<u64>
+    ensures some { IfSome result (λ n. (p : Passage) → Within (item_front item.now) p
+        → n ≡ statements_front (item_front item.now) p) }
+    ensures most { IfSome result (λ n. n ≤ most_written_out) }
+    ensures none { IfNone result ((p : Passage) → Within (item_front item.now) p
+        → most_written_out < statements_front (item_front item.now) p) }
+{
+    match item {
+        Item::Run(words) => statements_in(words),
+        Item::Pause => Some(0),
+        Item::Loop { head, body } => count_turns(head, body),
+    }
+}
+
+/// The statements of a passage once its loops are written out, where they are not over the most.
+#[cycle(counting)]
+pub(crate) fn count_all(words: &[Token]) -> Option<u64>
+    ensures some { IfSome result (λ n. (p : Passage) → IsPassage p (lexemes words.now)
+        → n ≡ statements_of p) }
+    ensures most { IfSome result (λ n. n ≤ most_written_out) }
+    ensures none { IfNone result ((p : Passage) → IsPassage p (lexemes words.now)
+        → most_written_out < statements_of p) }
+{
+    let mut count: u64 = 0;
+    let mut rest = words;
+    while let Some((item, more)) = item_at(rest) {
+        let own = count_item(&item)?;
+        let sum = sum_of(count, own)?;
+        count = sum;
+        rest = more;
+    }
+    Some(count)
+}
+
+/// The statements of what stands in front once it is written out, if it is a loop, where they are not over the most.
+fn count_looped(item: &Item<'_>) -> Option<u64>
+    ensures some { IfSome result (λ n. (p : Passage) → Within (item_front item.now) p
+        → n ≡ looped_front (item_front item.now) p) }
+    ensures most { IfSome result (λ n. n ≤ most_written_out) }
+    ensures none { IfNone result ((p : Passage) → Within (item_front item.now) p
+        → most_written_out < looped_front (item_front item.now) p) }
+{
+    match item {
+        Item::Run(_) | Item::Pause => Some(0),
+        Item::Loop { head, body } => count_turns(head, body),
+    }
+}
+
+/// The statements that the loops of a passage come to, where they are not over the most.
+fn count_loops(words: &[Token]) -> Option<u64>
+    ensures some { IfSome result (λ n. (p : Passage) → IsPassage p (lexemes words.now)
+        → n ≡ looped_of p) }
+    ensures most { IfSome result (λ n. n ≤ most_written_out) }
+    ensures none { IfNone result ((p : Passage) → IsPassage p (lexemes words.now)
+        → most_written_out < looped_of p) }
+{
+    let mut count: u64 = 0;
+    let mut rest = words;
+    while let Some((item, more)) = item_at(rest) {
+        let own = count_looped(&item)?;
+        let sum = sum_of(count, own)?;
+        count = sum;
+        rest = more;
+    }
+    Some(count)
+}
+
+/// Whether the loops of a passage come to few statements.
+pub fn is_few(words: &[Token]) -> bool
+    ensures { (p : Passage) → IsPassage p (lexemes words.now) → (IsTrue result ↔ IsFew p) }
+{
+    count_loops(words).is_some()
+}
+
+/// Whether few loops of words hold one another.
+pub fn is_shallow(words: &[Token]) -> bool
+    ensures { IsTrue result ↔ IsShallow (lexemes words.now) }
+{
+    let mut depth: usize = 0;
+    let mut rest = words;
+    while let Some((first, more)) = rest.split_first() {
+        match depth_behind(depth, loop_word(first), MAX_OPEN + 1) {
+            Some(next) => {
+                if next > MAX_OPEN {
+                    return false;
+                }
+                depth = next;
+                rest = more;
+            }
+            None => return true,
+        }
+    }
+    true
+}
+
+/// Whether a word is PERFORM.
+fn is_perform(token: &Token) -> bool
+    ensures { IsTrue result ↔ loop_word (lexeme token.now) ≡ Some LoopWord.Perform }
+{
+    match loop_word(token) {
+        Some(LoopWord::Perform) => true,
+        Some(LoopWord::EndPerform) | Some(LoopWord::Continue) | None => false,
+    }
+}
+
+/// The line of the first loop, or 1 where there is none.
+pub fn loop_line(words: &[Token]) -> u32
+    ensures { result ≡ loop_line (lexemes words.now) }
+{
+    let mut rest = words;
+    while let Some((first, more)) = rest.split_first() {
+        if is_perform(first) {
+            return first.line;
+        }
+        rest = more;
+    }
+    1
+}

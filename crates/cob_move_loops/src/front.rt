@@ -1,0 +1,211 @@
+//! What stands in front of a passage.
+
+ghost use Rattle.std.specs.Prelude.{◌≡◌, ◌↔◌, ℕ, ◌<◌, ◌≤◌, ◌+◌, ◌∷◌, ◌++◌, List, length, Option, Some, None, IfNone, IfSome, IsFalse, IsSomeAnd, IsTrue};
+ghost use Rattle.std.specs.List.{AllByRecursion};
+ghost use Rattle.cob_source.specs.Tokens.{Lexeme, lexeme, lexemes};
+ghost use Rattle.cob_move_loops.specs.Words.{IsNoPeriod, IsOther, IsPeriod, LoopWordFirst, NoPeriod, loop_word};
+ghost use Rattle.cob_move_loops.specs.Passages.{APause, ARun, PassageFront, FrontStands, IsLoopBody, IsRun, Looped, WrittenLoop, open_behind, open_by};
+ghost use Rattle.cob_move_loops.specs.Reading.{AnswersFront, ClosedInFront, item_front};
+
+use crate::head::head_at;
+use crate::parts::Loop;
+use crate::words::{LoopWord, behind_loop_word, loop_word};
+use cob_copybook_clauses::{WordClass, front, is_term};
+use cob_source::{Token, TokenKind};
+
+/// What stands in front of a passage.
+#[derive(Clone, Copy)]
+pub(crate) enum Item<'a> {
+    /// Words of MOVE statements.
+    Run(&'a [Token]),
+    /// CONTINUE.
+    Pause,
+    /// A loop with the words of its statements.
+    Loop { head: Loop<'a>, body: &'a [Token] },
+}
+
+/// Whether a token is a period.
+fn is_stop(token: &Token) -> bool
+    ensures { IsTrue result ↔ IsPeriod (lexeme token.now) }
+{
+    token.kind == TokenKind::Stop
+}
+
+/// The words behind the period in front, if there is one.
+fn behind_stop(words: &[Token]) -> Option<&[Token]>
+    ensures found { IfSome result (λ r. (w : Lexeme) × IsPeriod w
+        × (lexemes words.now ≡ w ∷ lexemes r.now)) }
+    ensures only { (w : Lexeme) (more : List Lexeme) → IsPeriod w → lexemes words.now ≡ w ∷ more
+        → IsSomeAnd result (λ r. lexemes r.now ≡ more) }
+{
+    let (first, more) = words.split_first()?;
+    if !is_stop(first) {
+        return None;
+    }
+    Some(more)
+}
+
+/// The words behind the periods in front.
+fn behind_stops(words: &[Token]) -> &[Token]
+    ensures found { (stops : List Lexeme) × AllByRecursion IsPeriod stops
+        × (lexemes words.now ≡ stops ++ lexemes result.now) }
+    ensures only { (stops more : List Lexeme) → AllByRecursion IsPeriod stops → NoPeriod more
+        → lexemes words.now ≡ stops ++ more → lexemes result.now ≡ more }
+    ensures none { NoPeriod (lexemes result.now) }
+{
+    let mut rest = words;
+    while let Some(more) = behind_stop(rest) {
+        rest = more;
+    }
+    rest
+}
+
+/// The words behind the one in front, if that is no word of loops.
+fn behind_other(words: &[Token]) -> Option<&[Token]>
+    ensures found { IfSome result (λ r. (w : Lexeme) × IsOther w
+        × (lexemes words.now ≡ w ∷ lexemes r.now)) }
+    ensures none { IfNone result (LoopWordFirst (lexemes words.now)) }
+{
+    let (first, more) = words.split_first()?;
+    match loop_word(first) {
+        Some(_) => None,
+        None => Some(more),
+    }
+}
+
+/// The words in front that are no words of loops, as many as there are, and what is behind them.
+fn others_at(words: &[Token]) -> (&[Token], &[Token])
+    ensures are { AllByRecursion IsOther (lexemes result.0.now) }
+    ensures found { lexemes words.now ≡ lexemes result.0.now ++ lexemes result.1.now }
+    ensures ends { LoopWordFirst (lexemes result.1.now) }
+{
+    let mut rest = words;
+    while let Some(more) = behind_other(rest) {
+        rest = more;
+    }
+    (front(words, rest.len()), rest)
+}
+
+/// Whether words of which none is a word of loops begin with MOVE.
+fn is_run(words: &[Token]) -> bool
+    requires { AllByRecursion IsOther (lexemes words.now) }
+    ensures { IsTrue result ↔ IsRun (lexemes words.now) }
+{
+    match words.split_first() {
+        Some((first, _)) => is_term(first, WordClass::Move),
+        None => false,
+    }
+}
+
+/// The words of MOVE statements in front, and what is behind them.
+fn run_at(words: &[Token]) -> Option<(Item<'_>, &[Token])>
+    ensures found { IfSome result
+        (λ r. FrontStands (item_front r.0) (lexemes words.now) (lexemes r.1.now)) }
+    ensures only { (own more : List Lexeme) → FrontStands (ARun own) (lexemes words.now) more
+        → AnswersFront result (ARun own) more }
+{
+    let (own, rest) = others_at(words);
+    if !is_run(own) {
+        return None;
+    }
+    Some((Item::Run(own), rest))
+}
+
+/// CONTINUE in front, and what is behind it and its periods.
+fn pause_at(words: &[Token]) -> Option<(Item<'_>, &[Token])>
+    ensures found { IfSome result
+        (λ r. FrontStands (item_front r.0) (lexemes words.now) (lexemes r.1.now)) }
+    ensures only { (more : List Lexeme) → FrontStands APause (lexemes words.now) more
+        → AnswersFront result APause more }
+{
+    let rest = behind_loop_word(words, LoopWord::Continue)?;
+    Some((Item::Pause, behind_stops(rest)))
+}
+
+/// How many loops are open behind a word, where they are fewer than so many before; none where it ends one that is not there.
+pub(crate) fn depth_behind(depth: usize, word: Option<LoopWord>, most: usize) -> Option<usize>
+    requires room { depth < most }
+    ensures value { result ≡ open_by word (Some depth) }
+    ensures most { IfSome result (λ d. d ≤ depth + 1) }
+{
+    match word {
+        Some(LoopWord::Perform) => { if depth < most { Some(depth + 1) } else { None } }
+        Some(LoopWord::EndPerform) => { if depth > 0 { Some(depth - 1) } else { None } }
+        Some(LoopWord::Continue) | None => Some(depth),
+    }
+}
+
+/// The words before the END-PERFORM that ends the loop in front, and what is behind it.
+fn body_at(words: &[Token]) -> Option<(&[Token], &[Token])>
+    ensures found { IfSome result
+        (λ r. ClosedInFront (lexemes r.0.now) (lexemes words.now) (lexemes r.1.now)) }
+    ensures only { (own more : List Lexeme) → ClosedInFront own (lexemes words.now) more
+        → IsSomeAnd result (λ r. (lexemes r.0.now ≡ own) × (lexemes r.1.now ≡ more)) }
+{
+    let mut depth: usize = 0;
+    let mut rest = words;
+    while let Some((first, more)) = rest.split_first() {
+        match depth_behind(depth, loop_word(first), words.len()) {
+            Some(next) => {
+                depth = next;
+                rest = more;
+            }
+            None => return Some((front(words, rest.len()), more)),
+        }
+    }
+    None
+}
+
+/// Whether no period is among words.
+fn has_no_period(words: &[Token]) -> bool
+    ensures { IsTrue result ↔ AllByRecursion IsNoPeriod (lexemes words.now) }
+{
+    let mut rest = words;
+    while let Some((first, more)) = rest.split_first() {
+        if is_stop(first) {
+            return false;
+        }
+        rest = more;
+    }
+    true
+}
+
+/// Whether words in which as many loops are closed as are opened may be the statements of a loop.
+fn is_body(words: &[Token]) -> bool
+    requires { open_behind (Some 0) (lexemes words.now) ≡ Some 0 }
+    ensures { IsTrue result ↔ IsLoopBody (lexemes words.now) }
+{
+    !words.is_empty() && has_no_period(words)
+}
+
+/// The loop in front, and what is behind it and its periods.
+fn loop_at(words: &[Token]) -> Option<(Item<'_>, &[Token])>
+    ensures found { IfSome result
+        (λ r. FrontStands (item_front r.0) (lexemes words.now) (lexemes r.1.now)) }
+    ensures only { (l : WrittenLoop) (own more : List Lexeme)
+        → FrontStands (Looped l own) (lexemes words.now) more
+        → AnswersFront result (Looped l own) more }
+{
+    let (head, inner) = head_at(words)?;
+    let (body, rest) = body_at(inner)?;
+    if !is_body(body) {
+        return None;
+    }
+    Some((Item::Loop { head, body }, behind_stops(rest)))
+}
+
+/// What stands in front of a passage, and what is behind it and its periods.
+pub(crate) fn item_at(words: &[Token]) -> Option<(Item<'_>, &[Token])>
+    ensures found { IfSome result
+        (λ r. FrontStands (item_front r.0) (lexemes words.now) (lexemes r.1.now)) }
+    ensures only { (f : PassageFront) (more : List Lexeme) → FrontStands f (lexemes words.now) more
+        → AnswersFront result f more }
+{
+    let (first, _) = words.split_first()?;
+    match loop_word(first) {
+        None => run_at(words),
+        Some(LoopWord::Perform) => loop_at(words),
+        Some(LoopWord::Continue) => pause_at(words),
+        Some(LoopWord::EndPerform) => None,
+    }
+}

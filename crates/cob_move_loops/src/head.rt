@@ -1,0 +1,134 @@
+//! The heads of loops.
+
+ghost use Rattle.std.specs.Prelude.{◌≡◌, ◌↔◌, ℕ, ◌∷◌, ◌++◌, List, IfSome, IsTrue};
+ghost use Rattle.cob_copybook_clauses.specs.Clauses.{IsNameWord};
+ghost use Rattle.cob_copybook_clauses.specs.Reading.{Answers, AnswersText, EachCut, Leaves, StandInFront};
+ghost use Rattle.cob_source.specs.Tokens.{Lexeme, lexeme, lexemes};
+ghost use Rattle.cob_move_loops.specs.Words.{IsCounter, IsOther};
+ghost use Rattle.cob_move_loops.specs.Passages.{IsGreater, IsHead, IsPastWord, IsStepping, IsUntil, IsVarying, NotThanFirst, WrittenLoop};
+ghost use Rattle.cob_move_loops.specs.Reading.{AfterIs, AnswersNamed, AnswersNumbers, AnswersTested, written_loop};
+
+use crate::number::number_at;
+use crate::parts::Loop;
+use crate::words::{LoopWord, behind_loop_word, behind_text, line_of, loop_word};
+use cob_copybook_clauses::is_name_word;
+use cob_source::Token;
+
+/// Whether a word is a name that a counter may have.
+fn is_counter(token: &Token) -> bool
+    ensures { IsTrue result ↔ (IsNameWord (lexeme token.now) × IsOther (lexeme token.now)) }
+{
+    is_name_word(token) && loop_word(token).is_none()
+}
+
+/// The counter in front, and what is behind it.
+fn counter_at(words: &[Token]) -> Option<(&[u8], &[Token])>
+    ensures found { IfSome result (λ r. (w : Lexeme) × IsCounter r.0.now w
+        × (lexemes words.now ≡ w ∷ lexemes r.1.now)) }
+    ensures only { (name : List ℕ) (w : Lexeme) (more : List Lexeme) → IsCounter name w
+        → lexemes words.now ≡ w ∷ more → AnswersText result name more }
+{
+    let (first, more) = words.split_first()?;
+    if !is_counter(first) {
+        return None;
+    }
+    Some((first.text.as_slice(), more))
+}
+
+/// The line of PERFORM VARYING in front, the counter behind it, and what is behind that.
+fn varying_at(words: &[Token]) -> Option<(u32, &[u8], &[Token])>
+    ensures found { IfSome result (λ r. StandInFront (IsVarying r.0 r.1.now) (lexemes words.now)
+        (lexemes r.2.now)) }
+    ensures only { (line : ℕ) (name : List ℕ) (ws more : List Lexeme) → IsVarying line name ws
+        → lexemes words.now ≡ ws ++ more → AnswersNamed result line name more }
+{
+    let performed = behind_loop_word(words, LoopWord::Perform)?;
+    let varied = behind_text(performed, b"VARYING")?;
+    let (name, more) = counter_at(varied)?;
+    Some((line_of(words), name, more))
+}
+
+/// FROM and BY in front with their numbers, and what is behind them.
+fn stepping_at(words: &[Token]) -> Option<(u32, u32, &[Token])>
+    ensures found { IfSome result (λ r. StandInFront (IsStepping r.0 r.1) (lexemes words.now)
+        (lexemes r.2.now)) }
+    ensures only { (from by : ℕ) (ws more : List Lexeme) → IsStepping from by ws
+        → lexemes words.now ≡ ws ++ more → AnswersNumbers result from by more }
+{
+    let begun = behind_text(words, b"FROM")?;
+    let (from, stepped) = number_at(begun)?;
+    let added = behind_text(stepped, b"BY")?;
+    let (by, more) = number_at(added)?;
+    Some((from, by, more))
+}
+
+/// The words behind GREATER in front, and behind THAN where it follows.
+fn behind_greater(words: &[Token]) -> Option<&[Token]>
+    ensures found { IfSome result (λ r. StandInFront IsGreater (lexemes words.now) (lexemes r.now)) }
+    ensures only { EachCut IsGreater NotThanFirst (lexemes words.now) (Leaves result) }
+{
+    let more = behind_text(words, b"GREATER")?;
+    match behind_text(more, b"THAN") {
+        Some(rest) => Some(rest),
+        None => Some(more),
+    }
+}
+
+/// The words behind IS in front, or all where it isn't there.
+fn skip_is(words: &[Token]) -> &[Token]
+    ensures found { AfterIs (lexemes words.now) (lexemes result.now) }
+{
+    match behind_text(words, b"IS") {
+        Some(more) => more,
+        None => words,
+    }
+}
+
+/// The words behind the sign > in front, or behind its words.
+fn behind_past(words: &[Token]) -> Option<&[Token]>
+    ensures found { IfSome result
+        (λ r. StandInFront IsPastWord (lexemes words.now) (lexemes r.now)) }
+    ensures only { EachCut IsPastWord NotThanFirst (lexemes words.now) (Leaves result) }
+{
+    if let Some(more) = behind_text(words, b">") {
+        return Some(more);
+    }
+    behind_greater(skip_is(words))
+}
+
+/// UNTIL and its test in front, and what is behind them.
+fn until_at(words: &[Token]) -> Option<(&[u8], u32, &[Token])>
+    ensures found { IfSome result (λ r. StandInFront (IsUntil r.0.now r.1) (lexemes words.now)
+        (lexemes r.2.now)) }
+    ensures only { (name : List ℕ) (bound : ℕ) (ws more : List Lexeme) → IsUntil name bound ws
+        → lexemes words.now ≡ ws ++ more → AnswersTested result name bound more }
+{
+    let tested = behind_text(words, b"UNTIL")?;
+    let (name, compared) = counter_at(tested)?;
+    let past = behind_past(compared)?;
+    let (bound, more) = number_at(past)?;
+    Some((name, bound, more))
+}
+
+/// The head of a loop in front, and what is behind it.
+pub(crate) fn head_at(words: &[Token]) -> Option<(Loop<'_>, &[Token])>
+    ensures found { IfSome result (λ r. StandInFront (IsHead (written_loop r.0))
+        (lexemes words.now) (lexemes r.1.now)) }
+    ensures only { (l : WrittenLoop) (ws more : List Lexeme) → IsHead l ws
+        → lexemes words.now ≡ ws ++ more → Answers written_loop result l more }
+{
+    let (line, counter, stepped) = varying_at(words)?;
+    let (from, by, ended) = stepping_at(stepped)?;
+    let (tested, bound, more) = until_at(ended)?;
+    Some((
+        Loop {
+            line,
+            counter,
+            from,
+            by,
+            tested,
+            bound,
+        },
+        more,
+    ))
+}
