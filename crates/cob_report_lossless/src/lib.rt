@@ -9,7 +9,8 @@
 //! - the place by the option that names the text, `there`, `back`, `in-book` or `out-book`, and the line in it where there is one.
 //!
 //! What is promised: of two items, what the second one lacks ([`lack_of`]; `Lacks` of specs/Lacks.antt), nothing exactly where it loses nothing of the
-//! first (`LosesNothing` of `cob_back_moves`); and the lines of a paragraph's statements ([`lines_of`]; `AreLinesOf` of specs/Lines.antt). Which words tell
+//! first (`LosesNothing` of `cob_back_moves`); and the lines of the statements that a paragraph comes to, those of a loop once for each of its turns
+//! ([`lines_of`]; `AreLinesOf` of specs/Lines.antt). Which words tell
 //! a loss is shown by `cob_test_jobs`.
 //!
 //! # Where it is proved

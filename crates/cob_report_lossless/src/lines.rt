@@ -1,11 +1,14 @@
-//! The lines of a paragraph's statements.
+//! The lines of a paragraph's statements, those of a loop once for each of its turns.
 
 ghost use Rattle.std.specs.Prelude.{◌≡◌, IfOk, map};
+ghost use Rattle.cob_move_loops.specs.Reading.{all_runs, run_words};
 ghost use Rattle.cob_move_statements.specs.Written.{written_statements};
-ghost use Rattle.cob_report_lossless.specs.Lines.{AreLinesOf, line_of};
+ghost use Rattle.cob_report_lossless.specs.Lines.{AreLinesOf, AreRunLines, AreStatementLines, HasBody, line_of};
+ghost use Rattle.cob_source.specs.Tokens.{lexemes};
 
-use cob_move_statements::{MoveFault, Statement, statements};
-use cob_source::paragraph_tokens;
+use cob_move_loops::{Run, check, in_turn, no_turn, write_out};
+use cob_move_statements::{MoveFault, MoveRule, Statement, behind_heading, ended_statements};
+use cob_source::{Token, paragraph_tokens};
 use std::alloc::{AllocError, Global};
 
 /// The line of the first word of each statement.
@@ -19,7 +22,60 @@ fn first_lines(alloc: Global, statements: &[Statement<'_>]) -> Result<Vec<u32>, 
     Ok(lines)
 }
 
-/// The line of the first word of each statement of a paragraph, in their order.
+/// The lines of the statements that words are.
+fn statement_lines(alloc: Global, words: &[Token]) -> Result<Vec<u32>, MoveFault>
+    ensures { IfOk result (λ lines. AreStatementLines (lexemes words.now) lines.items) }
+{
+    let statements = ended_statements(alloc, words)?;
+    let lines = first_lines(alloc, statements.as_slice())?;
+    Ok(lines)
+}
+
+/// The lines of the statements of a run, in its turn.
+fn run_lines(alloc: Global, run: &Run<'_>) -> Result<Vec<u32>, MoveFault>
+    ensures { IfOk result (λ lines. AreStatementLines (run_words run.now) lines.items) }
+{
+    // Outside of loops words are as they are written.
+    no_turn();
+    let turn = run.turn.as_slice();
+    if turn.is_empty() {
+        return statement_lines(alloc, run.words);
+    }
+    let words = in_turn(alloc, run.words, turn)?;
+    let lines = statement_lines(alloc, words.as_slice())?;
+    Ok(lines)
+}
+
+/// The lines of the statements of runs, one run's behind another's.
+fn all_lines(alloc: Global, runs: &[Run<'_>]) -> Result<Vec<u32>, MoveFault>
+    ensures { IfOk result (λ lines. AreRunLines (all_runs runs.now) lines.items) }
+{
+    let mut lines = Vec::new(alloc);
+    for run in runs {
+        let mut own = run_lines(alloc, run)?;
+        lines.append(&mut own)?;
+    }
+    Ok(lines)
+}
+
+/// The words behind a heading, if there is one, which are a passage.
+fn body_of(words: &[Token]) -> Result<&[Token], MoveFault>
+    ensures { IfOk result (λ body. HasBody (lexemes words.now) (lexemes body.now)) }
+{
+    let Err(_) = check(words) else {
+        return Ok(words);
+    };
+    let body = behind_heading(words);
+    match check(body) {
+        Ok(()) => Ok(body),
+        Err(line) => Err(MoveFault {
+            rule: MoveRule::Grammar,
+            line,
+        }),
+    }
+}
+
+/// The line of the first word of each statement of a paragraph that was read before, in their order.
 ///
 /// # Errors
 ///
@@ -28,8 +84,9 @@ pub fn lines_of(alloc: Global, text: &[u8]) -> Result<Vec<u32>, MoveFault>
     ensures { IfOk result (λ lines. AreLinesOf text.now lines.items) }
 {
     let words = paragraph_tokens(alloc, text)?;
-    let statements = statements(alloc, words.as_slice())?;
-    let lines = first_lines(alloc, statements.as_slice())?;
+    let body = body_of(words.as_slice())?;
+    let runs = write_out(alloc, body)?;
+    let lines = all_lines(alloc, runs.as_slice())?;
     Ok(lines)
 }
 
