@@ -4,7 +4,7 @@ use Rattle.std.specs.Prelude.{nat_eq, nat_le, nat_lt, if◌then◌else◌, flat_
 use Rattle.std.specs.List.{AllByRecursion}
 use Rattle.std.proofs.lemmas.Bool.Decides.{Decides-ltb, eqb_tells, leb_tells}
 use Rattle.std.proofs.lemmas.List.{length-append, map-append}
-use Rattle.cob_report_draft.specs.Loops.{Turning, all_turns, elements, loops_from, number_in, one_to, subscript_from, subscripts_from}
+use Rattle.cob_report_draft.specs.Loops.{Turning, all_turns, elements, loops_from, loops_over, number_in, one_to, subscript_from, subscripts_from}
 use Rattle.cob_report_draft.specs.declared.words.Subscript.{Subscript}
 use Rattle.cob_report_draft.specs.declared.words.Subscript.TheVariants.{Counter, First}
 
@@ -43,6 +43,16 @@ not_over n = elim (leb_tells n n) [
   | inl told ↦ told.0
   | inr told ↦ absurd (omega (arith, told.1))
 ]
+
+several_is : (n : ℕ) → 1 < n → nat_lt 1 n ≡ true
+several_is n several = (Decides-ltb 1 n).1 several
+
+few_is : (n : ℕ) → (1 < n → ⊥) → nat_lt 1 n ≡ false
+few_is n few = by (nat_lt 1 n) refl
+  where
+    by : (b : Bool) → nat_lt 1 n ≡ b → b ≡ false
+    by true is = absurd (few ((Decides-ltb 1 n).0 is))
+    by false is = refl
 
 -- the loops of a table with several elements, and of one with fewer
 loops_yes : (d n : ℕ) (ns : List ℕ) → nat_lt 1 n ≡ true → loops_from d (n ∷ ns) ≡ record { depth = d; turns = n } ∷ loops_from (d + 1) ns
@@ -109,7 +119,7 @@ one_more ns d front head below rest =
     let own = loops_from (d + 1) ns in
     let inner = subscripts_at front head own (d + 1) ns in
     agree (subscripts_at front head own d (1 ∷ ns)) (λ turn. 1 ∷ inner turn)
-      (λ turn. ap (λ (s : Subscript). number_in (head ++ turn) s ∷ inner turn) (none_there 0 d 1 front ns below)) (all_turns own)
+    (λ turn. ap (λ (s : Subscript). number_in (head ++ turn) s ∷ inner turn) (none_there 0 d 1 front ns below)) (all_turns own)
     ∙ sym (twice (λ (element : List ℕ). 1 ∷ element) inner (all_turns own))
     ∙ ap (λ es. map (λ (element : List ℕ). 1 ∷ element) es) rest
     ∙ sym (append-nil (map (λ (element : List ℕ). 1 ∷ element) (elements ns)))
@@ -144,7 +154,13 @@ with_counter head front l i is = omega (arith, is, length-append head (i ∷ [])
 
 -- a table of one element, as no more and some
 one_element : (n : ℕ) → 0 < n → nat_lt 1 n ≡ false → n ≡ 1
-one_element n some is = omega (arith, some, (Decides-ltb 1 n), is)
+one_element n some is = omega (arith, some, not_more)
+  where
+    not_more : 1 < n → ⊥
+    not_more several = absurd (no_both (sym (several_is n several) ∙ is))
+
+    no_both : true ≡ false → ⊥
+    no_both e = cc
 
 -- what holds behind the loops of some tables holds with one more table
 split : (n : ℕ) (ns : List ℕ) (d : ℕ) (front : List Turning) (head : List ℕ) → 0 < n → AreBelow d front → length head ≡ length front
@@ -164,3 +180,26 @@ pub names_elements : (ns : List ℕ) (d : ℕ) (front : List Turning) (head : Li
 names_elements [] d front head some below as_many = refl
 names_elements (n ∷ ns) d front head some below as_many =
     split n ns d front head some.0 below as_many (λ front head below as_many. names_elements ns (d + 1) front head some.1 below as_many) (nat_lt 1 n) refl
+
+behind_by : (d m n : ℕ) (ms : List ℕ) → loops_from (d + 1) (ms ++ n ∷ []) ≡ loops_from (d + 1) ms ++ loops_from (d + 1 + length ms) (n ∷ []) → (b : Bool) → nat_lt 1 m ≡ b
+    → loops_from d (m ∷ (ms ++ n ∷ [])) ≡ loops_from d (m ∷ ms) ++ loops_from (d + 1 + length ms) (n ∷ [])
+behind_by d m n ms rest true is =
+    rw (loops_yes d m (ms ++ n ∷ []) is, loops_yes d m ms is) (ap (λ (ls : List Turning). record { depth = d; turns = m } ∷ ls) rest)
+behind_by d m n ms rest false is = rw (loops_no d m (ms ++ n ∷ []) is, loops_no d m ms is) rest
+
+-- the loops of tables with one more inside
+behind : (d : ℕ) (ns : List ℕ) (n : ℕ) → loops_from d (ns ++ n ∷ []) ≡ loops_from d ns ++ loops_from (d + length ns) (n ∷ [])
+behind d [] n = ap (λ (e : ℕ). loops_from e (n ∷ [])) (omega arith)
+behind d (m ∷ ms) n =
+    behind_by d m n ms (behind (d + 1) ms n) (nat_lt 1 m) refl
+    ∙ ap (λ (e : ℕ). loops_from d (m ∷ ms) ++ loops_from e (n ∷ [])) (omega arith)
+
+-- the loops of tables of which the innermost has several elements, and of those of which it has not
+pub one_inside : (ns : List ℕ) (n : ℕ) → 1 < n → loops_over (ns ++ n ∷ []) ≡ loops_over ns ++ record { depth = length ns; turns = n } ∷ []
+one_inside ns n several = behind 0 ns n ∙ ap (λ (ls : List Turning). loops_over ns ++ ls) (loops_yes (0 + length ns) n [] (several_is n several) ∙ at (omega arith))
+  where
+    at : 0 + length ns ≡ length ns → record { depth = 0 + length ns; turns = n } ∷ [] ≡ record { depth = length ns; turns = n } ∷ []
+    at e = ap (λ (d : ℕ). record { depth = d; turns = n } ∷ []) e
+
+pub none_inside : (ns : List ℕ) (n : ℕ) → (1 < n → ⊥) → loops_over (ns ++ n ∷ []) ≡ loops_over ns
+none_inside ns n few = behind 0 ns n ∙ ap (λ (ls : List Turning). loops_over ns ++ ls) (loops_no (0 + length ns) n [] (few_is n few)) ∙ append-nil (loops_over ns)

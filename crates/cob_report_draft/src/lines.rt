@@ -48,7 +48,10 @@ pub(crate) struct DraftLines {
 fn further_on(open: usize) -> usize
     ensures { result ≤ 24 }
 {
-    open.min(DEEPEST) * DEEPER
+    if open < DEEPEST {
+        return open * DEEPER;
+    }
+    DEEPEST * DEEPER
 }
 
 /// How many bytes of words stand on a line of so many: all of them, or up to the last space where the next word begins behind it.

@@ -133,12 +133,14 @@ fn loops_over(records: &Records<'_>, innermost: Option<usize>, turns: &[u32]) ->
     let holding = outer_table(records.tables.of_entries.as_slice(), innermost);
     let mut loops = loops_over(records, holding, outer);
     if 1 < *own {
+        let last = last_beneath(records.both.outputs(), innermost);
         loops.push(TableLoop {
             table: innermost,
-            last: last_beneath(records.both.outputs(), innermost),
+            last,
             depth: outer.len(),
             turns: *own,
         });
+        return loops;
     }
     loops
 }
@@ -246,7 +248,12 @@ fn subscript_from(number: usize, loops: &[TableLoop], depth: usize, count: u32) 
 }
 
 /// Adds the subscripts, in these loops, of an entry in tables with so many elements, of which so many tables hold the first.
-fn push_subscripts(loops: &[TableLoop], depth: usize, counts: &[u32], subscripts: &mut LoopSubscripts)
+fn push_subscripts(
+    loops: &[TableLoop],
+    depth: usize,
+    counts: &[u32],
+    subscripts: &mut LoopSubscripts,
+)
     requires loops { length loops.now ≤ most_dimensions }
     requires room { length subscripts.old.items + length counts.now ≤ most_dimensions }
     requires depth { depth ≤ length subscripts.old.items }

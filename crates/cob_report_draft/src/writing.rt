@@ -50,7 +50,7 @@ impl DraftText {
 
     /// Closes loops until so many are open.
     fn close_to(&mut self, count: usize) -> Result<(), AllocError> {
-        while self.open.len() > count {
+        for _ in count..self.open.len() {
             let _ = self.open.pop();
             self.lines.close_loop()?;
         }

@@ -43,7 +43,10 @@ fn is_taken_among(entries: &[DraftBearer<'_>], name: &[u8]) -> bool
 fn is_taken(records: &BothRecords<'_>, name: &[u8]) -> bool
     ensures { result ≡ is_taken (all_bearers records.now) name.now }
 {
-    is_taken_among(records.inputs(), name) || is_taken_among(records.outputs(), name)
+    if is_taken_among(records.inputs(), name) {
+        return true;
+    }
+    is_taken_among(records.outputs(), name)
 }
 
 /// The name of a counter with this letter that no entry of two records has: the letter alone, or the least number from 1 on behind it. It is `None` where
