@@ -1,19 +1,17 @@
 """Paragraphs: MOVE statements, and the moves that they mean between two records."""
 
 import re
-from collections import deque, namedtuple
+from collections import namedtuple
 
 from .books import MOST_DIGITS, MOST_LITERAL
-from .entries import FIGURATIVE, Constant, is_name, number_of
+from .entries import Constant, number_of
 from .faults import Refused
 from .layouts import Ref
+from .statements import Named, statements_of, turn_by_turn
 from .trees import above, bears, dimensions, size_of
-from .words import paragraph_words_of
 
 # A single statement: one sender and its receivers, each a reference; the sender's side and theirs.
 Move = namedtuple("Move", "side sender receivers")
-# A name as it is written in a statement.
-Named = namedtuple("Named", "name qualifiers subscripts")
 
 # Which categories of receivers an elementary sender of a category may be moved to.
 CHARACTERS = {"alphabetic", "alphanumeric", "alphanumeric-edited"}
@@ -22,94 +20,6 @@ ALLOWED = {
     "alphabetic": CHARACTERS, "alphanumeric": CHARACTERS | NUMBERS, "alphanumeric-edited": CHARACTERS,
     "numeric": CHARACTERS | NUMBERS, "numeric-edited": NUMBERS | CHARACTERS - {"alphabetic"},
 }
-
-
-class Statements:
-    """The words of a paragraph, taken from the front."""
-
-    def __init__(self, words):
-        self.words, self.line = deque(words), words[0].line if words else 1
-
-    def refuse(self, rule):
-        raise Refused(rule, self.line)
-
-    def next(self):
-        return self.words[0].text if self.words and self.words[0].kind == "word" else ""
-
-    def take(self):
-        if not self.words:
-            self.refuse("M1")
-        return self.words.popleft()
-
-    def take_if(self, *wanted):
-        if self.next() and self.next() in wanted:
-            return self.take()
-        return None
-
-    def stops(self):
-        """Takes any number of periods; the answer is whether there is one."""
-        some = False
-        while self.words and self.words[0].kind == "stop":
-            some = self.take() is not None
-        return some
-
-    def named(self):
-        """A reference as it is written."""
-        names, subscripts = [], []
-        while True:
-            if not is_name(self.next()):
-                self.refuse("M1")
-            names.append(self.take().text)
-            if not self.take_if("OF", "IN"):
-                break
-        if self.take_if("("):
-            while not self.take_if(")"):
-                if not re.fullmatch(r"\d+", self.next()):
-                    self.refuse("M1")
-                subscripts.append(self.take().text)
-            if not subscripts:
-                self.refuse("M1")
-        return Named(names[0], names[1:], subscripts)
-
-    def sender(self):
-        """A literal, a figurative constant, or a reference."""
-        if self.words and self.words[0].kind == "literal":
-            return Constant("quoted", self.take().text, None)
-        if self.take_if("ALL"):
-            if self.words and self.words[0].kind == "literal":
-                return Constant("all", self.take().text, None)
-            if self.next() not in FIGURATIVE:
-                self.refuse("M1")
-        if self.next() in FIGURATIVE:
-            return Constant("figurative", None, FIGURATIVE[self.take().text])
-        if number_of(self.next()):
-            return Constant("number", self.take().text, None)
-        return self.named()
-
-
-def statements_of(text):
-    """The statements of a paragraph: their line, whether they are CORRESPONDING, the sender and the receivers."""
-    reader, found = Statements(paragraph_words_of(text)), []
-    if is_name(reader.next()):
-        reader.take()
-        if not reader.words or reader.take().kind != "stop":
-            reader.refuse("M1")
-    behind_stop = True
-    while reader.words or not found:
-        if behind_stop or reader.next() == "MOVE":
-            reader.line = reader.words[0].line if reader.words else reader.line
-        if not reader.take_if("MOVE"):
-            reader.refuse("M1")
-        together = reader.take_if("CORRESPONDING", "CORR") is not None
-        sender = reader.named() if together else reader.sender()
-        if not reader.take_if("TO"):
-            reader.refuse("M1")
-        receivers = [reader.named()]
-        while not together and is_name(reader.next()):
-            receivers.append(reader.named())
-        found.append((reader.line, together, sender, receivers))
-        behind_stop = reader.stops()
-    return found
 
 
 class Paragraph:
@@ -121,9 +31,9 @@ class Paragraph:
             for entry in book.entries:
                 self.bearers.setdefault(entry.name, []).append((side, entry))
         self.moves = []
-        for line, together, sender, receivers in statements_of(text):
-            self.line = line
-            self.moves += self.corresponding(sender, receivers[0]) if together else [self.single(sender, receivers)]
+        for statement in turn_by_turn(statements_of(text, self.bearers), {}):
+            self.line, sender, receivers = statement.line, statement.sender, statement.receivers
+            self.moves += self.corresponding(sender, receivers[0]) if statement.together else [self.single(sender, receivers)]
 
     def refuse(self, rule):
         raise Refused(rule, self.line)
