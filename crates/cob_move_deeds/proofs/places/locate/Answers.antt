@@ -1,0 +1,35 @@
+use Rattle.std.proofs.Common.{◌≡◌, ◌∙◌, None, Option, ap, length}
+use Rattle.std.proofs.lemmas.List.{length-replicate}
+use Rattle.cob_layout.specs.declared.counts.StoredCount.{StoredCount}
+use Rattle.cob_layout.specs.Standing.{forgotten, room_in}
+use Rattle.cob_move_data.specs.Moves.{operand_in}
+use Rattle.cob_move_apply.proofs.PlaceLemmas.{filled_at, found_at, nowhere}
+use Rattle.cob_move_deeds.proofs.places.locate.Goals as goal
+
+pub find-requires-clause-room : goal.find-requires-clause-room
+find-requires-clause-room c =
+    let s = c.args.counts.now in
+    let same : room_in (forgotten s) ≡ room_in s = λ i. record {
+      entries = length s.counts;
+      tables = length-replicate {A = Option StoredCount} (length s.kept) None i;
+      varying = s.tables;
+      growths = s.growths;
+    } in
+    ap room_in c.forget.ensures.forgotten ∙ same ∙ c.requires.room
+
+pub returns-in-Ok-clause-located : goal.returns-in-Ok-clause-located
+returns-in-Ok-clause-located c =
+    found_at c.args.stored.now.side c.args.stored.now.layout.now c.args.receiving (operand_in c.args.stored.now.layout.now c.args.entry.now) c.args.stored.now.bytes.now
+    c.find.result c.in-Ok.place c.in-Ok.is c.find.ensures.found
+
+pub returns-in-Ok-clause-filled : goal.returns-in-Ok-clause-filled
+returns-in-Ok-clause-filled c =
+    filled_at c.args.stored.now.side c.args.stored.now.layout.now c.args.receiving (operand_in c.args.stored.now.layout.now c.args.entry.now) c.args.stored.now.bytes.now
+    c.in-Ok.place c.requires.sound c.requires.operand
+    (found_at c.args.stored.now.side c.args.stored.now.layout.now c.args.receiving (operand_in c.args.stored.now.layout.now c.args.entry.now) c.args.stored.now.bytes.now
+    c.find.result c.in-Ok.place c.in-Ok.is c.find.ensures.found)
+
+pub returns-in-Err-clause-located : goal.returns-in-Err-clause-located
+returns-in-Err-clause-located c =
+    nowhere c.args.stored.now.side c.args.stored.now.layout.now c.args.receiving (operand_in c.args.stored.now.layout.now c.args.entry.now) c.args.stored.now.bytes.now
+    c.find.result c.in-Err.fault c.stop_of.result c.in-Err.is c.stop_of.ensures c.find.ensures.found

@@ -1,0 +1,86 @@
+-- Tests between moves: whether the number of a loop's counter is past what an item holds.
+use Rattle.std.specs.Prelude.{◌≡◌, ◌⊎◌, ℕ, Bool, true, false, List, nat_lt, pos, Ok, Err, Result}
+use Rattle.cob_picture.specs.Counts.{scale}
+use Rattle.cob_copybook_tree.specs.declared.node.Item.{Item}
+use Rattle.cob_copybook_tree.specs.declared.node.Kind.{Kind}
+use Rattle.cob_copybook_tree.specs.declared.node.Kind.TheVariants.{Item as ItemKind}
+use Rattle.cob_copybook_tree.specs.Items.{IsNumberItem}
+use Rattle.cob_copybook_tree.specs.Forests.{Forest}
+use Rattle.cob_copybook_tree.specs.Nodes.{Resolved}
+use Rattle.cob_layout.specs.declared.fields.Place.{Place}
+use Rattle.cob_layout_places.specs.declared.counts.CountFault.{CountFault}
+use Rattle.cob_layout_places.specs.declared.places.Found.{Found}
+use Rattle.cob_move_data.specs.declared.operands.Operand.{Operand}
+use Rattle.cob_move_data.specs.declared.operands.Side.{Side}
+use Rattle.cob_layout_places.specs.declared.varying.Table.{Table}
+use Rattle.cob_layout_places.specs.Counts.{SaysOfTable}
+use Rattle.cob_move_data.specs.Moves.{IsOperand, Records, operand_in, record_of}
+use Rattle.cob_move_apply.specs.declared.stop.Stop.{Stop}
+use Rattle.cob_move_apply.specs.declared.stop.StopCause.TheVariants.{Count}
+use Rattle.cob_move_apply.specs.Applied.{storage_of}
+use Rattle.cob_move_apply.specs.Located.{Located, stop_at}
+use Rattle.cob_move_deeds.specs.declared.test.Test as code
+
+-- the counter's number, the greatest number that the bound may be, and the item that holds the bound
+pub record Past : Type 0 where
+  pub number : ℕ
+  pub most : ℕ
+  pub side : Side
+  pub bound : Operand
+
+-- the test of the code, in its record
+abbrev pub past_in : Forest Resolved → code.Test → Past
+past_in tree t = record { number = t.number; most = t.most; side = t.side; bound = operand_in tree t.bound }
+
+-- the test of the code, between two records
+abbrev pub past_of : Records → code.Test → Past
+past_of r t = past_in (record_of r t.side) t
+
+-- a table that occurs up to so often
+abbrev pub up_to : ℕ → Table
+up_to most = record { number = 0; least = 0; most = most; count = 0 }
+
+-- the element that stands there
+abbrev pub there : Place → Found
+there p = record { offset = p.offset; length = p.length; within = true }
+
+-- the item is a number without a fraction, as a table's count is
+pub record IsBoundItem (kind : Kind) (i : Item) : Type 0 where
+  pub is : kind ≡ ItemKind i
+  pub number : IsNumberItem i
+  pub whole : scale i.picture.positions ≡ pos 0
+
+-- the bound is an entry of its record, and such an item
+pub record IsTestIn (tree : Forest Resolved) (t : Past) : Type 0 where
+  pub operand : IsOperand tree t.bound
+  pub item : (i : Item) × IsBoundItem t.bound.kind i
+
+-- so it is between two records
+abbrev pub IsTest : Records → Past → Type 0
+IsTest r t = IsTestIn (record_of r t.side) t
+
+-- what the bytes of the bound say: its number, which the counter is past or not; or it gives none from 0 to the greatest
+abbrev pub SaysOfBound : Past → Item → Place → List ℕ → Result Bool Stop → Type 0
+SaysOfBound t i p bytes (Ok b) = (v : ℕ) × SaysOfTable i (up_to t.most) (there p) bytes (Ok v) × (b ≡ nat_lt v t.number)
+SaysOfBound t i p bytes (Err stop) = (e : CountFault) × SaysOfTable i (up_to t.most) (there p) bytes (Err e) × (stop ≡ stop_at t.side e.offset Count)
+
+-- What a test says of the two storages. The bound stands where the counts that it needs put it; the first of these that isn't valid stops, and then a
+-- subscript past its table's count. Then its bytes say whether the counter is past it.
+abbrev pub JudgedIn : Forest Resolved → Past → List ℕ → Result Bool Stop → Type 0
+JudgedIn tree t bytes answer =
+    ((stop : Stop) × Located t.side tree false t.bound bytes (Err stop) × (answer ≡ Err stop))
+    ⊎ ((p : Place) × (i : Item) × Located t.side tree false t.bound bytes (Ok p) × (t.bound.kind ≡ ItemKind i) × SaysOfBound t i p bytes answer)
+
+-- what it says of the storages of two records
+abbrev pub Judged : Records → Past → List ℕ → List ℕ → Result Bool Stop → Type 0
+Judged r t input output answer = JudgedIn (record_of r t.side) t (storage_of t.side input output) answer
+
+-- the bound of a test gives this number in the storages of two records
+abbrev pub BoundGives : Records → Past → List ℕ → List ℕ → ℕ → Type 0
+BoundGives r t input output v =
+    (p : Place) × (i : Item) × Located t.side (record_of r t.side) false t.bound (storage_of t.side input output) (Ok p) × (t.bound.kind ≡ ItemKind i)
+    × SaysOfTable i (up_to t.most) (there p) (storage_of t.side input output) (Ok v)
+
+-- the same test with another number of the counter
+abbrev pub with_number : Past → ℕ → Past
+with_number t i = record { number = i; most = t.most; side = t.side; bound = t.bound }

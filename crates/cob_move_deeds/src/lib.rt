@@ -1,0 +1,39 @@
+//! What is done to a record: moves in order, and choices between them by tests (ANSI X3.23-1985, Nucleus: the PERFORM statement, VARYING).
+//!
+//! What is done (`Deeds` of specs/Deeds.antt) is carried out in order, up to the first that stops (`Carried`); a test is taken once, of the storages as they
+//! are then. `Carried` is so over any tests; those here ask whether the counter of a loop is past the number that an item holds (`Past` of
+//! specs/Tests.antt, `Judged`).
+//!
+//! What is promised:
+//!
+//! - [`carry_out`] makes of the output record's storage what the deeds that its flows come to say (`carried`), a stop included. A [`Flow`] is one thing that
+//!   is carried out, with skips forward alone (`LeadTo`, `AreFlowsOf` of specs/Flows.antt), so that a run ends by the length of the list.
+//! - [`choice`] and [`turn`] put flows together: a test with what follows where it holds and where it doesn't, and the turn of a loop.
+//! - Laws: what is done without a test is what its moves come to ([`straight_is_applied`]), and ends in one way ([`one_carried`]); a loop to the number
+//!   that an item holds is what it is written out as ([`loop_is_its_turns`], by `Performed` of specs/Turns.antt, which is the loop in the standard's own
+//!   words), and a loop with a literal bound is the moves of its turns ([`literal_loop_is_its_moves`]); so is one whose bound stands in the input record, up to
+//!   the number that it gives there ([`bound_of_input_is_kept`]).
+//!
+//! [`carry_out`] takes no memory: its room is a [`TestRoom`] and the scratch of the moves.
+//!
+//! # Where it is proved
+//!
+//! The clause `carried` of `carry_out`; the clauses of `choice` and `turn`; the laws `straight_is_applied`, `one_carried`, `loop_is_its_turns`,
+//! `literal_loop_is_its_moves`, `bound_of_input_is_kept`.
+#![tactic(auto)]
+
+mod building;
+mod flow;
+mod laws;
+mod places;
+mod running;
+mod test;
+
+pub use building::{choice, turn};
+pub use flow::Flow;
+pub use laws::{
+    bound_of_input_is_kept, literal_loop_is_its_moves, loop_is_its_turns, one_carried,
+    straight_is_applied,
+};
+pub use running::carry_out;
+pub use test::{Layouts, Test, TestRoom};
