@@ -359,13 +359,13 @@ pair_all x r given g i a b past f =
 
 -- ---- statements
 
-moves_append : (x : Reading) (r : Records) (ss ts : List StatementMoves) → moves_by x r (ss ++ ts) ≡ moves_by x r ss ++ moves_by x r ts
+pub moves_append : (x : Reading) (r : Records) (ss ts : List StatementMoves) → moves_by x r (ss ++ ts) ≡ moves_by x r ss ++ moves_by x r ts
 moves_append x r [] ts = refl
 moves_append x r (s ∷ ss) ts =
     ap (λ (ms : List Move). statement_moves_by x r s ++ ms) (moves_append x r ss ts) ∙ sym (append_assoc (statement_moves_by x r s) (moves_by x r ss) (moves_by x r ts))
 
 -- the moves before a statement, and then its own
-statement_next : (x : Reading) (r : Records) (ss : List StatementMoves) (i : ℕ) (s : StatementMoves) → i < length ss → s ≡ get_or ss i s
+pub statement_next : (x : Reading) (r : Records) (ss : List StatementMoves) (i : ℕ) (s : StatementMoves) → i < length ss → s ≡ get_or ss i s
     → moves_by x r (take i ss) ++ statement_moves_by x r s ≡ moves_by x r (take (i + 1) ss)
 statement_next x r ss i s lt is =
     ap (λ (ms : List Move). moves_by x r (take i ss) ++ ms) (sym (append-nil (statement_moves_by x r s)))

@@ -52,6 +52,8 @@ mod laws;
 mod layouts;
 mod located;
 mod located_within;
+mod marked;
+mod marking;
 mod moves;
 mod pairs;
 mod pictured;
@@ -81,6 +83,7 @@ pub use cob_layout::{
 };
 pub use cob_move_data::{Move, NumberedPair, Operand, PairMoves, Sender, Side, StatementMoves};
 pub use laws::one_ending;
+pub use marked::MarkedMoves;
 pub use moves::Moves;
 pub use pairs::entry_below;
 pub use places::stop_of;
