@@ -1,11 +1,11 @@
 -- Statements and steps that are parted by marks.
 use Rattle.std.proofs.Common.{◌≡◌, ◌⊎◌, ℕ, zero, suc, ◌+◌, ◌-◌, ◌<◌, ◌≤◌, List, [], ◌∷◌, ◌++◌, drop, get_or, length, map, take, refl, sym, ap, subst, ◌∙◌, inl, inr, arith, append_assoc, length-append, take-add, length-drop}
-use Rattle.std.proofs.lemmas.List.{drop-append-le, drop-drop, drop_at, get_or-drop, get_or_append_left, map-append, take-append-le, take_all}
+use Rattle.std.proofs.lemmas.List.{drop-append-le, drop-drop, drop_all, drop_at, drop_more, get_or-drop, get_or_append_left, map-append, take-append-le, take_all, take_more}
 use Rattle.cob_codec.specs.declared.reading.Reading.{Reading}
 use Rattle.cob_move_data.specs.declared.operands.StatementMoves.{StatementMoves}
 use Rattle.cob_move_data.specs.Moves.{Move, Records, moves_by, statement_moves_by}
 use Rattle.cob_move_apply.specs.Joined.{steps_in}
-use Rattle.cob_move_apply.specs.Marked.{ArePartedBy, StandBetween, items_between, last_mark, mark_at, parted_steps, statement_of}
+use Rattle.cob_move_apply.specs.Marked.{AreEnds, ArePartedBy, StandBetween, items_between, last_mark, mark_at, parted_steps, statement_of}
 use Rattle.cob_move_apply.specs.Planned.{AreMore, counted_steps}
 use Rattle.cob_move_apply.specs.Steps.{AreMovesCut, AreSteps, GainsCut, Grows, StandFor, Support, support_of}
 use Rattle.cob_move_apply.specs.declared.marking.Mark.{Mark}
@@ -266,3 +266,29 @@ mark_last_of marks made m pushed = ap (λ (ms : List Mark). (last_mark ms).state
 
 pub ends_pushed : (marks made : List Mark) (m : Mark) → made ≡ marks ++ m ∷ [] → map statement_of made ≡ map statement_of marks ++ m.statement ∷ []
 ends_pushed marks made m pushed = ap (λ (ms : List Mark). map statement_of ms) pushed ∙ map-append statement_of marks (m ∷ [])
+
+-- ---- ends, one behind another
+
+pub ends_next : (begin whole : ℕ) (es : List ℕ) (i e : ℕ) → i < length es → e ≡ get_or es i e → AreEnds begin whole (drop i es) → (begin ≤ e) × (e ≤ whole) × AreEnds e whole (drop (i + 1) es)
+ends_next begin whole es i e lt is ends =
+    subst (λ (xs : List ℕ). AreEnds begin whole xs) (drop_more es i e lt ∙ ap (λ (n : ℕ). n ∷ drop (i + 1) es) (sym is)) ends
+
+pub ends_done : (begin whole : ℕ) (es : List ℕ) (i : ℕ) → length es ≤ i → AreEnds begin whole (drop i es) → begin ≡ whole
+ends_done begin whole es i past ends = subst (λ (xs : List ℕ). AreEnds begin whole xs) (drop_all i es past) ends
+
+pub said_more : (was now : List ℕ) (es : List ℕ) (i e : ℕ) → i < length es → e ≡ get_or es i e → was ≡ 0 ∷ take i es → now ≡ was ++ e ∷ [] → now ≡ 0 ∷ take (i + 1) es
+said_more was now es i e lt is before pushed =
+    pushed ∙ ap (λ (xs : List ℕ). xs ++ e ∷ []) before ∙ ap (λ (xs : List ℕ). 0 ∷ xs) (ap (λ (n : ℕ). take i es ++ n ∷ []) is ∙ sym (take_more es i e lt))
+
+pub said_all : (now es : List ℕ) (i : ℕ) → length es ≤ i → now ≡ 0 ∷ take i es → now ≡ 0 ∷ es
+said_all now es i past is = is ∙ ap (λ (xs : List ℕ). 0 ∷ xs) (take_all i es past)
+
+-- ---- all of them
+
+-- the moves from the first mark to the last are all
+pub between_all : (x : Reading) (r : Records) (given : List StatementMoves) (marks : List Mark) → mark_at marks 0 ≡ record { statement = 0; step = 0 } → (last_mark marks).statement ≡ length given
+    → moves_by x r (items_between (mark_at marks 0).statement (last_mark marks).statement given) ≡ moves_by x r given
+between_all x r given marks first whole =
+    ap (λ (m : Mark). moves_by x r (items_between m.statement (last_mark marks).statement given)) first
+    ∙ ap (λ (n : ℕ). moves_by x r (items_between 0 n given)) whole
+    ∙ ap (λ (ss : List StatementMoves). moves_by x r ss) (take_all (length given) given (omega arith))

@@ -21,3 +21,4 @@ pub mod Going
 pub mod Promised
 pub mod Marked
 pub mod Reads
+pub mod Entries

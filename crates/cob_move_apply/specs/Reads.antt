@@ -7,7 +7,8 @@ use Rattle.cob_layout.specs.Kept.{kept_in, kept_numbers}
 use Rattle.cob_layout_places.specs.Counts.{tables_of}
 use Rattle.cob_move_data.specs.Moves.{Move, Records}
 use Rattle.cob_move_apply.specs.Room.{Scratching}
-use Rattle.cob_move_apply.specs.Spent.{MetBehind, allowed}
+use Rattle.cob_move_apply.specs.Met.{HaveMet}
+use Rattle.cob_move_apply.specs.Spent.{allowed}
 use Rattle.cob_move_apply.specs.declared.stop.Stop.{Stop}
 
 -- how many of these counts are kept
@@ -22,5 +23,5 @@ ReadsFor tree met (Ok a) old new =
 ReadsFor tree met (Err stop) old new = new.reads + kept_among tree old.kept_output ≤ old.reads + length (tables_of tree) + allowed tree met
 
 -- what an answer says of the reads of moves
-abbrev pub ReadsOfMoves : {A : Type 0} → Records → List Move → (input before : List ℕ) → Result A Stop → (after : List ℕ) → Scratching → Scratching → Type 0
-ReadsOfMoves r ms input before result after old new = (met : ℕ) × MetBehind r ms input before met result after × ReadsFor r.output met result old new
+abbrev pub ReadsOfMoves : {A : Type 0} → Records → List Move → (input before : List ℕ) → Result A Stop → Scratching → Scratching → Type 0
+ReadsOfMoves r ms input before result old new = (met : ℕ) × HaveMet r ms input before met × ReadsFor r.output met result old new

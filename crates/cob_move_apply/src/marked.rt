@@ -154,7 +154,7 @@ impl MarkedMoves {
         ensures reads { ReadsOfMoves
             (record { input = input_layout.now; output = output_layout.now })
             (moves_between (record { input = input_layout.now; output = output_layout.now })
-            self.now from to) input.now output.old result output.new scratch.old scratch.new }
+            self.now from to) input.now output.old result scratch.old scratch.new }
     {
         records_are_sound();
         let _ = input_layout.greatest();

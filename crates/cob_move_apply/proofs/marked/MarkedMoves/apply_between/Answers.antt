@@ -1,0 +1,1 @@
+use Rattle.cob_move_apply.proofs.marked.MarkedMoves.apply_between.Goals as goal
