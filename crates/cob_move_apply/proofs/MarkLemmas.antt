@@ -28,7 +28,7 @@ at_most (suc n) (suc m) le = elim (at_most n m (omega (arith, le))) [
 
 -- ---- items of a list from one number up to another
 
-none_between : {A : Type 0} (n : ℕ) (xs : List A) → items_between n n xs ≡ []
+pub none_between : {A : Type 0} (n : ℕ) (xs : List A) → items_between n n xs ≡ []
 none_between n xs = let none : n - n ≡ 0 = omega arith in ap (λ (k : ℕ). take k (drop n xs)) none
 
 pub between_both : {A : Type 0} (a b c : ℕ) (xs : List A) → a ≤ b → b ≤ c → items_between a c xs ≡ items_between a b xs ++ items_between b c xs

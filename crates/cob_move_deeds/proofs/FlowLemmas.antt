@@ -1,249 +1,214 @@
--- Flows carried out one behind another.
-use Rattle.std.proofs.Common.{◌≡◌, ℕ, ◌≤◌, Bool, true, false, List, [], ◌∷◌, drop, length, refl, sym, subst, arith, inl, inr, Ok, Err}
+-- Flows carried out one behind another, and what is done.
+use Rattle.std.proofs.Common.{◌≡◌, ◌⊎◌, ℕ, zero, suc, ◌+◌, ◌<◌, ◌≤◌, Bool, true, false, List, [], ◌∷◌, ◌++◌, drop, length, take, refl, sym, ap, subst, ◌∙◌, arith, inl, inr, append_assoc, append-nil, length-append, length-drop, Ok, Err, Option, Some, None, nat_lt}
+use Rattle.std.specs.List.{AllByRecursion, slice_get}
+use Rattle.std.proofs.lemmas.List.{drop-append-le, length-take-le, take-append-drop}
+use Rattle.cob_codec.specs.declared.reading.Reading.{Reading}
 use Rattle.cob_move_data.specs.Moves.{Move, Records}
+use Rattle.cob_move_apply.specs.Applied.{Applied, Ending, done, stopped, storage_of}
+use Rattle.cob_move_apply.specs.Marked.{moves_between}
 use Rattle.cob_move_apply.specs.declared.stop.Stop.{Stop}
-use Rattle.cob_move_apply.specs.Applied.{Applied, Ending, done, stopped}
+use Rattle.cob_move_deeds.specs.declared.flow.Bound.{Bound}
+use Rattle.cob_move_deeds.specs.declared.flow.CountedLoop.{CountedLoop}
 use Rattle.cob_move_deeds.specs.declared.flow.Flow.{Flow}
 use Rattle.cob_move_deeds.specs.declared.flow.Flow.TheVariants as flow
-use Rattle.cob_move_deeds.specs.Deeds.{Carried, Choice, Deeds, Moving, Nothing}
-use Rattle.cob_move_deeds.specs.Flows.{AreMovesAt, LeadTo, IsTestAt, LeavesFlows, StopsFlows, FlowSupport, lead_end, lead_moves, lead_skips, lead_until, lead_where}
-use Rattle.cob_move_deeds.specs.Tests.{Judged, Past}
-use Rattle.cob_move_deeds.proofs.DeedLemmas.{with_nothing}
-
--- ---- what stands in front
-
-none_left : (fs : List Flow) (f : Flow) → f ∷ fs ≡ [] → ⊥
-none_left fs f e = cc
-
-rest_is : (f g : Flow) (fs gs : List Flow) → f ∷ fs ≡ g ∷ gs → fs ≡ gs
-rest_is f g fs gs e = cc
-
-head_is : (f g : Flow) (fs gs : List Flow) → f ∷ fs ≡ g ∷ gs → f ≡ g
-head_is f g fs gs e = cc
-
-same_moves : (a b : ℕ) → flow.Moves a ≡ flow.Moves b → a ≡ b
-same_moves a b e = cc
-
-same_skip : (a b : ℕ) → flow.Skip a ≡ flow.Skip b → a ≡ b
-same_skip a b e = cc
-
-moves_skip : (a c : ℕ) → flow.Moves a ≡ flow.Skip c → ⊥
-moves_skip a c e = cc
-
-moves_where : (a c d : ℕ) → flow.Moves a ≡ flow.Where c d → ⊥
-moves_where a c d e = cc
-
-moves_until : (a c d : ℕ) → flow.Moves a ≡ flow.Until c d → ⊥
-moves_until a c d e = cc
-
-skip_moves : (a c : ℕ) → flow.Skip a ≡ flow.Moves c → ⊥
-skip_moves a c e = cc
-
-skip_where : (a c d : ℕ) → flow.Skip a ≡ flow.Where c d → ⊥
-skip_where a c d e = cc
-
-skip_until : (a c d : ℕ) → flow.Skip a ≡ flow.Until c d → ⊥
-skip_until a c d e = cc
-
-where_moves : (a b c : ℕ) → flow.Where a b ≡ flow.Moves c → ⊥
-where_moves a b c e = cc
-
-where_skip : (a b c : ℕ) → flow.Where a b ≡ flow.Skip c → ⊥
-where_skip a b c e = cc
-
-where_until : (a b c d : ℕ) → flow.Where a b ≡ flow.Until c d → ⊥
-where_until a b c d e = cc
-
-until_moves : (a b c : ℕ) → flow.Until a b ≡ flow.Moves c → ⊥
-until_moves a b c e = cc
-
-until_skip : (a b c : ℕ) → flow.Until a b ≡ flow.Skip c → ⊥
-until_skip a b c e = cc
-
-until_where : (a b c d : ℕ) → flow.Until a b ≡ flow.Where c d → ⊥
-until_where a b c d e = cc
-
-same_where : (a b c d : ℕ) → flow.Where a b ≡ flow.Where c d → (a ≡ c) × (b ≡ d)
-same_where a b c d e = (cc, cc)
-
-same_until : (a b c d : ℕ) → flow.Until a b ≡ flow.Until c d → (a ≡ c) × (b ≡ d)
-same_until a b c d e = (cc, cc)
-
--- moves, and what follows
-pub the_moves : (r : Records) (on : FlowSupport) (number : ℕ) (more : List Flow) (d : Deeds Past) → LeadTo r on (flow.Moves number ∷ more) d
-    → (ms : List Move) × (next : Deeds Past) × (d ≡ Moving ms next) × AreMovesAt r on.moves number ms × LeadTo r on more next
-the_moves r on number more d (lead_end _ _ e is) = absurd (none_left more (flow.Moves number) e)
-the_moves r on number more d (lead_moves _ rest _ next other ms e is at goes) =
-    let number_is : number ≡ other = same_moves number other (head_is (flow.Moves number) (flow.Moves other) more rest e) in
-    (ms, next, is, subst (λ (n : ℕ). AreMovesAt r on.moves n ms) (sym number_is) at, subst (λ (fs : List Flow). LeadTo r on fs next) (sym (rest_is _ _ more rest e)) goes)
-the_moves r on number more d (lead_skips _ rest _ count e goes) = absurd (moves_skip number count (head_is _ _ more rest e))
-the_moves r on number more d (lead_where _ rest _ holding lacking test skip t e is at goes other) = absurd (moves_where number test skip (head_is _ _ more rest e))
-the_moves r on number more d (lead_until _ rest _ holding lacking test skip t e is at goes other) = absurd (moves_until number test skip (head_is _ _ more rest e))
-
--- a skip, and what follows behind it
-pub the_skip : (r : Records) (on : FlowSupport) (count : ℕ) (more : List Flow) (d : Deeds Past) → LeadTo r on (flow.Skip count ∷ more) d → LeadTo r on (drop count more) d
-the_skip r on count more d (lead_end _ _ e is) = absurd (none_left more (flow.Skip count) e)
-the_skip r on count more d (lead_moves _ rest _ next other ms e is at goes) = absurd (skip_moves count other (head_is _ _ more rest e))
-the_skip r on count more d (lead_skips _ rest _ other e goes) =
-    let count_is : count ≡ other = same_skip count other (head_is (flow.Skip count) (flow.Skip other) more rest e) in
-    subst (λ (n : ℕ). LeadTo r on (drop n more) d) (sym count_is) (subst (λ (fs : List Flow). LeadTo r on (drop other fs) d) (sym (rest_is _ _ more rest e)) goes)
-the_skip r on count more d (lead_where _ rest _ holding lacking test skip t e is at goes other) = absurd (skip_where count test skip (head_is _ _ more rest e))
-the_skip r on count more d (lead_until _ rest _ holding lacking test skip t e is at goes other) = absurd (skip_until count test skip (head_is _ _ more rest e))
-
--- a test, and what follows where it holds, and where it doesn't
-pub record Tested (r : Records) (on : FlowSupport) (test : ℕ) (taken left : List Flow) (d : Deeds Past) : Type 0 where
-  pub t : Past
-  pub at : IsTestAt r on.tests test t
-  pub holding : Deeds Past
-  pub lacking : Deeds Past
-  pub is : d ≡ Choice t holding lacking Nothing
-  pub holds : LeadTo r on taken holding
-  pub lacks : LeadTo r on left lacking
-
-pub the_where : (r : Records) (on : FlowSupport) (test skip : ℕ) (more : List Flow) (d : Deeds Past) → LeadTo r on (flow.Where test skip ∷ more) d → Tested r on test more (drop skip more) d
-the_where r on test skip more d (lead_end _ _ e is) = absurd (none_left more (flow.Where test skip) e)
-the_where r on test skip more d (lead_moves _ rest _ next other ms e is at goes) = absurd (where_moves test skip other (head_is _ _ more rest e))
-the_where r on test skip more d (lead_skips _ rest _ other e goes) = absurd (where_skip test skip other (head_is _ _ more rest e))
-the_where r on test skip more d (lead_where _ rest _ holding lacking other count t e is at goes lacks) =
-    let same = same_where test skip other count (head_is (flow.Where test skip) (flow.Where other count) more rest e) in
-    let left : more ≡ rest = rest_is _ _ more rest e in record {
-      t = t;
-      at = subst (λ (n : ℕ). IsTestAt r on.tests n t) (sym same.0) at;
-      holding = holding;
-      lacking = lacking;
-      is = is;
-      holds = subst (λ (fs : List Flow). LeadTo r on fs holding) (sym left) goes;
-      lacks = subst (λ (n : ℕ). LeadTo r on (drop n more) lacking) (sym same.1) (subst (λ (fs : List Flow). LeadTo r on (drop count fs) lacking) (sym left) lacks);
-    }
-the_where r on test skip more d (lead_until _ rest _ holding lacking other count t e is at goes lacks) = absurd (where_until test skip other count (head_is _ _ more rest e))
-
-pub the_until : (r : Records) (on : FlowSupport) (test skip : ℕ) (more : List Flow) (d : Deeds Past) → LeadTo r on (flow.Until test skip ∷ more) d → Tested r on test (drop skip more) more d
-the_until r on test skip more d (lead_end _ _ e is) = absurd (none_left more (flow.Until test skip) e)
-the_until r on test skip more d (lead_moves _ rest _ next other ms e is at goes) = absurd (until_moves test skip other (head_is _ _ more rest e))
-the_until r on test skip more d (lead_skips _ rest _ other e goes) = absurd (until_skip test skip other (head_is _ _ more rest e))
-the_until r on test skip more d (lead_where _ rest _ holding lacking other count t e is at goes lacks) = absurd (until_where test skip other count (head_is _ _ more rest e))
-the_until r on test skip more d (lead_until _ rest _ holding lacking other count t e is at holds goes) =
-    let same = same_until test skip other count (head_is (flow.Until test skip) (flow.Until other count) more rest e) in
-    let left : more ≡ rest = rest_is _ _ more rest e in record {
-      t = t;
-      at = subst (λ (n : ℕ). IsTestAt r on.tests n t) (sym same.0) at;
-      holding = holding;
-      lacking = lacking;
-      is = is;
-      holds = subst (λ (n : ℕ). LeadTo r on (drop n more) holding) (sym same.1) (subst (λ (fs : List Flow). LeadTo r on (drop count fs) holding) (sym left) holds);
-      lacks = subst (λ (fs : List Flow). LeadTo r on fs lacking) (sym left) goes;
-    }
+use Rattle.cob_move_deeds.specs.Carrying.{LeavesFlows, StopsFlows, carried_from, either_way}
+use Rattle.cob_move_deeds.specs.Deeds.{Carried, Choice, Deeds, Moving, Nothing, Then, both_deeds}
+use Rattle.cob_move_deeds.specs.Flows.{AreNested, FlowSupport, IsFlow, deeds_from, loop_done, unless_past}
+use Rattle.cob_move_deeds.specs.Tests.{BoundGives, Judged, Past, past_bound, with_number}
+use Rattle.cob_move_deeds.proofs.DeedLemmas.{both_apart, both_together, then_back, then_done, then_map, to_nothing, with_nothing}
 
 -- ---- a flow carried out
 
-pub moves_leave : (r : Records) (on : FlowSupport) (number : ℕ) (more : List Flow) (input before after : List ℕ)
-    → ((ms : List Move) → AreMovesAt r on.moves number ms → Applied r ms input before (done after)) → LeavesFlows r on (flow.Moves number ∷ more) more input before after
-moves_leave r on number more input before after made d goes =
-    let (ms, next, is, at, rest) = the_moves r on number more d goes in
-    (next, rest, λ end x. subst (λ (c : Deeds Past). Carried (Judged r) r c input before end) (sym is) (inl (after, made ms at, x)))
+-- moves, and what is left
+pub moves_leave : (r : Records) (on : FlowSupport) (number : ℕ) (more : List Flow) (input before after : List ℕ) → Applied r (moves_between r on.moves number (number + 1)) input before (done after)
+    → LeavesFlows r on (flow.Moves number ∷ more) more input before after
+moves_leave r on number more input before after made zero le = absurd (omega (arith, le))
+moves_leave r on number more input before after made (suc n) le = (n, omega (arith, le), λ end x. inl (after, made, x))
 
-pub moves_stop : (r : Records) (on : FlowSupport) (number : ℕ) (more : List Flow) (input before after : List ℕ) (stop : Stop)
-    → ((ms : List Move) → AreMovesAt r on.moves number ms → Applied r ms input before (stopped stop after)) → StopsFlows r on (flow.Moves number ∷ more) input before stop after
-moves_stop r on number more input before after stop made d goes =
-    let (ms, next, is, at, rest) = the_moves r on number more d goes in
-    subst (λ (c : Deeds Past). Carried (Judged r) r c input before (stopped stop after)) (sym is) (inr (stop, after, made ms at, refl))
+pub moves_stop : (r : Records) (on : FlowSupport) (number : ℕ) (more : List Flow) (input before after : List ℕ) (stop : Stop) → Applied r (moves_between r on.moves number (number + 1)) input before (stopped stop after)
+    → StopsFlows r on (flow.Moves number ∷ more) input before stop after
+moves_stop r on number more input before after stop made zero le = absurd (omega (arith, le))
+moves_stop r on number more input before after stop made (suc n) le = inr (stop, after, made, refl)
 
-pub skip_leaves : (r : Records) (on : FlowSupport) (count : ℕ) (more left : List Flow) (input before : List ℕ) → left ≡ drop count more
-    → LeavesFlows r on (flow.Skip count ∷ more) left input before before
-skip_leaves r on count more left input before same d goes =
-    (d, subst (λ (fs : List Flow). LeadTo r on fs d) (sym same) (the_skip r on count more d goes), λ end x. x)
-
-test_holds : (r : Records) (on : FlowSupport) (test : ℕ) (taken left : List Flow) (d : Deeds Past) (input before : List ℕ) → Tested r on test taken left d
-    → ((t : Past) → IsTestAt r on.tests test t → Judged r t input before (Ok true))
-    → (e : Deeds Past) × LeadTo r on taken e × ((end : Ending) → Carried (Judged r) r e input before end → Carried (Judged r) r d input before end)
-test_holds r on test taken left d input before tested says = (
-  tested.holding,
-  tested.holds,
-  λ end x. subst (λ (c : Deeds Past). Carried (Judged r) r c input before end) (sym tested.is)
-      (inl (says tested.t tested.at, with_nothing (Judged r) r tested.holding input before end x)),
+-- a loop
+pub turns_leave : (r : Records) (on : FlowSupport) (number : ℕ) (more : List Flow) (l : CountedLoop) (input before after : List ℕ) → slice_get on.loops number ≡ Some l → Carried (Judged r) r (loop_done r on (Some l)) input before (done after)
+    → LeavesFlows r on (flow.Turns number ∷ more) more input before after
+turns_leave r on number more l input before after at made zero le = absurd (omega (arith, le))
+turns_leave r on number more l input before after at made (suc n) le = (
+  n,
+  omega (arith, le),
+  λ end x. both_together (Judged r) r (loop_done r on (slice_get on.loops number)) (carried_from r on n more) input before end
+      (inl (after, subst (λ (o : Option CountedLoop). Carried (Judged r) r (loop_done r on o) input before (done after)) (sym at) made, x)),
 )
 
-test_lacks : (r : Records) (on : FlowSupport) (test : ℕ) (taken left : List Flow) (d : Deeds Past) (input before : List ℕ) → Tested r on test taken left d
-    → ((t : Past) → IsTestAt r on.tests test t → Judged r t input before (Ok false))
-    → (e : Deeds Past) × LeadTo r on left e × ((end : Ending) → Carried (Judged r) r e input before end → Carried (Judged r) r d input before end)
-test_lacks r on test taken left d input before tested says = (
-  tested.lacking,
-  tested.lacks,
-  λ end x. subst (λ (c : Deeds Past). Carried (Judged r) r c input before end) (sym tested.is)
-      (inr (inl (says tested.t tested.at, with_nothing (Judged r) r tested.lacking input before end x))),
+pub turns_stop : (r : Records) (on : FlowSupport) (number : ℕ) (more : List Flow) (l : CountedLoop) (input before after : List ℕ) (stop : Stop) → slice_get on.loops number ≡ Some l
+    → Carried (Judged r) r (loop_done r on (Some l)) input before (stopped stop after) → StopsFlows r on (flow.Turns number ∷ more) input before stop after
+turns_stop r on number more l input before after stop at made zero le = absurd (omega (arith, le))
+turns_stop r on number more l input before after stop at made (suc n) le =
+    both_together (Judged r) r (loop_done r on (slice_get on.loops number)) (carried_from r on n more) input before (stopped stop after)
+    (inr (stop, after, subst (λ (o : Option CountedLoop). Carried (Judged r) r (loop_done r on o) input before (stopped stop after)) (sym at) made, refl))
+
+-- a test
+pub judged_by : (r : Records) (t : Past) (input before : List ℕ) (v j : ℕ) → BoundGives r t input before v → Judged r (with_number t j) input before (Ok (nat_lt v j))
+judged_by r t input before v j (p, i, located, kind, says) = inr (p, i, located, kind, (v, says, refl))
+
+pub past_leaves : (r : Records) (on : FlowSupport) (bound number skip : ℕ) (more left : List Flow) (b : Bound) (input before : List ℕ) (v : ℕ) → slice_get on.bounds bound ≡ Some b → BoundGives r (past_bound r b 0) input before v
+    → nat_lt v number ≡ true → left ≡ drop skip more → LeavesFlows r on (flow.Until bound number skip ∷ more) left input before before
+past_leaves r on bound number skip more left b input before v at gives past same zero le = absurd (omega (arith, le))
+past_leaves r on bound number skip more left b input before v at gives past same (suc n) le = (
+  n,
+  omega (arith, le, ap length same, length-drop skip more),
+  λ end x. subst (λ (o : Option Bound). Carried (Judged r) r (either_way r o number (carried_from r on n (drop skip more)) (carried_from r on n more)) input before end) (sym at)
+      (inl (
+        subst (λ (a : Bool). Judged r (past_bound r b number) input before (Ok a)) past (judged_by r (past_bound r b 0) input before v number gives),
+        with_nothing (Judged r) r (carried_from r on n (drop skip more)) input before end (subst (λ (fs : List Flow). Carried (Judged r) r (carried_from r on n fs) input before end) same x),
+      )),
 )
 
-test_stops : (r : Records) (on : FlowSupport) (test : ℕ) (taken left : List Flow) (d : Deeds Past) (input before : List ℕ) (stop : Stop) → Tested r on test taken left d
-    → ((t : Past) → IsTestAt r on.tests test t → Judged r t input before (Err stop)) → Carried (Judged r) r d input before (stopped stop before)
-test_stops r on test taken left d input before stop tested says =
-    subst (λ (c : Deeds Past). Carried (Judged r) r c input before (stopped stop before)) (sym tested.is) (inr (inr (stop, says tested.t tested.at, refl)))
+pub not_past_leaves : (r : Records) (on : FlowSupport) (bound number skip : ℕ) (more : List Flow) (b : Bound) (input before : List ℕ) (v : ℕ) → slice_get on.bounds bound ≡ Some b → BoundGives r (past_bound r b 0) input before v
+    → nat_lt v number ≡ false → LeavesFlows r on (flow.Until bound number skip ∷ more) more input before before
+not_past_leaves r on bound number skip more b input before v at gives past zero le = absurd (omega (arith, le))
+not_past_leaves r on bound number skip more b input before v at gives past (suc n) le = (
+  n,
+  omega (arith, le),
+  λ end x. subst (λ (o : Option Bound). Carried (Judged r) r (either_way r o number (carried_from r on n (drop skip more)) (carried_from r on n more)) input before end) (sym at)
+      (inr (inl (
+        subst (λ (a : Bool). Judged r (past_bound r b number) input before (Ok a)) past (judged_by r (past_bound r b 0) input before v number gives),
+        with_nothing (Judged r) r (carried_from r on n more) input before end x,
+      ))),
+)
 
-pub where_holds : (r : Records) (on : FlowSupport) (test skip : ℕ) (more : List Flow) (input before : List ℕ) (b : Bool) → b ≡ true
-    → ((t : Past) → IsTestAt r on.tests test t → Judged r t input before (Ok b)) → LeavesFlows r on (flow.Where test skip ∷ more) more input before before
-where_holds r on test skip more input before b is says d goes =
-    test_holds r on test more (drop skip more) d input before (the_where r on test skip more d goes) (λ t at. subst (λ (c : Bool). Judged r t input before (Ok c)) is (says t at))
-
-pub where_lacks : (r : Records) (on : FlowSupport) (test skip : ℕ) (more left : List Flow) (input before : List ℕ) (b : Bool) → b ≡ false → left ≡ drop skip more
-    → ((t : Past) → IsTestAt r on.tests test t → Judged r t input before (Ok b)) → LeavesFlows r on (flow.Where test skip ∷ more) left input before before
-where_lacks r on test skip more left input before b is same says d goes =
-    subst (λ (fs : List Flow). (e : Deeds Past) × LeadTo r on fs e × ((end : Ending) → Carried (Judged r) r e input before end → Carried (Judged r) r d input before end)) (sym same)
-    (test_lacks r on test more (drop skip more) d input before (the_where r on test skip more d goes) (λ t at. subst (λ (c : Bool). Judged r t input before (Ok c)) is (says t at)))
-
-pub where_stops : (r : Records) (on : FlowSupport) (test skip : ℕ) (more : List Flow) (input before : List ℕ) (stop : Stop)
-    → ((t : Past) → IsTestAt r on.tests test t → Judged r t input before (Err stop)) → StopsFlows r on (flow.Where test skip ∷ more) input before stop before
-where_stops r on test skip more input before stop says d goes = test_stops r on test more (drop skip more) d input before stop (the_where r on test skip more d goes) says
-
-pub until_holds : (r : Records) (on : FlowSupport) (test skip : ℕ) (more left : List Flow) (input before : List ℕ) (b : Bool) → b ≡ true → left ≡ drop skip more
-    → ((t : Past) → IsTestAt r on.tests test t → Judged r t input before (Ok b)) → LeavesFlows r on (flow.Until test skip ∷ more) left input before before
-until_holds r on test skip more left input before b is same says d goes =
-    subst (λ (fs : List Flow). (e : Deeds Past) × LeadTo r on fs e × ((end : Ending) → Carried (Judged r) r e input before end → Carried (Judged r) r d input before end)) (sym same)
-    (test_holds r on test (drop skip more) more d input before (the_until r on test skip more d goes) (λ t at. subst (λ (c : Bool). Judged r t input before (Ok c)) is (says t at)))
-
-pub until_lacks : (r : Records) (on : FlowSupport) (test skip : ℕ) (more : List Flow) (input before : List ℕ) (b : Bool) → b ≡ false
-    → ((t : Past) → IsTestAt r on.tests test t → Judged r t input before (Ok b)) → LeavesFlows r on (flow.Until test skip ∷ more) more input before before
-until_lacks r on test skip more input before b is says d goes =
-    test_lacks r on test (drop skip more) more d input before (the_until r on test skip more d goes) (λ t at. subst (λ (c : Bool). Judged r t input before (Ok c)) is (says t at))
-
-pub until_stops : (r : Records) (on : FlowSupport) (test skip : ℕ) (more : List Flow) (input before : List ℕ) (stop : Stop)
-    → ((t : Past) → IsTestAt r on.tests test t → Judged r t input before (Err stop)) → StopsFlows r on (flow.Until test skip ∷ more) input before stop before
-until_stops r on test skip more input before stop says d goes = test_stops r on test (drop skip more) more d input before stop (the_until r on test skip more d goes) says
+pub test_stops : (r : Records) (on : FlowSupport) (bound number skip : ℕ) (more : List Flow) (b : Bound) (input before : List ℕ) (stop : Stop) → slice_get on.bounds bound ≡ Some b
+    → Judged r (past_bound r b 0) input before (Err stop) → StopsFlows r on (flow.Until bound number skip ∷ more) input before stop before
+test_stops r on bound number skip more b input before stop at is zero le = absurd (omega (arith, le))
+test_stops r on bound number skip more b input before stop at is (suc n) le =
+    subst (λ (o : Option Bound). Carried (Judged r) r (either_way r o number (carried_from r on n (drop skip more)) (carried_from r on n more)) input before (stopped stop before)) (sym at) (inr (inr (stop, is, refl)))
 
 -- ---- flows one behind another
 
--- whatever what is left comes to from the storage now, all came to from the storage before
-abbrev pub Going : Records → FlowSupport → List Flow → List Flow → List ℕ → List ℕ → List ℕ → Type 0
-Going r on all left input before now = LeavesFlows r on all left input before now
+pub leaves_on : (r : Records) (on : FlowSupport) (all left next : List Flow) (input before now after : List ℕ) → LeavesFlows r on all left input before now → LeavesFlows r on left next input now after
+    → LeavesFlows r on all next input before after
+leaves_on r on all left next input before now after so one n le =
+    let (m, few, back) = so n le in
+    let (k, fewer, came) = one m few in
+    (k, fewer, λ end x. back end (came end x))
 
-pub goes_on : (r : Records) (on : FlowSupport) (all left next : List Flow) (input before now after : List ℕ) → LeavesFlows r on all left input before now
-    → LeavesFlows r on left next input now after → LeavesFlows r on all next input before after
-goes_on r on all left next input before now after so one d goes =
-    let (e, rest, back) = so d goes in
-    let (f, last, came) = one e rest in
-    (f, last, λ end x. back end (came end x))
+pub stops_on : (r : Records) (on : FlowSupport) (all left : List Flow) (input before now after : List ℕ) (stop : Stop) → LeavesFlows r on all left input before now → StopsFlows r on left input now stop after
+    → StopsFlows r on all input before stop after
+stops_on r on all left input before now after stop so one n le =
+    let (m, few, back) = so n le in
+    back (stopped stop after) (one m few)
 
-pub goes_stop : (r : Records) (on : FlowSupport) (all left : List Flow) (input before now after : List ℕ) (stop : Stop) → LeavesFlows r on all left input before now
-    → StopsFlows r on left input now stop after → StopsFlows r on all input before stop after
-goes_stop r on all left input before now after stop so one d goes =
-    let (e, rest, back) = so d goes in
-    back (stopped stop after) (one e rest)
+pub leaves_first : (r : Records) (on : FlowSupport) (all : List Flow) (input before : List ℕ) → LeavesFlows r on all all input before before
+leaves_first r on all input before n le = (n, le, λ end x. x)
 
-pub nothing_left : (r : Records) (on : FlowSupport) (d : Deeds Past) → LeadTo r on [] d → d ≡ Nothing
-nothing_left r on d (lead_end _ _ e is) = is
-nothing_left r on d (lead_moves _ rest _ next other ms e is at goes) = absurd (none_left rest (flow.Moves other) (sym e))
-nothing_left r on d (lead_skips _ rest _ count e goes) = absurd (none_left rest (flow.Skip count) (sym e))
-nothing_left r on d (lead_where _ rest _ holding lacking test skip t e is at goes other) = absurd (none_left rest (flow.Where test skip) (sym e))
-nothing_left r on d (lead_until _ rest _ holding lacking test skip t e is at goes other) = absurd (none_left rest (flow.Until test skip) (sym e))
+none_carried : (r : Records) (on : FlowSupport) (n : ℕ) → carried_from r on n [] ≡ Nothing
+none_carried r on zero = refl
+none_carried r on (suc n) = refl
 
-pub goes_done : (r : Records) (on : FlowSupport) (all left : List Flow) (input before now : List ℕ) → left ≡ [] → LeavesFlows r on all left input before now
-    → (d : Deeds Past) → LeadTo r on all d → Carried (Judged r) r d input before (done now)
-goes_done r on all left input before now none so d goes =
-    let (e, rest, back) = so d goes in
-    let is : e ≡ Nothing = nothing_left r on e (subst (λ (fs : List Flow). LeadTo r on fs e) none rest) in
-    back (done now) (subst (λ (c : Deeds Past). Carried (Judged r) r c input now (done now)) (sym is) refl)
+pub leaves_none : (r : Records) (on : FlowSupport) (all left : List Flow) (input before now : List ℕ) → left ≡ [] → LeavesFlows r on all left input before now
+    → Carried (Judged r) r (carried_from r on (length all) all) input before (done now)
+leaves_none r on all left input before now none so =
+    let (m, few, back) = so (length all) (omega arith) in
+    back (done now)
+    (subst (λ (d : Deeds Past). Carried (Judged r) r d input now (done now)) (sym (ap (λ (fs : List Flow). carried_from r on m fs) none ∙ none_carried r on m)) refl)
 
-pub goes_first : (r : Records) (on : FlowSupport) (all : List Flow) (input before : List ℕ) → LeavesFlows r on all all input before before
-goes_first r on all input before d goes = (d, goes, λ end x. x)
-
-pub flows_none : (xs : List Flow) → length xs ≤ 0 → xs ≡ []
+pub flows_none : (fs : List Flow) → length fs ≤ 0 → fs ≡ []
 flows_none [] none = refl
-flows_none (x ∷ xs) none = absurd (omega (arith, none))
+flows_none (f ∷ fs) none = absurd (omega (arith, none))
+
+-- each flow that is left is one of them
+pub all_behind : (P : Flow → Type 0) (n : ℕ) (fs : List Flow) → AllByRecursion P fs → AllByRecursion P (drop n fs)
+all_behind P zero fs all = all
+all_behind P (suc n) [] all = all
+all_behind P (suc n) (f ∷ fs) all = all_behind P n fs all.1
+
+-- ---- what flows come to as they are carried out, and what is done
+
+-- others come to this end from a storage
+abbrev pub GoOn : Records → FlowSupport → List Flow → List ℕ → List ℕ → Ending → Type 0
+GoOn r on others input after last = (m : ℕ) × (length others ≤ m) × Carried (Judged r) r (carried_from r on m others) input after last
+
+-- each flow in front is one of them
+all_front : {P : Flow → Type 0} (n : ℕ) (fs : List Flow) → AllByRecursion P fs → AllByRecursion P (take n fs)
+all_front zero fs all = tt
+all_front (suc n) [] all = all
+all_front (suc n) (f ∷ fs) all = (all.0, all_front n fs all.1)
+
+-- a test, with what it passes over and what stands behind that
+test_apart : (r : Records) (on : FlowSupport) (n k number skip : ℕ) (fs others : List Flow) (b : Bound) (input before : List ℕ) (end : Ending) → skip ≤ length fs
+    → (Carried (Judged r) r (carried_from r on k (drop skip fs ++ others)) input before end → Then (λ e. Carried (Judged r) r (deeds_from r on n (drop skip fs)) input before e) (λ after last. GoOn r on others input after last) end)
+    → (Carried (Judged r) r (carried_from r on k (take skip fs ++ (drop skip fs ++ others))) input before end
+    → Then (λ e. Carried (Judged r) r (deeds_from r on n (take skip fs)) input before e) (λ after last. GoOn r on (drop skip fs ++ others) input after last) end)
+    → ((m : ℕ) (after : List ℕ) (last : Ending) → length (drop skip fs ++ others) ≤ m → Carried (Judged r) r (carried_from r on m (drop skip fs ++ others)) input after last
+    → Then (λ e. Carried (Judged r) r (deeds_from r on n (drop skip fs)) input after e) (λ s t. GoOn r on others input s t) last)
+    → Carried (Judged r) r (either_way r (Some b) number (carried_from r on k (drop skip (fs ++ others))) (carried_from r on k (fs ++ others))) input before end
+    → Then (λ e. Carried (Judged r) r (unless_past r (Some b) number (deeds_from r on n (take skip fs)) (deeds_from r on n (drop skip fs))) input before e) (λ after last. GoOn r on others input after last) end
+test_apart r on n k number skip fs others b input before end within past inside behind (inl (is, x)) =
+    let d : Deeds Past = deeds_from r on n (drop skip fs) in
+    let all : Deeds Past = Choice (past_bound r b number) Nothing (deeds_from r on n (take skip fs)) d in
+    let here = to_nothing (Judged r) r (carried_from r on k (drop skip (fs ++ others))) input before end x in
+    then_map (λ e. Carried (Judged r) r d input before e) (λ e. Carried (Judged r) r all input before e) (λ after last. GoOn r on others input after last) (λ after last. GoOn r on others input after last) end
+    (λ e y. inl (is, then_done before (λ after last. Carried (Judged r) r d input after last) e y)) (λ after e y. y)
+    (past (subst (λ (gs : List Flow). Carried (Judged r) r (carried_from r on k gs) input before end) (drop-append-le skip fs others within) here))
+test_apart r on n k number skip fs others b input before end within past inside behind (inr (inl (is, x))) =
+    let front : Deeds Past = deeds_from r on n (take skip fs) in
+    let d : Deeds Past = deeds_from r on n (drop skip fs) in
+    let all : Deeds Past = Choice (past_bound r b number) Nothing front d in
+    let here = to_nothing (Judged r) r (carried_from r on k (fs ++ others)) input before end x in
+    let cut : fs ++ others ≡ take skip fs ++ (drop skip fs ++ others) = ap (λ (gs : List Flow). gs ++ others) (sym (take-append-drop skip fs)) ∙ append_assoc (take skip fs) (drop skip fs) others in
+    then_map (λ e. Then (λ k. Carried (Judged r) r front input before k) (λ after last. Carried (Judged r) r d input after last) e) (λ e. Carried (Judged r) r all input before e)
+    (λ after last. GoOn r on others input after last) (λ after last. GoOn r on others input after last) end (λ e y. inr (inl (is, y))) (λ after e y. y)
+    (then_back (λ e. Carried (Judged r) r front input before e) (λ after last. Carried (Judged r) r d input after last) (λ after last. GoOn r on others input after last) end
+    (then_map (λ e. Carried (Judged r) r front input before e) (λ e. Carried (Judged r) r front input before e) (λ after last. GoOn r on (drop skip fs ++ others) input after last)
+    (λ after last. Then (λ e. Carried (Judged r) r d input after e) (λ s t. GoOn r on others input s t) last) end (λ e y. y)
+    (λ after e (m, few, y). behind m after e few y)
+    (inside (subst (λ (gs : List Flow). Carried (Judged r) r (carried_from r on k gs) input before end) cut here))))
+test_apart r on n k number skip fs others b input before end within past inside behind (inr (inr (stop, is, e))) = inr (stop, before, inr (inr (stop, is, refl)), e)
+
+pub flows_apart : (r : Records) (on : FlowSupport) (n k : ℕ) (fs others : List Flow) (input before : List ℕ) (end : Ending) → AllByRecursion (IsFlow on) fs → AreNested n fs → length fs ≤ n → length (fs ++ others) ≤ k
+    → Carried (Judged r) r (carried_from r on k (fs ++ others)) input before end
+    → Then (λ e. Carried (Judged r) r (deeds_from r on n fs) input before e) (λ after last. GoOn r on others input after last) end
+flows_apart r on zero k [] others input before end each nested few le x = then_done before (λ after last. GoOn r on others input after last) end (k, le, x)
+flows_apart r on zero k (f ∷ fs) others input before end each nested few le x = absurd (omega (arith, few))
+flows_apart r on (suc n) k [] others input before end each nested few le x = then_done before (λ after last. GoOn r on others input after last) end (k, le, x)
+flows_apart r on (suc n) zero (f ∷ fs) others input before end each nested few le x = absurd (omega (arith, le))
+flows_apart r on (suc n) (suc k) (flow.Moves number ∷ fs) others input before end each nested few le x =
+    let ms : List Move = moves_between r on.moves number (number + 1) in
+    then_back (λ e. Applied r ms input before e) (λ after last. Carried (Judged r) r (deeds_from r on n fs) input after last) (λ after last. GoOn r on others input after last) end
+    (then_map (λ e. Applied r ms input before e) (λ e. Applied r ms input before e) (λ after last. Carried (Judged r) r (carried_from r on k (fs ++ others)) input after last)
+    (λ after last. Then (λ e. Carried (Judged r) r (deeds_from r on n fs) input after e) (λ s t. GoOn r on others input s t) last) end
+    (λ e y. y) (λ after e y. flows_apart r on n k fs others input after e each.1 nested (omega (arith, few)) (omega (arith, le)) y) x)
+flows_apart r on (suc n) (suc k) (flow.Turns number ∷ fs) others input before end each nested few le x =
+    let d : Deeds Past = loop_done r on (slice_get on.loops number) in
+    then_map (λ e. Then (λ e. Carried (Judged r) r d input before e) (λ after last. Carried (Judged r) r (deeds_from r on n fs) input after last) e) (λ e. Carried (Judged r) r (both_deeds d (deeds_from r on n fs)) input before e)
+    (λ after last. GoOn r on others input after last) (λ after last. GoOn r on others input after last) end
+    (λ e y. both_together (Judged r) r d (deeds_from r on n fs) input before e y) (λ after e y. y)
+    (then_back (λ e. Carried (Judged r) r d input before e) (λ after last. Carried (Judged r) r (deeds_from r on n fs) input after last) (λ after last. GoOn r on others input after last) end
+    (then_map (λ e. Carried (Judged r) r d input before e) (λ e. Carried (Judged r) r d input before e) (λ after last. Carried (Judged r) r (carried_from r on k (fs ++ others)) input after last)
+    (λ after last. Then (λ e. Carried (Judged r) r (deeds_from r on n fs) input after e) (λ s t. GoOn r on others input s t) last) end
+    (λ e y. y) (λ after e y. flows_apart r on n k fs others input after e each.1 nested (omega (arith, few)) (omega (arith, le)) y)
+    (both_apart (Judged r) r d (carried_from r on k (fs ++ others)) input before end x)))
+flows_apart r on (suc n) (suc k) (flow.Until bound number skip ∷ fs) others input before end each nested few le x =
+    let (b, at) = each.0 in
+    let (within, inside, behind) = nested in
+    subst (λ (o : Option Bound). Then (λ e. Carried (Judged r) r (unless_past r o number (deeds_from r on n (take skip fs)) (deeds_from r on n (drop skip fs))) input before e) (λ after last. GoOn r on others input after last) end) (sym at)
+    (test_apart r on n k number skip fs others b input before end within
+    (λ y. flows_apart r on n k (drop skip fs) others input before end (all_behind (IsFlow on) skip fs each.1) behind (omega (arith, few, length-drop skip fs)) (omega (arith, le, length-append fs others, length-append (drop skip fs) others, length-drop skip fs)) y)
+    (λ y. flows_apart r on n k (take skip fs) (drop skip fs ++ others) input before end (all_front skip fs each.1) inside (omega (arith, few, length-take-le skip fs within, within))
+    (omega (arith, le, length-append fs others, length-append (take skip fs) (drop skip fs ++ others), length-append (drop skip fs) others, length-drop skip fs, length-take-le skip fs within, within)) y)
+    (λ m after last few_left y. flows_apart r on n m (drop skip fs) others input after last (all_behind (IsFlow on) skip fs each.1) behind (omega (arith, few, length-drop skip fs)) few_left y)
+    (subst (λ (o : Option Bound). Carried (Judged r) r (either_way r o number (carried_from r on k (drop skip (fs ++ others))) (carried_from r on k (fs ++ others))) input before end) at x))
+
+-- flows that are nested go to what is done
+pub flows_carried : (r : Records) (on : FlowSupport) (fs : List Flow) (input before : List ℕ) (end : Ending) → AllByRecursion (IsFlow on) fs → AreNested (length fs) fs
+    → Carried (Judged r) r (carried_from r on (length fs) fs) input before end → Carried (Judged r) r (deeds_from r on (length fs) fs) input before end
+flows_carried r on fs input before end each nested x =
+    let whole : fs ++ [] ≡ fs = append-nil fs in
+    let long : length (fs ++ []) ≤ length fs = omega (arith, ap length whole) in
+    to_nothing (Judged r) r (deeds_from r on (length fs) fs) input before end
+    (then_map (λ e. Carried (Judged r) r (deeds_from r on (length fs) fs) input before e) (λ e. Carried (Judged r) r (deeds_from r on (length fs) fs) input before e)
+    (λ after last. GoOn r on [] input after last) (λ after last. Carried (Judged r) r Nothing input after last) end (λ e y. y)
+    (λ after e (m, few, y). subst (λ (d : Deeds Past). Carried (Judged r) r d input after e) (none_carried r on m) y)
+    (flows_apart r on (length fs) (length fs) fs [] input before end each nested (omega arith) long
+    (subst (λ (gs : List Flow). Carried (Judged r) r (carried_from r on (length fs) gs) input before end) (sym whole) x)))

@@ -1,62 +1,88 @@
 -- Flows: what is carried out in the place of what is done, one behind another, with skips forward.
-use Rattle.std.specs.Prelude.{◌≡◌, ℕ, List, [], ◌∷◌, ◌++◌, drop}
-use Rattle.cob_move_data.specs.Moves.{Move, Records}
-use Rattle.cob_move_apply.specs.declared.moves.Moves.{Moves}
-use Rattle.cob_move_apply.specs.declared.stop.Stop.{Stop}
-use Rattle.cob_move_apply.specs.Applied.{Ending, stopped}
-use Rattle.cob_move_apply.specs.Prepared.{ArePrepared, moves_of}
-use Rattle.cob_move_steps.specs.Pool.{IsStepAt}
-use Rattle.cob_move_deeds.specs.declared.test.Test.{Test}
-use Rattle.cob_move_deeds.specs.declared.test.Layouts.{Layouts}
+use Rattle.std.specs.Prelude.{◌≡◌, ℕ, zero, suc, ◌+◌, ◌-◌, ◌/◌, ◌<◌, ◌≤◌, List, [], ◌∷◌, drop, length, map, take, Option, Some, None}
+use Rattle.std.specs.List.{AllByRecursion, slice_get}
+use Rattle.cob_codec.specs.declared.reading.Reading.{Reading}
+use Rattle.cob_move_data.specs.declared.operands.Side.TheVariants.{In}
+use Rattle.cob_move_data.specs.Moves.{Move, Records, read_by}
+use Rattle.cob_move_apply.specs.declared.marked.MarkedMoves.{MarkedMoves}
+use Rattle.cob_move_apply.specs.Marked.{moves_between}
+use Rattle.cob_move_deeds.specs.declared.flow.Bound.{Bound}
+use Rattle.cob_move_deeds.specs.declared.flow.CountedLoop.{CountedLoop}
 use Rattle.cob_move_deeds.specs.declared.flow.Flow.{Flow}
 use Rattle.cob_move_deeds.specs.declared.flow.Flow.TheVariants as flow
-use Rattle.cob_move_deeds.specs.Deeds.{Carried, Choice, Deeds, Moving, Nothing}
-use Rattle.cob_move_deeds.specs.Tests.{IsTest, Judged, Past, past_of}
+use Rattle.cob_move_deeds.specs.Deeds.{Choice, Deeds, Moving, Nothing, both_deeds}
+use Rattle.cob_move_deeds.specs.Tests.{Past, past_bound}
+use Rattle.cob_move_deeds.specs.Turns.{number_after, turns_from}
 
--- the records of these layouts
-abbrev pub records_tested : Layouts → Records
-records_tested l = record { input = l.input.now; output = l.output.now }
-
--- what flows rest on: moves that were made ready, and tests
+-- what flows rest on: moves parted by marks, bounds, and loops
 pub record FlowSupport : Type 0 where
-  pub moves : List Moves
-  pub tests : List Test
+  pub moves : MarkedMoves
+  pub bounds : List Bound
+  pub loops : List CountedLoop
 
--- the moves with this number were made ready for these records, and are these
-abbrev pub AreMovesAt : Records → List Moves → ℕ → List Move → Type 0
-AreMovesAt r blocks number ms = IsStepAt Moves (λ m. ArePrepared r m × (ms ≡ moves_of r m)) blocks number
+-- ---- what flows come to
 
--- the test with this number is this one
-abbrev pub IsTestAt : Records → List Test → ℕ → Past → Type 0
-IsTestAt r tests number t = IsStepAt Test (λ b. IsTest r (past_of r b) × (t ≡ past_of r b)) tests number
+-- the moves of the turn of a loop in which the counter has this number
+abbrev pub moves_of_turn : Records → MarkedMoves → CountedLoop → ℕ → List Move
+moves_of_turn r m l number = moves_between r m (l.first + (number - l.from) / l.by) (l.first + (number - l.from) / l.by + 1)
 
--- Flows, from the first of them on, come to this.
-pub data LeadTo (r : Records) (on : FlowSupport) : List Flow → Deeds Past → Type 0 where
-  lead_end : (fs : List Flow) (d : Deeds Past) → fs ≡ [] → d ≡ Nothing → LeadTo r on fs d
-  lead_moves : (fs rest : List Flow) (d more : Deeds Past) (number : ℕ) (ms : List Move) → fs ≡ flow.Moves number ∷ rest → d ≡ Moving ms more
-      → AreMovesAt r on.moves number ms → LeadTo r on rest more → LeadTo r on fs d
-  lead_skips : (fs rest : List Flow) (d : Deeds Past) (count : ℕ) → fs ≡ flow.Skip count ∷ rest → LeadTo r on (drop count rest) d → LeadTo r on fs d
-  lead_where : (fs rest : List Flow) (d holding lacking : Deeds Past) (test skip : ℕ) (t : Past) → fs ≡ flow.Where test skip ∷ rest → d ≡ Choice t holding lacking Nothing
-      → IsTestAt r on.tests test t → LeadTo r on rest holding → LeadTo r on (drop skip rest) lacking → LeadTo r on fs d
-  lead_until : (fs rest : List Flow) (d holding lacking : Deeds Past) (test skip : ℕ) (t : Past) → fs ≡ flow.Until test skip ∷ rest → d ≡ Choice t holding lacking Nothing
-      → IsTestAt r on.tests test t → LeadTo r on (drop skip rest) holding → LeadTo r on rest lacking → LeadTo r on fs d
+-- the turns of a loop that ends by this bound, each behind its test
+abbrev pub turns_to : Records → MarkedMoves → CountedLoop → Option Bound → Deeds Past
+turns_to r m l None = Nothing
+turns_to r m l (Some bound) = turns_from (past_bound r bound) (λ number. Moving (moves_of_turn r m l number) Nothing) l.by l.turns l.from
 
--- Whatever flows came to from the storage before, those that are left come to from the storage now.
-abbrev pub LeavesFlows : Records → FlowSupport → List Flow → List Flow → List ℕ → List ℕ → List ℕ → Type 0
-LeavesFlows r on fs left input before now =
-    (d : Deeds Past) → LeadTo r on fs d
-    → (e : Deeds Past) × LeadTo r on left e × ((end : Ending) → Carried (Judged r) r e input now end → Carried (Judged r) r d input before end)
+-- a loop
+abbrev pub loop_done : Records → FlowSupport → Option CountedLoop → Deeds Past
+loop_done r on None = Nothing
+loop_done r on (Some l) = turns_to r on.moves l (slice_get on.bounds l.bound)
 
--- what flows came to stops there
-abbrev pub StopsFlows : Records → FlowSupport → List Flow → List ℕ → List ℕ → Stop → List ℕ → Type 0
-StopsFlows r on fs input before stop after = (d : Deeds Past) → LeadTo r on fs d → Carried (Judged r) r d input before (stopped stop after)
+-- what is done where a number is not past this bound, and what is done behind either
+abbrev pub unless_past : Records → Option Bound → ℕ → (within behind : Deeds Past) → Deeds Past
+unless_past r None number within behind = Nothing
+unless_past r (Some bound) number within behind = Choice (past_bound r bound number) Nothing within behind
 
--- what is done with what goes on behind it put into its branches
-abbrev pub nested : {T : Type 0} → Deeds T → Deeds T → Deeds T
-nested Nothing next = next
-nested (Moving ms more) next = Moving ms (nested more next)
-nested (Choice t holding lacking more) next = Choice t (nested holding (nested more next)) (nested lacking (nested more next)) Nothing
+-- What flows come to, of which so many at most are looked at: moves; the turns of a loop, each behind its test; and behind a test what is passed over where
+-- it holds.
+abbrev pub deeds_from : Records → FlowSupport → ℕ → List Flow → Deeds Past
+deeds_from r on zero fs = Nothing
+deeds_from r on (suc n) [] = Nothing
+deeds_from r on (suc n) (flow.Moves number ∷ rest) = Moving (moves_between r on.moves number (number + 1)) (deeds_from r on n rest)
+deeds_from r on (suc n) (flow.Turns number ∷ rest) = both_deeds (loop_done r on (slice_get on.loops number)) (deeds_from r on n rest)
+deeds_from r on (suc n) (flow.Until bound number skip ∷ rest) =
+    unless_past r (slice_get on.bounds bound) number (deeds_from r on n (take skip rest)) (deeds_from r on n (drop skip rest))
 
--- Flows come to what is done: in front of any others they come to it, and then to what those come to.
-abbrev pub AreFlowsOf : Records → FlowSupport → List Flow → Deeds Past → Type 0
-AreFlowsOf r on fs d = (others : List Flow) (next : Deeds Past) → LeadTo r on others next → LeadTo r on (fs ++ others) (nested d next)
+-- the same deeds, with their binary senders read so
+abbrev pub deeds_by : Reading → Deeds Past → Deeds Past
+deeds_by reading Nothing = Nothing
+deeds_by reading (Moving ms more) = Moving (map (read_by reading) ms) (deeds_by reading more)
+deeds_by reading (Choice t holding lacking more) = Choice t (deeds_by reading holding) (deeds_by reading lacking) (deeds_by reading more)
+
+-- ---- which flows may be carried out
+
+-- The bound of a loop stands in the input record, and the turns up to the greatest number that it may hold lie between marks.
+pub record IsLoop (on : FlowSupport) (l : CountedLoop) : Type 0 where
+  pub bound : Bound
+  pub at : slice_get on.bounds l.bound ≡ Some bound
+  pub of_input : bound.item.side ≡ In
+  pub grows : 0 < l.by
+  pub far : bound.most < number_after l.by l.turns l.from
+  pub marks : l.first + l.turns < length on.moves.marks.items
+
+-- what a flow names by a number is there
+abbrev pub IsFlow : FlowSupport → Flow → Type 0
+IsFlow on (flow.Moves number) = number + 1 < length on.moves.marks.items
+IsFlow on (flow.Turns number) = (l : CountedLoop) × (slice_get on.loops number ≡ Some l) × IsLoop on l
+IsFlow on (flow.Until bound number skip) = (b : Bound) × (slice_get on.bounds bound ≡ Some b)
+
+-- What a test passes over ends within what it stands in, of which so many at most are looked at.
+abbrev pub AreNested : ℕ → List Flow → Type 0
+AreNested zero fs = fs ≡ []
+AreNested (suc n) [] = Unit {0}
+AreNested (suc n) (flow.Moves number ∷ rest) = AreNested n rest
+AreNested (suc n) (flow.Turns number ∷ rest) = AreNested n rest
+AreNested (suc n) (flow.Until bound number skip ∷ rest) = (skip ≤ length rest) × AreNested n (take skip rest) × AreNested n (drop skip rest)
+
+-- flows that may be carried out
+pub record AreFlows (on : FlowSupport) (fs : List Flow) : Type 0 where
+  pub each : AllByRecursion (IsFlow on) fs
+  pub nested : AreNested (length fs) fs

@@ -14,12 +14,13 @@ use Rattle.cob_move_data.specs.declared.operands.Operand.{Operand}
 use Rattle.cob_move_data.specs.declared.operands.Side.{Side}
 use Rattle.cob_layout_places.specs.declared.varying.Table.{Table}
 use Rattle.cob_layout_places.specs.Counts.{SaysOfTable}
-use Rattle.cob_move_data.specs.Moves.{IsOperand, Records, operand_in, record_of}
+use Rattle.cob_move_data.specs.Moves.{Records, operand_in, record_of}
 use Rattle.cob_move_apply.specs.declared.stop.Stop.{Stop}
 use Rattle.cob_move_apply.specs.declared.stop.StopCause.TheVariants.{Count}
 use Rattle.cob_move_apply.specs.Applied.{storage_of}
 use Rattle.cob_move_apply.specs.Located.{Located, stop_at}
-use Rattle.cob_move_deeds.specs.declared.test.Test as code
+use Rattle.cob_move_apply.specs.Entries.{IsPlacedEntry}
+use Rattle.cob_move_deeds.specs.declared.flow.Bound.{Bound}
 
 -- the counter's number, the greatest number that the bound may be, and the item that holds the bound
 pub record Past : Type 0 where
@@ -28,13 +29,9 @@ pub record Past : Type 0 where
   pub side : Side
   pub bound : Operand
 
--- the test of the code, in its record
-abbrev pub past_in : Forest Resolved → code.Test → Past
-past_in tree t = record { number = t.number; most = t.most; side = t.side; bound = operand_in tree t.bound }
-
--- the test of the code, between two records
-abbrev pub past_of : Records → code.Test → Past
-past_of r t = past_in (record_of r t.side) t
+-- the test whether this number is past the bound
+abbrev pub past_bound : Records → Bound → ℕ → Past
+past_bound r b number = record { number = number; most = b.most; side = b.item.side; bound = operand_in (record_of r b.item.side) b.item.entry }
 
 -- a table that occurs up to so often
 abbrev pub up_to : ℕ → Table
@@ -50,14 +47,10 @@ pub record IsBoundItem (kind : Kind) (i : Item) : Type 0 where
   pub number : IsNumberItem i
   pub whole : scale i.picture.positions ≡ pos 0
 
--- the bound is an entry of its record, and such an item
-pub record IsTestIn (tree : Forest Resolved) (t : Past) : Type 0 where
-  pub operand : IsOperand tree t.bound
-  pub item : (i : Item) × IsBoundItem t.bound.kind i
-
--- so it is between two records
-abbrev pub IsTest : Records → Past → Type 0
-IsTest r t = IsTestIn (record_of r t.side) t
+-- the bound is an entry of its record, ready to be read, and such an item
+pub record IsBound (r : Records) (b : Bound) : Type 0 where
+  pub placed : IsPlacedEntry r b.item
+  pub item : (i : Item) × IsBoundItem (operand_in (record_of r b.item.side) b.item.entry).kind i
 
 -- what the bytes of the bound say: its number, which the counter is past or not; or it gives none from 0 to the greatest
 abbrev pub SaysOfBound : Past → Item → Place → List ℕ → Result Bool Stop → Type 0
@@ -84,3 +77,17 @@ BoundGives r t input output v =
 -- the same test with another number of the counter
 abbrev pub with_number : Past → ℕ → Past
 with_number t i = record { number = i; most = t.most; side = t.side; bound = t.bound }
+
+-- what the bytes of the bound give: its number; or the stop of the test
+abbrev pub SaysNumberAt : Past → Item → Place → List ℕ → Result ℕ Stop → Type 0
+SaysNumberAt t i p bytes (Ok v) = SaysOfTable i (up_to t.most) (there p) bytes (Ok v)
+SaysNumberAt t i p bytes (Err stop) = SaysOfBound t i p bytes (Err stop)
+
+-- what the record of a bound that stands there says of it
+abbrev pub SaysNumberIn : Past → Place → List ℕ → Result ℕ Stop → Type 0
+SaysNumberIn t p bytes answer = (i : Item) × (t.bound.kind ≡ ItemKind i) × SaysNumberAt t i p bytes answer
+
+-- what reading the bound of a test says: the number that it gives; or the stop of the test, whatever the counter's number
+abbrev pub SaysNumber : Records → Past → List ℕ → List ℕ → Result ℕ Stop → Type 0
+SaysNumber r t input output (Ok v) = BoundGives r t input output v
+SaysNumber r t input output (Err stop) = Judged r t input output (Err stop)
