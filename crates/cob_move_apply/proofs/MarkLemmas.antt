@@ -182,19 +182,19 @@ stand_same x r given on steps m = (
 pub parted_first : (r : Records) (given : List StatementMoves) (on : Support) (steps : List Step) (marks : List Mark) → steps ≡ [] → marks ≡ record { statement = 0; step = 0 } ∷ [] → ArePartedBy r given on steps marks
 parted_first r given on steps marks none one = subst (λ (ss : List Step). ArePartedBy r given on ss marks) (sym none) (subst (λ (ms : List Mark). ArePartedBy r given on [] ms) (sym one) alone)
   where
-    first : Mark
-    first = record { statement = 0; step = 0 }
+    start : Mark
+    start = record { statement = 0; step = 0 }
 
-    only : (k : ℕ) → k < length (first ∷ []) → k ≡ 0
+    only : (k : ℕ) → k < length (start ∷ []) → k ≡ 0
     only k lt = omega (arith, lt)
 
-    alone : ArePartedBy r given on [] (first ∷ [])
+    alone : ArePartedBy r given on [] (start ∷ [])
     alone = record {
       some = omega arith;
       first = refl;
       last = refl;
       rise = λ a b le lt. let p : a ≡ 0 = omega (arith, le, lt) in let q : b ≡ 0 = omega (arith, lt) in rw (p, q) (omega arith, omega arith);
-      stand = λ x a b le lt. let p : a ≡ 0 = omega (arith, le, lt) in let q : b ≡ 0 = omega (arith, lt) in rw (p, q) (stand_same x r given on [] first);
+      stand = λ x a b le lt. let p : a ≡ 0 = omega (arith, le, lt) in let q : b ≡ 0 = omega (arith, lt) in rw (p, q) (stand_same x r given on [] start);
       count = λ x. refl;
     }
 

@@ -8,6 +8,6 @@ invariant-loop-end l = record {
   none : l.plan.steps.items ≡ [];
   parted : ArePartedBy (record { input = l.input; output = l.output }) l.given (support_of l.plan) l.steps.items l.marks.items;
   begin : (last_mark l.marks.items).statement ≡ l.begin;
-  ends : AreEnds l.begin (length l.given) (drop l.end-index l.end-items);
-  said : map statement_of l.marks.items ≡ 0 ∷ take l.end-index l.end-items;
+  ends : AreEnds l.begin (length l.given) (drop l.end-index l.ends);
+  said : map statement_of l.marks.items ≡ 0 ∷ take l.end-index l.ends;
 }
