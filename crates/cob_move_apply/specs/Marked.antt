@@ -57,17 +57,17 @@ AreEnds begin whole (end ∷ ends) = (begin ≤ end) × (end ≤ whole) × AreEn
 -- ---- moves that are ready
 
 -- the moves from one mark to another, in their order, their senders read as they are to be
-abbrev pub moves_between : Records → MarkedMoves → (from to : ℕ) → List Move
-moves_between r m from to =
+abbrev pub moves_between_marks : Records → MarkedMoves → (from to : ℕ) → List Move
+moves_between_marks r m from to =
     moves_by m.moves.reading r (items_between (mark_at m.marks.items from).statement (mark_at m.marks.items to).statement m.moves.statements.items)
 
 -- how many steps they make, those between one mark and the next by themselves
-abbrev pub steps_between_marks : Records → MarkedMoves → ℕ
-steps_between_marks r m = parted_steps m.moves.reading r m.moves.statements.items 0 m.marks.items
+abbrev pub marked_steps : Records → MarkedMoves → ℕ
+marked_steps r m = parted_steps m.moves.reading r m.moves.statements.items 0 m.marks.items
 
 -- how many statements stand before each mark
-abbrev pub ends_of : MarkedMoves → List ℕ
-ends_of m = map statement_of m.marks.items
+abbrev pub ends_of_marks : MarkedMoves → List ℕ
+ends_of_marks m = map statement_of m.marks.items
 
 -- Whatever the reading, they are moves between these records, which marks part up to the end, and the steps between two marks stand for those between them.
 pub record AreMarkedPrepared (r : Records) (m : MarkedMoves) : Type 0 where

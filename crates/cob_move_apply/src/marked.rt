@@ -30,7 +30,7 @@ pub struct MarkedMoves {
 }
 
 impl MarkedMoves {
-    ghost use Rattle.cob_move_apply.specs.Marked.{AreEnds, AreMarkedPrepared, ends_of, moves_between, steps_between_marks};
+    ghost use Rattle.cob_move_apply.specs.Marked.{AreEnds, AreMarkedPrepared, ends_of_marks, moves_between_marks, marked_steps};
     ghost use Rattle.cob_move_apply.specs.Prepared.{moves_of};
 
     /// Moves between the records of these layouts, made ready, with a mark before all of them, and one behind each of these numbers of statements. No copy
@@ -50,7 +50,7 @@ impl MarkedMoves {
             (moves (record { input = input.now; output = output.now }) given.items) }
         requires ends { AreEnds 0 (length given.items) ends.now }
         ensures made { IfOk result (λ m. (r : Records) → moves_of r m.moves ≡ moves r given.items) }
-        ensures ends { IfOk result (λ m. ends_of m ≡ 0 ∷ ends.now) }
+        ensures ends { IfOk result (λ m. ends_of_marks m ≡ 0 ∷ ends.now) }
         ensures prepared { IfOk result
             (AreMarkedPrepared (record { input = input.now; output = output.now })) }
     {
@@ -69,9 +69,9 @@ impl MarkedMoves {
     pub fn with_reading(self, reading: Reading) -> MarkedMoves
         ensures moves { (r : Records)
             → moves_of r result.moves ≡ map (read_by reading) (moves_of r self.moves) }
-        ensures between { (r : Records) (from to : ℕ) → moves_between r result from to
-            ≡ map (read_by reading) (moves_between r self from to) }
-        ensures ends { ends_of result ≡ ends_of self }
+        ensures between { (r : Records) (from to : ℕ) → moves_between_marks r result from to
+            ≡ map (read_by reading) (moves_between_marks r self from to) }
+        ensures ends { ends_of_marks result ≡ ends_of_marks self }
         ensures prepared { (r : Records) → AreMarkedPrepared r self → AreMarkedPrepared r result }
     {
         MarkedMoves {
@@ -110,7 +110,7 @@ impl MarkedMoves {
     /// How many steps these moves make, those between one mark and the next by themselves. More than a u32 holds come as the greatest u32.
     pub fn steps(&self) -> u32
         ensures { (r : Records) → AreMarkedPrepared r self.now
-            → result ≡ min (steps_between_marks r self.now) most_moves_told }
+            → result ≡ min (marked_steps r self.now) most_moves_told }
     {
         counted(self.moves.plan.steps.as_slice())
     }
@@ -146,14 +146,14 @@ impl MarkedMoves {
         requires kept_input { AreKeptOf input_layout.now input.now scratch.old.kept_input }
         requires kept_output { AreKeptOf output_layout.now output.old scratch.old.kept_output }
         ensures applied { Applied (record { input = input_layout.now; output = output_layout.now })
-            (moves_between (record { input = input_layout.now; output = output_layout.now })
+            (moves_between_marks (record { input = input_layout.now; output = output_layout.now })
             self.now from to) input.now output.old (ending result output.new) }
         ensures room { scratch.new.room ≡ scratch.old.room }
         ensures kept_input { AreKeptOf input_layout.now input.now scratch.new.kept_input }
         ensures kept_output { AreKeptOf output_layout.now output.new scratch.new.kept_output }
         ensures reads { ReadsOfMoves
             (record { input = input_layout.now; output = output_layout.now })
-            (moves_between (record { input = input_layout.now; output = output_layout.now })
+            (moves_between_marks (record { input = input_layout.now; output = output_layout.now })
             self.now from to) input.now output.old result scratch.old scratch.new }
     {
         records_are_sound();

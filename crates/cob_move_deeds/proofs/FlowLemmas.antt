@@ -5,7 +5,7 @@ use Rattle.std.proofs.lemmas.List.{drop-append-le, length-take-le, take-append-d
 use Rattle.cob_codec.specs.declared.reading.Reading.{Reading}
 use Rattle.cob_move_data.specs.Moves.{Move, Records}
 use Rattle.cob_move_apply.specs.Applied.{Applied, Ending, done, stopped, storage_of}
-use Rattle.cob_move_apply.specs.Marked.{moves_between}
+use Rattle.cob_move_apply.specs.Marked.{moves_between_marks}
 use Rattle.cob_move_apply.specs.declared.stop.Stop.{Stop}
 use Rattle.cob_move_deeds.specs.declared.flow.Bound.{Bound}
 use Rattle.cob_move_deeds.specs.declared.flow.CountedLoop.{CountedLoop}
@@ -13,19 +13,19 @@ use Rattle.cob_move_deeds.specs.declared.flow.Flow.{Flow}
 use Rattle.cob_move_deeds.specs.declared.flow.Flow.TheVariants as flow
 use Rattle.cob_move_deeds.specs.Carrying.{LeavesFlows, StopsFlows, carried_from, either_way}
 use Rattle.cob_move_deeds.specs.Deeds.{Carried, Choice, Deeds, Moving, Nothing, Then, both_deeds}
-use Rattle.cob_move_deeds.specs.Flows.{AreNested, FlowSupport, IsFlow, deeds_from, loop_done, unless_past}
+use Rattle.cob_move_deeds.specs.Flows.{AreNestedFlows, FlowSupport, IsFlow, deeds_from, loop_done, unless_past}
 use Rattle.cob_move_deeds.specs.Tests.{BoundGives, Judged, Past, past_bound, with_number}
 use Rattle.cob_move_deeds.proofs.DeedLemmas.{both_apart, both_together, then_back, then_done, then_map, to_nothing, with_nothing}
 
 -- ---- a flow carried out
 
 -- moves, and what is left
-pub moves_leave : (r : Records) (on : FlowSupport) (number : ℕ) (more : List Flow) (input before after : List ℕ) → Applied r (moves_between r on.moves number (number + 1)) input before (done after)
+pub moves_leave : (r : Records) (on : FlowSupport) (number : ℕ) (more : List Flow) (input before after : List ℕ) → Applied r (moves_between_marks r on.moves number (number + 1)) input before (done after)
     → LeavesFlows r on (flow.Moves number ∷ more) more input before after
 moves_leave r on number more input before after made zero le = absurd (omega (arith, le))
 moves_leave r on number more input before after made (suc n) le = (n, omega (arith, le), λ end x. inl (after, made, x))
 
-pub moves_stop : (r : Records) (on : FlowSupport) (number : ℕ) (more : List Flow) (input before after : List ℕ) (stop : Stop) → Applied r (moves_between r on.moves number (number + 1)) input before (stopped stop after)
+pub moves_stop : (r : Records) (on : FlowSupport) (number : ℕ) (more : List Flow) (input before after : List ℕ) (stop : Stop) → Applied r (moves_between_marks r on.moves number (number + 1)) input before (stopped stop after)
     → StopsFlows r on (flow.Moves number ∷ more) input before stop after
 moves_stop r on number more input before after stop made zero le = absurd (omega (arith, le))
 moves_stop r on number more input before after stop made (suc n) le = inr (stop, after, made, refl)
@@ -166,7 +166,7 @@ test_apart r on n k number skip fs others b input before end within past inside 
     (inside (subst (λ (gs : List Flow). Carried (Judged r) r (carried_from r on k gs) input before end) cut here))))
 test_apart r on n k number skip fs others b input before end within past inside behind (inr (inr (stop, is, e))) = inr (stop, before, inr (inr (stop, is, refl)), e)
 
-pub flows_apart : (r : Records) (on : FlowSupport) (n k : ℕ) (fs others : List Flow) (input before : List ℕ) (end : Ending) → AllByRecursion (IsFlow on) fs → AreNested n fs → length fs ≤ n → length (fs ++ others) ≤ k
+pub flows_apart : (r : Records) (on : FlowSupport) (n k : ℕ) (fs others : List Flow) (input before : List ℕ) (end : Ending) → AllByRecursion (IsFlow on) fs → AreNestedFlows n fs → length fs ≤ n → length (fs ++ others) ≤ k
     → Carried (Judged r) r (carried_from r on k (fs ++ others)) input before end
     → Then (λ e. Carried (Judged r) r (deeds_from r on n fs) input before e) (λ after last. GoOn r on others input after last) end
 flows_apart r on zero k [] others input before end each nested few le x = then_done before (λ after last. GoOn r on others input after last) end (k, le, x)
@@ -174,7 +174,7 @@ flows_apart r on zero k (f ∷ fs) others input before end each nested few le x 
 flows_apart r on (suc n) k [] others input before end each nested few le x = then_done before (λ after last. GoOn r on others input after last) end (k, le, x)
 flows_apart r on (suc n) zero (f ∷ fs) others input before end each nested few le x = absurd (omega (arith, le))
 flows_apart r on (suc n) (suc k) (flow.Moves number ∷ fs) others input before end each nested few le x =
-    let ms : List Move = moves_between r on.moves number (number + 1) in
+    let ms : List Move = moves_between_marks r on.moves number (number + 1) in
     then_back (λ e. Applied r ms input before e) (λ after last. Carried (Judged r) r (deeds_from r on n fs) input after last) (λ after last. GoOn r on others input after last) end
     (then_map (λ e. Applied r ms input before e) (λ e. Applied r ms input before e) (λ after last. Carried (Judged r) r (carried_from r on k (fs ++ others)) input after last)
     (λ after last. Then (λ e. Carried (Judged r) r (deeds_from r on n fs) input after e) (λ s t. GoOn r on others input s t) last) end
@@ -201,7 +201,7 @@ flows_apart r on (suc n) (suc k) (flow.Until bound number skip ∷ fs) others in
     (subst (λ (o : Option Bound). Carried (Judged r) r (either_way r o number (carried_from r on k (drop skip (fs ++ others))) (carried_from r on k (fs ++ others))) input before end) at x))
 
 -- flows that are nested go to what is done
-pub flows_carried : (r : Records) (on : FlowSupport) (fs : List Flow) (input before : List ℕ) (end : Ending) → AllByRecursion (IsFlow on) fs → AreNested (length fs) fs
+pub flows_carried : (r : Records) (on : FlowSupport) (fs : List Flow) (input before : List ℕ) (end : Ending) → AllByRecursion (IsFlow on) fs → AreNestedFlows (length fs) fs
     → Carried (Judged r) r (carried_from r on (length fs) fs) input before end → Carried (Judged r) r (deeds_from r on (length fs) fs) input before end
 flows_carried r on fs input before end each nested x =
     let whole : fs ++ [] ≡ fs = append-nil fs in

@@ -9,7 +9,7 @@ use Rattle.cob_move_data.specs.declared.operands.Side.TheVariants.{In}
 use Rattle.cob_move_data.specs.declared.operands.StatementMoves.{StatementMoves}
 use Rattle.cob_move_data.specs.Moves.{Move, Records, moves_by}
 use Rattle.cob_move_apply.specs.Applied.{Applied, Ending, stopped}
-use Rattle.cob_move_apply.specs.Marked.{AreMarkedPrepared, items_between, mark_at, moves_between}
+use Rattle.cob_move_apply.specs.Marked.{AreMarkedPrepared, items_between, mark_at, moves_between_marks}
 use Rattle.cob_move_apply.specs.declared.marked.MarkedMoves.{MarkedMoves}
 use Rattle.cob_move_apply.specs.declared.stop.Stop.{Stop}
 use Rattle.cob_move_apply.proofs.MarkLemmas.{between_both, none_between}
@@ -95,7 +95,7 @@ few_turns from by v most turns some le far = few (either_side v from)
 
 -- the moves from one mark to another, and then those to a third
 pub moves_on : (r : Records) (m : MarkedMoves) (a b c : ℕ) → AreMarkedPrepared r m → a ≤ b → b ≤ c → c < length m.marks.items
-    → moves_between r m a b ++ moves_between r m b c ≡ moves_between r m a c
+    → moves_between_marks r m a b ++ moves_between_marks r m b c ≡ moves_between_marks r m a c
 moves_on r m a b c prepared le more within =
     let first = (prepared.parted.rise a b le (omega (arith, more, within))).0 in
     let then = (prepared.parted.rise b c more within).0 in
@@ -112,42 +112,42 @@ turn_at from by j some =
 
 -- the moves of so many turns from one on are those from its mark on
 turns_are : (r : Records) (m : MarkedMoves) (l : CountedLoop) (k j : ℕ) → AreMarkedPrepared r m → 0 < l.by → l.first + (j + k) < length m.marks.items
-    → turns (moves_of_turn r m l) l.by k (l.from + j * l.by) ≡ moves_between r m (l.first + j) (l.first + (j + k))
+    → turns (moves_of_turn r m l) l.by k (l.from + j * l.by) ≡ moves_between_marks r m (l.first + j) (l.first + (j + k))
 turns_are r m l zero j prepared some within =
     let same : l.first + j ≡ l.first + (j + 0) = omega arith in
     let at : ℕ = (mark_at m.marks.items (l.first + j)).statement in
-    ap (λ (ss : List StatementMoves). moves_by m.moves.reading r ss) (sym (none_between at m.moves.statements.items)) ∙ ap (λ (n : ℕ). moves_between r m (l.first + j) n) same
+    ap (λ (ss : List StatementMoves). moves_by m.moves.reading r ss) (sym (none_between at m.moves.statements.items)) ∙ ap (λ (n : ℕ). moves_between_marks r m (l.first + j) n) same
 turns_are r m l (suc k) j prepared some within =
     let here : (l.first + ((l.from + j * l.by) - l.from) / l.by) ≡ l.first + j = ap (λ (n : ℕ). l.first + n) (turn_at l.from l.by j some) in
-    let one : moves_of_turn r m l (l.from + j * l.by) ≡ moves_between r m (l.first + j) (l.first + j + 1) = ap (λ (n : ℕ). moves_between r m n (n + 1)) here in
+    let one : moves_of_turn r m l (l.from + j * l.by) ≡ moves_between_marks r m (l.first + j) (l.first + j + 1) = ap (λ (n : ℕ). moves_between_marks r m n (n + 1)) here in
     let next : (l.from + j * l.by) + l.by ≡ l.from + (j + 1) * l.by = omega (arith, suc_times j) in
     let more = turns_are r m l k (j + 1) prepared some (omega (arith, within)) in
     let there : l.first + (j + 1) ≡ l.first + j + 1 = omega arith in
     let end : l.first + ((j + 1) + k) ≡ l.first + (j + suc k) = omega arith in
     ap (λ (ms : List Move). ms ++ turns (moves_of_turn r m l) l.by k ((l.from + j * l.by) + l.by)) one
-    ∙ ap (λ (n : ℕ). moves_between r m (l.first + j) (l.first + j + 1) ++ turns (moves_of_turn r m l) l.by k n) next
-    ∙ ap (λ (ms : List Move). moves_between r m (l.first + j) (l.first + j + 1) ++ ms) (more ∙ ap (λ (n : ℕ). moves_between r m n (l.first + ((j + 1) + k))) there)
-    ∙ ap (λ (n : ℕ). moves_between r m (l.first + j) (l.first + j + 1) ++ moves_between r m (l.first + j + 1) n) end
+    ∙ ap (λ (n : ℕ). moves_between_marks r m (l.first + j) (l.first + j + 1) ++ turns (moves_of_turn r m l) l.by k n) next
+    ∙ ap (λ (ms : List Move). moves_between_marks r m (l.first + j) (l.first + j + 1) ++ ms) (more ∙ ap (λ (n : ℕ). moves_between_marks r m n (l.first + ((j + 1) + k))) there)
+    ∙ ap (λ (n : ℕ). moves_between_marks r m (l.first + j) (l.first + j + 1) ++ moves_between_marks r m (l.first + j + 1) n) end
     ∙ moves_on r m (l.first + j) (l.first + j + 1) (l.first + (j + suc k)) prepared (omega arith) (omega arith) within
   where
     suc_times : (n : ℕ) → (n + 1) * l.by ≡ n * l.by + l.by
     suc_times n = let one : n + 1 ≡ suc n = omega arith in ap (λ (c : ℕ). c * l.by) one ∙ omega (arith, suc-mul n l.by)
 
 pub turns_all : (r : Records) (m : MarkedMoves) (l : CountedLoop) (k : ℕ) → AreMarkedPrepared r m → 0 < l.by → l.first + k < length m.marks.items
-    → turns (moves_of_turn r m l) l.by k l.from ≡ moves_between r m l.first (l.first + k)
+    → turns (moves_of_turn r m l) l.by k l.from ≡ moves_between_marks r m l.first (l.first + k)
 turns_all r m l k prepared some within =
     let from : l.from ≡ l.from + 0 * l.by = omega arith in
     let first : l.first + 0 ≡ l.first = omega arith in
     ap (λ (n : ℕ). turns (moves_of_turn r m l) l.by k n) from
     ∙ turns_are r m l k 0 prepared some (omega (arith, within))
-    ∙ ap (λ (n : ℕ). moves_between r m n (l.first + k)) first
+    ∙ ap (λ (n : ℕ). moves_between_marks r m n (l.first + k)) first
 
 -- ---- a loop carried out
 
 -- the bound gives a number: the moves of the turns up to it are the loop
 pub loop_made : OneOfNeeded → (r : Records) (on : FlowSupport) (l : CountedLoop) (b : Bound) (v : ℕ) (input before : List ℕ) (end : Ending) → AreMarkedPrepared r on.moves → (is : IsLoop on l)
     → slice_get on.bounds l.bound ≡ Some b → is.bound ≡ b → BoundGives r (past_bound r b 0) input before v → v ≤ b.most
-    → Applied r (moves_between r on.moves l.first (l.first + turns_between l.from l.by v)) input before end → Carried (Judged r) r (loop_done r on (Some l)) input before end
+    → Applied r (moves_between_marks r on.moves l.first (l.first + turns_between l.from l.by v)) input before end → Carried (Judged r) r (loop_done r on (Some l)) input before end
 loop_made law r on l b v input before end prepared is at same gives below applied =
     let t : Past = past_bound r b 0 in
     let reach = reaches l.from l.by v is.grows (either_side v l.from) in

@@ -3,7 +3,7 @@ use Rattle.std.proofs.Common.{◌≡◌, ℕ, zero, suc, ◌+◌, List, [], ◌�
 use Rattle.std.specs.List.{slice_get}
 use Rattle.cob_codec.specs.declared.reading.Reading.{Reading}
 use Rattle.cob_move_data.specs.Moves.{Move, Records, read_by}
-use Rattle.cob_move_apply.specs.Marked.{moves_between}
+use Rattle.cob_move_apply.specs.Marked.{moves_between_marks}
 use Rattle.cob_move_apply.specs.declared.marked.MarkedMoves.{MarkedMoves}
 use Rattle.cob_move_deeds.specs.declared.flow.Bound.{Bound}
 use Rattle.cob_move_deeds.specs.declared.flow.CountedLoop.{CountedLoop}
@@ -16,7 +16,7 @@ use Rattle.cob_move_deeds.specs.Turns.{turns_from}
 
 -- the moves between marks are the same, but for the reading
 abbrev pub ReadsAs : Reading → Records → (old new : MarkedMoves) → Type 0
-ReadsAs x r old new = (from to : ℕ) → moves_between r new from to ≡ map (read_by x) (moves_between r old from to)
+ReadsAs x r old new = (from to : ℕ) → moves_between_marks r new from to ≡ map (read_by x) (moves_between_marks r old from to)
 
 both_read : (x : Reading) (d e : Deeds Past) → deeds_by x (both_deeds d e) ≡ both_deeds (deeds_by x d) (deeds_by x e)
 both_read x Nothing e = refl
@@ -52,7 +52,7 @@ flows_read x r on new same (suc n) [] = refl
 flows_read x r on new same (suc n) (flow.Moves number ∷ rest) =
     let now : FlowSupport = record { moves = new; bounds = on.bounds; loops = on.loops } in
     ap (λ (ms : List Move). Moving ms (deeds_from r now n rest)) (same number (number + 1))
-    ∙ ap (λ (d : Deeds Past). Moving (map (read_by x) (moves_between r on.moves number (number + 1))) d) (flows_read x r on new same n rest)
+    ∙ ap (λ (d : Deeds Past). Moving (map (read_by x) (moves_between_marks r on.moves number (number + 1))) d) (flows_read x r on new same n rest)
 flows_read x r on new same (suc n) (flow.Turns number ∷ rest) =
     let now : FlowSupport = record { moves = new; bounds = on.bounds; loops = on.loops } in
     ap (λ (d : Deeds Past). both_deeds d (deeds_from r now n rest)) (loops_read x r on new (slice_get on.loops number) same)

@@ -4,7 +4,7 @@ use Rattle.std.specs.List.{slice_get}
 use Rattle.cob_layout.specs.Kept.{AreKeptOf}
 use Rattle.cob_move_data.specs.Moves.{Records}
 use Rattle.cob_move_apply.specs.Applied.{Ending, stopped}
-use Rattle.cob_move_apply.specs.Marked.{moves_between}
+use Rattle.cob_move_apply.specs.Marked.{moves_between_marks}
 use Rattle.cob_move_apply.specs.Room.{Scratching, room_of}
 use Rattle.cob_move_apply.specs.declared.stop.Stop.{Stop}
 use Rattle.cob_move_deeds.specs.declared.flow.Bound.{Bound}
@@ -34,7 +34,7 @@ either_way r (Some bound) number past within = Choice (past_bound r bound number
 abbrev pub carried_from : Records → FlowSupport → ℕ → List Flow → Deeds Past
 carried_from r on zero fs = Nothing
 carried_from r on (suc n) [] = Nothing
-carried_from r on (suc n) (flow.Moves number ∷ rest) = Moving (moves_between r on.moves number (number + 1)) (carried_from r on n rest)
+carried_from r on (suc n) (flow.Moves number ∷ rest) = Moving (moves_between_marks r on.moves number (number + 1)) (carried_from r on n rest)
 carried_from r on (suc n) (flow.Turns number ∷ rest) = both_deeds (loop_done r on (slice_get on.loops number)) (carried_from r on n rest)
 carried_from r on (suc n) (flow.Until bound number skip ∷ rest) =
     either_way r (slice_get on.bounds bound) number (carried_from r on n (drop skip rest)) (carried_from r on n rest)

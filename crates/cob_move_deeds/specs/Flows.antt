@@ -5,7 +5,7 @@ use Rattle.cob_codec.specs.declared.reading.Reading.{Reading}
 use Rattle.cob_move_data.specs.declared.operands.Side.TheVariants.{In}
 use Rattle.cob_move_data.specs.Moves.{Move, Records, read_by}
 use Rattle.cob_move_apply.specs.declared.marked.MarkedMoves.{MarkedMoves}
-use Rattle.cob_move_apply.specs.Marked.{moves_between}
+use Rattle.cob_move_apply.specs.Marked.{moves_between_marks}
 use Rattle.cob_move_deeds.specs.declared.flow.Bound.{Bound}
 use Rattle.cob_move_deeds.specs.declared.flow.CountedLoop.{CountedLoop}
 use Rattle.cob_move_deeds.specs.declared.flow.Flow.{Flow}
@@ -24,7 +24,7 @@ pub record FlowSupport : Type 0 where
 
 -- the moves of the turn of a loop in which the counter has this number
 abbrev pub moves_of_turn : Records → MarkedMoves → CountedLoop → ℕ → List Move
-moves_of_turn r m l number = moves_between r m (l.first + (number - l.from) / l.by) (l.first + (number - l.from) / l.by + 1)
+moves_of_turn r m l number = moves_between_marks r m (l.first + (number - l.from) / l.by) (l.first + (number - l.from) / l.by + 1)
 
 -- the turns of a loop that ends by this bound, each behind its test
 abbrev pub turns_to : Records → MarkedMoves → CountedLoop → Option Bound → Deeds Past
@@ -46,7 +46,7 @@ unless_past r (Some bound) number within behind = Choice (past_bound r bound num
 abbrev pub deeds_from : Records → FlowSupport → ℕ → List Flow → Deeds Past
 deeds_from r on zero fs = Nothing
 deeds_from r on (suc n) [] = Nothing
-deeds_from r on (suc n) (flow.Moves number ∷ rest) = Moving (moves_between r on.moves number (number + 1)) (deeds_from r on n rest)
+deeds_from r on (suc n) (flow.Moves number ∷ rest) = Moving (moves_between_marks r on.moves number (number + 1)) (deeds_from r on n rest)
 deeds_from r on (suc n) (flow.Turns number ∷ rest) = both_deeds (loop_done r on (slice_get on.loops number)) (deeds_from r on n rest)
 deeds_from r on (suc n) (flow.Until bound number skip ∷ rest) =
     unless_past r (slice_get on.bounds bound) number (deeds_from r on n (take skip rest)) (deeds_from r on n (drop skip rest))
@@ -75,14 +75,14 @@ IsFlow on (flow.Turns number) = (l : CountedLoop) × (slice_get on.loops number 
 IsFlow on (flow.Until bound number skip) = (b : Bound) × (slice_get on.bounds bound ≡ Some b)
 
 -- What a test passes over ends within what it stands in, of which so many at most are looked at.
-abbrev pub AreNested : ℕ → List Flow → Type 0
-AreNested zero fs = fs ≡ []
-AreNested (suc n) [] = Unit {0}
-AreNested (suc n) (flow.Moves number ∷ rest) = AreNested n rest
-AreNested (suc n) (flow.Turns number ∷ rest) = AreNested n rest
-AreNested (suc n) (flow.Until bound number skip ∷ rest) = (skip ≤ length rest) × AreNested n (take skip rest) × AreNested n (drop skip rest)
+abbrev pub AreNestedFlows : ℕ → List Flow → Type 0
+AreNestedFlows zero fs = fs ≡ []
+AreNestedFlows (suc n) [] = Unit {0}
+AreNestedFlows (suc n) (flow.Moves number ∷ rest) = AreNestedFlows n rest
+AreNestedFlows (suc n) (flow.Turns number ∷ rest) = AreNestedFlows n rest
+AreNestedFlows (suc n) (flow.Until bound number skip ∷ rest) = (skip ≤ length rest) × AreNestedFlows n (take skip rest) × AreNestedFlows n (drop skip rest)
 
 -- flows that may be carried out
 pub record AreFlows (on : FlowSupport) (fs : List Flow) : Type 0 where
   pub each : AllByRecursion (IsFlow on) fs
-  pub nested : AreNested (length fs) fs
+  pub nested : AreNestedFlows (length fs) fs

@@ -79,15 +79,15 @@ abbrev pub with_number : Past → ℕ → Past
 with_number t i = record { number = i; most = t.most; side = t.side; bound = t.bound }
 
 -- what the bytes of the bound give: its number; or the stop of the test
-abbrev pub SaysNumberAt : Past → Item → Place → List ℕ → Result ℕ Stop → Type 0
-SaysNumberAt t i p bytes (Ok v) = SaysOfTable i (up_to t.most) (there p) bytes (Ok v)
-SaysNumberAt t i p bytes (Err stop) = SaysOfBound t i p bytes (Err stop)
+abbrev pub BoundSaysAt : Past → Item → Place → List ℕ → Result ℕ Stop → Type 0
+BoundSaysAt t i p bytes (Ok v) = SaysOfTable i (up_to t.most) (there p) bytes (Ok v)
+BoundSaysAt t i p bytes (Err stop) = SaysOfBound t i p bytes (Err stop)
 
 -- what the record of a bound that stands there says of it
-abbrev pub SaysNumberIn : Past → Place → List ℕ → Result ℕ Stop → Type 0
-SaysNumberIn t p bytes answer = (i : Item) × (t.bound.kind ≡ ItemKind i) × SaysNumberAt t i p bytes answer
+abbrev pub BoundSaysIn : Past → Place → List ℕ → Result ℕ Stop → Type 0
+BoundSaysIn t p bytes answer = (i : Item) × (t.bound.kind ≡ ItemKind i) × BoundSaysAt t i p bytes answer
 
 -- what reading the bound of a test says: the number that it gives; or the stop of the test, whatever the counter's number
-abbrev pub SaysNumber : Records → Past → List ℕ → List ℕ → Result ℕ Stop → Type 0
-SaysNumber r t input output (Ok v) = BoundGives r t input output v
-SaysNumber r t input output (Err stop) = Judged r t input output (Err stop)
+abbrev pub BoundSays : Records → Past → List ℕ → List ℕ → Result ℕ Stop → Type 0
+BoundSays r t input output (Ok v) = BoundGives r t input output v
+BoundSays r t input output (Err stop) = Judged r t input output (Err stop)

@@ -9,7 +9,7 @@ ghost use Rattle.cob_move_data.specs.Moves.{IsOperand, Records, operand_in, reco
 ghost use Rattle.cob_move_receive.specs.Sent.{Occupies};
 ghost use Rattle.cob_move_apply.specs.Reads.{ReadsFor};
 ghost use Rattle.cob_move_deeds.specs.Carrying.{HasKept, records_of_sides};
-ghost use Rattle.cob_move_deeds.specs.Tests.{IsBound, IsBoundItem, SaysNumber, SaysNumberAt, SaysNumberIn, past_bound};
+ghost use Rattle.cob_move_deeds.specs.Tests.{IsBound, IsBoundItem, BoundSays, BoundSaysAt, BoundSaysIn, past_bound};
 
 use crate::flow::Bound;
 use crate::sides::Sides;
@@ -28,7 +28,7 @@ fn number_at(bound: &Bound, item: &Item, place: Place, bytes: &[u8]) -> Result<u
     requires number { IsNumberItem item.now }
     requires long { place.length ≡ item_size item.now }
     ensures { (r : Records)
-        → SaysNumberAt (past_bound r bound.now 0) item.now place bytes.now result }
+        → BoundSaysAt (past_bound r bound.now 0) item.now place bytes.now result }
 {
     let table = Table {
         number: 0,
@@ -63,7 +63,7 @@ fn number_in(bound: &Bound, layout: &Layout, place: Place, bytes: &[u8]) -> Resu
         × IsBoundItem (operand_in layout.now bound.now.item.entry).kind i }
     requires long { Occupies (operand_in layout.now bound.now.item.entry).kind place.length }
     ensures { (r : Records) → record_of r bound.now.item.side ≡ layout.now
-        → SaysNumberIn (past_bound r bound.now 0) place bytes.now result }
+        → BoundSaysIn (past_bound r bound.now 0) place bytes.now result }
 {
     match entry_kind(layout, bound.item.entry()) {
         Kind::Item(item) => number_at(bound, item, place, bytes),
@@ -86,7 +86,7 @@ pub(crate) fn number_of(
     requires bound { IsBound (records_of_sides sides.now) bound.now }
     requires kept { HasKept (records_of_sides sides.now) sides.now.input.now output.now
         scratch.old }
-    ensures says { SaysNumber (records_of_sides sides.now)
+    ensures says { BoundSays (records_of_sides sides.now)
         (past_bound (records_of_sides sides.now) bound.now 0) sides.now.input.now output.now
         result }
     ensures kept { HasKept (records_of_sides sides.now) sides.now.input.now output.now

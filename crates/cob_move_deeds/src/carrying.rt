@@ -4,14 +4,14 @@ ghost use Rattle.std.specs.Prelude.{◌≡◌, ◌<◌, ◌≤◌, ◌∷◌, �
 ghost use Rattle.std.specs.List.{AllByRecursion, slice_get};
 ghost use Rattle.cob_layout.specs.Storage.{greatest_length, IsStorage};
 ghost use Rattle.cob_move_apply.specs.Applied.{Applied, ending};
-ghost use Rattle.cob_move_apply.specs.Marked.{moves_between};
+ghost use Rattle.cob_move_apply.specs.Marked.{moves_between_marks};
 ghost use Rattle.cob_move_loops.specs.Turns.{turns_between};
 ghost use Rattle.cob_move_deeds.specs.Carrying.{HasKept, LeavesFlows, StopsFlows, carried_from, records_of_sides};
 ghost use Rattle.cob_move_deeds.specs.Deeds.{Carried};
 ghost use Rattle.cob_move_deeds.specs.Flows.{IsFlow, IsLoop, loop_done};
 ghost use Rattle.cob_move_deeds.specs.Prepared.{AreDeedsPrepared, flow_support};
 ghost use Rattle.cob_move_deeds.specs.declared.flow.Bound.{Bound};
-ghost use Rattle.cob_move_deeds.specs.Tests.{Judged, SaysNumber, past_bound};
+ghost use Rattle.cob_move_deeds.specs.Tests.{Judged, BoundSays, past_bound};
 
 use crate::bound::number_of;
 use crate::flow::{CountedLoop, Flow};
@@ -61,7 +61,7 @@ fn make_moves(
     requires kept { HasKept (records_of_sides sides.now) sides.now.input.now output.old
         scratch.old }
     ensures applied { Applied (records_of_sides sides.now)
-        (moves_between (records_of_sides sides.now) deeds.now.moves from to) sides.now.input.now
+        (moves_between_marks (records_of_sides sides.now) deeds.now.moves from to) sides.now.input.now
         output.old (ending result output.new) }
     ensures kept { HasKept (records_of_sides sides.now) sides.now.input.now output.new
         scratch.new }
@@ -94,7 +94,7 @@ fn read_bound(
     requires kept { HasKept (records_of_sides sides.now) sides.now.input.now output.now
         scratch.old }
     ensures says { (b : Bound) → slice_get deeds.now.bounds.items number ≡ Some b
-        → SaysNumber (records_of_sides sides.now) (past_bound (records_of_sides sides.now) b 0)
+        → BoundSays (records_of_sides sides.now) (past_bound (records_of_sides sides.now) b 0)
         sides.now.input.now output.now result }
     ensures kept { HasKept (records_of_sides sides.now) sides.now.input.now output.now
         scratch.new }

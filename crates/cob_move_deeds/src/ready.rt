@@ -6,7 +6,7 @@ ghost use Rattle.cob_layout.specs.Kept.{AreKeptOf};
 ghost use Rattle.cob_layout.specs.Storage.{greatest_length, IsStorage};
 ghost use Rattle.cob_move_data.specs.Moves.{Records, moves_by, read_by};
 ghost use Rattle.cob_move_apply.specs.Applied.{ending};
-ghost use Rattle.cob_move_apply.specs.Marked.{AreMarkedPrepared, steps_between_marks};
+ghost use Rattle.cob_move_apply.specs.Marked.{AreMarkedPrepared, marked_steps};
 ghost use Rattle.cob_move_apply.specs.Prepared.{moves_of};
 ghost use Rattle.cob_move_apply.specs.Room.{room_of};
 ghost use Rattle.cob_move_apply.specs.Told.{most_moves_told, single_moves};
@@ -97,7 +97,7 @@ impl ReadyDeeds {
     /// How many steps these moves make, those between one mark and the next by themselves. More than a u32 holds come as the greatest u32.
     pub fn steps(&self) -> u32
         ensures { (r : Records) → AreDeedsPrepared r self.now
-            → result ≡ min (steps_between_marks r self.now.moves) most_moves_told }
+            → result ≡ min (marked_steps r self.now.moves) most_moves_told }
     {
         self.moves.steps()
     }
