@@ -2,7 +2,7 @@ use Rattle.cob_source.specs.Tokens.{lexemes}
 use Rattle.cob_move_loops.specs.Words.{IsPeriod, NoPeriod}
 use Rattle.cob_move_loops.proofs.FrontLemmas.{no_stop}
 use Rattle.cob_move_loops.proofs.Fronts.{begins, goes, ends}
-use Rattle.cob_move_loops.proofs.front.behind_stops.Goals as goal
+use Rattle.cob_move_loops.proofs.stops.behind_stops.Goals as goal
 
 pub loop-more-init : goal.loop-more-init
 loop-more-init c = begins IsPeriod NoPeriod (lexemes c.args.words.now)
