@@ -1,6 +1,6 @@
 -- Statements and steps that are parted by marks.
 use Rattle.std.proofs.Common.{◌≡◌, ◌⊎◌, ℕ, zero, suc, ◌+◌, ◌-◌, ◌<◌, ◌≤◌, List, [], ◌∷◌, ◌++◌, drop, get_or, length, map, take, refl, sym, ap, subst, ◌∙◌, inl, inr, arith, append_assoc, length-append, take-add, length-drop}
-use Rattle.std.proofs.lemmas.List.{drop-append-le, drop-drop, drop_all, drop_at, drop_more, get_or-drop, get_or_append_left, map-append, take-append-le, take_all, take_more}
+use Rattle.std.proofs.lemmas.List.{drop-append-le, drop-drop, drop_all, drop_at, drop_more, get_or-drop, get_or_append_left, get_or_read, map-append, take-append-le, take_all, take_more}
 use Rattle.cob_codec.specs.declared.reading.Reading.{Reading}
 use Rattle.cob_move_data.specs.declared.operands.StatementMoves.{StatementMoves}
 use Rattle.cob_move_data.specs.Moves.{Move, Records, moves_by, statement_moves_by}
@@ -292,3 +292,29 @@ between_all x r given marks first whole =
     ap (λ (m : Mark). moves_by x r (items_between m.statement (last_mark marks).statement given)) first
     ∙ ap (λ (n : ℕ). moves_by x r (items_between 0 n given)) whole
     ∙ ap (λ (ss : List StatementMoves). moves_by x r ss) (take_all (length given) given (omega arith))
+
+-- ---- marks that are read
+
+pub mark_read : (marks : List Mark) (k : ℕ) (m : Mark) → k < length marks → m ≡ get_or marks k m → m ≡ mark_at marks k
+mark_read marks k m lt is = get_or_read marks k m lt is (record { statement = 0; step = 0 })
+
+-- the steps between two marks that are read stand for the moves between them
+pub stand_read : (x : Reading) (r : Records) (given : List StatementMoves) (on : Support) (steps : List Step) (marks : List Mark) (from to : ℕ) (p q : Mark) → ArePartedBy r given on steps marks → from ≤ to → to < length marks
+    → p ≡ get_or marks from p → q ≡ get_or marks to q
+    → StandFor x r given (items_between p.step q.step steps) on (moves_by x r (items_between (mark_at marks from).statement (mark_at marks to).statement given))
+stand_read x r given on steps marks from to p q parted le lt here there =
+    let first : p ≡ mark_at marks from = mark_read marks from p (omega (arith, le, lt)) here in
+    let last : q ≡ mark_at marks to = mark_read marks to q lt there in
+    subst (λ (m : Mark). StandFor x r given (items_between m.step q.step steps) on (moves_by x r (items_between (mark_at marks from).statement (mark_at marks to).statement given))) (sym first)
+    (subst (λ (m : Mark). StandFor x r given (items_between (mark_at marks from).step m.step steps) on (moves_by x r (items_between (mark_at marks from).statement (mark_at marks to).statement given))) (sym last)
+    (parted.stand x from to le lt))
+
+-- and they lie within the steps
+pub step_within : (r : Records) (given : List StatementMoves) (on : Support) (steps : List Step) (marks : List Mark) (from to : ℕ) (p q : Mark) → ArePartedBy r given on steps marks → from ≤ to → to < length marks
+    → p ≡ get_or marks from p → q ≡ get_or marks to q → (p.step ≤ q.step) × (q.step ≤ length steps)
+step_within r given on steps marks from to p q parted le lt here there =
+    let first : p ≡ mark_at marks from = mark_read marks from p (omega (arith, le, lt)) here in
+    let last : q ≡ mark_at marks to = mark_read marks to q lt there in
+    let rises = (parted.rise from to le lt).1 in
+    let end = (parted.rise to (length marks - 1) (omega (arith, lt)) (omega (arith, lt))).1 in
+    (omega (arith, ap (λ (m : Mark). m.step) first, ap (λ (m : Mark). m.step) last, rises), omega (arith, ap (λ (m : Mark). m.step) last, end, parted.last))

@@ -37,7 +37,7 @@ use Rattle.cob_move_apply.specs.declared.step.Step.TheVariants as step
 use Rattle.cob_move_apply.specs.Joined.{steps_in}
 use Rattle.cob_move_apply.specs.Planned.{AreMore, counted_steps}
 use Rattle.cob_move_apply.proofs.CutLemmas.{cut_both}
-use Rattle.cob_move_apply.proofs.JoinLemmas.{all_told, more_as, more_both}
+use Rattle.cob_move_apply.proofs.JoinLemmas.{all_told, more_as, more_both, more_none}
 
 -- ---- more bases
 
@@ -390,6 +390,9 @@ pub stand_all : (x : Reading) (r : Records) (ss : List StatementMoves) (i : ℕ)
 stand_all x r ss i steps on past h = subst (λ (ts : List StatementMoves). StandFor x r ss steps on (moves_by x r ts)) (take_all i ss past) h
 
 -- ---- how many steps they make
+
+pub none_yet : (r : Records) (steps : List Step) → steps ≡ [] → AreMore r [] [] steps
+none_yet r steps none = subst (λ (ss : List Step). AreMore r [] [] ss) (sym none) (more_none r [])
 
 pub more_statement : (x : Reading) (r : Records) (ss : List StatementMoves) (i : ℕ) (s : StatementMoves) (a b c : List Step) → i < length ss → s ≡ get_or ss i s
     → AreMore r (moves_by x r (take i ss)) a b → AreMore r (statement_moves_by x r s) b c → AreMore r (moves_by x r (take (i + 1) ss)) a c

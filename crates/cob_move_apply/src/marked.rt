@@ -167,7 +167,7 @@ impl MarkedMoves {
         };
         let begin = self.marks[from].step;
         let end = self.marks[to].step;
-        let steps = &self.moves.plan.steps[begin..end];
+        let steps = &self.moves.plan.steps.as_slice()[begin..end];
         let statements = self.moves.statements.as_slice();
         let plan = &self.moves.plan;
         apply_some(

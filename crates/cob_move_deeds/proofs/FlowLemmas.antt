@@ -130,10 +130,10 @@ abbrev pub GoOn : Records → FlowSupport → List Flow → List ℕ → List �
 GoOn r on others input after last = (m : ℕ) × (length others ≤ m) × Carried (Judged r) r (carried_from r on m others) input after last
 
 -- each flow in front is one of them
-all_front : {P : Flow → Type 0} (n : ℕ) (fs : List Flow) → AllByRecursion P fs → AllByRecursion P (take n fs)
-all_front zero fs all = tt
-all_front (suc n) [] all = all
-all_front (suc n) (f ∷ fs) all = (all.0, all_front n fs all.1)
+all_front : (P : Flow → Type 0) (n : ℕ) (fs : List Flow) → AllByRecursion P fs → AllByRecursion P (take n fs)
+all_front P zero fs all = tt
+all_front P (suc n) [] all = all
+all_front P (suc n) (f ∷ fs) all = (all.0, all_front P n fs all.1)
 
 -- a test, with what it passes over and what stands behind that
 test_apart : (r : Records) (on : FlowSupport) (n k number skip : ℕ) (fs others : List Flow) (b : Bound) (input before : List ℕ) (end : Ending) → skip ≤ length fs
@@ -195,7 +195,7 @@ flows_apart r on (suc n) (suc k) (flow.Until bound number skip ∷ fs) others in
     subst (λ (o : Option Bound). Then (λ e. Carried (Judged r) r (unless_past r o number (deeds_from r on n (take skip fs)) (deeds_from r on n (drop skip fs))) input before e) (λ after last. GoOn r on others input after last) end) (sym at)
     (test_apart r on n k number skip fs others b input before end within
     (λ y. flows_apart r on n k (drop skip fs) others input before end (all_behind (IsFlow on) skip fs each.1) behind (omega (arith, few, length-drop skip fs)) (omega (arith, le, length-append fs others, length-append (drop skip fs) others, length-drop skip fs)) y)
-    (λ y. flows_apart r on n k (take skip fs) (drop skip fs ++ others) input before end (all_front skip fs each.1) inside (omega (arith, few, length-take-le skip fs within, within))
+    (λ y. flows_apart r on n k (take skip fs) (drop skip fs ++ others) input before end (all_front (IsFlow on) skip fs each.1) inside (omega (arith, few, length-take-le skip fs within, within))
     (omega (arith, le, length-append fs others, length-append (take skip fs) (drop skip fs ++ others), length-append (drop skip fs) others, length-drop skip fs, length-take-le skip fs within, within)) y)
     (λ m after last few_left y. flows_apart r on n m (drop skip fs) others input after last (all_behind (IsFlow on) skip fs each.1) behind (omega (arith, few, length-drop skip fs)) few_left y)
     (subst (λ (o : Option Bound). Carried (Judged r) r (either_way r o number (carried_from r on k (drop skip (fs ++ others))) (carried_from r on k (fs ++ others))) input before end) at x))

@@ -150,13 +150,13 @@ pub loop_made : OneOfNeeded → (r : Records) (on : FlowSupport) (l : CountedLoo
     → Applied r (moves_between_marks r on.moves l.first (l.first + turns_between l.from l.by v)) input before end → Carried (Judged r) r (loop_done r on (Some l)) input before end
 loop_made law r on l b v input before end prepared is at same gives below applied =
     let t : Past = past_bound r b 0 in
-    let reach = reaches l.from l.by v is.grows (either_side v l.from) in
+    let known_of = reaches l.from l.by v is.grows (either_side v l.from) in
     let far = subst (λ (c : Bound). c.most < number_after l.by l.turns l.from) same is.far in
     let few : turns_between l.from l.by v ≤ l.turns = few_turns l.from l.by v b.most l.turns is.grows below far in
     let of_input = subst (λ (c : Bound). c.item.side ≡ In) same is.of_input in
     let moves : Applied r (turns (moves_of_turn r on.moves l) l.by (turns_between l.from l.by v) l.from) input before end =
     subst (λ (ms : List Move). Applied r ms input before end) (sym (turns_all r on.moves l (turns_between l.from l.by v) prepared is.grows (omega (arith, few, is.marks)))) applied in
-    let known = known_is_moves (Judged r) r (with_number t) (moves_of_turn r on.moves l) l.by t.most l.turns (turns_between l.from l.by v) l.from v input before end (determined law r) (ends_past r t) (says_of_input r t input before v of_input gives) far reach.near reach.beyond in
+    let known = known_is_moves (Judged r) r (with_number t) (moves_of_turn r on.moves l) l.by t.most l.turns (turns_between l.from l.by v) l.from v input before end (determined law r) (ends_past r t) (says_of_input r t input before v of_input gives) far known_of.near known_of.beyond in
     subst (λ (o : Option Bound). Carried (Judged r) r (turns_to r on.moves l o) input before end) (sym at) (known.1 moves)
 
 -- something is missing for the bound, and so for the first test
