@@ -2,10 +2,13 @@
 use Rattle.std.specs.Prelude.{◌≡◌, ℕ, zero, suc, ◌+◌, ◌≤◌, List, [], ◌∷◌, drop, length, Option, Some, None}
 use Rattle.std.specs.List.{slice_get}
 use Rattle.cob_layout.specs.Kept.{AreKeptOf}
+use Rattle.cob_layout_places.specs.Counts.{tables_of}
 use Rattle.cob_move_data.specs.Moves.{Records}
 use Rattle.cob_move_apply.specs.Applied.{Ending, stopped}
 use Rattle.cob_move_apply.specs.Marked.{moves_between_marks}
+use Rattle.cob_move_apply.specs.Reads.{kept_among}
 use Rattle.cob_move_apply.specs.Room.{Scratching, room_of}
+use Rattle.cob_move_apply.specs.Spent.{allowed}
 use Rattle.cob_move_apply.specs.declared.stop.Stop.{Stop}
 use Rattle.cob_move_deeds.specs.declared.flow.Bound.{Bound}
 use Rattle.cob_move_deeds.specs.declared.flow.Flow.{Flow}
@@ -13,6 +16,7 @@ use Rattle.cob_move_deeds.specs.declared.flow.Flow.TheVariants as flow
 use Rattle.cob_move_deeds.specs.declared.sides.Sides.{Sides}
 use Rattle.cob_move_deeds.specs.Deeds.{Carried, Choice, Deeds, Moving, Nothing, both_deeds}
 use Rattle.cob_move_deeds.specs.Flows.{FlowSupport, loop_done}
+use Rattle.cob_move_deeds.specs.Met.{DeedsHaveMet}
 use Rattle.cob_move_deeds.specs.Tests.{Judged, Past, past_bound}
 
 -- the two records
@@ -48,3 +52,24 @@ LeavesFlows r on fs left input before now = (n : ℕ) → length fs ≤ n
 -- they stop there
 abbrev pub StopsFlows : Records → FlowSupport → List Flow → (input before : List ℕ) → Stop → List ℕ → Type 0
 StopsFlows r on fs input before stop after = (n : ℕ) → length fs ≤ n → Carried (Judged r) r (carried_from r on n fs) input before (stopped stop after)
+
+-- However many receivers of what the flows that are left come to meet the item of a count, of the storage now, these do, of the storage before, with those that
+-- met one so far.
+abbrev pub MeetFlows : Records → FlowSupport → (fs left : List Flow) → (input before now : List ℕ) → (met : ℕ) → Type 0
+MeetFlows r on fs left input before now met = (n : ℕ) → length fs ≤ n
+    → (m : ℕ) × (length left ≤ m)
+    × ((k : ℕ) → DeedsHaveMet r (carried_from r on m left) input now k → DeedsHaveMet r (carried_from r on n fs) input before (met + k))
+
+-- so many of these met one, up to a stop
+abbrev pub MetFlows : Records → FlowSupport → List Flow → (input before : List ℕ) → (met : ℕ) → Type 0
+MetFlows r on fs input before met = (n : ℕ) → length fs ≤ n → DeedsHaveMet r (carried_from r on n fs) input before met
+
+-- what the reads of a flow in front are, where some are left
+abbrev pub FlowSpends : Records → FlowSupport → (fs left : List Flow) → (input before now : List ℕ) → (old new : Scratching) → Type 0
+FlowSpends r on fs left input before now old new = (met : ℕ) × MeetFlows r on fs left input before now met
+    × (new.reads + kept_among r.output old.kept_output ≤ old.reads + kept_among r.output new.kept_output + allowed r.output met)
+
+-- what they are at a stop
+abbrev pub FlowSpendsAtStop : Records → FlowSupport → List Flow → (input before : List ℕ) → (old new : Scratching) → Type 0
+FlowSpendsAtStop r on fs input before old new = (met : ℕ) × MetFlows r on fs input before met
+    × (new.reads + kept_among r.output old.kept_output ≤ old.reads + length (tables_of r.output) + allowed r.output met)
