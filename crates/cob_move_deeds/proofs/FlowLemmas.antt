@@ -1,7 +1,8 @@
 -- Flows carried out one behind another, and what is done.
-use Rattle.std.proofs.Common.{◌≡◌, ◌⊎◌, ℕ, zero, suc, ◌+◌, ◌<◌, ◌≤◌, Bool, true, false, List, [], ◌∷◌, ◌++◌, drop, length, take, refl, sym, ap, subst, ◌∙◌, arith, inl, inr, append_assoc, append-nil, length-append, length-drop, Ok, Err, Option, Some, None, nat_lt}
+use Rattle.std.proofs.Common.{◌≡◌, ◌⊎◌, ℕ, zero, suc, ◌+◌, ◌<◌, ◌≤◌, Bool, true, false, List, [], ◌∷◌, ◌++◌, drop, get_or, length, take, refl, sym, ap, subst, ◌∙◌, arith, inl, inr, append_assoc, append-nil, length-append, length-drop, Ok, Err, Option, Some, None, nat_lt}
 use Rattle.std.specs.List.{AllByRecursion, slice_get}
 use Rattle.std.proofs.lemmas.List.{drop-append-le, length-take-le, take-append-drop}
+use Rattle.std.proofs.lemmas.Option.{same_Some, slice_get_read, slice_get_within}
 use Rattle.cob_codec.specs.declared.reading.Reading.{Reading}
 use Rattle.cob_move_data.specs.Moves.{Move, Records}
 use Rattle.cob_move_apply.specs.Applied.{Applied, Ending, done, stopped, storage_of}
@@ -13,8 +14,8 @@ use Rattle.cob_move_deeds.specs.declared.flow.Flow.{Flow}
 use Rattle.cob_move_deeds.specs.declared.flow.Flow.TheVariants as flow
 use Rattle.cob_move_deeds.specs.Carrying.{LeavesFlows, StopsFlows, carried_from, either_way}
 use Rattle.cob_move_deeds.specs.Deeds.{Carried, Choice, Deeds, Moving, Nothing, Then, both_deeds}
-use Rattle.cob_move_deeds.specs.Flows.{AreNestedFlows, FlowSupport, IsFlow, deeds_from, loop_done, unless_past}
-use Rattle.cob_move_deeds.specs.Tests.{BoundGives, Judged, Past, past_bound, with_number}
+use Rattle.cob_move_deeds.specs.Flows.{AreNestedFlows, FlowSupport, IsFlow, IsLoop, deeds_from, loop_done, unless_past}
+use Rattle.cob_move_deeds.specs.Tests.{BoundGives, IsBound, Judged, Past, past_bound, with_number}
 use Rattle.cob_move_deeds.proofs.DeedLemmas.{both_apart, both_together, then_back, then_done, then_map, to_nothing, with_nothing}
 
 -- ---- a flow carried out
@@ -212,3 +213,16 @@ flows_carried r on fs input before end each nested x =
     (λ after e (m, few, y). subst (λ (d : Deeds Past). Carried (Judged r) r d input after e) (none_carried r on m) y)
     (flows_apart r on (length fs) (length fs) fs [] input before end each nested (omega arith) long
     (subst (λ (gs : List Flow). Carried (Judged r) r (carried_from r on (length fs) gs) input before end) (sym whole) x)))
+
+-- the bound with a number is one that is ready
+pub all_at : (r : Records) (n : ℕ) (bs : List Bound) (b : Bound) → n < length bs → b ≡ get_or bs n b → AllByRecursion (IsBound r) bs → IsBound r b
+all_at r n [] b lt is all = absurd (omega (arith, lt))
+all_at r zero (x ∷ bs) b lt is all = subst (λ (k : Bound). IsBound r k) (sym is) all.0
+all_at r (suc n) (x ∷ bs) b lt is all = all_at r n bs b (omega (arith, lt)) is all.1
+
+-- the loop with a number is the one that is read
+pub there : (on : FlowSupport) (n : ℕ) (l one : CountedLoop) → slice_get on.loops n ≡ Some l → one ≡ get_or on.loops n one → slice_get on.loops n ≡ Some one
+there on n l one at is = slice_get_read on.loops (length on.loops) n one refl (slice_get_within on.loops n l at) is
+
+pub loop_here : (on : FlowSupport) (n : ℕ) (l one : CountedLoop) → slice_get on.loops n ≡ Some l → IsLoop on l → one ≡ get_or on.loops n one → IsLoop on one
+loop_here on n l one at is read = subst (λ (k : CountedLoop). IsLoop on k) (same_Some l one (sym at ∙ there on n l one at read)) is
