@@ -84,7 +84,7 @@ fn place_by_counts(
 
 /// Where an operand stands, where what is noted of its place and the counts that are kept say it.
 #[inline(always)]
-fn noted_place(basis: Basis, counts: &Counts) -> Option<Place>
+pub(crate) fn noted_place(basis: Basis, counts: &Counts) -> Option<Place>
     ensures { IfSome result (IsNoted basis counts.now.kept) }
 {
     match basis {
