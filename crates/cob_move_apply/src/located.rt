@@ -309,10 +309,10 @@ fn run_noted(
     if !serves(one.step, layouts.reading) {
         return false;
     }
-    let Some(places) = noted_places(one, layouts, input, output, space) else {
-        return run_unnoted(plan, number, layouts, input, output, space);
-    };
-    run_between(plan, one, &places, layouts, input, output, space)
+    match noted_places(one, layouts, input, output, space) {
+        Some(places) => run_between(plan, one, &places, layouts, input, output, space),
+        None => run_unnoted(plan, number, layouts, input, output, space),
+    }
 }
 
 /// Does what [`run_located`] does. The type says whether something is noted of most places: then moves between others cost a call.
