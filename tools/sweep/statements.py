@@ -208,7 +208,7 @@ class Statements(Words):
 
 
 def statements_of(text, entries):
-    """The statements of a paragraph between records whose entries have these names, with its loops."""
+    """The statements of a paragraph between records whose entries have these names, with its loops. What is wrong with loops is told first."""
     reader = Statements(paragraph_words_of(text), entries)
     if is_name(reader.next()) and reader.next() not in LOOP_WORDS:
         reader.take()
@@ -216,6 +216,7 @@ def statements_of(text, entries):
             reader.refuse("M1")
     if not reader.words:
         raise Refused("M1", 1)
+    Statements(reader.words, entries).block(False)
     found = reader.block(True)
     if sum(count_of([item]) for item in found if isinstance(item, Loop)) > MOST_WRITTEN_OUT:
         raise Refused("M12", reader.first_loop)

@@ -1,13 +1,15 @@
-//! What a paragraph of MOVE statements does to records (ANSI X3.23-1985, Nucleus: the MOVE statement; IBM Enterprise COBOL for z/OS, Language
+//! What a paragraph of MOVE statements, with loops round them, does to records (ANSI X3.23-1985, Nucleus: the MOVE statement; IBM Enterprise COBOL for z/OS, Language
 //! Reference, "MOVE statement" and "VALUE clause").
 //!
 //! What is promised:
 //!
 //! - [`Paragraph::read`] reads a text between the records of two layouts. What it answers are the moves that the text says (clause `found`;
-//!   `IsParagraphOf` of specs/Paragraphs.antt): the words of the text, cut apart at brackets and commas, spell statements, and these mean the
-//!   moves, in their order. They are ready for these records (`ready`). A text that is a paragraph is read, memory aside
-//!   (`only`), and a refusal names a rule that is broken, with its line (`fault`; `IsRefusalOf`): by the text, by its words, or by one of its
-//!   statements. A text says its moves in one way ([`one_paragraph`]), and then breaks no rule ([`paragraph_breaks_no_rule`]).
+//!   `IsParagraphOf` of specs/Paragraphs.antt): the words of the text, cut apart at brackets and commas, are a passage. Its loops are written out
+//!   turn by turn, what comes of it spells statements, and these mean the moves, in their order. They are ready for these records (`ready`). A text
+//!   that is a paragraph is read, memory aside (`only`), and a refusal names a rule that is broken, with its line (`fault`; `IsRefusalOf`): by the
+//!   text, by its words and loops, or by one of its statements in a turn. A text says its moves in one way ([`one_paragraph`]), and then breaks no
+//!   rule ([`paragraph_breaks_no_rule`]). Without words of loops it is one exactly where its words spell statements that mean the moves
+//!   ([`plain_paragraph`]).
 //! - [`Paragraph::with_reading`] are the same moves with their binary senders read otherwise (`read_by` of cob_move_data); a text means them
 //!   read as their pictures say. [`Paragraph::moves`] counts single moves, each of a sender to one of its receivers, and [`Paragraph::steps`] the
 //!   steps that they make, in which plain copies that meet are joined.
@@ -34,9 +36,9 @@
 //! A text is read piece by piece, some thousand words at once, and as a whole where a piece of it isn't read alone (src/pieces.rt); contracts say
 //! nothing of it.
 //!
-//! It puts the reading of a paragraph together: it stands on `cob_source` for words, on `cob_move_statements` for statements, on
-//! `cob_move_names`, `cob_move_names` and, through `cob_move_initial`, `cob_move_receive` for the moves that they mean, and on
-//! `cob_move_apply` for what these do.
+//! It puts the reading of a paragraph together: it stands on `cob_source` for words, on `cob_move_loops` for loops, on `cob_move_statements` for
+//! statements, on `cob_move_names` and, through `cob_move_initial`, `cob_move_receive` for the moves that they mean, and on `cob_move_apply` for
+//! what these do.
 //!
 //! # Where it is proved
 //!

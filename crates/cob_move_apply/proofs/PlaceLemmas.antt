@@ -1,5 +1,5 @@
 -- Where operands stand.
-use Rattle.std.proofs.Common.{◌≡◌, ℕ, ◌+◌, ◌≤◌, [], ◌==◌, Bool, true, false, List, refl, sym, ap, subst, ◌∙◌, inl, inr, Option, Some, None, Ok, Err, Result}
+use Rattle.std.proofs.Common.{◌≡◌, ℕ, ◌+◌, ◌≤◌, [], ◌==◌, Bool, true, false, List, refl, sym, ap, subst, ◌∙◌, length, arith, inl, inr, Option, Some, None, Ok, Err, Result}
 use Rattle.std.specs.Prelude.{option_map}
 use Rattle.cob_copybook_tree.specs.declared.node.Item.{Item}
 use Rattle.cob_copybook_tree.specs.declared.node.Kind.{Kind}
@@ -7,10 +7,12 @@ use Rattle.cob_copybook_tree.specs.declared.node.Kind.TheVariants.{Group, Item a
 use Rattle.cob_copybook_tree.specs.Forests.{Forest, NoEntries, AnEntry}
 use Rattle.cob_copybook_tree.specs.Nodes.{Resolved}
 use Rattle.cob_copybook_tree.specs.Lengths.{item_size}
+use Rattle.cob_layout.specs.declared.counts.StoredCount.{StoredCount}
+use Rattle.cob_layout.specs.declared.elements.ElementPlace.{ElementPlace}
 use Rattle.cob_layout.specs.declared.fields.Place.{Place}
 use Rattle.cob_layout_places.specs.Lengths.{times}
 use Rattle.cob_layout_places.specs.Places.{place_of, or_else, choose}
-use Rattle.cob_layout_places.specs.Counts.{kind_in}
+use Rattle.cob_layout_places.specs.Counts.{kind_in, tables_of}
 use Rattle.cob_layout.proofs.CountLemmas.{found_size, pairs_in}
 use Rattle.cob_layout.specs.declared.finding.FindFault.{FindFault}
 use Rattle.cob_layout.specs.declared.finding.FindFault.TheVariants as finding
@@ -18,6 +20,8 @@ use Rattle.cob_layout.specs.Finding.{IsFound}
 use Rattle.cob_layout.specs.Placed.{placed}
 use Rattle.cob_layout.proofs.StorageLemmas.{found_by}
 use Rattle.cob_layout.specs.Counting.{greatest_counts, ReadsNone}
+use Rattle.cob_layout.specs.Elements.{IsElementPlace, IsThereBy, KeptPlaceElements}
+use Rattle.cob_layout.specs.Standing.{RoomForCounts}
 use Rattle.cob_layout.specs.Storage.{greatest_length}
 use Rattle.cob_move_data.specs.declared.operands.Side.{Side}
 use Rattle.cob_move_data.specs.declared.operands.Operand.{Operand}
@@ -27,6 +31,8 @@ use Rattle.cob_move_apply.specs.declared.basis.Basis.TheVariants as basis
 use Rattle.cob_move_apply.specs.Located.{Located, StandsUnder, stop_of}
 use Rattle.cob_move_apply.specs.declared.stop.Stop.{Stop}
 use Rattle.cob_move_apply.specs.Placed.{IsFixed, IsPlaced, IsBasis}
+use Rattle.cob_move_apply.specs.Surveyed.{IsSurvey}
+use Rattle.cob_move_apply.specs.declared.survey.Survey.{Survey}
 use Rattle.cob_layout.specs.Sound.{IsSound, IsStorableKind, AreStorable}
 use Rattle.cob_move_receive.specs.Sent.{Occupies}
 
@@ -94,3 +100,21 @@ fixed t receiving o p none stands within = record {
   place = λ side bytes. (greatest_counts t, ([], none, refl), stands);
   within = within;
 }
+
+-- ---- an element that one count decides
+
+-- where the count of its table is kept and it is there by that, it stands there
+pub element_at : KeptPlaceElements → (side : Side) (t : Forest Resolved) (receiving : Bool) (o : Operand) (bytes : List ℕ) (s : Survey) (e : ElementPlace) (p : Place) → IsSound t → IsOperand t o → IsSurvey t bytes s
+    → IsElementPlace t o.entry receiving e → (p ≡ e.place) × IsThereBy s.counts.kept e → Located side t receiving o bytes (Ok p)
+element_at law side t receiving o bytes s e p sound operand survey is (same, there) =
+    let long : length s.counts.kept ≡ length (tables_of t) = ap (λ (r : RoomForCounts). r.tables) survey.room in
+    subst (λ (q : Place). Located side t receiving o bytes (Ok q)) (sym same) (law t bytes s.counts.kept o.entry receiving e sound operand.refers long survey.kept is there)
+
+-- and within the record
+pub element_within : (t : Forest Resolved) (receiving : Bool) (o : Operand) (ks : List (Option StoredCount)) (e : ElementPlace) (p : Place) → IsElementPlace t o.entry receiving e → (p ≡ e.place) × IsThereBy ks e
+    → p.offset + p.length ≤ greatest_length t
+element_within t receiving o ks e p is (same, there) = omega (arith, is.within, ap (λ (q : Place). q.offset) same, ap (λ (q : Place). q.length) same)
+
+-- what an element's place rests on
+pub element_in : (t : Forest Resolved) (receiving : Bool) (o : Operand) (b : Basis) (e : ElementPlace) → IsPlaced t receiving o b → b ≡ basis.Element e → IsElementPlace t o.entry receiving e
+element_in t receiving o b e is same = subst (IsBasis t receiving o) same is.basis

@@ -3,6 +3,7 @@ use Rattle.std.specs.Prelude.{◌≡◌, ℕ, ◌+◌, ◌≤◌, Bool, true, fa
 use Rattle.cob_copybook_tree.specs.Forests.{Forest}
 use Rattle.cob_copybook_tree.specs.Nodes.{Resolved}
 use Rattle.cob_layout.specs.declared.fields.Place.{Place}
+use Rattle.cob_layout.specs.Elements.{IsElementPlace}
 use Rattle.cob_layout.specs.Storage.{greatest_length}
 use Rattle.cob_move_data.specs.declared.operands.Sender as code_sender
 use Rattle.cob_move_data.specs.declared.operands.Side.{Side}
@@ -25,9 +26,11 @@ pub record IsFixed (tree : Forest Resolved) (receiving : Bool) (o : Operand) (p 
   pub place : (side : Side) (bytes : List ℕ) → Located side tree receiving o bytes (Ok p)
   pub within : p.offset + p.length ≤ greatest_length tree
 
--- An operand's place, sending or receiving, may rest on this: on no count where it is noted and the same in every storage; and on those that it needs.
+-- An operand's place, sending or receiving, may rest on this: on no count where it is noted and the same in every storage; on the count of one table, and on
+-- that only whether the element is there; and on those that it needs.
 abbrev pub IsBasis : Forest Resolved → Bool → Operand → Basis → Type 0
 IsBasis tree receiving o (basis.Fixed p) = IsFixed tree receiving o p
+IsBasis tree receiving o (basis.Element e) = IsElementPlace tree o.entry receiving e
 IsBasis tree receiving o basis.Counted = Unit {0}
 
 -- an operand of the record, with what its place rests on

@@ -5,7 +5,7 @@ ghost use Rattle.cob_layout.specs.Sound.{IsSound};
 ghost use Rattle.cob_move_data.specs.Moves.{IsOperand, operand_in};
 ghost use Rattle.cob_move_apply.specs.Seen.{operand_of};
 
-use cob_layout::{Kind, Layout, Place, Ref};
+use cob_layout::{ElementPlace, Kind, Layout, Place, Ref};
 use cob_move_data::Side;
 
 /// What the place of an operand rests on.
@@ -13,6 +13,8 @@ use cob_move_data::Side;
 pub(crate) enum Basis {
     /// On no count: it is the same in every storage.
     Fixed(Place),
+    /// On the count of one table, and on that only whether the element is there.
+    Element(ElementPlace),
     /// On the counts of the storage that the operand needs.
     Counted,
 }

@@ -20,8 +20,11 @@ pub(crate) fn basis_of(layout: &Layout, entry: &Ref, receiving: bool) -> Basis
     requires operand { IsOperand layout.now (operand_in layout.now entry.now) }
     ensures { IsBasis layout.now receiving (operand_in layout.now entry.now) result }
 {
-    match layout.fixed_place(entry, receiving) {
-        Some(place) => Basis::Fixed(place),
+    if let Some(place) = layout.fixed_place(entry, receiving) {
+        return Basis::Fixed(place);
+    }
+    match layout.element_place(entry, receiving) {
+        Some(element) => Basis::Element(element),
         None => Basis::Counted,
     }
 }

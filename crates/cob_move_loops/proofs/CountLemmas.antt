@@ -7,7 +7,7 @@ use Rattle.cob_copybook_clauses.specs.Terms.{word_class}
 use Rattle.cob_move_loops.specs.declared.words.LoopWord.{LoopWord}
 use Rattle.cob_move_loops.specs.declared.words.LoopWord.TheVariants as loop
 use Rattle.cob_move_loops.specs.Few.{deepest, loop_line, loop_line_at, looped_of, statements_by, statements_in, statements_of}
-use Rattle.cob_move_loops.specs.Limits.{most_open}
+use Rattle.cob_limits.specs.Limits.{most_open}
 use Rattle.cob_move_loops.specs.Passages.{ALoop, ARun, APause, PassageFront, FrontStands, IsPassage, IsRun, Looped, Moves, NoMore, Passage, Pause, open_by}
 use Rattle.cob_move_loops.specs.Reading.{Within, looped_front, statements_front}
 use Rattle.cob_move_loops.specs.Turns.{Counted, counter_at, turns, turns_of, words_by_turn}

@@ -7,7 +7,7 @@ use Rattle.cob_copybook_clauses.specs.declared.term.WordClass.{WordClass}
 use Rattle.cob_copybook_clauses.specs.declared.term.WordClass.TheVariants as term
 use Rattle.cob_move_loops.specs.declared.words.LoopWord.{LoopWord}
 use Rattle.cob_move_loops.specs.declared.words.LoopWord.TheVariants as loop
-use Rattle.cob_move_loops.specs.Limits.{most_open, most_written_out}
+use Rattle.cob_limits.specs.Limits.{most_open, most_written_out}
 use Rattle.cob_move_loops.specs.Words.{loop_word}
 use Rattle.cob_move_loops.specs.Passages.{ALoop, Moves, NoMore, Passage, Pause, WrittenLoop, open_by}
 use Rattle.cob_move_loops.specs.Turns.{turns_of}

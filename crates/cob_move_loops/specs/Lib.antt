@@ -1,4 +1,3 @@
-pub mod Limits
 pub mod Words
 pub mod Passages
 pub mod Turns

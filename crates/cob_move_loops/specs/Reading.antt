@@ -45,6 +45,10 @@ item_front (item.Run words) = ARun (lexemes words.now)
 item_front item.Pause = APause
 item_front (item.Loop head body) = Looped (written_loop head) (lexemes body.now)
 
+-- a loop with the words of its statements, likewise
+abbrev pub loop_in_front : Loop → List Lexeme → PassageFront
+loop_in_front l own = Looped (written_loop l) own
+
 -- words stand in front in which as many loops are closed as are opened, and behind them an END-PERFORM, before these words
 abbrev pub ClosedInFront : List Lexeme → List Lexeme → List Lexeme → Type 0
 ClosedInFront own words more = (end : Lexeme) × (open_behind (Some 0) own ≡ Some 0) × IsLoopWord loop.EndPerform end × (words ≡ own ++ end ∷ more)
@@ -88,6 +92,14 @@ abbrev pub written_front : List Counted → PassageFront → Passage → List (L
 written_front ns (ARun own) p = in_turn ns false 0 own ∷ []
 written_front ns APause p = []
 written_front ns (Looped l own) p = turns (λ i. words_by_turn (ns ++ counter_at l i ∷ []) p) l.by (turns_of l) l.from
+
+-- whatever passage words are, its runs stand behind those before
+abbrev pub AddsRuns : List Counted → List Lexeme → (old new : List Run) → Type 0
+AddsRuns ns words old new = (p : Passage) → IsPassage p words → all_runs new ≡ all_runs old ++ words_by_turn ns p
+
+-- whatever passage the statements of what stands in front are, if it is a loop, its runs stand behind those before
+abbrev pub AddsRunsFront : List Counted → PassageFront → (old new : List Run) → Type 0
+AddsRunsFront ns f old new = (p : Passage) → Within f p → all_runs new ≡ all_runs old ++ written_front ns f p
 
 -- loops without where their texts lie in memory
 abbrev pub written_loops : List Loop → List WrittenLoop

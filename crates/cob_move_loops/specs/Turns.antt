@@ -9,7 +9,7 @@ use Rattle.cob_source.specs.declared.token.TokenKind.TheVariants as kind
 use Rattle.cob_copybook_clauses.specs.Terms.{word_class}
 use Rattle.cob_copybook_clauses.specs.declared.term.WordClass.{WordClass}
 use Rattle.cob_copybook_clauses.specs.declared.term.WordClass.TheVariants as term
-use Rattle.cob_move_loops.specs.Limits.{most_counter_digits}
+use Rattle.cob_limits.specs.Limits.{most_counter_digits}
 use Rattle.cob_move_loops.specs.Passages.{ALoop, Moves, NoMore, Passage, Pause, WrittenLoop}
 
 -- a counter and its number in a turn

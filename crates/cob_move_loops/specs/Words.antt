@@ -1,6 +1,6 @@
 -- The words of loops.
 use Rattle.std.specs.Prelude.{◌≡◌, ◌≢◌, ℕ, ◌<◌, if◌then◌else◌, bytes_eq, codes, List, [], ◌∷◌, Option, Some, None}
-use Rattle.cob_move_loops.specs.Limits.{most_counter_digits}
+use Rattle.cob_limits.specs.Limits.{most_counter_digits}
 use Rattle.cob_source.specs.Tokens.{Lexeme}
 use Rattle.cob_source.specs.declared.token.TokenKind.{TokenKind}
 use Rattle.cob_source.specs.declared.token.TokenKind.TheVariants as kind

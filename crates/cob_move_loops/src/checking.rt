@@ -6,7 +6,7 @@ ghost use Rattle.cob_move_loops.specs.Passages.{APause, ARun, Breaks, PassageFro
 ghost use Rattle.cob_move_loops.specs.Reading.{HasPassages, BreaksWithin, item_front};
 
 use crate::front::{Item, item_at};
-use crate::words::line_of;
+use crate::words::first_line;
 use cob_source::Token;
 
 /// Checks that the statements of what stands in front, if it is a loop, are a passage.
@@ -38,7 +38,7 @@ pub fn check(words: &[Token]) -> Result<(), u32>
     let mut rest = words;
     while !rest.is_empty() {
         let Some((item, more)) = item_at(rest) else {
-            return Err(line_of(rest));
+            return Err(first_line(rest));
         };
         check_item(&item)?;
         rest = more;

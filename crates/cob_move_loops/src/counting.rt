@@ -3,7 +3,7 @@
 ghost use Rattle.std.specs.Prelude.{◌≡◌, ◌↔◌, ◌+◌, ◌*◌, ◌<◌, ◌≤◌, IfNone, IfSome, IsTrue, Some};
 ghost use Rattle.cob_source.specs.Tokens.{lexeme, lexemes};
 ghost use Rattle.cob_move_loops.specs.Few.{IsFew, IsShallow, loop_line, looped_of, statements_in, statements_of};
-ghost use Rattle.cob_move_loops.specs.Limits.{most_written_out};
+ghost use Rattle.cob_limits.specs.Limits.{most_written_out};
 ghost use Rattle.cob_move_loops.specs.Passages.{IsPassage, Passage};
 ghost use Rattle.cob_move_loops.specs.Reading.{Within, item_front, looped_front, statements_front, written_loop};
 ghost use Rattle.cob_move_loops.specs.Turns.{turns_of};
@@ -13,13 +13,8 @@ use crate::front::{Item, depth_behind, item_at};
 use crate::parts::Loop;
 use crate::words::{LoopWord, loop_word};
 use cob_copybook_clauses::{WordClass, is_term};
+use cob_limits::{MAX_OPEN, MAX_WRITTEN_OUT};
 use cob_source::Token;
-
-/// The most statements that loops come to.
-const MAX_WRITTEN_OUT: u64 = 100_000;
-
-/// The most loops that are open.
-const MAX_OPEN: usize = 16;
 
 /// How many turns a loop has.
 pub(crate) fn turns_of(head: &Loop<'_>) -> u64

@@ -3,15 +3,16 @@
 ghost use Rattle.std.specs.Prelude.{◌≡◌, ◌↔◌, ℕ, ◌<◌, ◌≤◌, ◌+◌, ◌∷◌, ◌++◌, List, length, Option, Some, None, IfNone, IfSome, IsFalse, IsSomeAnd, IsTrue};
 ghost use Rattle.std.specs.List.{AllByRecursion};
 ghost use Rattle.cob_source.specs.Tokens.{Lexeme, lexeme, lexemes};
-ghost use Rattle.cob_move_loops.specs.Words.{IsNoPeriod, IsOther, IsPeriod, LoopWordFirst, NoPeriod, loop_word};
+ghost use Rattle.cob_move_loops.specs.Words.{IsNoPeriod, IsOther, LoopWordFirst};
 ghost use Rattle.cob_move_loops.specs.Passages.{APause, ARun, PassageFront, FrontStands, IsLoopBody, IsRun, Looped, WrittenLoop, open_behind, open_by};
 ghost use Rattle.cob_move_loops.specs.Reading.{AnswersFront, ClosedInFront, item_front};
 
 use crate::head::head_at;
 use crate::parts::Loop;
+use crate::stops::{behind_stops, is_stop};
 use crate::words::{LoopWord, behind_loop_word, loop_word};
 use cob_copybook_clauses::{WordClass, front, is_term};
-use cob_source::{Token, TokenKind};
+use cob_source::Token;
 
 /// What stands in front of a passage.
 #[derive(Clone, Copy)]
@@ -22,42 +23,6 @@ pub(crate) enum Item<'a> {
     Pause,
     /// A loop with the words of its statements.
     Loop { head: Loop<'a>, body: &'a [Token] },
-}
-
-/// Whether a token is a period.
-fn is_stop(token: &Token) -> bool
-    ensures { IsTrue result ↔ IsPeriod (lexeme token.now) }
-{
-    token.kind == TokenKind::Stop
-}
-
-/// The words behind the period in front, if there is one.
-fn behind_stop(words: &[Token]) -> Option<&[Token]>
-    ensures found { IfSome result (λ r. (w : Lexeme) × IsPeriod w
-        × (lexemes words.now ≡ w ∷ lexemes r.now)) }
-    ensures only { (w : Lexeme) (more : List Lexeme) → IsPeriod w → lexemes words.now ≡ w ∷ more
-        → IsSomeAnd result (λ r. lexemes r.now ≡ more) }
-{
-    let (first, more) = words.split_first()?;
-    if !is_stop(first) {
-        return None;
-    }
-    Some(more)
-}
-
-/// The words behind the periods in front.
-fn behind_stops(words: &[Token]) -> &[Token]
-    ensures found { (stops : List Lexeme) × AllByRecursion IsPeriod stops
-        × (lexemes words.now ≡ stops ++ lexemes result.now) }
-    ensures only { (stops more : List Lexeme) → AllByRecursion IsPeriod stops → NoPeriod more
-        → lexemes words.now ≡ stops ++ more → lexemes result.now ≡ more }
-    ensures none { NoPeriod (lexemes result.now) }
-{
-    let mut rest = words;
-    while let Some(more) = behind_stop(rest) {
-        rest = more;
-    }
-    rest
 }
 
 /// The words behind the one in front, if that is no word of loops.

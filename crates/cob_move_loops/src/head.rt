@@ -10,7 +10,7 @@ ghost use Rattle.cob_move_loops.specs.Reading.{AfterIs, AnswersNamed, AnswersNum
 
 use crate::number::number_at;
 use crate::parts::Loop;
-use crate::words::{LoopWord, behind_loop_word, behind_text, line_of, loop_word};
+use crate::words::{LoopWord, behind_loop_word, behind_text, first_line, loop_word};
 use cob_copybook_clauses::is_name_word;
 use cob_source::Token;
 
@@ -45,7 +45,7 @@ fn varying_at(words: &[Token]) -> Option<(u32, &[u8], &[Token])>
     let performed = behind_loop_word(words, LoopWord::Perform)?;
     let varied = behind_text(performed, b"VARYING")?;
     let (name, more) = counter_at(varied)?;
-    Some((line_of(words), name, more))
+    Some((first_line(words), name, more))
 }
 
 /// FROM and BY in front with their numbers, and what is behind them.

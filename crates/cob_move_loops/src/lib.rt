@@ -1,8 +1,23 @@
-//! Loops of a paragraph: its words cut at PERFORM and END-PERFORM, and written out turn by turn (ANSI X3.23-1985, Nucleus: the PERFORM statement, VARYING).
+//! Loops in a paragraph, and how they are written out (ANSI X3.23-1985, Nucleus: the PERFORM statement, Format 4).
+//!
+//! What stands behind a paragraph's heading is a passage: words of MOVE statements, CONTINUE, and loops with literal bounds, which hold passages.
+//! A loop means its turns, and a turn is words: those of the loop's statements, with a counter's number in the place of its name. What MOVE
+//! statements say, in a turn or outside of loops, is for the crates above, which read words without loops.
+//!
+//! What is promised: [`check`] answers `Ok` exactly for the words of a passage (`found`), and else the line where they break off (`line`). Words are
+//! one passage at most ([`one_passage`]), and those that break off are none ([`breaks_none`]). [`is_shallow`] says whether few loops of words hold one another,
+//! and [`is_few`] whether a passage's loops come to few statements. [`loops`] answers the heads of a passage's loops (`found`), or the line of one
+//! whose counter is not its own (`clash`). [`write_out`] answers the words of MOVE statements in each turn, in their order, and [`in_turn`] has them with
+//! their numbers in place. Outside of loops words are as they are written ([`no_turn`]). [`behind_stops`] passes over periods, [`first_line`]
+//! answers the line of the first word, and [`loop_word`] which words are no names in a paragraph.
+//!
+//! The definitions stand in `specs/`: `Words` has the words of loops, `Passages` which words a passage has and where words are none, `Turns` what
+//! loops come to, `Few` how much that is and which counters are a loop's own. `Reading` holds what the readers say of what they answer, and `Laws`
+//! has the laws.
 //!
 //! # Where it is proved
 //!
-//! Which words a passage has.
+//! The clauses `found`, `line` of `check` and `found`, `clash` of `loops`, those of `write_out`, `in_turn`, `is_few`, `is_shallow` and `loop_line`; its laws.
 #![tactic(auto)]
 
 mod checking;
@@ -13,6 +28,7 @@ mod laws;
 mod naming;
 mod number;
 mod parts;
+mod stops;
 mod turn;
 mod words;
 mod writing;
@@ -22,6 +38,7 @@ pub use counting::{is_few, is_shallow, loop_line};
 pub use laws::{breaks_none, no_turn, one_passage};
 pub use naming::{LoopFault, loops};
 pub use parts::Loop;
+pub use stops::{behind_stop, behind_stops, is_stop};
 pub use turn::{Counter, in_turn};
-pub use words::{LoopWord, loop_word};
+pub use words::{LoopWord, first_line, loop_word};
 pub use writing::{Run, write_out};

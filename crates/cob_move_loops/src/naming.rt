@@ -1,12 +1,12 @@
 //! The loops of passages, with their counters.
 
-ghost use Rattle.std.specs.Prelude.{◌≡◌, ◌⊎◌, ◌≢◌, ◌↔◌, ◌++◌, ◌∷◌, [], IfErr, IfOk, IsTrue, OnOk};
+ghost use Rattle.std.specs.Prelude.{◌≡◌, ◌≢◌, ◌↔◌, ◌++◌, ◌∷◌, [], IfErr, IfOk, IsTrue, OnOk};
 ghost use Rattle.std.specs.List.{AllByRecursion};
 ghost use Rattle.cob_source.specs.Tokens.{lexemes};
 ghost use Rattle.cob_move_loops.specs.declared.naming.LoopFault.TheVariants.{Memory};
-ghost use Rattle.cob_move_loops.specs.Few.{AreLoopsApart, Clashes, IsApart, loops_of};
+ghost use Rattle.cob_move_loops.specs.Few.{AreLoopsApart, IsApart, loops_of};
 ghost use Rattle.cob_move_loops.specs.Passages.{IsPassage, Passage};
-ghost use Rattle.cob_move_loops.specs.Reading.{AddsLoops, AddsLoopsFront, ClashesIn, ClashesInFront, IsClash, item_front, written_loop, written_loops};
+ghost use Rattle.cob_move_loops.specs.Reading.{AddsLoops, AddsLoopsFront, ClashesIn, ClashesInFront, IsClash, item_front, loop_in_front, written_loop, written_loops};
 
 use crate::front::{Item, item_at};
 use crate::parts::Loop;
@@ -90,15 +90,10 @@ fn add_loop<'a>(
     around: &[Loop<'a>],
     out: &mut Vec<Loop<'a>>,
 ) -> Result<(), LoopFault>
-    ensures named { OnOk result ((p : Passage) → IsPassage p (lexemes body.now)
-        → (IsApart (written_loops around.now) (written_loop head.now)
-        × AreLoopsApart (written_loops around.now ++ written_loop head.now ∷ []) p)
-        × (written_loops out.new.items
-        ≡ written_loops out.old.items ++ written_loop head.now ∷ loops_of p)) }
-    ensures clash { IfErr result (IsClash (λ line. (p : Passage) → IsPassage p (lexemes body.now)
-        → ((line ≡ (written_loop head.now).line)
-        × (IsApart (written_loops around.now) (written_loop head.now) → ⊥))
-        ⊎ Clashes (written_loops around.now ++ written_loop head.now ∷ []) p line)) }
+    ensures named { OnOk result (AddsLoopsFront (written_loops around.now)
+        (loop_in_front head.now (lexemes body.now)) out.old.items out.new.items) }
+    ensures clash { IfErr result (IsClash (ClashesInFront (written_loops around.now)
+        (loop_in_front head.now (lexemes body.now)))) }
 {
     if !is_apart(around, head) {
         return Err(LoopFault::Clash(head.line));

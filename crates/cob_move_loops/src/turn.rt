@@ -6,8 +6,9 @@ ghost use Rattle.cob_source.specs.Tokens.{lexeme, lexemes};
 ghost use Rattle.cob_move_loops.specs.Reading.{counters};
 ghost use Rattle.cob_move_loops.specs.Turns.{amount_of_kind, counted_number, in_turn, numeral, number_of_name, open_by, passed_by, shifted_number, shifted_of_kind, sum_in, whole_in, word_by};
 
-use crate::number::whole;
 use cob_copybook_clauses::{WordClass, word_class};
+use cob_copybook_entries::whole;
+use cob_limits::MAX_COUNTER_DIGITS;
 use cob_source::{Token, TokenKind};
 use itoa::Buffer;
 use std::alloc::{AllocError, Global};
@@ -79,7 +80,7 @@ fn numeral(alloc: Global, token: &Token, number: u64) -> Result<Token, AllocErro
 fn whole_in(text: &[u8]) -> Option<u32>
     ensures { result ≡ whole_in text.now }
 {
-    whole(text)
+    whole(text, MAX_COUNTER_DIGITS)
 }
 
 /// The number of a word of digits.

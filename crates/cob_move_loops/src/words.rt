@@ -97,7 +97,7 @@ pub(crate) fn behind_loop_word(words: &[Token], word: LoopWord) -> Option<&[Toke
 }
 
 /// The line of the first word, or 1 where there is none.
-pub(crate) fn line_of(words: &[Token]) -> u32
+pub fn first_line(words: &[Token]) -> u32
     ensures { result ≡ first_line (lexemes words.now) }
 {
     match words.first() {

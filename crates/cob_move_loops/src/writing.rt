@@ -4,8 +4,8 @@ ghost use Rattle.std.specs.Prelude.{◌≡◌, ◌⊎◌, ◌+◌, ◌<◌, ◌+
 ghost use Rattle.cob_source.specs.Tokens.{lexemes};
 ghost use Rattle.cob_move_loops.specs.Few.{statements_of};
 ghost use Rattle.cob_move_loops.specs.Passages.{IsPassage, Passage};
-ghost use Rattle.cob_move_loops.specs.Reading.{Within, all_runs, counters, item_front, written_front, written_loop};
-ghost use Rattle.cob_move_loops.specs.Turns.{counter_at, in_turn, turns, turns_of, words_by_turn};
+ghost use Rattle.cob_move_loops.specs.Reading.{AddsRuns, AddsRunsFront, all_runs, counters, item_front, loop_in_front, written_loop};
+ghost use Rattle.cob_move_loops.specs.Turns.{in_turn, turns_of, words_by_turn};
 
 use crate::counting::{count_all, turns_of};
 use crate::front::{Item, item_at};
@@ -112,10 +112,8 @@ fn write_turns<'a>(
     turn: &[Counter<'a>],
     out: &mut Vec<Run<'a>>,
 ) -> Result<(), AllocError>
-    ensures { OnOk result ((p : Passage) → IsPassage p (lexemes body.now)
-        → all_runs out.new.items ≡ all_runs out.old.items
-        ++ turns (λ i. words_by_turn (counters turn.now ++ counter_at (written_loop head.now) i ∷ []) p)
-        head.now.by (turns_of (written_loop head.now)) head.now.from) }
+    ensures { OnOk result (AddsRunsFront (counters turn.now) (loop_in_front head.now (lexemes body.now))
+        out.old.items out.new.items) }
 {
     let mut left = turns_to_write(head, body);
     let mut number = head.from;
@@ -145,9 +143,8 @@ fn write_item<'a>(
     turn: &[Counter<'a>],
     out: &mut Vec<Run<'a>>,
 ) -> Result<(), AllocError>
-    ensures { OnOk result ((p : Passage) → Within (item_front item.now) p
-        → all_runs out.new.items
-        ≡ all_runs out.old.items ++ written_front (counters turn.now) (item_front item.now) p) }
+    ensures { OnOk result (AddsRunsFront (counters turn.now) (item_front item.now) out.old.items
+        out.new.items) }
 {
     match item {
         Item::Run(words) => push_run(alloc, words, turn, out),
@@ -168,9 +165,8 @@ fn write_all<'a>(
     turn: &[Counter<'a>],
     out: &mut Vec<Run<'a>>,
 ) -> Result<(), AllocError>
-    ensures { OnOk result ((p : Passage) → IsPassage p (lexemes words.now)
-        → all_runs out.new.items
-        ≡ all_runs out.old.items ++ words_by_turn (counters turn.now) p) }
+    ensures { OnOk result (AddsRuns (counters turn.now) (lexemes words.now) out.old.items
+        out.new.items) }
 {
     let mut rest = words;
     while let Some((item, more)) = item_at(rest) {

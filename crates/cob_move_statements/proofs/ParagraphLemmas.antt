@@ -63,10 +63,6 @@ fits_ends [] [] are fit = tt
 fits_ends [] (w ∷ more) are fit = inr fit
 fits_ends (w ∷ stops) more are fit = inl are.0
 
-pub no_stop : (ws : List Lexeme) → ((w : Lexeme) (more : List Lexeme) → IsPeriod w → ws ≡ w ∷ more → ⊥) → NoPeriod ws
-no_stop [] none = tt
-no_stop (w ∷ ws) none = λ stop. none w ws stop refl
-
 nothing_left : (w : Lexeme) (ws : List Lexeme) → w ∷ ws ≡ [] → ⊥
 nothing_left w ws e = cc
 

@@ -1,4 +1,4 @@
-ghost use Rattle.cob_move_loops.specs.Words.{IsPeriod, NoPeriod, first_line};
+ghost use Rattle.cob_move_loops.specs.Words.{IsPeriod, first_line};
 ghost use Rattle.std.specs.Prelude.{
   ◌≡◌,
   ◌⊎◌,
@@ -10,10 +10,8 @@ ghost use Rattle.std.specs.Prelude.{
   IfErr,
   IfOk,
   IfSome,
-  IsSomeAnd,
   IsTrue,
 };
-ghost use Rattle.std.specs.List.{AllByRecursion};
 ghost use Rattle.cob_copybook_clauses.specs.Clauses.{IsNameWord};
 ghost use Rattle.cob_copybook_clauses.specs.Terms.{word_class};
 ghost use Rattle.cob_copybook_clauses.specs.declared.term.WordClass.TheVariants as term;
@@ -40,44 +38,9 @@ use crate::actions::action_at;
 use crate::fault::{MoveFault, MoveRule};
 use crate::parts::Statement;
 use cob_copybook_clauses::{WordClass, is_name_word, is_term};
-use cob_source::{Token, TokenKind};
+use cob_move_loops::{behind_stop, behind_stops, first_line, is_stop};
+use cob_source::Token;
 use std::alloc::{AllocError, Global};
-
-/// Whether a token is a period.
-fn is_stop(token: &Token) -> bool
-    ensures { IsTrue result ↔ IsPeriod (lexeme token.now) }
-{
-    token.kind == TokenKind::Stop
-}
-
-/// The words behind the period in front, if there is one.
-fn behind_stop(words: &[Token]) -> Option<&[Token]>
-    ensures found { IfSome result (λ r. (w : Lexeme) × IsPeriod w
-        × (lexemes words.now ≡ w ∷ lexemes r.now)) }
-    ensures only { (w : Lexeme) (more : List Lexeme) → IsPeriod w → lexemes words.now ≡ w ∷ more
-        → IsSomeAnd result (λ r. lexemes r.now ≡ more) }
-{
-    let (first, more) = words.split_first()?;
-    if !is_stop(first) {
-        return None;
-    }
-    Some(more)
-}
-
-/// The words behind the periods in front.
-fn behind_stops(words: &[Token]) -> &[Token]
-    ensures found { (stops : List Lexeme) × AllByRecursion IsPeriod stops
-        × (lexemes words.now ≡ stops ++ lexemes result.now) }
-    ensures only { (stops more : List Lexeme) → AllByRecursion IsPeriod stops → NoPeriod more
-        → lexemes words.now ≡ stops ++ more → lexemes result.now ≡ more }
-    ensures none { NoPeriod (lexemes result.now) }
-{
-    let mut rest = words;
-    while let Some(more) = behind_stop(rest) {
-        rest = more;
-    }
-    rest
-}
 
 /// The line of the MOVE in front, and what is behind it.
 fn move_line_at(words: &[Token]) -> Option<(u32, &[Token])>
@@ -154,13 +117,9 @@ fn ungrammatical(words: &[Token]) -> MoveFault
     ensures rule { result.rule ≡ MoveRule.Grammar }
     ensures line { result.line ≡ first_line (lexemes words.now) }
 {
-    let line = match words.first() {
-        Some(first) => first.line,
-        None => 1,
-    };
     MoveFault {
         rule: MoveRule::Grammar,
-        line,
+        line: first_line(words),
     }
 }
 

@@ -74,7 +74,9 @@ pub(crate) fn long_numerals(sender: &Item, receiver: &Item) -> Option<LongNumera
 
 impl LongNumerals {
     /// Writes the digits of a number, those in front of the last sixteen and these, as characters into all bytes of an item.
-    #[inline(always)]
+    ///
+    /// It isn't inlined: what carries out steps of other receivers stays short so.
+    #[inline(never)]
     pub(crate) fn write(&self, front: u8x16, back: u8x16, to: &mut [u8])
         ensures { AreLongNumeralsWritten self.now front back (length to.old) to.new }
     {

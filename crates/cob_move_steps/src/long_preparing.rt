@@ -13,8 +13,8 @@ ghost use Rattle.cob_move_steps.specs.Steps.{IsLaneItem, kind_by_lanes};
 use crate::long_ends::{LongReader, LongReceiver, LongWriter};
 use crate::long_numerals_writing::long_numerals;
 use crate::long_step::LongStep;
-use crate::long_text_reading::long_text_reader;
-use crate::long_texts::long_text_writer;
+use crate::long_text_reading::{last_count, long_text_reader};
+use crate::long_texts::{front_count, long_text_writer};
 use crate::number_ends::NumberWriter;
 use crate::preparing::writer_for;
 use crate::storage::LaneStorage;
@@ -228,8 +228,7 @@ fn last_wanted(sender: &Item, receiver: &Item) -> Wanted
     ensures most { result.shift ≤ℤ pos 100 }
 {
     let shift = receiver.picture.scale() - sender.picture.scale();
-    let all = receiver.picture.digits();
-    let digits = if all < 16 { all } else { 16 };
+    let digits = last_count(receiver.picture.digits());
     Wanted { digits, shift }
 }
 
@@ -241,8 +240,7 @@ fn front_wanted(sender: &Item, receiver: &Item) -> Wanted
     ensures most { result.shift ≤ℤ pos 100 }
 {
     let shift = receiver.picture.scale() - sender.picture.scale() - 16;
-    let all = receiver.picture.digits();
-    let digits = if all < 16 { 0 } else { all - 16 };
+    let digits = front_count(receiver.picture.digits());
     Wanted { digits, shift }
 }
 

@@ -83,7 +83,7 @@ fn moved_behind(count: u8) -> KeptDigits
 }
 
 /// How many of so many digits are the last sixteen.
-fn last_count(count: u8) -> u8
+pub(crate) fn last_count(count: u8) -> u8
     ensures { result ≡ last_count count }
 {
     if count < 16 { count } else { 16 }
@@ -138,7 +138,9 @@ fn is_either(own: &LongText, front: u8x16, back: u8x16, plus: bool, text: &LongT
 
 impl LongTextReader {
     /// The number of the edited item at the end of bytes, and none where there are fewer.
-    #[inline(always)]
+    ///
+    /// It isn't inlined: what carries out steps of other numbers stays short so.
+    #[inline(never)]
     pub(crate) fn read(&self, bytes: &[u8]) -> WideRead
         ensures { IsLongTextRead self.now bytes.now
             result.is_number result.minus result.front result.back }

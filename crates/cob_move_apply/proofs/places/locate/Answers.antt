@@ -1,4 +1,4 @@
-use Rattle.cob_move_apply.proofs.PlaceLemmas.{filled_at, fixed_in}
+use Rattle.cob_move_apply.proofs.PlaceLemmas.{element_in, filled_at, fixed_in}
 use Rattle.cob_move_apply.specs.Seen.{operand_of}
 use Rattle.cob_move_apply.proofs.SpentLemmas.{spent_none}
 use Rattle.cob_move_apply.proofs.places.locate.Goals as goal
@@ -16,3 +16,7 @@ returns-in-Fixed-clause-filled c =
 
 pub returns-in-Fixed-clause-spends : goal.returns-in-Fixed-clause-spends
 returns-in-Fixed-clause-spends c = spent_none c.args.stored.now.layout.now c.args.survey.now
+
+pub place_of_element-requires-clause-element : goal.place_of_element-requires-clause-element
+place_of_element-requires-clause-element c =
+    element_in c.args.stored.now.layout.now c.args.receiving (operand_of c.args.placed.now) c.args.placed.now.basis c.in-Element.element c.requires.placed c.in-Element.is

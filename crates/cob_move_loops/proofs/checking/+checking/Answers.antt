@@ -27,7 +27,7 @@ check-returns-in_err-check_item-clause-line t c =
 
 pub check-returns-in_default-clause-line : goal.check-returns-in_default-clause-line
 check-returns-in_default-clause-line t c =
-    c.loop-rest.invariant.checked.broken c.line_of.result (breaks_here (lexemes c.loop-rest.rest.now) c.line_of.result (some_left c.loop-rest.rest.now c.is_empty.result c.is_empty.ensures c.loop-rest-test.true) c.in_default.ensures.only c.line_of.ensures)
+    c.loop-rest.invariant.checked.broken c.first_line.result (breaks_here (lexemes c.loop-rest.rest.now) c.first_line.result (some_left c.loop-rest.rest.now c.is_empty.result c.is_empty.ensures c.loop-rest-test.true) c.in_default.ensures.only c.first_line.ensures)
 
 pub check-returns-clause-found : goal.check-returns-clause-found
 check-returns-clause-found t c =

@@ -1,7 +1,7 @@
 use Rattle.std.proofs.Common.{ℕ, ◌*◌, ◌<◌, arith, subst}
 use Rattle.cob_source.specs.Tokens.{lexemes}
 use Rattle.cob_move_loops.specs.Few.{statements_of}
-use Rattle.cob_move_loops.specs.Limits.{most_written_out}
+use Rattle.cob_limits.specs.Limits.{most_written_out}
 use Rattle.cob_move_loops.specs.Reading.{item_front, statements_front}
 use Rattle.cob_move_loops.proofs.CountLemmas.{count_end, count_first, count_more, count_over, if_none, statements_add, sum_over, times_over}
 use Rattle.cob_move_loops.proofs.PassageLemmas.{shorter}

@@ -1,7 +1,7 @@
 use Rattle.std.proofs.Common.{◌≤◌, ◌+◌, ◌*◌, length}
 use Rattle.cob_source.specs.Tokens.{lexemes}
 use Rattle.cob_move_loops.specs.Few.{statements_of}
-use Rattle.cob_move_loops.specs.Limits.{most_written_out}
+use Rattle.cob_limits.specs.Limits.{most_written_out}
 use Rattle.cob_move_loops.specs.Reading.{item_front}
 use Rattle.cob_move_loops.proofs.CountLemmas.{LeftToCount}
 use Rattle.cob_move_loops.proofs.FrontLemmas.{front_size}

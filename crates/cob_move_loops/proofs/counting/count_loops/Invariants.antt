@@ -1,7 +1,7 @@
 use Rattle.std.proofs.Common.{◌≤◌, length}
 use Rattle.cob_source.specs.Tokens.{lexemes}
 use Rattle.cob_move_loops.specs.Few.{looped_of}
-use Rattle.cob_move_loops.specs.Limits.{most_written_out}
+use Rattle.cob_limits.specs.Limits.{most_written_out}
 use Rattle.cob_move_loops.proofs.CountLemmas.{LeftToCount}
 use Rattle.cob_move_loops.proofs.counting.count_loops.Given as goal
 

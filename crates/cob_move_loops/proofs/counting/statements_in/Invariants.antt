@@ -1,7 +1,7 @@
 use Rattle.std.proofs.Common.{◌≡◌, ◌+◌, ◌≤◌, length}
 use Rattle.cob_source.specs.Tokens.{lexemes}
 use Rattle.cob_move_loops.specs.Few.{statements_in}
-use Rattle.cob_move_loops.specs.Limits.{most_written_out}
+use Rattle.cob_limits.specs.Limits.{most_written_out}
 use Rattle.cob_move_loops.proofs.counting.statements_in.Given as goal
 
 abbrev pub invariant-loop-first : goal.invariant-loop-first

@@ -9,6 +9,6 @@ returns-clause-found c =
     let (v, iv, f) = c.in_ok-varied.ensures.found in
     let (k, ik, g) = c.in_ok-name.ensures.found in (
       w ∷ v ∷ k ∷ [],
-      (w, v, k, iw, c.line_of.ensures ∙ ap first_line e, iv, ik, refl),
+      (w, v, k, iw, c.first_line.ensures ∙ ap first_line e, iv, ik, refl),
       e ∙ ap (λ (t : List Lexeme). w ∷ t) f ∙ ap (λ (t : List Lexeme). w ∷ v ∷ t) g,
     )

@@ -5,7 +5,7 @@ use Rattle.cob_copybook_clauses.specs.declared.term.WordClass.TheVariants as ter
 use Rattle.cob_copybook_clauses.proofs.TableLemmas.{rest_fits}
 use Rattle.cob_move_statements.specs.Statements.{IsNumeral}
 use Rattle.cob_copybook_clauses.specs.Reading.{NotFirstWord}
-use Rattle.cob_move_statements.proofs.Fronts.{begins, goes, ends}
+use Rattle.cob_move_loops.proofs.Fronts.{begins, goes, ends}
 use Rattle.cob_move_statements.proofs.subscripts.numerals_at.Goals as goal
 
 pub loop-more-init : goal.loop-more-init
