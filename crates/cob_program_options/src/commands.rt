@@ -9,12 +9,12 @@ ghost use Rattle.cob_program_options.specs.Program.{Makes, bare_app, program_app
 
 use crate::adding::with_groups;
 use crate::definition::CommandDefinition;
-use crate::help::VERSION;
 use crate::options::{
     ATOMIC, BOOK, BOOKS, BOTH_WAYS, CHOICE, COVER, CUT, ENDS, EXPLAINED_RECORDS, FORM, FORMS,
     LISTING, LRECL, MAPPED_RECORDS, MOVES, PIECE, PIECES, PROGRESS, RECORD, REJECTS, SHARED,
     SHARED_RUN, SHOWN,
 };
+use crate::release::VERSION;
 use clap::Command;
 use std::alloc::{AllocError, Global};
 
