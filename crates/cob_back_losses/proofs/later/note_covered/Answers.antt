@@ -1,5 +1,5 @@
-use Rattle.std.proofs.Common.{arith, get_or}
-use Rattle.std.specs.Prelude.{max}
+use Rattle.std.proofs.Common.{◌∙◌, ◌+◌, ◌<◌, ℕ, arith, subst}
+use Rattle.std.proofs.lemmas.List.{length-set}
 use Rattle.cob_back_losses.proofs.EndLemmas.{known_or_place, set_end}
 use Rattle.cob_back_losses.proofs.later.note_covered.Goals as goal
 
@@ -7,6 +7,9 @@ pub loop-at-preserved : goal.loop-at-preserved
 loop-at-preserved c = record {
   ends = λ marks before all.
       let known = c.loop-at.invariant.ends marks before all in
-      set_end marks c.loop-at.ends c.loop-at.at _ (omega arith) (known_or_place marks c.loop-at.ends c.args.place.offset c.end c.loop-at.at (omega arith) all known) known;
-  room = c.loop-at.invariant.room;
+      let place = c.args.place in
+      set_end marks c.loop-at.ends c.loop-at.at c.max.result (omega (arith, c.loop-at-test.true, c.loop-at.invariant.room))
+      (λ byte le below. known_or_place marks c.loop-at.ends place.offset (place.offset + place.length) c.loop-at.at (omega (arith, c.loop-at.auto.at)) all known byte le
+      (subst (λ (n : ℕ). byte < n) c.max.ensures below)) known;
+  room = length-set c.loop-at.ends c.loop-at.at c.max.result ∙ c.loop-at.invariant.room;
 }

@@ -1,4 +1,4 @@
-use Rattle.std.proofs.Common.{◌≡◌, ◌++◌, ◌+◌, ◌-◌, ◌<◌, ℕ, List, Bool, arith, drop, get_or, length, map, reverse, subst, sym, take}
+use Rattle.std.proofs.Common.{◌≡◌, ◌∙◌, ◌++◌, ◌+◌, ◌-◌, ◌<◌, ℕ, List, Bool, ap, arith, drop, get_or, length, map, reverse, subst, sym, take}
 use Rattle.std.proofs.lemmas.List.{length-map, take_at}
 use Rattle.cob_back_losses.specs.Moved.{TellsEach}
 use Rattle.cob_back_losses.specs.Seen.{AreEnds, MarkCoveredBytes, seen_single}
@@ -25,7 +25,7 @@ loop-step-preserved c =
     let long : length c.lost_before.new.covered ≡ c.loop-step.covered.len = omega (arith, c.lost_before.ensures.room, c.deref_mut.ensures.len) in
     let written : take c.loop-step.covered.len (c.lost_before.new.covered ++ drop (length c.lost_before.new.covered) c.loop-step.covered.items) ≡ c.lost_before.new.covered =
     take_at c.lost_before.new.covered _ c.loop-step.covered.len long in
-    let ends_long : length c.lost_before.new.ends ≡ c.loop-step.ends.len = omega (arith, c.lost_before.ensures.ends, c.deref_mut-2.ensures.len) in
+    let ends_long : length c.lost_before.new.ends ≡ c.loop-step.ends.len = omega (arith, c.lost_before.ensures.ends, c.deref_mut-in-loop-step.ensures.len) in
     let ends_written : take c.loop-step.ends.len (c.lost_before.new.ends ++ drop (length c.lost_before.new.ends) c.loop-step.ends.items) ≡ c.lost_before.new.ends =
     take_at c.lost_before.new.ends _ c.loop-step.ends.len ends_long in
     record {
@@ -38,5 +38,6 @@ loop-step-preserved c =
           (λ (bs : List Bool). AreEnds bs (take c.loop-step.ends.len (c.lost_before.new.ends ++ drop (length c.lost_before.new.ends) c.loop-step.ends.items)))
           (sym written)
           (subst (λ (es : List ℕ). AreEnds c.lost_before.new.covered es) (sym ends_written) c.in_ok-lost_before.ensures.known);
-      room = ?;
+      room = ap length ends_written ∙ c.lost_before.ensures.ends ∙ ap length c.deref_mut-in-loop-step.ensures.value ∙ c.loop-step.invariant.room
+          ∙ sym (ap length c.deref_mut.ensures.value) ∙ sym c.lost_before.ensures.room ∙ sym (ap length written);
     }
