@@ -1,5 +1,5 @@
 -- The loops of tables, turn by turn, and the elements of the tables.
-use Rattle.std.proofs.Common.{◌≡◌, ℕ, suc, ◌+◌, ◌<◌, Bool, true, false, ◌&&◌, List, [], ◌∷◌, ◌++◌, length, map, get_or, refl, sym, ap, subst, ◌∙◌, arith, inl, inr, append_assoc, append-nil}
+use Rattle.std.proofs.Common.{◌≡◌, ℕ, suc, ◌+◌, ◌<◌, ◌≤◌, Bool, true, false, ◌&&◌, List, [], ◌∷◌, ◌++◌, length, map, get_or, refl, sym, ap, subst, ◌∙◌, arith, inl, inr, append_assoc, append-nil}
 use Rattle.std.specs.Prelude.{nat_eq, nat_le, nat_lt, if◌then◌else◌, flat_map}
 use Rattle.std.specs.List.{AllByRecursion}
 use Rattle.std.proofs.lemmas.Bool.Decides.{Decides-ltb, eqb_tells, leb_tells}
@@ -47,11 +47,11 @@ not_over n = elim (leb_tells n n) [
 several_is : (n : ℕ) → 1 < n → nat_lt 1 n ≡ true
 several_is n several = (Decides-ltb 1 n).1 several
 
-few_is : (n : ℕ) → (1 < n → ⊥) → nat_lt 1 n ≡ false
+few_is : (n : ℕ) → n ≤ 1 → nat_lt 1 n ≡ false
 few_is n few = by (nat_lt 1 n) refl
   where
     by : (b : Bool) → nat_lt 1 n ≡ b → b ≡ false
-    by true is = absurd (few ((Decides-ltb 1 n).0 is))
+    by true is = absurd (omega (arith, few, (Decides-ltb 1 n).0 is))
     by false is = refl
 
 -- the loops of a table with several elements, and of one with fewer
@@ -156,11 +156,11 @@ with_counter head front l i is = omega (arith, is, length-append head (i ∷ [])
 one_element : (n : ℕ) → 0 < n → nat_lt 1 n ≡ false → n ≡ 1
 one_element n some is = omega (arith, some, not_more)
   where
-    not_more : 1 < n → ⊥
-    not_more several = absurd (no_both (sym (several_is n several) ∙ is))
-
     no_both : true ≡ false → ⊥
     no_both e = cc
+
+    not_more : 1 < n → ⊥
+    not_more several = no_both (sym (several_is n several) ∙ is)
 
 -- what holds behind the loops of some tables holds with one more table
 split : (n : ℕ) (ns : List ℕ) (d : ℕ) (front : List Turning) (head : List ℕ) → 0 < n → AreBelow d front → length head ≡ length front
@@ -198,8 +198,11 @@ behind d (m ∷ ms) n =
 pub one_inside : (ns : List ℕ) (n : ℕ) → 1 < n → loops_over (ns ++ n ∷ []) ≡ loops_over ns ++ record { depth = length ns; turns = n } ∷ []
 one_inside ns n several = behind 0 ns n ∙ ap (λ (ls : List Turning). loops_over ns ++ ls) (loops_yes (0 + length ns) n [] (several_is n several) ∙ at (omega arith))
   where
-    at : 0 + length ns ≡ length ns → record { depth = 0 + length ns; turns = n } ∷ [] ≡ record { depth = length ns; turns = n } ∷ []
-    at e = ap (λ (d : ℕ). record { depth = d; turns = n } ∷ []) e
+    turning_at : ℕ → List Turning
+    turning_at d = record { depth = d; turns = n } ∷ []
 
-pub none_inside : (ns : List ℕ) (n : ℕ) → (1 < n → ⊥) → loops_over (ns ++ n ∷ []) ≡ loops_over ns
+    at : 0 + length ns ≡ length ns → turning_at (0 + length ns) ≡ turning_at (length ns)
+    at e = ap turning_at e
+
+pub none_inside : (ns : List ℕ) (n : ℕ) → n ≤ 1 → loops_over (ns ++ n ∷ []) ≡ loops_over ns
 none_inside ns n few = behind 0 ns n ∙ ap (λ (ls : List Turning). loops_over ns ++ ls) (loops_no (0 + length ns) n [] (few_is n few)) ∙ append-nil (loops_over ns)

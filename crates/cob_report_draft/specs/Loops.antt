@@ -1,5 +1,5 @@
 -- Which loops a statement of a draft stands in, which subscripts it has there, and which elements it moves.
-use Rattle.std.specs.Prelude.{◌≡◌, ℕ, suc, ◌+◌, ◌&&◌, min, nat_eq, nat_le, nat_lt, if◌then◌else◌, List, [], ◌∷◌, ◌++◌, map, get_or, flat_map}
+use Rattle.std.specs.Prelude.{◌≡◌, ℕ, zero, suc, ◌+◌, ◌&&◌, min, nat_eq, nat_le, nat_lt, if◌then◌else◌, List, [], ◌∷◌, ◌++◌, map, get_or, flat_map}
 use Rattle.cob_report_draft.specs.declared.loops.TableLoop.{TableLoop}
 use Rattle.cob_report_draft.specs.declared.words.Subscript.{Subscript}
 use Rattle.cob_report_draft.specs.declared.words.Subscript.TheVariants.{Counter, First}
@@ -41,7 +41,7 @@ subscripts_from loops depth (n ∷ ns) = subscript_from 0 loops depth n ∷ subs
 
 -- the numbers from 1 to this one
 abbrev pub one_to : ℕ → List ℕ
-one_to 0 = []
+one_to zero = []
 one_to (suc n) = one_to n ++ suc n ∷ []
 
 -- the numbers of the counters of these loops, turn by turn, the innermost the fastest

@@ -210,26 +210,13 @@ fn holds(own: &TableLoop, number: usize) -> bool {
 /// How many of these loops, the outermost first, go over tables that hold an entry of the output record.
 pub(crate) fn count_holding(loops: &[TableLoop], to: &DraftBearer<'_>) -> usize {
     let number = number_of(to);
-    let mut count = 0;
-    for own in loops {
-        if !holds(own, number) {
-            break;
-        }
-        count += 1;
-    }
-    count
+    loops.iter().take_while(|own| holds(own, number)).count()
 }
 
 /// How many loops, the outermost first, are the same.
 pub(crate) fn count_same(one: &[TableLoop], other: &[TableLoop]) -> usize {
-    let mut count = 0;
-    for (own, another) in one.iter().zip(other.iter()) {
-        if own != another {
-            break;
-        }
-        count += 1;
-    }
-    count
+    let pairs = one.iter().zip(other.iter());
+    pairs.take_while(|(own, another)| own == another).count()
 }
 
 /// The subscript, in loops that are numbered from here, for the table that so many tables hold, of which there are so many elements: the counter of its loop,
