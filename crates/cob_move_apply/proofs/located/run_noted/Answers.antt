@@ -1,0 +1,30 @@
+use Rattle.std.proofs.Common.{ℕ, Ok, ap}
+use Rattle.cob_move_data.specs.declared.operands.Side.TheVariants.{In}
+use Rattle.cob_move_apply.specs.Applied.{done}
+use Rattle.cob_move_apply.specs.Surveyed.{records}
+use Rattle.cob_move_apply.proofs.LocatedLemmas.{applied_located, the_located}
+use Rattle.cob_move_apply.proofs.SpendingLemmas.{located_step_spends}
+use Rattle.cob_move_apply.proofs.SpentLemmas.{spent_none, spent_same}
+use Rattle.cob_move_apply.specs.declared.workspace.Workspace.{Workspace}
+use Rattle.cob_move_apply.proofs.located.run_noted.Goals as goal
+
+pub run_between-requires-clause-ready : goal.run_between-requires-clause-ready
+run_between-requires-clause-ready c =
+    let plan = c.args.plan.now in
+    let (ready, same) = the_located In c.args.layouts.now.reading (records c.args.layouts.now) plan.prepared plan.pictured plan.located.items c.args.number c.requires.step.0 c.index-one.result.now c.requires.step.1 c.index-one.ensures in
+    ready
+
+pub returns-in-Some-clause-applied : goal.returns-in-Some-clause-applied
+returns-in-Some-clause-applied c = λ yes own is.
+    applied_located In c.args.layouts.now.reading (records c.args.layouts.now) c.args.plan.now.prepared c.args.plan.now.pictured c.args.plan.now.located.items c.args.number own c.index-one.result.now c.args.input.now c.args.output.now
+    (done c.run_between.new.output) is c.index-one.ensures (c.run_between.ensures.moved yes)
+
+pub returns-in-Some-clause-spends : goal.returns-in-Some-clause-spends
+returns-in-Some-clause-spends c = λ yes own is.
+    located_step_spends {A = ℕ} In c.args.layouts.now.reading (records c.args.layouts.now) c.args.plan.now.prepared c.args.plan.now.pictured c.args.plan.now.located.items c.args.number own c.index-one.result.now c.args.input.now c.args.output.now
+    (Ok 0) c.run_between.new.output _ _ is c.index-one.ensures (c.run_between.ensures.spends yes c.args.space.now.output (spent_none c.args.layouts.now.output.now c.args.space.now.output))
+
+pub returns-in-Some-clause-same : goal.returns-in-Some-clause-same
+returns-in-Some-clause-same c = λ no.
+    let same = c.run_between.ensures.same no in
+    (same.0, spent_same c.args.layouts.now.output.now c.args.space.now.output c.run_between.new.space.output (ap (λ (s : Workspace). s.output) same.1))
