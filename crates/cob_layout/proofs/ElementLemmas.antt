@@ -27,7 +27,8 @@ use Rattle.cob_layout.specs.Counting.{greatest_counts}
 use Rattle.cob_layout.specs.Elements.{AllStay, IsElementPlace, IsThereBy, KeptPlaceElements, RestsOn, Stays, counts_with}
 use Rattle.cob_layout.specs.Footings.{shift_at}
 use Rattle.cob_layout.specs.Kept.{AreKept, AreKeptOf, IsKeptAs, IsStoredCount, KeptGiveNeeded, TakenAnew, TakenBy, counted, is_asked_by, kept_numbers}
-use Rattle.cob_layout.specs.Placed.{placed}
+use Rattle.cob_layout.specs.Finding.{IsFound}
+use Rattle.cob_layout.specs.Placed.{placed, placed_under}
 use Rattle.cob_layout.specs.Shifts.{CanShift, FitsSums, all_shifted, shifted_spot, sums_of}
 use Rattle.cob_layout.specs.Sound.{IsSound}
 use Rattle.cob_layout.specs.Standing.{are_none}
@@ -219,21 +220,27 @@ first_kept_as : (t : Forest Resolved) (x : Table) (others : List Table) (k : Sto
 first_kept_as t x others k js ks first same =
     subst (λ (xs : List Table). IsKeptAs x k xs ks) (sym first) (subst (λ (ls : List (Option StoredCount)). IsKeptAs x k (x ∷ others) ls) (sym same) (inl (refl, refl)))
 
-pub kept_places : KeptGiveNeeded → NeedsAreRead → KeptPlaceElements
-kept_places given needs t bytes ks r receiving e sound refers long kept is (k, js, same, le) =
-    let x : Table = is.table in
+-- where the count of the first table that varies is kept and no other one is read, a reference stands where it does under counts with that one
+pub found_by_count : KeptGiveNeeded → NeedsAreRead → (t : Forest Resolved) (bytes : List ℕ) (ks : List (Option StoredCount)) (r : Ref) (receiving : Bool) (x : Table) (others : List Table) (k : StoredCount) (js : List (Option StoredCount))
+    (p : Place) → IsSound t → Refers r.node r.subscripts.items t → length ks ≡ length (tables_of t) → AreKeptOf t bytes ks → tables_of t ≡ x ∷ others → is_read t r.node receiving x ≡ true
+    → keep (is_read t r.node receiving) others ≡ [] → ks ≡ Some k ∷ js → (k.number ≤ x.most → placed_under (counts_with t x k.number) t r ≡ Some (the_ok p)) → IsFound t r receiving bytes (Ok p)
+found_by_count given needs t bytes ks r receiving x others k js p sound refers long kept first reads alone same stands =
     let read : Table → Bool = is_read t r.node receiving in
     let g : List ℕ = greatest_counts t in
     let d : List ℕ = counts_with t x k.number in
     let taken : TakenAnew t bytes read (tables_of t) (kept_numbers ks) g (Ok d) 0 =
-    subst (λ (xs : List Table). TakenAnew t bytes read xs (kept_numbers ks) g (Ok d) 0) (sym is.first)
-    (subst (λ (ls : List (Option StoredCount)). TakenAnew t bytes read (x ∷ is.others) (kept_numbers ls) g (Ok d) 0) (sym same)
-    (yes_of (read x) (TakenBy t bytes x (Some k.number) g (Ok d) 0 (λ c m. TakenAnew t bytes read is.others (kept_numbers js) c (Ok d) m)) (TakenAnew t bytes read is.others (kept_numbers js) g (Ok d) 0)
-    is.reads (none_taken t bytes read is.others (kept_numbers js) d is.alone))) in
+    subst (λ (xs : List Table). TakenAnew t bytes read xs (kept_numbers ks) g (Ok d) 0) (sym first)
+    (subst (λ (ls : List (Option StoredCount)). TakenAnew t bytes read (x ∷ others) (kept_numbers ls) g (Ok d) 0) (sym same)
+    (yes_of (read x) (TakenBy t bytes x (Some k.number) g (Ok d) 0 (λ c m. TakenAnew t bytes read others (kept_numbers js) c (Ok d) m)) (TakenAnew t bytes read others (kept_numbers js) g (Ok d) 0)
+    reads (none_taken t bytes read others (kept_numbers js) d alone))) in
     let numbers : AreKept t bytes (tables_of t) (kept_numbers ks) = numbers_kept t bytes ks long kept in
     let those = those_needed needs t r.node receiving sound (refers_has r.node r.subscripts.items t refers) in
-    let most : k.number ≤ x.most = most_of t bytes x k.number (kept.numbers x k (first_kept_as t x is.others k js ks is.first same)) in
-    (d, (needed_tables t r.node receiving (tables_of t), those, given t bytes r.node receiving (kept_numbers ks) (Ok d) 0 sound numbers taken), is.stands k.number le most)
+    let most : k.number ≤ x.most = most_of t bytes x k.number (kept.numbers x k (first_kept_as t x others k js ks first same)) in
+    (d, (needed_tables t r.node receiving (tables_of t), those, given t bytes r.node receiving (kept_numbers ks) (Ok d) 0 sound numbers taken), stands most)
+
+pub kept_places : KeptGiveNeeded → NeedsAreRead → KeptPlaceElements
+kept_places given needs t bytes ks r receiving e sound refers long kept is (k, js, same, le) =
+    found_by_count given needs t bytes ks r receiving is.table is.others k js e.place sound refers long kept is.first is.reads is.alone same (is.stands k.number le)
 
 -- ---- what is needed
 

@@ -79,6 +79,7 @@ mod elements;
 mod fields;
 mod finding;
 mod footings;
+mod grown;
 mod keeping;
 mod kinds;
 mod laws;
@@ -107,6 +108,7 @@ pub use counts::{Counts, StoredCount};
 pub use elements::{ElementPlace, kept_place_elements};
 pub use fields::{Place, field, field_mut};
 pub use finding::FindFault;
+pub use grown::{GrownPlace, kept_place_grown};
 pub use laws::{
     all_give_needed, fits_ref, kept_give_needed, one_outcome_of_counts, one_place_by_needs,
     places_end_in_length, places_lie_in_storage, redefinitions_begin_with_area,

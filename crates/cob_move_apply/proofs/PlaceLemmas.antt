@@ -1,6 +1,7 @@
 -- Where operands stand.
 use Rattle.std.proofs.Common.{◌≡◌, ℕ, ◌+◌, ◌≤◌, [], ◌==◌, Bool, true, false, List, refl, sym, ap, subst, ◌∙◌, length, arith, inl, inr, Option, Some, None, Ok, Err, Result}
 use Rattle.std.specs.Prelude.{option_map}
+use Rattle.std.proofs.Math.Nat.{mul-le-mul_right}
 use Rattle.cob_copybook_tree.specs.declared.node.Item.{Item}
 use Rattle.cob_copybook_tree.specs.declared.node.Kind.{Kind}
 use Rattle.cob_copybook_tree.specs.declared.node.Kind.TheVariants.{Group, Item as ItemKind}
@@ -10,6 +11,7 @@ use Rattle.cob_copybook_tree.specs.Lengths.{item_size}
 use Rattle.cob_layout.specs.declared.counts.StoredCount.{StoredCount}
 use Rattle.cob_layout.specs.declared.elements.ElementPlace.{ElementPlace}
 use Rattle.cob_layout.specs.declared.fields.Place.{Place}
+use Rattle.cob_layout.specs.declared.grown.GrownPlace.{GrownPlace}
 use Rattle.cob_layout_places.specs.Lengths.{times}
 use Rattle.cob_layout_places.specs.Places.{place_of, or_else, choose}
 use Rattle.cob_layout_places.specs.Counts.{kind_in, tables_of}
@@ -21,6 +23,7 @@ use Rattle.cob_layout.specs.Placed.{placed}
 use Rattle.cob_layout.proofs.StorageLemmas.{found_by}
 use Rattle.cob_layout.specs.Counting.{greatest_counts, ReadsNone}
 use Rattle.cob_layout.specs.Elements.{IsElementPlace, IsThereBy, KeptPlaceElements}
+use Rattle.cob_layout.specs.Grown.{IsGrownPlace, IsGrownTo, KeptPlaceGrown}
 use Rattle.cob_layout.specs.Standing.{RoomForCounts}
 use Rattle.cob_layout.specs.Storage.{greatest_length}
 use Rattle.cob_move_data.specs.declared.operands.Side.{Side}
@@ -111,15 +114,28 @@ element_at law side t receiving o bytes s e p sound operand survey is (same, the
 ends_as : (most : ℕ) (p q : Place) → p ≡ q → q.offset + q.length ≤ most → p.offset + p.length ≤ most
 ends_as most p q same within = omega (arith, within, ap (λ (x : Place). x.offset) same, ap (λ (x : Place). x.length) same)
 
+-- where the count of its table is kept, an entry that the table moves or lengthens stands where that says
+grown_at : KeptPlaceGrown → (side : Side) (t : Forest Resolved) (receiving : Bool) (o : Operand) (bytes : List ℕ) (s : Survey) (g : GrownPlace) (p : Place) → IsSound t → IsOperand t o → IsSurvey t bytes s
+    → IsGrownPlace t o.entry receiving g → IsGrownTo s.counts.kept g p → Located side t receiving o bytes (Ok p)
+grown_at law side t receiving o bytes s g p sound operand survey is grown =
+    let long : length s.counts.kept ≡ length (tables_of t) = ap (λ (r : RoomForCounts). r.tables) survey.room in
+    law t bytes s.counts.kept o.entry receiving g p sound operand.refers long survey.kept is grown
+
+grown_within : (t : Forest Resolved) (receiving : Bool) (o : Operand) (ks : List (Option StoredCount)) (g : GrownPlace) (p : Place) → IsGrownPlace t o.entry receiving g → IsGrownTo ks g p → p.offset + p.length ≤ greatest_length t
+grown_within t receiving o ks g p is (k, others, same, le, at) =
+    omega (arith, is.within, mul-le-mul_right g.further le, mul-le-mul_right g.longer le, ap (λ (q : Place). q.offset) at, ap (λ (q : Place). q.length) at)
+
 -- an operand stands where what is noted says
-pub noted_at : KeptPlaceElements → (side : Side) (t : Forest Resolved) (receiving : Bool) (o : Operand) (bytes : List ℕ) (s : Survey) (b : Basis) (p : Place) → IsSound t → IsPlaced t receiving o b → IsSurvey t bytes s
+pub noted_at : KeptPlaceElements → KeptPlaceGrown → (side : Side) (t : Forest Resolved) (receiving : Bool) (o : Operand) (bytes : List ℕ) (s : Survey) (b : Basis) (p : Place) → IsSound t → IsPlaced t receiving o b → IsSurvey t bytes s
     → IsNoted b s.counts.kept p → Located side t receiving o bytes (Ok p)
-noted_at law side t receiving o bytes s (basis.Fixed q) p sound is survey same = subst (λ (x : Place). Located side t receiving o bytes (Ok x)) (sym same) (is.basis.place side bytes)
-noted_at law side t receiving o bytes s (basis.Element e) p sound is survey noted = element_at law side t receiving o bytes s e p sound is.operand survey is.basis noted
-noted_at law side t receiving o bytes s basis.Counted p sound is survey no = absurd no
+noted_at law by side t receiving o bytes s (basis.Fixed q) p sound is survey same = subst (λ (x : Place). Located side t receiving o bytes (Ok x)) (sym same) (is.basis.place side bytes)
+noted_at law by side t receiving o bytes s (basis.Element e) p sound is survey noted = element_at law side t receiving o bytes s e p sound is.operand survey is.basis noted
+noted_at law by side t receiving o bytes s (basis.Grown g) p sound is survey noted = grown_at by side t receiving o bytes s g p sound is.operand survey is.basis noted
+noted_at law by side t receiving o bytes s basis.Counted p sound is survey no = absurd no
 
 -- which is within the record
 pub noted_within : (t : Forest Resolved) (receiving : Bool) (o : Operand) (ks : List (Option StoredCount)) (b : Basis) (p : Place) → IsPlaced t receiving o b → IsNoted b ks p → p.offset + p.length ≤ greatest_length t
 noted_within t receiving o ks (basis.Fixed q) p is same = ends_as (greatest_length t) p q same is.basis.within
 noted_within t receiving o ks (basis.Element e) p is noted = ends_as (greatest_length t) p e.place noted.0 is.basis.within
+noted_within t receiving o ks (basis.Grown g) p is noted = grown_within t receiving o ks g p is.basis noted
 noted_within t receiving o ks basis.Counted p is no = absurd no

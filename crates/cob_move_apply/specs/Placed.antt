@@ -5,6 +5,7 @@ use Rattle.cob_copybook_tree.specs.Nodes.{Resolved}
 use Rattle.cob_layout.specs.declared.counts.StoredCount.{StoredCount}
 use Rattle.cob_layout.specs.declared.fields.Place.{Place}
 use Rattle.cob_layout.specs.Elements.{IsElementPlace, IsThereBy}
+use Rattle.cob_layout.specs.Grown.{IsGrownPlace, IsGrownTo}
 use Rattle.cob_layout.specs.Storage.{greatest_length}
 use Rattle.cob_move_data.specs.declared.operands.Sender as code_sender
 use Rattle.cob_move_data.specs.declared.operands.Side.{Side}
@@ -28,16 +29,18 @@ pub record IsFixed (tree : Forest Resolved) (receiving : Bool) (o : Operand) (p 
   pub within : p.offset + p.length ≤ greatest_length tree
 
 -- An operand's place, sending or receiving, may rest on this: on no count where it is noted and the same in every storage; on the count of one table, and on
--- that only whether the element is there; and on those that it needs.
+-- that only whether the element is there; on the count of the record's one table that varies, which moves or lengthens it; and on those that it needs.
 abbrev pub IsBasis : Forest Resolved → Bool → Operand → Basis → Type 0
 IsBasis tree receiving o (basis.Fixed p) = IsFixed tree receiving o p
 IsBasis tree receiving o (basis.Element e) = IsElementPlace tree o.entry receiving e
+IsBasis tree receiving o (basis.Grown g) = IsGrownPlace tree o.entry receiving g
 IsBasis tree receiving o basis.Counted = Unit {0}
 
 -- what is noted of a place, and the counts that are kept, say that it is this
 abbrev pub IsNoted : Basis → List (Option StoredCount) → Place → Type 0
 IsNoted (basis.Fixed q) ks p = p ≡ q
 IsNoted (basis.Element e) ks p = (p ≡ e.place) × IsThereBy ks e
+IsNoted (basis.Grown g) ks p = IsGrownTo ks g p
 IsNoted basis.Counted ks p = ⊥
 
 -- an operand of the record, with what its place rests on

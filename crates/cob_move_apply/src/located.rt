@@ -24,7 +24,7 @@ use crate::step::{LocatedMove, LocatedStep, MovePlaces, PicturedMove, Plan};
 use crate::stop::Stop;
 use crate::workspace::Workspace;
 use cob_codec::Reading;
-use cob_layout::{field, kept_place_elements, places_lie_in_storage};
+use cob_layout::{field, kept_place_elements, kept_place_grown, places_lie_in_storage};
 use cob_move_data::Side;
 use cob_move_steps::CharactersStep;
 use std::slice;
@@ -113,6 +113,7 @@ fn noted_places(
     let _ = layouts.input.greatest();
     places_lie_in_storage();
     kept_place_elements();
+    kept_place_grown();
     let Some(from) = noted_place(one.from, &space.input.counts) else {
         return None;
     };

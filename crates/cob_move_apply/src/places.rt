@@ -15,7 +15,8 @@ use crate::basis::{Basis, PlacedOperand};
 use crate::stop::{Stop, StopCause};
 use crate::survey::Survey;
 use cob_layout::{
-    Counts, FindFault, Layout, Place, kept_give_needed, kept_place_elements, one_outcome_of_counts,
+    Counts, FindFault, Layout, Place, kept_give_needed, kept_place_elements, kept_place_grown,
+    one_outcome_of_counts,
 };
 use cob_layout_places::needs_are_read;
 use cob_move_data::Side;
@@ -90,6 +91,7 @@ pub(crate) fn noted_place(basis: Basis, counts: &Counts) -> Option<Place>
     match basis {
         Basis::Fixed(place) => Some(place),
         Basis::Element(element) => counts.place_of(element),
+        Basis::Grown(grown) => counts.grown_to(grown),
         Basis::Counted => None,
     }
 }
@@ -119,6 +121,7 @@ pub(crate) fn locate(
     ensures spends { Spends stored.now.layout.now 0 result survey.old survey.new }
 {
     kept_place_elements();
+    kept_place_grown();
     match noted_place(placed.basis, &survey.counts) {
         Some(place) => Ok(place),
         None => place_by_counts(stored, placed, receiving, survey),
@@ -190,6 +193,7 @@ pub(crate) fn locate_if_there(
     ensures spends { IsSpent stored.now.layout.now 0 survey.old survey.new }
 {
     kept_place_elements();
+    kept_place_grown();
     match noted_place(placed.basis, &survey.counts) {
         Some(place) => Some(Place {
             offset: place.offset,

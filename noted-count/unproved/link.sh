@@ -1,0 +1,4 @@
+# NAME: from NAME.bc a program NAME.prog
+cd /tmp/element; C=/opt/rattle/toolchain/bin/clang
+F="--target=x86_64-unknown-linux-gnu --sysroot=/opt/rattle/toolchain -mllvm -no-trap-after-noreturn -ffunction-sections -fdata-sections -mllvm -trap-unreachable -mllvm -no-x86-call-frame-opt -mllvm -disable-machine-licm -mllvm -disable-postra-machine-licm -mllvm -sink-common-insts=false --no-default-config -no-canonical-prefixes -fintegrated-cc1 -fno-crash-diagnostics -fPIE"
+$C $F -O0 -Xclang -disable-llvm-passes -S -emit-llvm -x ir $1.bc -o $1.ll && python3 fix.py $1.ll $1.fix.ll $2 && time $C $F -march=x86-64-v2 -O3 -fno-vectorize -fno-slp-vectorize -c -x ir $1.fix.ll -o $1.o && /opt/rattle/bin/rattle-link --target x86_64-unknown-linux-gnu --toolchain /opt/rattle/toolchain -o $1.prog $1.o /opt/rattle/c/libos_c.a /opt/rattle/c/liblibc_c.a
