@@ -180,7 +180,7 @@ then_one first next a b one more (inl (after, x, y)) (inr (stop, other, z, e)) =
 then_one first next a b one more (inr (stop, after, x, e)) (inl (other, z, w)) = absurd (stop_of other after stop (one (done other) (stopped stop after) z x))
 then_one first next a b one more (inr (stop, after, x, e)) (inr (halt, other, z, f)) = e ∙ one (stopped stop after) (stopped halt other) x z ∙ sym f
 
-says_not : {T : Type 0} (judged : Judging T) (t : T) (input before : List ℕ) → IsDetermined judged → judged t input before (Ok true) → judged t input before (Ok false) → ⊥
+pub says_not : {T : Type 0} (judged : Judging T) (t : T) (input before : List ℕ) → IsDetermined judged → judged t input before (Ok true) → judged t input before (Ok false) → ⊥
 says_not judged t input before law x y =
     let same : true ≡ false = ok_is true false (law t input before (Ok true) (Ok false) x y) in cc
 

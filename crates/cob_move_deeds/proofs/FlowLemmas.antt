@@ -103,7 +103,7 @@ stops_on r on all left input before now after stop so one n le =
 pub leaves_first : (r : Records) (on : FlowSupport) (all : List Flow) (input before : List ℕ) → LeavesFlows r on all all input before before
 leaves_first r on all input before n le = (n, le, λ end x. x)
 
-none_carried : (r : Records) (on : FlowSupport) (n : ℕ) → carried_from r on n [] ≡ Nothing
+pub none_carried : (r : Records) (on : FlowSupport) (n : ℕ) → carried_from r on n [] ≡ Nothing
 none_carried r on zero = refl
 none_carried r on (suc n) = refl
 
@@ -131,7 +131,7 @@ abbrev pub GoOn : Records → FlowSupport → List Flow → List ℕ → List �
 GoOn r on others input after last = (m : ℕ) × (length others ≤ m) × Carried (Judged r) r (carried_from r on m others) input after last
 
 -- each flow in front is one of them
-all_front : (P : Flow → Type 0) (n : ℕ) (fs : List Flow) → AllByRecursion P fs → AllByRecursion P (take n fs)
+pub all_front : (P : Flow → Type 0) (n : ℕ) (fs : List Flow) → AllByRecursion P fs → AllByRecursion P (take n fs)
 all_front P zero fs all = tt
 all_front P (suc n) [] all = all
 all_front P (suc n) (f ∷ fs) all = (all.0, all_front P n fs all.1)

@@ -55,7 +55,7 @@ loop_back judged r until body by most (suc n) i input before end past far (loop_
 
 -- ---- a literal bound
 
-past_not : (bound i : ℕ) → i ≤ bound → nat_lt bound i ≡ false
+pub past_not : (bound i : ℕ) → i ≤ bound → nat_lt bound i ≡ false
 past_not bound i le = grind (arith, le)
 
 past_is : (bound i : ℕ) → bound < i → nat_lt bound i ≡ true
@@ -71,7 +71,7 @@ least : (by n i : ℕ) → i ≤ number_after by n i
 least by zero i = omega arith
 least by (suc n) i = omega (arith, least by n (i + by))
 
-before_last : (bound i n by : ℕ) → number_after by (suc n) i ≤ bound + by → i ≤ bound
+pub before_last : (bound i n by : ℕ) → number_after by (suc n) i ≤ bound + by → i ≤ bound
 before_last bound i n by near = omega (arith, least by n (i + by), near)
 
 nearer : (bound i n by : ℕ) → number_after by (suc n) i ≤ bound + by → number_after by n (i + by) ≤ bound + by

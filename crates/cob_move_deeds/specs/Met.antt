@@ -1,8 +1,11 @@
 -- Receivers whose places meet the items of counts, among all that is done.
-use Rattle.std.specs.Prelude.{◌≡◌, ◌⊎◌, ℕ, ◌+◌, true, false, List, Ok}
+use Rattle.std.specs.Prelude.{◌≡◌, ◌⊎◌, ℕ, ◌+◌, true, false, List, Ok, Result}
 use Rattle.cob_move_data.specs.Moves.{Records}
 use Rattle.cob_move_apply.specs.Applied.{Applied, done}
 use Rattle.cob_move_apply.specs.Met.{HaveMet}
+use Rattle.cob_move_apply.specs.Reads.{ReadsFor}
+use Rattle.cob_move_apply.specs.Room.{Scratching}
+use Rattle.cob_move_apply.specs.declared.stop.Stop.{Stop}
 use Rattle.cob_move_deeds.specs.Deeds.{Carried, Choice, Deeds, Moving, Nothing}
 use Rattle.cob_move_deeds.specs.Tests.{Judged, Past}
 
@@ -21,3 +24,7 @@ DeedsHaveMet r (Choice t holding lacking more) input before n = (n ≡ 0)
     × MetThen (λ k. DeedsHaveMet r holding input before k) (λ after. Carried (Judged r) r holding input before (done after)) (λ after k. DeedsHaveMet r more input after k) n)
     ⊎ (Judged r t input before (Ok false)
     × MetThen (λ k. DeedsHaveMet r lacking input before k) (λ after. Carried (Judged r) r lacking input before (done after)) (λ after k. DeedsHaveMet r more input after k) n))
+
+-- what an answer says of the reads of what is done
+abbrev pub ReadsOfDeeds : {A : Type 0} → Records → Deeds Past → (input before : List ℕ) → Result A Stop → Scratching → Scratching → Type 0
+ReadsOfDeeds r d input before result old new = (met : ℕ) × DeedsHaveMet r d input before met × ReadsFor r.output met result old new

@@ -1,14 +1,16 @@
 //! Flows carried out, one behind another.
 
-ghost use Rattle.std.specs.Prelude.{◌≡◌, ◌<◌, ◌≤◌, ◌∷◌, ℕ, drop, length, IfErr, IfOk, Some};
+ghost use Rattle.std.specs.Prelude.{◌≡◌, ◌<◌, ◌≤◌, ◌∷◌, ℕ, drop, length, IfErr, IfOk, OnErr, Some};
 ghost use Rattle.std.specs.List.{AllByRecursion, slice_get};
 ghost use Rattle.cob_layout.specs.Storage.{greatest_length, IsStorage};
 ghost use Rattle.cob_move_apply.specs.Applied.{Applied, ending};
 ghost use Rattle.cob_move_apply.specs.Marked.{moves_between_marks};
+ghost use Rattle.cob_move_apply.specs.Reads.{ReadsFor, ReadsOfMoves};
 ghost use Rattle.cob_move_loops.specs.Turns.{turns_between};
-ghost use Rattle.cob_move_deeds.specs.Carrying.{HasKept, LeavesFlows, StopsFlows, carried_from, records_of_sides};
+ghost use Rattle.cob_move_deeds.specs.Carrying.{FlowSpends, FlowSpendsAtStop, HasKept, LeavesFlows, StopsFlows, carried_from, records_of_sides};
 ghost use Rattle.cob_move_deeds.specs.Deeds.{Carried};
 ghost use Rattle.cob_move_deeds.specs.Flows.{IsFlow, IsLoop, loop_done};
+ghost use Rattle.cob_move_deeds.specs.Met.{ReadsOfDeeds};
 ghost use Rattle.cob_move_deeds.specs.Prepared.{AreDeedsPrepared, flow_support};
 ghost use Rattle.cob_move_deeds.specs.declared.flow.Bound.{Bound};
 ghost use Rattle.cob_move_deeds.specs.Tests.{Judged, BoundSays, past_bound};
@@ -18,7 +20,7 @@ use crate::flow::{CountedLoop, Flow};
 use crate::ready::ReadyDeeds;
 use crate::sides::Sides;
 use cob_layout::one_outcome_of_counts;
-use cob_move_apply::{Scratch, Stop};
+use cob_move_apply::{Scratch, Stop, one_ending};
 
 /// Those behind so many.
 fn behind(flows: &[Flow], count: usize) -> &[Flow]
@@ -65,6 +67,9 @@ fn make_moves(
         output.old (ending result output.new) }
     ensures kept { HasKept (records_of_sides sides.now) sides.now.input.now output.new
         scratch.new }
+    ensures reads { ReadsOfMoves (records_of_sides sides.now)
+        (moves_between_marks (records_of_sides sides.now) deeds.now.moves from to) sides.now.input.now
+        output.old result scratch.old scratch.new }
 {
     deeds.moves.apply_between(
         from,
@@ -98,6 +103,7 @@ fn read_bound(
         sides.now.input.now output.now result }
     ensures kept { HasKept (records_of_sides sides.now) sides.now.input.now output.now
         scratch.new }
+    ensures reads { ReadsFor sides.now.output_layout.now 0 result scratch.old scratch.new }
 {
     let bound = &deeds.bounds[number];
     number_of(bound, sides, output, scratch)
@@ -126,6 +132,9 @@ fn make_turns(
         sides.now.input.now output.old (ending result output.new) }
     ensures kept { HasKept (records_of_sides sides.now) sides.now.input.now output.new
         scratch.new }
+    ensures reads { ReadsOfDeeds (records_of_sides sides.now)
+        (loop_done (records_of_sides sides.now) (flow_support deeds.now) (Some one.now))
+        sides.now.input.now output.old result scratch.old scratch.new }
 {
     one_outcome_of_counts();
     let number = read_bound(deeds, one.bound, sides, output, scratch)?;
@@ -161,7 +170,16 @@ fn next<'a>(
     ensures rest { IfOk result (λ left. (count : ℕ) × (left.now ≡ drop count more.now)) }
     ensures kept { HasKept (records_of_sides sides.now) sides.now.input.now output.new
         scratch.new }
+    ensures spends { IfOk result (λ left. FlowSpends (records_of_sides sides.now)
+        (flow_support deeds.now) (flow.now ∷ more.now) left.now sides.now.input.now output.old
+        output.new scratch.old scratch.new) }
+    ensures spent { OnErr result (FlowSpendsAtStop (records_of_sides sides.now)
+        (flow_support deeds.now) (flow.now ∷ more.now) sides.now.input.now output.old scratch.old
+        scratch.new) }
 {
+    // For `spends`: what is done ends in one way.
+    one_outcome_of_counts();
+    one_ending();
     match *flow {
         Flow::Moves(number) => {
             make_moves(deeds, number, number + 1, sides, output, scratch)?;
@@ -208,6 +226,10 @@ pub(crate) fn carry_out(
         (ending result output.new) }
     ensures kept { HasKept (records_of_sides sides.now) sides.now.input.now output.new
         scratch.new }
+    ensures reads { ReadsOfDeeds (records_of_sides sides.now)
+        (carried_from (records_of_sides sides.now) (flow_support deeds.now)
+        (length deeds.now.flows.items) deeds.now.flows.items) sides.now.input.now output.old result
+        scratch.old scratch.new }
 {
     let mut rest = deeds.flows.as_slice();
     while let Some((flow, more)) = rest.split_first() {

@@ -1,9 +1,10 @@
 //! Deeds that are ready to be carried out.
 
-ghost use Rattle.std.specs.Prelude.{◌≡◌, length, map, min};
+ghost use Rattle.std.specs.Prelude.{◌≡◌, ◌+◌, ◌*◌, ◌≤◌, ℕ, length, map, min};
 ghost use Rattle.std.specs.List.{AllByRecursion};
 ghost use Rattle.cob_layout.specs.Kept.{AreKeptOf};
 ghost use Rattle.cob_layout.specs.Storage.{greatest_length, IsStorage};
+ghost use Rattle.cob_layout_places.specs.Counts.{tables_of};
 ghost use Rattle.cob_move_data.specs.Moves.{Records, moves_by, read_by};
 ghost use Rattle.cob_move_apply.specs.Applied.{ending};
 ghost use Rattle.cob_move_apply.specs.Marked.{AreMarkedPrepared, marked_steps};
@@ -12,13 +13,14 @@ ghost use Rattle.cob_move_apply.specs.Room.{room_of};
 ghost use Rattle.cob_move_apply.specs.Told.{most_moves_told, single_moves};
 ghost use Rattle.cob_move_deeds.specs.Deeds.{Carried};
 ghost use Rattle.cob_move_deeds.specs.Flows.{AreFlows, deeds_by, deeds_from};
+ghost use Rattle.cob_move_deeds.specs.Met.{DeedsHaveMet};
 ghost use Rattle.cob_move_deeds.specs.Tests.{IsBound, Judged};
 
 use crate::carrying::carry_out;
 use crate::flow::{Bound, CountedLoop, Flow};
 use crate::sides::Sides;
-use cob_layout::Layout;
-use cob_move_apply::{MarkedMoves, Reading, Scratch, Stop};
+use cob_layout::{Layout, one_outcome_of_counts};
+use cob_move_apply::{MarkedMoves, Reading, Scratch, Stop, one_ending};
 use cob_move_data::StatementMoves;
 
 /// What is done to a record, ready to be carried out: moves parted by marks, and flows that say what lies between which marks, and when.
@@ -133,7 +135,16 @@ impl ReadyDeeds {
             input.now output.old (ending result output.new) }
         ensures room { scratch.new.room ≡ scratch.old.room }
         ensures keeps { AreKeptOf output_layout.now output.new scratch.new.kept_output }
+        // Counts of the output record are read again only where a receiver met the item of one.
+        ensures reads { (met : ℕ)
+            × DeedsHaveMet (record { input = input_layout.now; output = output_layout.now })
+            (deeds_of (record { input = input_layout.now; output = output_layout.now }) self.now)
+            input.now output.old met
+            × (scratch.new.reads ≤ length (tables_of output_layout.now) * (1 + met)) }
     {
+        // For `reads`: what is done ends in one way.
+        one_outcome_of_counts();
+        one_ending();
         scratch.forget_output();
         let sides = Sides {
             input_layout,

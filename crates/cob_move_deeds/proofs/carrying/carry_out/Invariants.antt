@@ -1,6 +1,6 @@
 use Rattle.std.proofs.Common.{◌≡◌, length}
 use Rattle.std.specs.List.{AllByRecursion}
-use Rattle.cob_move_deeds.specs.Carrying.{HasKept, LeavesFlows, records_of_sides}
+use Rattle.cob_move_deeds.specs.Carrying.{FlowSpends, HasKept, LeavesFlows, records_of_sides}
 use Rattle.cob_move_deeds.specs.Flows.{IsFlow}
 use Rattle.cob_move_deeds.specs.Prepared.{flow_support}
 use Rattle.cob_move_deeds.proofs.carrying.carry_out.Given as goal
@@ -10,6 +10,7 @@ invariant-loop-flow l = record {
   left : LeavesFlows (records_of_sides l.sides) (flow_support l.deeds) l.deeds.flows.items l.rest l.sides.input.now l.fn.output l.output;
   each : AllByRecursion (IsFlow (flow_support l.deeds)) l.rest;
   output : length l.output ≡ length l.fn.output;
+  reads : FlowSpends (records_of_sides l.sides) (flow_support l.deeds) l.deeds.flows.items l.rest l.sides.input.now l.fn.output l.output l.fn.scratch l.scratch;
   kept : HasKept (records_of_sides l.sides) l.sides.input.now l.output l.scratch;
 }
 
