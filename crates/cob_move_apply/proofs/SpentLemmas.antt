@@ -1,5 +1,5 @@
 -- How many counts of the output record are read.
-use Rattle.std.proofs.Common.{◌≡◌, ℕ, zero, suc, ◌+◌, ◌≤◌, Bool, true, false, ◌||◌, List, [], ◌∷◌, length, replicate, min, refl, sym, ap, subst, ◌∙◌, arith, inl, inr, Ok, Err, Option, Some, None, ◌⊎◌, if◌then◌else◌}
+use Rattle.std.proofs.Common.{◌≡◌, ℕ, zero, suc, ◌+◌, ◌≤◌, Bool, true, false, ◌||◌, List, [], ◌∷◌, length, replicate, min, refl, ap, subst, ◌∙◌, arith, inl, inr, Ok, Err, Option, Some, None, ◌⊎◌, if◌then◌else◌}
 use Rattle.std.proofs.Math.Nat.{add-mul}
 use Rattle.cob_copybook_tree.specs.Forests.{Forest}
 use Rattle.cob_copybook_tree.specs.Nodes.{Resolved}
@@ -69,9 +69,6 @@ at_stop t a old new x = record { most = omega (arith, x.most, most_kept t new) }
 
 pub spent_none : (t : Forest Resolved) (s : Survey) → IsSpent t 0 s s
 spent_none t s = record { most = omega (arith, allowed_none t) }
-
-pub spent_same : (t : Forest Resolved) (old new : Survey) → new ≡ old → IsSpent t 0 old new
-spent_same t old new same = subst (IsSpent t 0 old) (sym same) (spent_none t old)
 
 pub as_many : (t : Forest Resolved) (s : Survey) → HasRoom t s → length s.counts.kept ≡ length (tables_of t)
 as_many t s room = ap (λ (counts : RoomForCounts). counts.tables) room

@@ -16,7 +16,7 @@ use crate::basis::{Basis, PlacedReceivers};
 use crate::constant::{make_constant, make_located_constant, run_located_constant};
 use crate::laws::one_ending;
 use crate::layouts::Layouts;
-use crate::located::{is_noted, make_located, run_one_located};
+use crate::located::{make_located, run_located};
 use crate::located_within::make_located_within;
 use crate::pairs::make_pair_move;
 use crate::pictured::run_pictured;
@@ -269,10 +269,9 @@ fn make_step(
 }
 
 /// Carries out the moves in front whose places are found as they are carried out, one after another, as far as they go at once. The answer are the steps
-/// that are left: the first of them is another one, or something is missing. It isn't inlined, so that it stands once in a program for moves of whose places
-/// something is noted, and once for others.
+/// that are left: the first of them is another one, or something is missing. It isn't inlined, as [`run_placed_steps`] isn't.
 #[inline(never)]
-fn run_located_steps<'a, const NOTED: bool>(
+fn run_located_steps<'a>(
     plan: &Plan,
     steps: &'a [Step],
     layouts: &Layouts<'_>,
@@ -299,7 +298,7 @@ fn run_located_steps<'a, const NOTED: bool>(
         let Step::Located(number) = step else {
             return left;
         };
-        if !run_one_located::<NOTED>(plan, *number, layouts, input, output, space) {
+        if !run_located(plan, *number, layouts, input, output, space) {
             return left;
         }
         left = next;
@@ -386,45 +385,6 @@ fn first_is_located(steps: &[Step]) -> bool {
     }
 }
 
-/// Whether the first of these steps is such a move, and something is noted of both its places.
-#[inline(always)]
-fn first_is_noted(plan: &Plan, steps: &[Step]) -> bool {
-    match steps.first() {
-        Some(Step::Located(number)) => is_noted(plan, *number),
-        _ => false,
-    }
-}
-
-/// Does what [`run_located_steps`] does, whether something is noted of the first places or not.
-#[inline(always)]
-fn run_found<'a>(
-    plan: &Plan,
-    steps: &'a [Step],
-    layouts: &Layouts<'_>,
-    input: &[u8],
-    output: &mut [u8],
-    space: &mut Workspace,
-) -> &'a [Step]
-    requires in_sound { IsSound layouts.now.input.now }
-    requires out_sound { IsSound layouts.now.output.now }
-    requires steps { AreLeft plan.now steps.now layouts.now input.now output.old }
-    requires input { IsStorage layouts.now.input.now input.now }
-    requires output { length output.old ≡ greatest_length layouts.now.output.now }
-    requires space { IsWorkspace (records layouts.now) input.now output.old space.old }
-    ensures left { LeavesRest plan.now steps.now result.now layouts.now input.now output.old
-        output.new }
-    ensures space { IsWorkspace (records layouts.now) input.now output.new space.new }
-    ensures spends { RestSpends plan.now steps.now result.now layouts.now input.now output.old
-        output.new space.old space.new }
-    ensures fewer { length result.now ≤ length steps.now }
-{
-    if first_is_noted(plan, steps) {
-        run_located_steps::<true>(plan, steps, layouts, input, output, space)
-    } else {
-        run_located_steps::<false>(plan, steps, layouts, input, output, space)
-    }
-}
-
 /// Carries out the steps that were made ready, one after another, as far as they go at once. The answer are the steps that are left: the first of them is
 /// another one, or something is missing.
 #[inline(always)]
@@ -451,7 +411,7 @@ fn run_ready<'a>(
 {
     let mut rest = run_placed(plan, steps, layouts, input, output, space);
     while first_is_located(rest) {
-        let left = run_found(plan, rest, layouts, input, output, space);
+        let left = run_located_steps(plan, rest, layouts, input, output, space);
         if left.len() == rest.len() {
             return left;
         }

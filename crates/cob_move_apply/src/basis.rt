@@ -19,17 +19,6 @@ pub(crate) enum Basis {
     Counted,
 }
 
-impl Basis {
-    /// Whether something is noted of the place: then it is found without sums.
-    #[inline(always)]
-    pub(crate) fn is_noted(self) -> bool {
-        match self {
-            Basis::Fixed(_) | Basis::Element(_) => true,
-            Basis::Counted => false,
-        }
-    }
-}
-
 /// An operand, with what its place rests on.
 #[derive(Clone, Copy)]
 pub(crate) struct PlacedOperand<'a> {

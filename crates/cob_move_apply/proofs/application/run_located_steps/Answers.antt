@@ -8,8 +8,8 @@ use Rattle.cob_move_apply.proofs.SpendingLemmas.{spent_steps_next, spent_still}
 use Rattle.cob_move_apply.proofs.StepLemmas.{left_made, left_same, next_step}
 use Rattle.cob_move_apply.proofs.application.run_located_steps.Goals as goal
 
-pub run_one_located-requires-clause-step : goal.run_one_located-requires-clause-step
-run_one_located-requires-clause-step g c =
+pub run_located-requires-clause-step : goal.run_located-requires-clause-step
+run_located-requires-clause-step c =
     let x = c.args.layouts.now.reading in
     let r : Records = records c.args.layouts.now in
     let on : Support = support_of c.args.plan.now in
@@ -20,18 +20,18 @@ run_one_located-requires-clause-step g c =
     let next = next_step x r given steps on 0 step step c.args.input.now before c.loop-step.output (omega arith) refl left in
     (next.own, subst (λ (s : Step). IsStep x r given on s next.own) c.in-Located.is next.is)
 
-pub returns-then-not-run_one_located-clause-left : goal.returns-then-not-run_one_located-clause-left
-returns-then-not-run_one_located-clause-left g c = λ given before all.
-    left_same c.args.layouts.now.reading (records c.args.layouts.now) given c.loop-step.left.now (support_of c.args.plan.now) 0 c.args.input.now before c.loop-step.output c.run_one_located.new.output
-    (c.if-not-run_one_located.ensures.same refl).0 (c.loop-step.invariant.left given before all)
+pub returns-then-not-run_located-clause-left : goal.returns-then-not-run_located-clause-left
+returns-then-not-run_located-clause-left c = λ given before all.
+    left_same c.args.layouts.now.reading (records c.args.layouts.now) given c.loop-step.left.now (support_of c.args.plan.now) 0 c.args.input.now before c.loop-step.output c.run_located.new.output
+    (c.if-not-run_located.ensures.same refl).0 (c.loop-step.invariant.left given before all)
 
-pub returns-then-not-run_one_located-clause-spends : goal.returns-then-not-run_one_located-clause-spends
-returns-then-not-run_one_located-clause-spends g c = λ given before all.
-    spent_still c.args.layouts.now.reading (records c.args.layouts.now) given c.loop-step.left.now (support_of c.args.plan.now) 0 c.args.input.now before c.loop-step.output c.run_one_located.new.output
-    c.loop-step.space.output c.run_one_located.new.space.output (c.if-not-run_one_located.ensures.same refl).0 (c.if-not-run_one_located.ensures.same refl).1 (c.loop-step.invariant.spends given before all)
+pub returns-then-not-run_located-clause-spends : goal.returns-then-not-run_located-clause-spends
+returns-then-not-run_located-clause-spends c = λ given before all.
+    spent_still c.args.layouts.now.reading (records c.args.layouts.now) given c.loop-step.left.now (support_of c.args.plan.now) 0 c.args.input.now before c.loop-step.output c.run_located.new.output
+    c.loop-step.space.output c.run_located.new.space.output (c.if-not-run_located.ensures.same refl).0 (c.if-not-run_located.ensures.same refl).1 (c.loop-step.invariant.spends given before all)
 
 pub loop-step-preserved : goal.loop-step-preserved
-loop-step-preserved g c =
+loop-step-preserved c =
     let x = c.args.layouts.now.reading in
     let r : Records = records c.args.layouts.now in
     let on : Support = support_of c.args.plan.now in
@@ -41,12 +41,12 @@ loop-step-preserved g c =
       left = λ given before all.
           let left = subst (λ (ss : List Step). Left x r given ss on 0 c.args.input.now before c.loop-step.output) c.in-Some.ensures.cases.0 (c.loop-step.invariant.left given before all) in
           let next = next_step x r given steps on 0 step step c.args.input.now before c.loop-step.output (omega arith) refl left in
-          left_made c.one_ending.ensures x r given steps on 0 step c.args.input.now before c.loop-step.output c.run_one_located.new.output c.requires.input (c.loop-step.invariant.output ∙ c.requires.output) c.run_one_located.auto.output next (λ own is. c.if-not-run_one_located.ensures.applied refl own (subst (λ (s : Step). IsStep x r given on s own) c.in-Located.is is));
-      output = c.run_one_located.auto.output ∙ c.loop-step.invariant.output;
-      space = c.run_one_located.ensures.space;
+          left_made c.one_ending.ensures x r given steps on 0 step c.args.input.now before c.loop-step.output c.run_located.new.output c.requires.input (c.loop-step.invariant.output ∙ c.requires.output) c.run_located.auto.output next (λ own is. c.if-not-run_located.ensures.applied refl own (subst (λ (s : Step). IsStep x r given on s own) c.in-Located.is is));
+      output = c.run_located.auto.output ∙ c.loop-step.invariant.output;
+      space = c.run_located.ensures.space;
       spends = λ given before all.
           let spent = subst (λ (ss : List Step). SpentSteps x r given ss on 0 c.args.input.now before c.loop-step.output c.loop-step.space.output) c.in-Some.ensures.cases.0 (c.loop-step.invariant.spends given before all) in
-          spent_steps_next x r given steps on 0 step step c.args.input.now before c.loop-step.output c.run_one_located.new.output
-          c.loop-step.space.output c.run_one_located.new.space.output (omega arith) refl spent (λ own is. c.if-not-run_one_located.ensures.spends refl own (subst (λ (s : Step). IsStep x r given on s own) c.in-Located.is is));
+          spent_steps_next x r given steps on 0 step step c.args.input.now before c.loop-step.output c.run_located.new.output
+          c.loop-step.space.output c.run_located.new.space.output (omega arith) refl spent (λ own is. c.if-not-run_located.ensures.spends refl own (subst (λ (s : Step). IsStep x r given on s own) c.in-Located.is is));
       fewer = omega (arith, c.loop-step.invariant.fewer, ap length c.in-Some.ensures.cases.0);
     }

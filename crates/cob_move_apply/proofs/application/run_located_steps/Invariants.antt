@@ -6,7 +6,7 @@ use Rattle.cob_move_apply.specs.Surveyed.{IsWorkspace, records}
 use Rattle.cob_move_apply.proofs.application.run_located_steps.Given as goal
 
 abbrev pub invariant-loop-step : goal.invariant-loop-step
-invariant-loop-step g l = record {
+invariant-loop-step l = record {
   left : (given : List StatementMoves) (before : List ℕ)
       → Left l.layouts.reading (records l.layouts) given l.fn.steps (support_of l.plan) 0 l.input before l.fn.output
       → Left l.layouts.reading (records l.layouts) given l.left (support_of l.plan) 0 l.input before l.output;
@@ -19,4 +19,4 @@ invariant-loop-step g l = record {
 }
 
 abbrev pub decreases-loop-step : goal.decreases-loop-step
-decreases-loop-step g l = length l.left
+decreases-loop-step l = length l.left
