@@ -30,7 +30,7 @@ use Rattle.cob_move_apply.specs.declared.basis.Basis.{Basis}
 use Rattle.cob_move_apply.specs.declared.basis.Basis.TheVariants as basis
 use Rattle.cob_move_apply.specs.Located.{Located, StandsUnder, stop_of}
 use Rattle.cob_move_apply.specs.declared.stop.Stop.{Stop}
-use Rattle.cob_move_apply.specs.Placed.{IsFixed, IsNoted, IsPlaced, IsBasis}
+use Rattle.cob_move_apply.specs.Placed.{IsFixed, StandsAsNoted, IsPlaced, IsBasis}
 use Rattle.cob_move_apply.specs.Surveyed.{IsSurvey}
 use Rattle.cob_move_apply.specs.declared.survey.Survey.{Survey}
 use Rattle.cob_layout.specs.Sound.{IsSound, IsStorableKind, AreStorable}
@@ -113,13 +113,13 @@ ends_as most p q same within = omega (arith, within, ap (λ (x : Place). x.offse
 
 -- an operand stands where what is noted says
 pub noted_at : KeptPlaceElements → (side : Side) (t : Forest Resolved) (receiving : Bool) (o : Operand) (bytes : List ℕ) (s : Survey) (b : Basis) (p : Place) → IsSound t → IsPlaced t receiving o b → IsSurvey t bytes s
-    → IsNoted b s.counts.kept p → Located side t receiving o bytes (Ok p)
+    → StandsAsNoted b s.counts.kept p → Located side t receiving o bytes (Ok p)
 noted_at law side t receiving o bytes s (basis.Fixed q) p sound is survey same = subst (λ (x : Place). Located side t receiving o bytes (Ok x)) (sym same) (is.basis.place side bytes)
 noted_at law side t receiving o bytes s (basis.Element e) p sound is survey noted = element_at law side t receiving o bytes s e p sound is.operand survey is.basis noted
 noted_at law side t receiving o bytes s basis.Counted p sound is survey none = absurd none
 
 -- which is within the record
-pub noted_within : (t : Forest Resolved) (receiving : Bool) (o : Operand) (ks : List (Option StoredCount)) (b : Basis) (p : Place) → IsPlaced t receiving o b → IsNoted b ks p → p.offset + p.length ≤ greatest_length t
+pub noted_within : (t : Forest Resolved) (receiving : Bool) (o : Operand) (ks : List (Option StoredCount)) (b : Basis) (p : Place) → IsPlaced t receiving o b → StandsAsNoted b ks p → p.offset + p.length ≤ greatest_length t
 noted_within t receiving o ks (basis.Fixed q) p is same = ends_as (greatest_length t) p q same is.basis.within
 noted_within t receiving o ks (basis.Element e) p is noted = ends_as (greatest_length t) p e.place noted.0 is.basis.within
 noted_within t receiving o ks basis.Counted p is none = absurd none

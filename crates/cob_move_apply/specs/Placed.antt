@@ -35,10 +35,10 @@ IsBasis tree receiving o (basis.Element e) = IsElementPlace tree o.entry receivi
 IsBasis tree receiving o basis.Counted = Unit {0}
 
 -- what is noted of a place, and the counts that are kept, say that it is this
-abbrev pub IsNoted : Basis → List (Option StoredCount) → Place → Type 0
-IsNoted (basis.Fixed q) ks p = p ≡ q
-IsNoted (basis.Element e) ks p = (p ≡ e.place) × IsThereBy ks e
-IsNoted basis.Counted ks p = ⊥
+abbrev pub StandsAsNoted : Basis → List (Option StoredCount) → Place → Type 0
+StandsAsNoted (basis.Fixed q) ks p = p ≡ q
+StandsAsNoted (basis.Element e) ks p = (p ≡ e.place) × IsThereBy ks e
+StandsAsNoted basis.Counted ks p = ⊥
 
 -- an operand of the record, with what its place rests on
 pub record IsPlaced (tree : Forest Resolved) (receiving : Bool) (o : Operand) (b : Basis) : Type 0 where

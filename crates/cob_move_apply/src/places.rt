@@ -6,7 +6,7 @@ ghost use Rattle.cob_layout.specs.Storage.{greatest_length};
 ghost use Rattle.cob_move_data.specs.Moves.{IsOperand};
 ghost use Rattle.cob_move_receive.specs.Sent.{Occupies};
 ghost use Rattle.cob_move_apply.specs.Located.{Located, stop_of};
-ghost use Rattle.cob_move_apply.specs.Placed.{IsNoted, IsPlaced};
+ghost use Rattle.cob_move_apply.specs.Placed.{StandsAsNoted, IsPlaced};
 ghost use Rattle.cob_move_apply.specs.Seen.{operand_of};
 ghost use Rattle.cob_move_apply.specs.Spent.{IsSpent, Spends};
 ghost use Rattle.cob_move_apply.specs.Surveyed.{IsSurvey};
@@ -85,7 +85,7 @@ fn place_by_counts(
 /// Where an operand stands, where what is noted of its place and the counts that are kept say it.
 #[inline(always)]
 pub(crate) fn noted_place(basis: Basis, counts: &Counts) -> Option<Place>
-    ensures { IfSome result (IsNoted basis counts.now.kept) }
+    ensures { IfSome result (StandsAsNoted basis counts.now.kept) }
 {
     match basis {
         Basis::Fixed(place) => Some(place),
