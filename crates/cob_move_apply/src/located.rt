@@ -1,6 +1,6 @@
 //! Single moves that were made ready wherever their items stand, carried out.
 
-ghost use Rattle.std.specs.Prelude.{◌≡◌, false, length, IfSome, IsTrue, List};
+ghost use Rattle.std.specs.Prelude.{◌≡◌, false, length, true, IfSome, IsTrue, List};
 ghost use Rattle.cob_layout.specs.Sound.{IsSound};
 ghost use Rattle.cob_layout.specs.Storage.{greatest_length, IsStorage};
 ghost use Rattle.cob_move_data.specs.declared.operands.Side.TheVariants.{In};
