@@ -168,18 +168,26 @@ def receivers(draw, texts, entries):
     return text
 
 
-def subscripts(draw, tables):
-    """Subscripts that are there whatever the counts are."""
-    return "" if not tables else " (" + " ".join(str(1 if t.count is not None else 1 + draw.below(t.most)) for t in tables) + ")"
+def subscripts(draw, tables, counter=""):
+    """Subscripts that are there whatever the counts are, and behind them the counter of a loop, if it has a name."""
+    words = [str(1 if t.count is not None else 1 + draw.below(t.most)) for t in tables] + ([counter] if counter else [])
+    return " (" + " ".join(words) + ")" if words else ""
 
 
 def statement(draw, texts, entry, tables):
-    """The statement that moves an entry to the one of its name."""
+    """The statement that moves an entry to the one of its name, or the loop that moves its elements."""
     own = () if entry.times is ONCE else (entry.times,)
+    in_loop = entry.times is not ONCE and entry.times.count is None and draw.below(2) == 0
+    first, step = (1 + draw.below(2), 1 + draw.below(2)) if in_loop else (0, 0)
+    counter, tables, own = ("I", tables[:-1], ()) if in_loop else ("", tables, own)
     name = texts.name(entry.number)
-    lines = ["           MOVE", "%s OF %s%s" % (name, texts.record(0), subscripts(draw, tables)), "TO",
-             "%s OF %s%s" % (name, texts.record(1), subscripts(draw, own))]
-    return "\n               ".join(lines) + ".\n"
+    lines = ["           MOVE", "%s OF %s%s" % (name, texts.record(0), subscripts(draw, tables, counter)), "TO",
+             "%s OF %s%s" % (name, texts.record(1), subscripts(draw, own, counter))]
+    words = "\n               ".join(lines)
+    if not in_loop:
+        return words + ".\n"
+    head = "           PERFORM VARYING I FROM %d BY %d UNTIL I > %d\n" % (first, step, entry.times.most)
+    return head + words + "\n           END-PERFORM.\n"
 
 
 def statements(draw, texts, entries):

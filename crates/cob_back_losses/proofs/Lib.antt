@@ -4,4 +4,5 @@ pub mod KeepingLemmas
 pub mod NumberLemmas
 pub mod MovedLemmas
 pub mod CoveredLemmas
+pub mod EndLemmas
 pub mod ReceivedLemmas

@@ -1,5 +1,5 @@
 -- Single moves as statements have them, and marks of the bytes that they cover.
-use Rattle.std.specs.Prelude.{◌≡◌, ℕ, Bool, false, List, Option, Some, None, get_or, length, option_map}
+use Rattle.std.specs.Prelude.{◌≡◌, ◌<◌, ◌≤◌, ℕ, Bool, false, List, Option, Some, None, get_or, length, option_map}
 use Rattle.std.specs.Bool.{Decides}
 use Rattle.cob_copybook_tree.specs.Forests.{Forest, Tree}
 use Rattle.cob_copybook_tree.specs.Lengths.{greatest_number, sum_of}
@@ -29,6 +29,10 @@ moved_by records s = record { sent = sent_element_by records s.sent; receiver = 
 pub record MarkCoveredBytes (tree : Forest Resolved) (ms : List Moved) (marks : List Bool) : Type 0 where
   pub all : length marks ≡ sum_of greatest_number tree
   pub covered : (byte : ℕ) → Decides (get_or marks byte false) (IsCoveredBy tree ms byte)
+
+-- From each byte on all are marked that stand before its end, as these have them; one that has none before it says nothing.
+abbrev pub AreEnds : List Bool → List ℕ → Type 0
+AreEnds marks ends = (at byte : ℕ) → at ≤ byte → byte < get_or ends at 0 → IsMarked marks byte
 
 -- what is told of a single move, where these bytes from its receiver's beginning on are covered
 abbrev pub TellsIn : Forest Resolved → Moved → List Bool → Option Unkept → Type 0

@@ -56,8 +56,9 @@
 //! it, or the move copies no bytes (`AreTold` of specs/Moved.antt). All of it is said of records in which each table has its greatest number of elements.
 //! Of a move from or to an entry that its record doesn't have, nothing is told. [`place_of`] is where an occurrence stands in such a record (`StandsAt`).
 //!
-//! The single moves are gone through from the last to the first, with a mark for each byte of the output record that is covered so far. The bytes of a move
-//! whose receiver is covered wholly are not looked at; so each byte of the record is compared once at most.
+//! The single moves are gone through from the last to the first, with a mark for each byte of the output record that is covered so far, and how far all bytes
+//! behind it are. The bytes of a move whose receiver is covered wholly are not looked at: what is known of them is found in few steps, however many they are.
+//! Where a move's bytes are looked at, one of them at least had not been covered.
 //!
 //! # Where it is proved
 //!

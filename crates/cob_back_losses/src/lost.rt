@@ -34,8 +34,9 @@ fn sent_bytes<'a>(
     }
 }
 
-/// Whether all bytes of an entry's element are marked.
-fn are_marked(marks: &[bool], entry: &Node) -> bool
+/// Whether all bytes of an entry's element are marked, of which the first ones, so many, are.
+fn are_marked(marks: &[bool], front: usize, entry: &Node) -> bool
+    requires { (at : ℕ) → at < front → IsMarked marks.now at }
     ensures { IsTrue result → (at : ℕ) → at < length (element_bytes (node entry.now))
         → IsMarked marks.now at }
 {
@@ -43,31 +44,51 @@ fn are_marked(marks: &[bool], entry: &Node) -> bool
     if count == MANY {
         return false;
     }
-    for at in 0..count {
-        if !is_marked(marks, at as usize) {
+    for at in front..count as usize {
+        if !is_marked(marks, at) {
             return false;
         }
     }
     true
 }
 
-/// The first byte of an entry's element that a move of bytes doesn't keep, where these of its bytes are covered.
+/// The first byte of an entry's element that a move of bytes doesn't keep, where these of its bytes are covered, among them the first ones, so many.
 fn unkept_byte(
     alloc: Global,
     from: &JudgedSent<'_>,
     to: &Node,
     covered: &[bool],
+    front: usize,
 ) -> Result<Option<Unkept>, AllocError>
-    requires { IsTrue (moves_bytes (sent_element from.now) (node to.now)) }
+    requires moves { IsTrue (moves_bytes (sent_element from.now) (node to.now)) }
+    requires front { (at : ℕ) → at < front → IsMarked covered.now at }
     ensures { IfOk result (λ lost. TellsFirstUnkept (sent_element from.now) (node to.now)
         (IsMarked covered.now) lost) }
 {
-    if are_marked(covered, to) {
+    if are_marked(covered, front, to) {
         return Ok(None);
     }
     let received = bytes_of(alloc, to, usize::MAX)?;
     let bytes = sent_bytes(alloc, from, received.len())?;
     Ok(first_unkept(from, &bytes, &received, covered))
+}
+
+/// The same as [`description_lost_among`], where it is known of the first bytes, so many, that they are covered: these are not looked at.
+pub(crate) fn description_lost_behind(
+    alloc: Global,
+    from: &JudgedSent<'_>,
+    to: &Node,
+    covered: &[bool],
+    front: usize,
+) -> Result<Option<Unkept>, AllocError>
+    requires { (at : ℕ) → at < front → IsMarked covered.now at }
+    ensures { IfOk result (λ lost. TellsFirstUnkept (sent_element from.now) (node to.now)
+        (IsMarked covered.now) lost) }
+{
+    if !moves_bytes(from, to) {
+        return Ok(None);
+    }
+    unkept_byte(alloc, from, to, covered, front)
 }
 
 /// The first byte of an entry's element by which the move of a sender may lose its description, where these of its bytes are covered; those behind the marks
@@ -85,10 +106,7 @@ pub fn description_lost_among(
     ensures { IfOk result (λ lost. TellsFirstUnkept (sent_element from.now) (node to.now)
         (IsMarked covered.now) lost) }
 {
-    if !moves_bytes(from, to) {
-        return Ok(None);
-    }
-    unkept_byte(alloc, from, to, covered)
+    description_lost_behind(alloc, from, to, covered, 0)
 }
 
 /// The first byte of an entry's element by which the move of a sender may lose its description, where nothing covers it.

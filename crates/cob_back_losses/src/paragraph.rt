@@ -1,28 +1,32 @@
 //! The first byte by which each single move of a paragraph may lose its description.
 
-ghost use Rattle.std.specs.Prelude.{◌≡◌, ◌∷◌, List, IfOk, OnOk, length, map, reverse};
+ghost use Rattle.std.specs.Prelude.{◌≡◌, ◌<◌, ◌∷◌, ℕ, List, IfOk, OnOk, length, map, reverse};
 ghost use Rattle.cob_copybook_tree.specs.Lengths.{greatest_number, sum_of};
 ghost use Rattle.cob_back_moves.specs.Brought.{singles_in};
 ghost use Rattle.cob_back_moves.specs.Tested.{layout_records};
+ghost use Rattle.cob_back_losses.specs.Keeping.{IsMarked};
 ghost use Rattle.cob_back_losses.specs.Moved.{TellsEach, Moved, TellsOf, moved_single};
-ghost use Rattle.cob_back_losses.specs.Seen.{MarkCoveredBytes, TellsIn, seen_single};
+ghost use Rattle.cob_back_losses.specs.Seen.{AreEnds, MarkCoveredBytes, TellsIn, seen_single};
 
 use crate::entries::entry_in;
 use crate::keeping::Unkept;
-use crate::later::{cover, place_of, uncovered};
-use crate::lost::description_lost_among;
+use crate::later::{cover, covered_front, note_covered, place_of, uncovered, unknown_ends};
+use crate::lost::description_lost_behind;
 use crate::singles::{JudgedSingle, singles_of};
 use cob_back_moves::MovesBetween;
 use cob_layout::Layout;
 use std::alloc::{AllocError, Global};
 
-/// The first byte by which a single move may lose its description, where these bytes from its receiver's beginning on are covered.
+/// The first byte by which a single move may lose its description, where these bytes from its receiver's beginning on are covered, among them the first ones,
+/// so many.
 fn lost_among(
     alloc: Global,
     output: &Layout,
     single: &JudgedSingle<'_>,
     covered: &[bool],
+    front: usize,
 ) -> Result<Option<Unkept>, AllocError>
+    requires { (at : ℕ) → at < front → IsMarked covered.now at }
     ensures { IfOk result (λ lost. TellsIn output.now (seen_single single.now) covered.now lost) }
 {
     let Some(from) = single.sent else {
@@ -31,18 +35,21 @@ fn lost_among(
     let Some(to) = entry_in(output.root(), single.receiver) else {
         return Ok(None);
     };
-    description_lost_among(alloc, &from, to, covered)
+    description_lost_behind(alloc, &from, to, covered, front)
 }
 
-/// The first byte by which a single move may lose its description, where the marked bytes of the record are covered by those behind it. Then its own are
-/// marked too.
+/// The first byte by which a single move may lose its description, where the marked bytes of the record are covered by those behind it, as is known of these
+/// ends. Then its own are marked too.
 fn lost_before(
     alloc: Global,
     output: &Layout,
     single: &JudgedSingle<'_>,
     covered: &mut [bool],
+    ends: &mut [usize],
 ) -> Result<Option<Unkept>, AllocError>
     requires all { length covered.old ≡ sum_of greatest_number output.now }
+    requires known { AreEnds covered.old ends.old }
+    requires ends { length ends.old ≡ length covered.old }
     ensures told { IfOk result (λ lost. (later : List Moved)
         → MarkCoveredBytes output.now later covered.old
         → TellsOf output.now (seen_single single.now) later lost) }
@@ -50,13 +57,17 @@ fn lost_before(
         → MarkCoveredBytes output.now later covered.old
         → MarkCoveredBytes output.now (seen_single single.now ∷ later) covered.new) }
     ensures room { length covered.new ≡ length covered.old }
+    ensures known { OnOk result (AreEnds covered.new ends.new) }
+    ensures ends { length ends.new ≡ length ends.old }
 {
     let Some(place) = place_of(output, single.receiver, single.subscripts) else {
         return Ok(None);
     };
     let start = place.offset as usize;
-    let lost = lost_among(alloc, output, single, &covered[start..])?;
-    cover(covered, place);
+    let front = covered_front(ends, place);
+    let lost = lost_among(alloc, output, single, &covered[start..], front)?;
+    cover(covered, place, front);
+    note_covered(ends, place, front);
     Ok(lost)
 }
 
@@ -70,11 +81,12 @@ fn lost_from_end(
         (λ all. TellsEach output.now (map seen_single singles.now) (reverse all.items)) }
 {
     let mut covered = uncovered(alloc, output)?;
+    let mut ends = unknown_ends(alloc, output)?;
     let mut all = Vec::new(alloc);
     let count = singles.len();
     for step in 0..count {
         let single = &singles[count - 1 - step];
-        all.push(lost_before(alloc, output, single, &mut covered)?)?;
+        all.push(lost_before(alloc, output, single, &mut covered, &mut ends)?)?;
     }
     Ok(all)
 }

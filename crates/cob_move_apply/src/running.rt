@@ -171,7 +171,13 @@ pub(crate) fn run_step<const VARIES: bool>(
             make_characters(prepared, &one.places, one.step, &told, input, output, space);
             true
         }
-        Step::Prepared(one) => run_one(plan, one, layouts, input, output, space),
+        Step::Prepared(one) => match one.step {
+            MoveStep::Long(number) => {
+                let step = MoveStep::Long(number);
+                run_single(plan, &one.places, step, &told, input, output, space)
+            }
+            _ => run_one(plan, one, layouts, input, output, space),
+        },
         Step::Pictured(one, _) => run_part(plan, *one, &told, input, output, space),
         Step::Constant(one) => {
             make_constant(plan, *one, &told, input, output, space);

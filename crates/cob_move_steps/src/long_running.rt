@@ -6,11 +6,13 @@ ghost use Rattle.cob_codec_lanes.specs.Lanes.{AreTens};
 ghost use Rattle.cob_codec_lanes.specs.WideWords.{IsWideWordRead, IsWideWordWritten};
 ghost use Rattle.cob_codec_lanes.specs.Writers.{AreMadeOfBoth};
 ghost use Rattle.cob_move_steps.specs.Ends.{IsItemWritten};
+ghost use Rattle.cob_move_steps.specs.declared.long_ends.LongReader.TheVariants.{Text};
 ghost use Rattle.cob_move_steps.specs.Long.{IsLongCarriedOut, IsLongRead, IsLongWritten};
 ghost use Rattle.cob_move_receive.specs.Received.{outcome};
 
 use crate::long_ends::{LongReader, LongReceiver, LongWriter};
 use crate::long_step::LongStep;
+use crate::long_text_reader::LongTextReader;
 use crate::number_ends::NumberWriter;
 use cob_codec_lanes::{
     DigitReader, DigitWriter, WideRead, WideWordReader, WideWordWriter, WideWriter,
@@ -130,19 +132,16 @@ impl LongWriter {
 }
 
 impl LongStep {
-    /// Moves the number of the sender that ends bytes to a receiver's bytes, as a step of two shorter numbers does, or its digits as characters. A
-    /// binary sender is read as its picture says.
+    /// Moves a number that was read to a receiver's bytes, as a number, edited or as characters. False where none was read.
     ///
-    /// False where the sender's bytes represent no number: the receiver's bytes are as they were then.
-    ///
-    /// It isn't inlined: a loop over many steps of all kinds stays one short function so.
-    #[inline(never)]
-    pub fn run(&self, from: &[u8], to: &mut [u8]) -> bool
-        ensures gets { IsLongCarriedOut self.now from.now (length to.old)
-            (outcome result to.new) }
+    /// Whether the sender is edited is a type parameter: so each of the two calls is inlined, and no number that was read goes through memory.
+    #[inline(always)]
+    fn put<const EDITED: bool>(&self, read: WideRead, to: &mut [u8]) -> bool
+        ensures gets { (bytes : List ℕ) → IsLongRead self.now.reader bytes
+            read.is_number read.minus read.front read.back
+            → IsLongCarriedOut self.now bytes (length to.old) (outcome result to.new) }
         ensures same { result ≡ false → to.new ≡ to.old }
     {
-        let read = self.reader.read(from);
         if !read.is_number {
             return false;
         }
@@ -157,5 +156,39 @@ impl LongStep {
             LongReceiver::Characters(writer) => writer.write(front, back, to),
         }
         true
+    }
+
+    /// Moves the number of an edited sender, as [`LongStep::run`] does, where this is the step's reader.
+    ///
+    /// It isn't inlined: what carries out steps of other senders clears no memory for texts so, and stays short.
+    #[inline(never)]
+    fn run_edited(&self, reader: &LongTextReader, from: &[u8], to: &mut [u8]) -> bool
+        ensures gets { self.now.reader ≡ Text reader.now
+            → IsLongCarriedOut self.now from.now (length to.old) (outcome result to.new) }
+        ensures same { result ≡ false → to.new ≡ to.old }
+    {
+        let read = reader.read(from);
+        self.put::<true>(read, to)
+    }
+
+    /// Moves the number of the sender that ends bytes to a receiver's bytes, as a step of two shorter numbers does, or its digits as characters. A
+    /// binary sender is read as its picture says.
+    ///
+    /// False where the sender's bytes represent no number: the receiver's bytes are as they were then.
+    ///
+    /// It isn't inlined: a loop over many steps of all kinds stays one short function so.
+    #[inline(never)]
+    pub fn run(&self, from: &[u8], to: &mut [u8]) -> bool
+        ensures gets { IsLongCarriedOut self.now from.now (length to.old)
+            (outcome result to.new) }
+        ensures same { result ≡ false → to.new ≡ to.old }
+    {
+        match &self.reader {
+            LongReader::Text(reader) => self.run_edited(reader, from, to),
+            _ => {
+                let read = self.reader.read(from);
+                self.put::<false>(read, to)
+            }
+        }
     }
 }

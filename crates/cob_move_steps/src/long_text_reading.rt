@@ -138,9 +138,7 @@ fn is_either(own: &LongText, front: u8x16, back: u8x16, plus: bool, text: &LongT
 
 impl LongTextReader {
     /// The number of the edited item at the end of bytes, and none where there are fewer.
-    ///
-    /// It isn't inlined: what carries out steps of other numbers stays short so.
-    #[inline(never)]
+    #[inline(always)]
     pub(crate) fn read(&self, bytes: &[u8]) -> WideRead
         ensures { IsLongTextRead self.now bytes.now
             result.is_number result.minus result.front result.back }

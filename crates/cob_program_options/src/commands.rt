@@ -9,12 +9,12 @@ ghost use Rattle.cob_program_options.specs.Program.{Makes, bare_app, program_app
 
 use crate::adding::with_groups;
 use crate::definition::CommandDefinition;
-use crate::help::VERSION;
 use crate::options::{
     ATOMIC, BOOK, BOOKS, BOTH_WAYS, CHOICE, COVER, CUT, ENDS, EXPLAINED_RECORDS, FORM, FORMS,
     LISTING, LRECL, MAPPED_RECORDS, MOVES, PIECE, PIECES, PROGRESS, RECORD, REJECTS, SHARED,
     SHARED_RUN, SHOWN,
 };
+use crate::release::VERSION;
 use clap::Command;
 use std::alloc::{AllocError, Global};
 
@@ -63,6 +63,8 @@ In a paragraph:
   M8   CORRESPONDING with an item
   M9   CORRESPONDING in which an item is in two pairs
   M10  an alphanumeric sender of over 31 characters to a number
+  M11  a loop that tests another name, or whose counter's name is taken
+  M12  loops that come to over 100,000 statements, or over 16 in one another
 
 The statuses: 0 done, 1 something is open and --strict was given, 2 the command
 line is malformed, 3 a text is refused, 4 a device failed, 5 memory was refused";

@@ -1,7 +1,4 @@
-//! What help says of options, and the version.
-
-// What `--version` prints after the program's name: its version, and the toolchain that proved and built it.
-pub(crate) const VERSION: &str = "1.0.0\nrattle-kit-13f logic dac8208d650f15bf";
+//! What help says of options.
 
 // Which dataset has which form, as a binary transfer leaves it.
 pub(crate) const FORM_HELP: &str =

@@ -35,6 +35,7 @@ mod definition;
 mod found;
 mod help;
 mod options;
+mod release;
 
 pub use arguments::{alone, defaulted, optional, required};
 pub use commands::program;

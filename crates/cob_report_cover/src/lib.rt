@@ -33,8 +33,8 @@
 //! - the single moves that may lose digits, characters or a sign, then those that may lose the description of bytes, then those that may have no number,
 //!   each with the line of its statement.
 //!
-//! Its time grows with the moves, the bytes of the records and the lines that it writes, each of which looks for the names in the record once; but for the
-//! moves of bytes, each of which looks at the bytes of its receiver.
+//! Its time grows with the moves, the bytes of the records and the lines that it writes, each of which looks for the names in the record once. The bytes
+//! of a receiver are looked at where one of them is covered by no later move.
 //!
 //! # Where it is proved
 //!

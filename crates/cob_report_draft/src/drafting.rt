@@ -2,9 +2,12 @@
 
 use crate::instead::{SEVERAL, UNNAMED};
 use crate::pairs::{Records, is_own_group, is_own_item, paired};
-use crate::progress::DraftProgress;
+use crate::progress::{DraftProgress, Saying};
+use crate::words::CounterNames;
+use crate::writing::DraftText;
 use cob_layout::Layout;
-use cob_report_partners::{BothRecords, DraftBearer, Partner, partner_of};
+use cob_limits::MAX_SUBSCRIPTS;
+use cob_report_partners::{DraftBearer, Partner, counter_name, partner_of};
 use std::alloc::{AllocError, Global};
 use std::fmt;
 
@@ -15,6 +18,8 @@ pub enum Lacking {
     Statement,
     /// Lines for which a text has no room.
     Lines,
+    /// Statements for which its loops have no room.
+    Turns,
 }
 
 impl fmt::Display for Lacking {
@@ -24,6 +29,10 @@ impl fmt::Display for Lacking {
             Lacking::Lines => write!(
                 f,
                 "the paragraph lacks the lines that its text has no room for"
+            ),
+            Lacking::Turns => write!(
+                f,
+                "the paragraph lacks the statements that its loops have no room for"
             ),
         }
     }
@@ -36,21 +45,25 @@ pub struct Draft {
     pub lacking: Option<Lacking>,
 }
 
-impl DraftProgress {
+impl<'s, 'a> DraftProgress<'s, 'a> {
     /// Adds what there is of an item of the output record.
-    fn push_item(&mut self, records: &Records<'_>, to: &DraftBearer<'_>) -> Result<(), AllocError> {
+    fn push_item(
+        &mut self,
+        records: &'s Records<'a>,
+        to: &'s DraftBearer<'a>,
+    ) -> Result<(), AllocError> {
         match partner_of(self.alloc, &records.both, to)? {
             Partner::Missing => Ok(()),
-            Partner::Several => self.push_noted(to, SEVERAL),
+            Partner::Several => self.push_piece(to, Saying::Noted(SEVERAL)),
             Partner::One(from) => match paired(&records.both, from, to) {
                 Some(pair) => self.push_item_from(records, &pair),
-                None => self.push_noted(to, UNNAMED),
+                None => self.push_piece(to, Saying::Noted(UNNAMED)),
             },
         }
     }
 
     /// Adds what there is of each item and each group of the output record.
-    fn push_statements(&mut self, records: &Records<'_>) -> Result<(), AllocError> {
+    fn push_statements(&mut self, records: &'s Records<'a>) -> Result<(), AllocError> {
         let mut next = 0;
         for (number, to) in records.both.outputs().iter().enumerate() {
             if number < next {
@@ -67,14 +80,32 @@ impl DraftProgress {
 }
 
 /// What a draft lacks.
-fn lacking_in(progress: &DraftProgress) -> Option<Lacking> {
-    if progress.lines.is_cut {
+fn lacking_in(progress: &DraftProgress<'_, '_>, text: &DraftText) -> Option<Lacking> {
+    if text.lines.is_cut {
         return Some(Lacking::Lines);
     }
-    if progress.statements == 0 {
+    if progress.is_full {
+        return Some(Lacking::Turns);
+    }
+    if progress.pairs.is_empty() {
         return Some(Lacking::Statement);
     }
     None
+}
+
+/// The letters with which the names of counters begin, that of the outermost loop first.
+const LETTERS: [u8; MAX_SUBSCRIPTS] = *b"IJKLMNO";
+
+/// The names of the counters of loops in one another, that of the outermost first.
+fn counters_of(alloc: Global, records: &Records<'_>) -> Result<CounterNames, AllocError> {
+    let mut counters = Vec::new(alloc);
+    for letter in LETTERS {
+        match counter_name(alloc, &records.both, letter)? {
+            Some(name) => counters.push(name)?,
+            None => break,
+        }
+    }
+    Ok(counters)
 }
 
 /// A paragraph to begin with, between the records of two layouts.
@@ -83,20 +114,17 @@ fn lacking_in(progress: &DraftProgress) -> Option<Lacking> {
 ///
 /// Where no memory is left.
 pub fn draft_of(alloc: Global, input: &Layout, output: &Layout) -> Result<Draft, AllocError> {
-    let both = BothRecords::of(alloc, input, output)?;
-    let records = Records {
-        both,
-        input,
-        output,
-    };
+    let records = Records::of(alloc, input, output)?;
     let (inputs, outputs) = (records.both.inputs().len(), records.both.outputs().len());
     let mut progress = DraftProgress::new(alloc, inputs, outputs)?;
     progress.push_statements(&records)?;
-    progress.push_unfilled(&records)?;
-    progress.push_untaken(records.both.inputs())?;
-    let lacking = lacking_in(&progress);
+    let mut text = DraftText::new(alloc, counters_of(alloc, &records)?);
+    text.push_pieces(&records, &progress)?;
+    text.push_unfilled(&records, &progress.received)?;
+    text.push_untaken(records.both.inputs(), &progress.sent)?;
+    let lacking = lacking_in(&progress, &text);
     Ok(Draft {
-        text: progress.lines.text,
+        text: text.lines.text,
         lacking,
     })
 }

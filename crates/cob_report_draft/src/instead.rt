@@ -4,9 +4,8 @@ use crate::pairs::{
     PartnerPair, Records, has_namesake, is_item, is_own_group, is_own_item, kind_of, number_of,
     paired,
 };
-use crate::progress::{DraftProgress, is_of_bytes};
+use crate::progress::{DraftProgress, Saying, is_of_bytes};
 use crate::shares::Share;
-use crate::words::NamedReference;
 use cob_copybook_tree::Kind;
 use cob_report_partners::{DraftBearer, Partner, only_item_beneath, partner_of, partner_within};
 use std::alloc::AllocError;
@@ -56,12 +55,12 @@ fn missing_words(records: &Records<'_>, to: &DraftBearer<'_>) -> &'static str {
     }
 }
 
-impl DraftProgress {
+impl<'s, 'a> DraftProgress<'s, 'a> {
     /// Adds what there is of an item of the output record and its partner.
     pub(crate) fn push_item_from(
         &mut self,
-        records: &Records<'_>,
-        pair: &PartnerPair<'_, '_>,
+        records: &'s Records<'a>,
+        pair: &PartnerPair<'s, 'a>,
     ) -> Result<(), AllocError> {
         match self.push_pair(records, pair)? {
             Some(objection) if is_of_bytes(pair, objection) => self.push_only(records, pair),
@@ -72,26 +71,28 @@ impl DraftProgress {
     /// Adds what there is, in the place of a group's move to an item, of the only item of the group that may take it.
     fn push_only(
         &mut self,
-        records: &Records<'_>,
-        group: &PartnerPair<'_, '_>,
+        records: &'s Records<'a>,
+        group: &PartnerPair<'s, 'a>,
     ) -> Result<(), AllocError> {
         let (sending, to) = (group.from, group.to);
         if let Partner::One(from) = only_item_beneath(&records.both, &sending.entry, to) {
             if let Some(pair) = paired(&records.both, from, to) {
-                self.lines.push_remark(only_words(to))?;
+                self.push_piece(to, Saying::Remark(only_words(to)))?;
                 self.push_pair(records, &pair)?;
                 return Ok(());
             }
         }
-        self.lines
-            .push_remark("No item of it alone can take its place.")
+        self.push_piece(
+            to,
+            Saying::Remark("No item of it alone can take its place."),
+        )
     }
 
     /// Adds what there is of a group of the output record: the move of an item, if its partner is one. Answers whether its items were looked at one by one.
     pub(crate) fn push_group(
         &mut self,
-        records: &Records<'_>,
-        to: &DraftBearer<'_>,
+        records: &'s Records<'a>,
+        to: &'s DraftBearer<'a>,
     ) -> Result<bool, AllocError> {
         let Partner::One(from) = partner_of(self.alloc, &records.both, to)? else {
             return Ok(false);
@@ -114,14 +115,14 @@ impl DraftProgress {
     /// Adds what there is, in the place of an item's move to a group, of the items of the group.
     fn push_items(
         &mut self,
-        records: &Records<'_>,
-        group: &PartnerPair<'_, '_>,
+        records: &'s Records<'a>,
+        group: &PartnerPair<'s, 'a>,
     ) -> Result<(), AllocError> {
         let outputs = records.both.outputs();
         if !has_items(outputs, group.to) {
-            return self.lines.push_remark("No item of it has a name.");
+            return self.push_piece(group.to, Saying::Remark("No item of it has a name."));
         }
-        self.lines.push_remark("Its items one by one:")?;
+        self.push_piece(group.to, Saying::Remark("Its items one by one:"))?;
         let mut left = Vec::new(self.alloc);
         let receiving = group.to;
         let first = number_of(receiving).saturating_add(1);
@@ -144,9 +145,9 @@ impl DraftProgress {
     /// Adds what there is of an item of a group, whose partner may stand in a redefinition of the group's. Answers why it has none, where it has none.
     fn push_item_of(
         &mut self,
-        records: &Records<'_>,
-        group: &PartnerPair<'_, '_>,
-        to: &DraftBearer<'_>,
+        records: &'s Records<'a>,
+        group: &PartnerPair<'s, 'a>,
+        to: &'s DraftBearer<'a>,
     ) -> Result<Option<&'static str>, AllocError> {
         let sending = group.from;
         match partner_within(self.alloc, &records.both, &sending.entry, to)? {
@@ -165,8 +166,8 @@ impl DraftProgress {
     /// Adds what there is of a group beneath a group, without what may be moved in its place.
     fn push_group_of(
         &mut self,
-        records: &Records<'_>,
-        to: &DraftBearer<'_>,
+        records: &'s Records<'a>,
+        to: &'s DraftBearer<'a>,
     ) -> Result<(), AllocError> {
         let Partner::One(from) = partner_of(self.alloc, &records.both, to)? else {
             return Ok(());
@@ -181,7 +182,11 @@ impl DraftProgress {
     }
 
     /// Adds the items of a group that no partner is moved to, and why, but for those that a group beneath it received.
-    fn push_left(&mut self, outputs: &[DraftBearer<'_>], left: &[Left]) -> Result<(), AllocError> {
+    fn push_left(
+        &mut self,
+        outputs: &'s [DraftBearer<'a>],
+        left: &[Left],
+    ) -> Result<(), AllocError> {
         for item in left {
             let Some(to) = outputs.get(item.number) else {
                 continue;
@@ -189,9 +194,7 @@ impl DraftProgress {
             if self.received.of(item.number) == Share::All {
                 continue;
             }
-            let (name, why) = (NamedReference::whole(to), item.why);
-            let words = format!(in self.alloc; "{name}: {why}")?;
-            self.lines.push_listed(&words)?;
+            self.push_piece(to, Saying::Listed(item.why))?;
         }
         Ok(())
     }

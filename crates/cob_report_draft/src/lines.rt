@@ -1,4 +1,5 @@
-//! Lines of a paragraph in reference format: statements from column 12 on, comments behind an asterisk in column 7, nothing behind column 72.
+//! Lines of a paragraph in reference format: statements from column 12 on, comments behind an asterisk in column 7, nothing behind column 72. In a loop all
+//! stands four columns further on.
 
 ghost use Rattle.std.specs.Prelude.{◌≤◌, ◌<◌, length};
 
@@ -17,6 +18,15 @@ const FURTHER: usize = 15;
 /// The bytes before what a comment says.
 const REMARK: usize = 8;
 
+/// How many columns further on all stands in a loop.
+const DEEPER: usize = 4;
+
+/// The most loops that bring lines further on: behind more of them a name of 30 characters would have no room on a line.
+const DEEPEST: usize = 6;
+
+/// The fewest bytes of words on a line, on an average: one line and the next have more together than one has room for in the deepest loop.
+const FEWEST: usize = 15;
+
 /// Whether a line is a comment.
 #[derive(Clone, Copy, PartialEq, Eq)]
 pub(crate) enum DraftLineKind {
@@ -30,6 +40,18 @@ pub(crate) struct DraftLines {
     pub(crate) text: String,
     /// Whether a line was left out for which the text has no room.
     pub(crate) is_cut: bool,
+    /// How many loops hold the lines to come.
+    open: usize,
+}
+
+/// How many columns further on lines stand in so many loops.
+fn further_on(open: usize) -> usize
+    ensures { result ≤ 24 }
+{
+    if open < DEEPEST {
+        return open * DEEPER;
+    }
+    DEEPEST * DEEPER
 }
 
 /// How many bytes of words stand on a line of so many: all of them, or up to the last space where the next word begins behind it.
@@ -94,18 +116,19 @@ impl DraftLines {
         DraftLines {
             text,
             is_cut: false,
+            open: 0,
         }
     }
 
-    /// Whether the text has room for words of so many bytes, and for what stands beside them on their lines; else the words are left out.
+    /// Whether the text has room for words of so many bytes, for what stands beside them on their lines, and for the ends of the open loops; else the
+    /// words are left out, and so are all behind them.
     fn has_room(&mut self, count: usize) -> bool {
-        let lines = (count / 20).saturating_add(4);
+        let lines = (count / FEWEST).saturating_add(self.open).saturating_add(4);
         let needed = lines.saturating_mul(COLUMNS + 1);
-        if self.text.len().saturating_add(needed) <= MAX_TEXT_BYTES {
-            return true;
+        if self.text.len().saturating_add(needed) > MAX_TEXT_BYTES {
+            self.is_cut = true;
         }
-        self.is_cut = true;
-        false
+        !self.is_cut
     }
 
     /// Adds words on as many lines as they need.
@@ -146,11 +169,37 @@ impl DraftLines {
         if !self.has_room(whole.len()) {
             return Ok(());
         }
-        if AREA_B + whole.len() <= COLUMNS {
-            return self.push_words(mark, AREA_B, FURTHER, whole.as_bytes());
+        let deeper = further_on(self.open);
+        let (first, further) = (AREA_B + deeper, FURTHER + deeper);
+        if first + whole.len() <= COLUMNS {
+            return self.push_words(mark, first, further, whole.as_bytes());
         }
-        self.push_words(mark, AREA_B, FURTHER, sends.as_bytes())?;
-        self.push_words(mark, FURTHER, FURTHER, receives.as_bytes())
+        self.push_words(mark, first, further, sends.as_bytes())?;
+        self.push_words(mark, further, further, receives.as_bytes())
+    }
+
+    /// Adds the head of a loop, if the text has room for it and for its end, and answers whether it has.
+    pub(crate) fn open_loop(&mut self, head: &str) -> Result<bool, AllocError> {
+        if !self.has_room(head.len()) {
+            return Ok(false);
+        }
+        let deeper = further_on(self.open);
+        let (first, further) = (AREA_B + deeper, FURTHER + deeper);
+        self.push_words(DraftLineKind::Statement, first, further, head.as_bytes())?;
+        self.open = self.open.saturating_add(1);
+        Ok(true)
+    }
+
+    /// Adds the end of the innermost loop.
+    pub(crate) fn close_loop(&mut self) -> Result<(), AllocError> {
+        self.open = self.open.saturating_sub(1);
+        let end = if self.open == 0 {
+            "END-PERFORM."
+        } else {
+            "END-PERFORM"
+        };
+        let first = AREA_B + further_on(self.open);
+        self.push_words(DraftLineKind::Statement, first, first, end.as_bytes())
     }
 
     /// Adds a remark, as a comment.
@@ -158,7 +207,8 @@ impl DraftLines {
         if !self.has_room(words.len()) {
             return Ok(());
         }
-        self.push_words(DraftLineKind::Comment, REMARK, REMARK + 4, words.as_bytes())
+        let first = REMARK + further_on(self.open);
+        self.push_words(DraftLineKind::Comment, first, first + 4, words.as_bytes())
     }
 
     /// Adds an entry of a list, as a comment.
@@ -166,6 +216,8 @@ impl DraftLines {
         if !self.has_room(words.len()) {
             return Ok(());
         }
-        self.push_words(DraftLineKind::Comment, AREA_B, FURTHER, words.as_bytes())
+        let deeper = further_on(self.open);
+        let (first, further) = (AREA_B + deeper, FURTHER + deeper);
+        self.push_words(DraftLineKind::Comment, first, further, words.as_bytes())
     }
 }

@@ -2,9 +2,9 @@
 
 use crate::held::{ItemContent, held_at, held_in};
 use crate::pairs::{Records, is_own_item, number_of};
-use crate::progress::DraftProgress;
-use crate::shares::Share;
+use crate::shares::{Share, Shares};
 use crate::words::NamedReference;
+use crate::writing::DraftText;
 use cob_layout::Layout;
 use cob_layout_steady::is_steady;
 use cob_report_partners::DraftBearer;
@@ -61,13 +61,17 @@ fn held_there<'a>(
     }
 }
 
-impl DraftProgress {
+impl DraftText {
     /// Adds the items of the output record to which not all is moved, and what they hold.
-    pub(crate) fn push_unfilled(&mut self, records: &Records<'_>) -> Result<(), AllocError> {
+    pub(crate) fn push_unfilled(
+        &mut self,
+        records: &Records<'_>,
+        received: &Shares,
+    ) -> Result<(), AllocError> {
         let held = held_in(self.alloc, records.output.root())?;
         let mut is_first = true;
         for to in records.both.outputs() {
-            let share = self.received.of(number_of(to));
+            let share = received.of(number_of(to));
             if !is_own_item(to) || share == Share::All {
                 continue;
             }
@@ -87,10 +91,14 @@ impl DraftProgress {
     }
 
     /// Adds the items of the input record of which not all is moved.
-    pub(crate) fn push_untaken(&mut self, inputs: &[DraftBearer<'_>]) -> Result<(), AllocError> {
+    pub(crate) fn push_untaken(
+        &mut self,
+        inputs: &[DraftBearer<'_>],
+        sent: &Shares,
+    ) -> Result<(), AllocError> {
         let mut is_first = true;
         for from in inputs {
-            let share = self.sent.of(number_of(from));
+            let share = sent.of(number_of(from));
             if !is_own_item(from) || share == Share::All {
                 continue;
             }

@@ -1,9 +1,11 @@
 //! Entries of the two records, and pairs of them.
 
-use crate::words::NamedReference;
+use crate::loops::HoldingTables;
+use crate::words::{NamedReference, WrittenSubscripts};
 use cob_copybook_tree::Kind;
 use cob_layout::Layout;
 use cob_report_partners::{BothRecords, DraftBearer, qualifiers_needed};
+use std::alloc::{AllocError, Global};
 
 /// Two records, of which a draft is made.
 #[derive(Drop)]
@@ -11,6 +13,26 @@ pub(crate) struct Records<'a> {
     pub(crate) both: BothRecords<'a>,
     pub(crate) input: &'a Layout,
     pub(crate) output: &'a Layout,
+    /// The tables of the output record.
+    pub(crate) tables: HoldingTables,
+}
+
+impl<'a> Records<'a> {
+    /// The records of two layouts.
+    pub(crate) fn of(
+        alloc: Global,
+        input: &'a Layout,
+        output: &'a Layout,
+    ) -> Result<Records<'a>, AllocError> {
+        let both = BothRecords::of(alloc, input, output)?;
+        let tables = HoldingTables::of(alloc, both.outputs())?;
+        Ok(Records {
+            both,
+            input,
+            output,
+            tables,
+        })
+    }
 }
 
 /// An entry, its partner, and with how many qualifiers each is named.
@@ -23,21 +45,21 @@ pub(crate) struct PartnerPair<'s, 'a> {
 }
 
 impl<'s, 'a> PartnerPair<'s, 'a> {
-    /// The sender of the statement for the elements with these subscripts.
-    pub(crate) fn sender(&self, subscripts: &'s [u32]) -> NamedReference<'s, 'a> {
+    /// The sender of the statement with these subscripts.
+    pub(crate) fn sender(&self, written: WrittenSubscripts<'s>) -> NamedReference<'s, 'a> {
         NamedReference {
             bearer: self.from,
             qualifiers: self.from_qualifiers,
-            subscripts,
+            written,
         }
     }
 
     /// The receiver of that statement.
-    pub(crate) fn receiver(&self, subscripts: &'s [u32]) -> NamedReference<'s, 'a> {
+    pub(crate) fn receiver(&self, written: WrittenSubscripts<'s>) -> NamedReference<'s, 'a> {
         NamedReference {
             bearer: self.to,
             qualifiers: self.to_qualifiers,
-            subscripts,
+            written,
         }
     }
 }

@@ -1,68 +1,80 @@
-//! The statements of a draft.
+//! What a draft says of the entries of the output record, in their order.
 
-use crate::lines::{DraftLineKind, DraftLines};
+use crate::loops::{loops_of, times, turns_of};
 use crate::pairs::{PartnerPair, Records, is_item, number_of};
 use crate::reasons::ObjectionReason;
 use crate::shares::{Shares, share_of};
-use crate::words::NamedReference;
-use arrayvec::ArrayVec;
-use cob_limits::MAX_RECORD;
-use cob_report_partners::{DraftBearer, GreatestNumbers, Objection, objection_to};
-use cob_report_words::{advance, first_subscripts};
+use cob_limits::MAX_WRITTEN_OUT;
+use cob_report_partners::{DraftBearer, Objection, objection_to};
 use std::alloc::{AllocError, Global};
+
+/// What a draft says of an entry of the output record.
+#[derive(Clone, Copy)]
+pub(crate) enum Saying<'s, 'a> {
+    /// The statement that moves its partner to it.
+    Statement(PartnerPair<'s, 'a>),
+    /// That statement as a comment, behind what is against it.
+    Objection(ObjectionReason<'s, 'a>),
+    /// A remark.
+    Remark(&'static str),
+    /// A remark behind its name.
+    Noted(&'static str),
+    /// An entry of a list, with its name before it.
+    Listed(&'static str),
+}
+
+/// A piece of a draft: an entry of the output record, and what is said of it.
+#[derive(Clone, Copy)]
+pub(crate) struct DraftPiece<'s, 'a> {
+    pub(crate) to: &'s DraftBearer<'a>,
+    pub(crate) saying: Saying<'s, 'a>,
+}
 
 /// What a draft has come to.
 #[derive(Drop)]
-pub(crate) struct DraftProgress {
+pub(crate) struct DraftProgress<'s, 'a> {
     pub(crate) alloc: Global,
-    pub(crate) lines: DraftLines,
-    pub(crate) statements: u64,
+    pub(crate) pieces: Vec<DraftPiece<'s, 'a>>,
+    /// The pairs of the statements among the pieces, in their order.
+    pub(crate) pairs: Vec<PartnerPair<'s, 'a>>,
+    /// Whether a statement was left out since the loops would come to too many.
+    pub(crate) is_full: bool,
+    /// How many statements the loops come to.
+    written_out: u64,
     /// What is moved of each entry of the input record.
     pub(crate) sent: Shares,
     /// What is moved to each entry of the output record.
     pub(crate) received: Shares,
 }
 
-/// The elements that two entries in as many tables both have.
-fn shared_tables(from: &[u32], to: &[u32]) -> GreatestNumbers {
-    let mut tables = ArrayVec::new();
-    for (one, other) in from.iter().zip(to.iter()) {
-        let _ = tables.try_push((*one).min(*other));
-    }
-    tables
-}
-
-impl DraftProgress {
+impl<'s, 'a> DraftProgress<'s, 'a> {
     /// Nothing yet, of records of so many entries.
     pub(crate) fn new(
         alloc: Global,
         inputs: usize,
         outputs: usize,
-    ) -> Result<DraftProgress, AllocError> {
+    ) -> Result<DraftProgress<'s, 'a>, AllocError> {
         let sent = Shares::nothing(alloc, inputs)?;
         let received = Shares::nothing(alloc, outputs)?;
         Ok(DraftProgress {
             alloc,
-            lines: DraftLines::new(String::new(alloc)),
-            statements: 0,
+            pieces: Vec::new(alloc),
+            pairs: Vec::new(alloc),
+            is_full: false,
+            written_out: 0,
             sent,
             received,
         })
     }
 
-    /// Adds the statement of one element, or a comment in its form.
-    fn push_move(
+    /// Adds what is said of an entry of the output record.
+    pub(crate) fn push_piece(
         &mut self,
-        mark: DraftLineKind,
-        pair: &PartnerPair<'_, '_>,
-        subscripts: &[u32],
+        to: &'s DraftBearer<'a>,
+        saying: Saying<'s, 'a>,
     ) -> Result<(), AllocError> {
-        let from = pair.sender(subscripts);
-        let to = pair.receiver(subscripts);
-        let sends = format!(in self.alloc; "MOVE {from}")?;
-        let receives = format!(in self.alloc; "TO {to}.")?;
-        let whole = format!(in self.alloc; "{sends} {receives}")?;
-        self.lines.push_statement(mark, &sends, &receives, &whole)
+        self.pieces.push(DraftPiece { to, saying })?;
+        Ok(())
     }
 
     /// Notes what is moved where the elements of a pair are moved that both entries have: of the entries with those beneath them, and of what the sender
@@ -79,66 +91,59 @@ impl DraftProgress {
             .note(number_of(receiving), receiving.entry.last, received);
     }
 
-    /// Adds the statements of all elements that both entries have.
-    fn push_moves(&mut self, pair: &PartnerPair<'_, '_>) -> Result<(), AllocError> {
-        let (sending, receiving) = (pair.from, pair.to);
-        let tables = shared_tables(
-            sending.entry.tables.as_slice(),
-            receiving.entry.tables.as_slice(),
-        );
-        let mut subscripts = first_subscripts(tables.as_slice());
-        for _ in 0..MAX_RECORD {
-            self.push_move(DraftLineKind::Statement, pair, subscripts.as_slice())?;
-            self.statements = self.statements.saturating_add(1);
-            if !advance(subscripts.as_mut_slice(), tables.as_slice()) {
-                break;
-            }
+    /// Counts what the statement of a pair comes to in its loops, and answers whether a paragraph has room for it.
+    fn has_room(&mut self, records: &Records<'_>, pair: &PartnerPair<'_, '_>) -> bool {
+        if loops_of(records, pair).is_empty() {
+            return true;
         }
-        self.note_moves(pair, tables.as_slice());
+        let turns = turns_of(pair);
+        let written_out = self.written_out.saturating_add(times(turns.as_slice()));
+        if written_out > MAX_WRITTEN_OUT {
+            self.is_full = true;
+            return false;
+        }
+        self.written_out = written_out;
+        true
+    }
+
+    /// Adds the statement of a pair.
+    fn push_statement(
+        &mut self,
+        records: &Records<'_>,
+        pair: &PartnerPair<'s, 'a>,
+    ) -> Result<(), AllocError> {
+        if !self.has_room(records, pair) {
+            return Ok(());
+        }
+        self.push_piece(pair.to, Saying::Statement(*pair))?;
+        self.pairs.push(*pair)?;
+        let turns = turns_of(pair);
+        self.note_moves(pair, turns.as_slice());
         Ok(())
     }
 
-    /// Adds a statement that may not stand, as a comment, and why; of tables that of the first element.
-    fn push_objection(&mut self, reason: &ObjectionReason<'_, '_>) -> Result<(), AllocError> {
-        let words = format!(in self.alloc; "{reason}")?;
-        self.lines.push_remark(&words)?;
-        let receiving = reason.pair.to;
-        let first = first_subscripts(receiving.entry.tables.as_slice());
-        self.push_move(DraftLineKind::Comment, &reason.pair, first.as_slice())
-    }
-
-    /// Adds the statements of a pair, or a comment where something is against them, and answers what that is.
+    /// Adds the statement of a pair, or a comment where something is against it, and answers what that is.
     pub(crate) fn push_pair(
         &mut self,
-        records: &Records<'_>,
-        pair: &PartnerPair<'_, '_>,
+        records: &'s Records<'a>,
+        pair: &PartnerPair<'s, 'a>,
     ) -> Result<Option<Objection>, AllocError> {
         let (sending, receiving) = (pair.from, pair.to);
         match objection_to(self.alloc, &sending.entry, &receiving.entry)? {
             Some(objection) => {
-                self.push_objection(&ObjectionReason {
+                let reason = ObjectionReason {
                     records,
                     pair: *pair,
                     objection,
-                })?;
+                };
+                self.push_piece(receiving, Saying::Objection(reason))?;
                 Ok(Some(objection))
             }
             None => {
-                self.push_moves(pair)?;
+                self.push_statement(records, pair)?;
                 Ok(None)
             }
         }
-    }
-
-    /// Adds a remark on an entry of the output record.
-    pub(crate) fn push_noted(
-        &mut self,
-        to: &DraftBearer<'_>,
-        words: &str,
-    ) -> Result<(), AllocError> {
-        let name = NamedReference::whole(to);
-        let remark = format!(in self.alloc; "{name}: {words}")?;
-        self.lines.push_remark(&remark)
     }
 }
 

@@ -3,12 +3,32 @@
 use cob_report_partners::DraftBearer;
 use std::fmt;
 
+/// The names of the counters, that of the outermost loop first.
+pub(crate) type CounterNames = Vec<Vec<u8>>;
+
+/// A subscript of a statement.
+#[derive(Clone, Copy, PartialEq, Eq, Default)]
+pub(crate) enum Subscript {
+    /// That of the first element.
+    #[default]
+    First,
+    /// The counter of the loop with this number, the outermost 0.
+    Counter(usize),
+}
+
+/// The subscripts of a statement, with the names of counters.
+#[derive(Clone, Copy)]
+pub(crate) struct WrittenSubscripts<'s> {
+    pub(crate) subscripts: &'s [Subscript],
+    pub(crate) counters: &'s [Vec<u8>],
+}
+
 /// A reference to an entry: its name, so many of its qualifiers, the nearest first, and its subscripts.
 #[derive(Clone, Copy)]
 pub(crate) struct NamedReference<'s, 'a> {
     pub(crate) bearer: &'s DraftBearer<'a>,
     pub(crate) qualifiers: usize,
-    pub(crate) subscripts: &'s [u32],
+    pub(crate) written: WrittenSubscripts<'s>,
 }
 
 impl<'s, 'a> NamedReference<'s, 'a> {
@@ -17,7 +37,10 @@ impl<'s, 'a> NamedReference<'s, 'a> {
         NamedReference {
             bearer,
             qualifiers: bearer.above.len(),
-            subscripts: &[],
+            written: WrittenSubscripts {
+                subscripts: &[],
+                counters: &[],
+            },
         }
     }
 }
@@ -30,6 +53,56 @@ fn write_name<W: fmt::Write>(f: &mut fmt::Formatter<W>, name: &[u8]) -> fmt::Res
     Ok(())
 }
 
+/// The head of a loop: its counter, and how many turns it has.
+#[derive(Clone, Copy)]
+pub(crate) struct LoopHead<'s> {
+    pub(crate) counter: &'s [u8],
+    pub(crate) turns: u32,
+}
+
+impl fmt::Display for LoopHead<'_> {
+    fn fmt<W: fmt::Write>(&self, f: &mut fmt::Formatter<W>) -> fmt::Result {
+        write!(f, "PERFORM VARYING ")?;
+        write_name(f, self.counter)?;
+        write!(f, " FROM 1 BY 1 UNTIL ")?;
+        write_name(f, self.counter)?;
+        let turns = self.turns;
+        write!(f, " > {turns}")
+    }
+}
+
+impl WrittenSubscripts<'_> {
+    /// Writes a subscript.
+    fn write_subscript<W: fmt::Write>(
+        &self,
+        f: &mut fmt::Formatter<W>,
+        subscript: Subscript,
+    ) -> fmt::Result {
+        match subscript {
+            Subscript::First => write!(f, "1"),
+            Subscript::Counter(number) => match self.counters.get(number) {
+                Some(name) => write_name(f, name),
+                None => write!(f, "1"),
+            },
+        }
+    }
+}
+
+impl fmt::Display for WrittenSubscripts<'_> {
+    fn fmt<W: fmt::Write>(&self, f: &mut fmt::Formatter<W>) -> fmt::Result {
+        let Some((first, others)) = self.subscripts.split_first() else {
+            return Ok(());
+        };
+        write!(f, " (")?;
+        self.write_subscript(f, *first)?;
+        for subscript in others {
+            write!(f, ", ")?;
+            self.write_subscript(f, *subscript)?;
+        }
+        write!(f, ")")
+    }
+}
+
 impl fmt::Display for NamedReference<'_, '_> {
     fn fmt<W: fmt::Write>(&self, f: &mut fmt::Formatter<W>) -> fmt::Result {
         write_name(f, self.bearer.name.unwrap_or(b"FILLER"))?;
@@ -37,13 +110,7 @@ impl fmt::Display for NamedReference<'_, '_> {
             write!(f, " OF ")?;
             write_name(f, name)?;
         }
-        let Some((first, others)) = self.subscripts.split_first() else {
-            return Ok(());
-        };
-        write!(f, " ({first}")?;
-        for subscript in others {
-            write!(f, ", {subscript}")?;
-        }
-        write!(f, ")")
+        let written = self.written;
+        write!(f, "{written}")
     }
 }

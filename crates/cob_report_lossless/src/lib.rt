@@ -10,12 +10,12 @@
 //!
 //! What is promised: of two items, what the second one lacks ([`lack_of`]; `Lacks` of specs/Lacks.antt), nothing exactly where it loses nothing of the
 //! first (`LosesNothing` of `cob_back_moves`); and the lines of the statements that a paragraph comes to, those of a loop once for each of its turns
-//! ([`lines_of`]; `AreLinesOf` of specs/Lines.antt). Which words tell
+//! ([`lines_of`]; `AreLinesOf` of specs/Lines.antt), which are answered, memory aside, of each text that has such lines. Which words tell
 //! a loss is shown by `cob_test_jobs`.
 //!
 //! # Where it is proved
 //!
-//! The clauses `none`, `lost`, `lacks` of `lack_of`, and that of `lines_of`; which words tell a loss is shown by rows.
+//! The clauses `none`, `lost`, `lacks` of `lack_of`, and `found`, `only` of `lines_of`: a text that has lines is refused for want of memory alone; which words tell a loss is shown by rows.
 #![tactic(auto)]
 
 mod items;

@@ -1,3 +1,4 @@
 pub mod NamingLemmas
 pub mod RecordLemmas
 pub mod SoughtLemmas
+pub mod CounterLemmas

@@ -3,3 +3,4 @@ pub mod Groups
 pub mod Partners
 pub mod Verdicts
 pub mod Naming
+pub mod Counters

@@ -15,15 +15,19 @@
 //!   count of no table and holds none, the table of categories has the move, it can lose nothing, and where it copies bytes each byte of the receiver is
 //!   described as what it gets (`MayStand` and `Objects` of specs/Verdicts.antt);
 //! - [`qualifiers_needed`] answers the least number of qualifiers with which a name names one entry of both records alone (`IsNeeded` of
-//!   specs/Naming.antt).
+//!   specs/Naming.antt);
+//! - [`counter_name`] answers a name for the counter of a loop that no entry of both records has (`IsCounterName` of specs/Counters.antt), and the law
+//!   [`counters_are_apart`] says that counters of two letters differ.
 //!
 //! The names that the groups of two records share are found once, by a table of names, and the qualifiers of a name by one pass over the entries.
 //!
 //! # Where it is proved
 //!
-//! The clauses of `entries_of`, `partner_of`, `partner_within`, `only_item_beneath`, `objection_to` and `qualifiers_needed`.
+//! The clauses of `entries_of`, `partner_of`, `partner_within`, `only_item_beneath`, `objection_to`, `qualifiers_needed` and `counter_name`; the law
+//! `counters_are_apart`.
 #![tactic(auto)]
 
+mod counters;
 mod entries;
 mod groups;
 mod judge;
@@ -33,6 +37,7 @@ mod partners;
 mod records;
 mod words;
 
+pub use counters::{counter_name, counters_are_apart};
 pub use entries::{DraftBearer, DraftEntry, GreatestNumbers, entries_of};
 pub use judge::{Objection, objection_to};
 pub use naming::qualifiers_needed;

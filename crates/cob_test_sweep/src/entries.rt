@@ -70,7 +70,7 @@ fn innermost(tables: [Times; DEPTHS]) -> Times {
 }
 
 /// The tables that entries stand in beneath one of this depth, which stands in others.
-fn with_table(mut tables: [Times; DEPTHS], depth: u64, times: Times) -> [Times; DEPTHS] {
+pub(crate) fn with_table(mut tables: [Times; DEPTHS], depth: u64, times: Times) -> [Times; DEPTHS] {
     if let Some(own) = tables.get_mut(depth as usize) {
         *own = times;
     }

@@ -15,8 +15,8 @@
 //! - the forms of both sides (`job`);
 //! - the entries of the input record, to depth 4: items from a table of clauses, groups, tables, tables that vary with their counts before
 //!   them, redefinitions (`entries`);
-//! - the output record: the same names in another order, with clauses that the sender can be moved to, and a statement for each of them
-//!   (`receivers`, `statements`);
+//! - the output record: the same names in another order, with clauses that the sender can be moved to, and a statement for each of them,
+//!   or a loop over the elements of a table of a fixed size (`receivers`, `statements`);
 //! - one to three records (`values`).
 //!
 //! A sum is taken over bytes in their order: each makes of the sum 1099511628211 times itself, and adds itself, modulo 2 to the 64.

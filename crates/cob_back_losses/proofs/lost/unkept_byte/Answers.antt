@@ -11,5 +11,5 @@ returns c =
     let items = c.in_ok-received.received.items in
     let all = whole_taken 18446744073709551615 (element_bytes (node c.args.to.now)) (map item_byte items) c.in_ok-received.ensures (omega (arith, length-map items item_byte, c.in_ok-received.received.small)) in
     let same = ap (map item_byte) c.deref-2.ensures.value ∙ all in
-    told (sent_element c.args.from.now) (node c.args.to.now) (IsMarked c.args.covered.now) c.first_unkept.result c.requires
+    told (sent_element c.args.from.now) (node c.args.to.now) (IsMarked c.args.covered.now) c.first_unkept.result c.requires.moves
     (subst (λ (bs : List ItemByte). TellsAmong (sent_element c.args.from.now) bs (IsMarked c.args.covered.now) c.first_unkept.result) same c.first_unkept.ensures)

@@ -2,7 +2,8 @@ use Rattle.std.proofs.Common.{ℕ, Ok, subst}
 use Rattle.cob_move_steps.specs.declared.pool.MoveStep.TheVariants.{Characters}
 use Rattle.cob_move_data.specs.declared.operands.Side.TheVariants.{In}
 use Rattle.cob_move_apply.specs.Applied.{done}
-use Rattle.cob_move_apply.specs.Steps.{IsStep, Support, support_of}
+use Rattle.cob_move_steps.specs.declared.pool.MoveStep.{MoveStep}
+use Rattle.cob_move_apply.specs.Steps.{IsPreparedMove, IsStep, Support, support_of}
 use Rattle.cob_move_apply.specs.Surveyed.{records}
 use Rattle.cob_move_apply.specs.declared.step.PreparedMove.{PreparedMove}
 use Rattle.cob_move_apply.specs.declared.step.Step.{Step}
@@ -110,6 +111,31 @@ returns-in-Edited-clause-spends g c = λ yes given own is.
     let this = subst (λ (s : Step). IsStep x r given on s own) c.in-Edited.is is in
     c.run_single-in-Edited.ensures.spends yes own this
 
+pub run_single-requires-in-Long-clause-step : goal.run_single-requires-in-Long-clause-step
+run_single-requires-in-Long-clause-step g c =
+    let x = c.args.layouts.now.reading in
+    let r = records c.args.layouts.now in
+    let on : Support = support_of c.args.plan.now in
+    let (given, own, at) = c.requires.step in
+    let is = subst (λ (s : Step). IsStep x r given on s own) c.in-Prepared.is at in
+    (own, subst (λ (s : MoveStep). IsPreparedMove In x r on.prepared (record { places = c.in-Prepared.one.places; step = s }) own) c.in-Long.is is)
+
+pub returns-in-Long-clause-applied : goal.returns-in-Long-clause-applied
+returns-in-Long-clause-applied g c = λ yes given own is.
+    let x = c.args.layouts.now.reading in
+    let r = records c.args.layouts.now in
+    let on : Support = support_of c.args.plan.now in
+    let this = subst (λ (s : Step). IsStep x r given on s own) c.in-Prepared.is is in
+    c.run_single-in-Long.ensures.applied yes own (subst (λ (s : MoveStep). IsPreparedMove In x r on.prepared (record { places = c.in-Prepared.one.places; step = s }) own) c.in-Long.is this)
+
+pub returns-in-Long-clause-spends : goal.returns-in-Long-clause-spends
+returns-in-Long-clause-spends g c = λ yes given own is.
+    let x = c.args.layouts.now.reading in
+    let r = records c.args.layouts.now in
+    let on : Support = support_of c.args.plan.now in
+    let this = subst (λ (s : Step). IsStep x r given on s own) c.in-Prepared.is is in
+    c.run_single-in-Long.ensures.spends yes own (subst (λ (s : MoveStep). IsPreparedMove In x r on.prepared (record { places = c.in-Prepared.one.places; step = s }) own) c.in-Long.is this)
+
 pub run_one-requires-clause-step : goal.run_one-requires-clause-step
 run_one-requires-clause-step g c =
     let x = c.args.layouts.now.reading in
@@ -119,16 +145,16 @@ run_one-requires-clause-step g c =
     let is = subst (λ (s : Step). IsStep x r given on s own) c.in-Prepared.is at in
     (own, is)
 
-pub returns-in-Prepared-clause-applied : goal.returns-in-Prepared-clause-applied
-returns-in-Prepared-clause-applied g c = λ yes given own is.
+pub returns-in_default-clause-applied : goal.returns-in_default-clause-applied
+returns-in_default-clause-applied g c = λ yes given own is.
     let x = c.args.layouts.now.reading in
     let r = records c.args.layouts.now in
     let on : Support = support_of c.args.plan.now in
     let this = subst (λ (s : Step). IsStep x r given on s own) c.in-Prepared.is is in
     c.run_one.ensures.applied yes own this
 
-pub returns-in-Prepared-clause-spends : goal.returns-in-Prepared-clause-spends
-returns-in-Prepared-clause-spends g c = λ yes given own is.
+pub returns-in_default-clause-spends : goal.returns-in_default-clause-spends
+returns-in_default-clause-spends g c = λ yes given own is.
     let x = c.args.layouts.now.reading in
     let r = records c.args.layouts.now in
     let on : Support = support_of c.args.plan.now in

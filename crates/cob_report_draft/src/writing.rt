@@ -1,0 +1,175 @@
+//! What a draft says, written line by line, with loops round what it says of the elements of tables.
+
+use crate::lines::{DraftLineKind, DraftLines};
+use crate::loops::{
+    TableLoop, TableLoops, count_holding, count_same, counts_beside, loops_of, subscripts_of,
+};
+use crate::pairs::{PartnerPair, Records};
+use crate::progress::{DraftPiece, DraftProgress, Saying};
+use crate::reasons::ObjectionReason;
+use crate::words::{CounterNames, LoopHead, NamedReference, Subscript, WrittenSubscripts};
+use arrayvec::ArrayVec;
+use cob_report_partners::DraftBearer;
+use std::alloc::{AllocError, Global};
+
+/// The text of a draft, as far as it is written, and the loops that are open at its end.
+#[derive(Drop)]
+pub(crate) struct DraftText {
+    pub(crate) alloc: Global,
+    pub(crate) lines: DraftLines,
+    /// The names of the loops' counters, that of the outermost first.
+    counters: CounterNames,
+    open: TableLoops,
+}
+
+/// The loops of the next statement that an entry of the output record stands in too.
+fn loops_ahead(
+    records: &Records<'_>,
+    next: Option<&PartnerPair<'_, '_>>,
+    to: &DraftBearer<'_>,
+) -> TableLoops {
+    let Some(pair) = next else {
+        return ArrayVec::new();
+    };
+    let mut loops = loops_of(records, pair);
+    let count = count_holding(loops.as_slice(), to);
+    loops.truncate(count);
+    loops
+}
+
+impl DraftText {
+    /// No line yet.
+    pub(crate) fn new(alloc: Global, counters: CounterNames) -> DraftText {
+        DraftText {
+            alloc,
+            lines: DraftLines::new(String::new(alloc)),
+            counters,
+            open: ArrayVec::new(),
+        }
+    }
+
+    /// Closes loops until so many are open.
+    fn close_to(&mut self, count: usize) -> Result<(), AllocError> {
+        for _ in count..self.open.len() {
+            let _ = self.open.pop();
+            self.lines.close_loop()?;
+        }
+        Ok(())
+    }
+
+    /// Opens a loop, if the text has room for it.
+    fn open_loop(&mut self, own: &TableLoop) -> Result<(), AllocError> {
+        let turns = own.turns;
+        let Some(counter) = self.counters.get(self.open.len()) else {
+            self.lines.is_cut = true;
+            return Ok(());
+        };
+        let head = LoopHead { counter, turns };
+        let words = format!(in self.alloc; "{head}")?;
+        if self.lines.open_loop(&words)? {
+            let _ = self.open.try_push(*own);
+        }
+        Ok(())
+    }
+
+    /// Closes the loops that a piece does not stand in, and opens those of the next statement that it stands in too.
+    fn turn_to(
+        &mut self,
+        records: &Records<'_>,
+        piece: &DraftPiece<'_, '_>,
+        next: Option<&PartnerPair<'_, '_>>,
+    ) -> Result<(), AllocError> {
+        let ahead = loops_ahead(records, next, piece.to);
+        let same = count_same(self.open.as_slice(), ahead.as_slice());
+        let kept = match piece.saying {
+            Saying::Statement(_) => same,
+            _ => count_holding(self.open.as_slice(), piece.to),
+        };
+        self.close_to(kept)?;
+        if kept == same {
+            for own in ahead.as_slice().iter().skip(same) {
+                self.open_loop(own)?;
+            }
+        }
+        Ok(())
+    }
+
+    /// Subscripts, with the names of counters.
+    fn written<'s>(&'s self, subscripts: &'s [Subscript]) -> WrittenSubscripts<'s> {
+        WrittenSubscripts {
+            subscripts,
+            counters: self.counters.as_slice(),
+        }
+    }
+
+    /// Adds the statement of a pair, or a comment in its form: in loops without a period.
+    fn push_move(
+        &mut self,
+        mark: DraftLineKind,
+        pair: &PartnerPair<'_, '_>,
+    ) -> Result<(), AllocError> {
+        let (sending, receiving) = (pair.from, pair.to);
+        let sent = sending.entry.tables.as_slice();
+        let received = receiving.entry.tables.as_slice();
+        let from_counts = counts_beside(sent, received);
+        let to_counts = counts_beside(received, sent);
+        let from_subscripts = subscripts_of(self.open.as_slice(), from_counts.as_slice());
+        let to_subscripts = subscripts_of(self.open.as_slice(), to_counts.as_slice());
+        let from = pair.sender(self.written(from_subscripts.as_slice()));
+        let to = pair.receiver(self.written(to_subscripts.as_slice()));
+        let period = if self.open.is_empty() { "." } else { "" };
+        let sends = format!(in self.alloc; "MOVE {from}")?;
+        let receives = format!(in self.alloc; "TO {to}{period}")?;
+        let whole = format!(in self.alloc; "{sends} {receives}")?;
+        self.lines.push_statement(mark, &sends, &receives, &whole)
+    }
+
+    /// Adds a statement that may not stand, as a comment, and why.
+    fn push_objection(&mut self, reason: &ObjectionReason<'_, '_>) -> Result<(), AllocError> {
+        let words = format!(in self.alloc; "{reason}")?;
+        self.lines.push_remark(&words)?;
+        self.push_move(DraftLineKind::Comment, &reason.pair)
+    }
+
+    /// Adds a remark on an entry of the output record.
+    fn push_noted(&mut self, to: &DraftBearer<'_>, words: &str) -> Result<(), AllocError> {
+        let name = NamedReference::whole(to);
+        let remark = format!(in self.alloc; "{name}: {words}")?;
+        self.lines.push_remark(&remark)
+    }
+
+    /// Adds an entry of the output record to a list, with what is said of it.
+    fn push_listed(&mut self, to: &DraftBearer<'_>, words: &str) -> Result<(), AllocError> {
+        let name = NamedReference::whole(to);
+        let listed = format!(in self.alloc; "{name}: {words}")?;
+        self.lines.push_listed(&listed)
+    }
+
+    /// Adds a piece, in the loops that are open.
+    fn push_piece(&mut self, piece: &DraftPiece<'_, '_>) -> Result<(), AllocError> {
+        match &piece.saying {
+            Saying::Statement(pair) => self.push_move(DraftLineKind::Statement, pair),
+            Saying::Objection(reason) => self.push_objection(reason),
+            Saying::Remark(words) => self.lines.push_remark(words),
+            Saying::Noted(words) => self.push_noted(piece.to, words),
+            Saying::Listed(words) => self.push_listed(piece.to, words),
+        }
+    }
+
+    /// Adds all pieces, with their loops.
+    pub(crate) fn push_pieces(
+        &mut self,
+        records: &Records<'_>,
+        progress: &DraftProgress<'_, '_>,
+    ) -> Result<(), AllocError> {
+        let mut next = 0;
+        for piece in progress.pieces.iter() {
+            self.turn_to(records, piece, progress.pairs.get(next))?;
+            self.push_piece(piece)?;
+            if let Saying::Statement(_) = piece.saying {
+                next += 1;
+            }
+        }
+        self.close_to(0)
+    }
+}

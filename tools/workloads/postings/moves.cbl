@@ -1,0 +1,13 @@
+           MOVE ACCOUNT TO O-ACCOUNT.
+           MOVE KIND TO O-KIND.
+           MOVE HOLDER TO O-HOLDER.
+           MOVE REMARK TO O-REMARK.
+           MOVE BOOKED-ON TO O-BOOKED-ON.
+           MOVE VALUED-ON TO O-VALUED-ON.
+           MOVE BALANCE TO O-BALANCE.
+           MOVE POSTINGS TO O-POSTINGS.
+           MOVE RATE TO O-RATE.
+           PERFORM VARYING I FROM 1 BY 1 UNTIL I > 6
+               MOVE AMOUNT (I) TO O-AMOUNT (I)
+               MOVE TAX (I) TO O-TAX (I)
+           END-PERFORM.
