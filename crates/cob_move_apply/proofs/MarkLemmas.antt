@@ -127,7 +127,10 @@ mark_last marks m =
 
 -- the mark behind the first of two at least is the same without it
 last_behind : (n k : Mark) (marks : List Mark) → last_mark (n ∷ k ∷ marks) ≡ last_mark (k ∷ marks)
-last_behind n k marks = refl
+last_behind n k marks =
+    let long : suc (suc (length marks)) - 1 ≡ suc (length marks) = omega arith in
+    let short : suc (length marks) - 1 ≡ length marks = omega arith in
+    ap (λ (i : ℕ). mark_at (n ∷ k ∷ marks) i) long ∙ ap (λ (i : ℕ). mark_at (k ∷ marks) i) (sym short)
 
 steps_pushed : (x : Reading) (r : Records) (given : List StatementMoves) (behind : ℕ) (n : Mark) (marks : List Mark) (m : Mark)
     → parted_steps x r given behind ((n ∷ marks) ++ m ∷ []) ≡ parted_steps x r given behind (n ∷ marks) + steps_in r (moves_by x r (items_between (last_mark (n ∷ marks)).statement m.statement given))
@@ -249,7 +252,7 @@ parted_more r given a b steps own now marks made m more grown pushed here furthe
       last = ap (λ (l : Mark). l.step) (mark_last marks m) ∙ end;
       rise = λ p q le lt. rising p q le (at_most q (length marks) (below q lt)) (at_most p (length marks) (omega (arith, le, below q lt)));
       stand = λ x p q le lt. standing x p q le (at_most q (length marks) (below q lt)) (at_most p (length marks) (omega (arith, le, below q lt)));
-      count = λ x. counted_both steps own ∙ (let (first, then) = (parted.count x, counts x) in omega (arith, first, then, parted_more_steps x r given marks m parted.some));
+      count = λ x. counted_both steps own ∙ omega (arith, parted.count x, counts x, parted_more_steps x r given marks m parted.some);
     }
 
 -- the same, where the last mark is known by how many statements stand before it
@@ -269,21 +272,25 @@ ends_pushed marks made m pushed = ap (λ (ms : List Mark). map statement_of ms) 
 
 -- ---- ends, one behind another
 
-pub ends_next : (begin whole : ℕ) (es : List ℕ) (i e : ℕ) → i < length es → e ≡ get_or es i e → AreEnds begin whole (drop i es) → (begin ≤ e) × (e ≤ whole) × AreEnds e whole (drop (i + 1) es)
-ends_next begin whole es i e lt is ends =
-    subst (λ (xs : List ℕ). AreEnds begin whole xs) (drop_more es i e lt ∙ ap (λ (n : ℕ). n ∷ drop (i + 1) es) (sym is)) ends
+pub ends_next : (begin whole : ℕ) (es : List ℕ) (i : ℕ) → i < length es → AreEnds begin whole (drop i es) → (begin ≤ get_or es i 0) × (get_or es i 0 ≤ whole) × AreEnds (get_or es i 0) whole (drop (i + 1) es)
+ends_next begin whole es i lt ends = subst (λ (xs : List ℕ). AreEnds begin whole xs) (drop_more es i 0 lt) ends
 
 pub ends_done : (begin whole : ℕ) (es : List ℕ) (i : ℕ) → length es ≤ i → AreEnds begin whole (drop i es) → begin ≡ whole
 ends_done begin whole es i past ends = subst (λ (xs : List ℕ). AreEnds begin whole xs) (drop_all i es past) ends
 
-pub said_more : (was now : List ℕ) (es : List ℕ) (i e : ℕ) → i < length es → e ≡ get_or es i e → was ≡ 0 ∷ take i es → now ≡ was ++ e ∷ [] → now ≡ 0 ∷ take (i + 1) es
-said_more was now es i e lt is before pushed =
-    pushed ∙ ap (λ (xs : List ℕ). xs ++ e ∷ []) before ∙ ap (λ (xs : List ℕ). 0 ∷ xs) (ap (λ (n : ℕ). take i es ++ n ∷ []) is ∙ sym (take_more es i e lt))
+pub said_more : (was now : List ℕ) (es : List ℕ) (i : ℕ) → i < length es → was ≡ 0 ∷ take i es → now ≡ was ++ get_or es i 0 ∷ [] → now ≡ 0 ∷ take (i + 1) es
+said_more was now es i lt before pushed =
+    pushed ∙ ap (λ (xs : List ℕ). xs ++ get_or es i 0 ∷ []) before ∙ ap (λ (xs : List ℕ). 0 ∷ xs) (sym (take_more es i 0 lt))
 
 pub said_all : (now es : List ℕ) (i : ℕ) → length es ≤ i → now ≡ 0 ∷ take i es → now ≡ 0 ∷ es
 said_all now es i past is = is ∙ ap (λ (xs : List ℕ). 0 ∷ xs) (take_all i es past)
 
 -- ---- all of them
+
+whole_between : {A : Type 0} (xs : List A) → items_between 0 (length xs) xs ≡ xs
+whole_between xs =
+    let none : length xs - 0 ≡ length xs = omega arith in
+    ap (λ (k : ℕ). take k xs) none ∙ take_all (length xs) xs (omega arith)
 
 -- the moves from the first mark to the last are all
 pub between_all : (x : Reading) (r : Records) (given : List StatementMoves) (marks : List Mark) → mark_at marks 0 ≡ record { statement = 0; step = 0 } → (last_mark marks).statement ≡ length given
@@ -291,7 +298,7 @@ pub between_all : (x : Reading) (r : Records) (given : List StatementMoves) (mar
 between_all x r given marks first whole =
     ap (λ (m : Mark). moves_by x r (items_between m.statement (last_mark marks).statement given)) first
     ∙ ap (λ (n : ℕ). moves_by x r (items_between 0 n given)) whole
-    ∙ ap (λ (ss : List StatementMoves). moves_by x r ss) (take_all (length given) given (omega arith))
+    ∙ ap (λ (ss : List StatementMoves). moves_by x r ss) (whole_between given)
 
 -- ---- marks that are read
 

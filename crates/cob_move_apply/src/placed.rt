@@ -1,6 +1,6 @@
 //! Entries that are read between moves, with what their places rest on.
 
-ghost use Rattle.std.specs.Prelude.{◌≡◌, ◌+◌, ◌≤◌, length, IfOk};
+ghost use Rattle.std.specs.Prelude.{◌≡◌, ◌+◌, ◌≤◌, false, IfOk};
 ghost use Rattle.cob_layout.specs.Kept.{AreKeptOf};
 ghost use Rattle.cob_layout.specs.Sound.{IsSound};
 ghost use Rattle.cob_layout.specs.Storage.{greatest_length};
@@ -23,6 +23,22 @@ use crate::survey::Survey;
 use cob_layout::{Layout, Place, Ref, records_are_sound};
 use cob_move_data::Side;
 
+/// What the place of an entry of the record of a side rests on, where it is read.
+fn basis_in(side: Side, entry: &Ref, input: &Layout, output: &Layout) -> Basis
+    requires operand { IsOperand
+        (record_of (record { input = input.now; output = output.now }) side)
+        (operand_in (record_of (record { input = input.now; output = output.now }) side)
+        entry.now) }
+    ensures { IsPlaced (record_of (record { input = input.now; output = output.now }) side) false
+        (operand_in (record_of (record { input = input.now; output = output.now }) side)
+        entry.now) result }
+{
+    match side {
+        Side::In => basis_of(input, entry, false),
+        Side::Out => basis_of(output, entry, false),
+    }
+}
+
 /// An entry of the record of a side that is read, with what its place rests on.
 #[derive(Drop)]
 pub struct PlacedEntry {
@@ -44,10 +60,7 @@ impl PlacedEntry {
         ensures entry { result.entry ≡ entry }
         ensures placed { IsPlacedEntry (record { input = input.now; output = output.now }) result }
     {
-        let basis = match side {
-            Side::In => basis_of(input, &entry, false),
-            Side::Out => basis_of(output, &entry, false),
-        };
+        let basis = basis_in(side, &entry, input, output);
         PlacedEntry { side, entry, basis }
     }
 

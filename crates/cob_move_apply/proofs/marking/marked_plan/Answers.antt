@@ -1,4 +1,4 @@
-use Rattle.std.proofs.Common.{◌≡◌, ◌∙◌, List, [], ◌∷◌, ap, length, map}
+use Rattle.std.proofs.Common.{◌≡◌, ◌∙◌, ◌++◌, List, [], ◌∷◌, ap, length, map}
 use Rattle.cob_move_data.specs.Moves.{Records}
 use Rattle.cob_move_apply.specs.Marked.{last_mark, statement_of}
 use Rattle.cob_move_apply.specs.Steps.{support_of}
@@ -8,19 +8,19 @@ use Rattle.cob_move_apply.proofs.marking.marked_plan.Goals as goal
 
 pub push_marked-requires-clause-rises : goal.push_marked-requires-clause-rises
 push_marked-requires-clause-rises c =
-    (ends_next c.loop-end.begin (length c.args.given.now) c.args.ends.now c.loop-end.end-index c.end-item.result c.loop-end-test.true c.end-item.is c.loop-end.invariant.ends).0
+    (ends_next c.loop-end.begin (length c.args.given.now) c.args.ends.now c.loop-end.end-index c.loop-end-test.true c.loop-end.invariant.ends).0
 
 pub push_marked-requires-clause-within : goal.push_marked-requires-clause-within
 push_marked-requires-clause-within c =
-    (ends_next c.loop-end.begin (length c.args.given.now) c.args.ends.now c.loop-end.end-index c.end-item.result c.loop-end-test.true c.end-item.is c.loop-end.invariant.ends).1
+    (ends_next c.loop-end.begin (length c.args.given.now) c.args.ends.now c.loop-end.end-index c.loop-end-test.true c.loop-end.invariant.ends).1
 
 pub loop-end-preserved : goal.loop-end-preserved
 loop-end-preserved c = record {
   none = c.in_ok-push_marked.ensures.none;
   parted = c.in_ok-push_marked.ensures.parted;
   begin = c.in_ok-push_marked.ensures.end;
-  ends = (ends_next c.loop-end.begin (length c.args.given.now) c.args.ends.now c.loop-end.end-index c.end-item.result c.loop-end-test.true c.end-item.is c.loop-end.invariant.ends).2;
-  said = said_more (map statement_of c.loop-end.marks.items) (map statement_of c.push_marked.new.marks.items) c.args.ends.now c.loop-end.end-index c.end-item.result c.loop-end-test.true c.end-item.is
+  ends = (ends_next c.loop-end.begin (length c.args.given.now) c.args.ends.now c.loop-end.end-index c.loop-end-test.true c.loop-end.invariant.ends).2;
+  said = said_more (map statement_of c.loop-end.marks.items) (map statement_of c.push_marked.new.marks.items) c.args.ends.now c.loop-end.end-index c.loop-end-test.true
       c.loop-end.invariant.said c.in_ok-push_marked.ensures.ends;
 }
 
@@ -35,10 +35,11 @@ returns-clause-ends c =
 pub loop-end-init : goal.loop-end-init
 loop-end-init c =
     let r : Records = record { input = c.args.input.now; output = c.args.output.now } in
-    let none : c.with_capacity-steps.steps.items ≡ [] = c.with_capacity-steps.ensures.items in
-    let one : c.push.new.self.items ≡ record { statement = 0; step = 0 } ∷ [] = c.in_ok-push.ensures.items in record {
+    let start : Mark = record { statement = 0; step = 0 } in
+    let none : c.in_ok-steps.steps.items ≡ [] = c.in_ok-steps.ensures.items in
+    let one : c.push.new.self.items ≡ start ∷ [] = c.in_ok-push.ensures.items ∙ ap (λ (ms : List Mark). ms ++ start ∷ []) c.in_ok-marks.ensures.items in record {
       none = c.empty_plan-plan.ensures;
-      parted = parted_first r c.args.given.now (support_of c.empty_plan-plan.result) c.with_capacity-steps.steps.items c.push.new.self.items none one;
+      parted = parted_first r c.args.given.now (support_of c.empty_plan-plan.result) c.in_ok-steps.steps.items c.push.new.self.items none one;
       begin = ap (λ (ms : List Mark). (last_mark ms).statement) one;
       ends = c.requires.ends;
       said = ap (λ (ms : List Mark). map statement_of ms) one;
