@@ -1,17 +1,19 @@
 -- The reads of moves, as contracts see them.
-use Rattle.std.proofs.Common.{◌≡◌, ℕ, ◌+◌, ◌≤◌, List, [], ◌++◌, length, ap, subst, append-nil, arith, Ok, Err, Result, Option}
+use Rattle.std.proofs.Common.{◌≡◌, ℕ, ◌+◌, ◌≤◌, List, [], ◌++◌, length, ap, subst, sym, ◌∙◌, append-nil, arith, Ok, Err, Result, Option}
 use Rattle.cob_copybook_tree.specs.Forests.{Forest}
 use Rattle.cob_copybook_tree.specs.Nodes.{Resolved}
 use Rattle.cob_layout.specs.declared.counts.StoredCount.{StoredCount}
-use Rattle.cob_layout.specs.Kept.{kept_numbers}
+use Rattle.cob_layout.specs.Kept.{AreKeptOf, kept_numbers}
 use Rattle.cob_layout_places.specs.Counts.{tables_of}
 use Rattle.cob_move_data.specs.Moves.{Move, Records}
 use Rattle.cob_move_apply.specs.Met.{HaveMet}
 use Rattle.cob_move_apply.specs.Reads.{ReadsFor, ReadsOfMoves, kept_among}
-use Rattle.cob_move_apply.specs.Room.{Scratching}
+use Rattle.cob_move_apply.specs.Room.{RoomForMoves, Scratching, room_of}
 use Rattle.cob_move_apply.specs.Spent.{MovesSpend, Spends, kept_of}
+use Rattle.cob_move_apply.specs.Surveyed.{IsWorkspace, room_in_space}
 use Rattle.cob_move_apply.specs.declared.stop.Stop.{Stop}
 use Rattle.cob_move_apply.specs.declared.survey.Survey.{Survey}
+use Rattle.cob_move_apply.specs.declared.workspace.Workspace.{Workspace}
 use Rattle.cob_move_apply.proofs.MetLemmas.{none_met}
 use Rattle.cob_move_apply.proofs.SpentLemmas.{allowed_none, kept_below}
 
@@ -48,3 +50,21 @@ pub kept_reads : {A : Type 0} (tree : Forest Resolved) (result : Result A Stop) 
     → Spends tree 0 result s t → ReadsFor tree 0 result old new
 kept_reads tree (Ok a) s t old new a_reads a_kept b_reads b_kept spent = omega (arith, a_reads, a_kept, b_reads, b_kept, spent.most)
 kept_reads tree (Err stop) s t old new a_reads a_kept b_reads b_kept spent = omega (arith, a_reads, a_kept, b_reads, b_kept, spent.most)
+
+-- ---- what is kept of both storages, as contracts see it
+
+-- what contracts see of a workspace
+abbrev pub seen_in : Workspace → Scratching
+seen_in w = record { room = room_in_space w; reads = w.output.reads; kept_input = w.input.counts.kept; kept_output = w.output.counts.kept }
+
+pub told_of : (r : Records) (w : Workspace) (s : Scratching) → seen_in w ≡ s → TellsSurvey r w.output s
+told_of r w s is = record { reads = sym (ap (λ (k : Scratching). k.reads) is); kept = sym (ap (λ (k : Scratching). kept_among r.output k.kept_output) is) }
+
+pub workspace_of : (r : Records) (input output : List ℕ) (w : Workspace) (s : Scratching) → seen_in w ≡ s → s.room ≡ room_of r → AreKeptOf r.input input s.kept_input → AreKeptOf r.output output s.kept_output
+    → IsWorkspace r input output w
+workspace_of r input output w s is room kept_input kept_output =
+    let same : room_in_space w ≡ room_of r = ap (λ (k : Scratching). k.room) is ∙ room in record {
+      surveyed_input = record { kept = subst (λ (k : Scratching). AreKeptOf r.input input k.kept_input) (sym is) kept_input; room = ap (λ (m : RoomForMoves). m.inputs) same };
+      surveyed_output = record { kept = subst (λ (k : Scratching). AreKeptOf r.output output k.kept_output) (sym is) kept_output; room = ap (λ (m : RoomForMoves). m.outputs) same };
+      content = ap (λ (m : RoomForMoves). m.content) same;
+    }
