@@ -5,7 +5,7 @@ use Rattle.cob_codec.specs.declared.reading.Reading.{Reading}
 use Rattle.cob_move_data.specs.declared.operands.StatementMoves.{StatementMoves}
 use Rattle.cob_move_data.specs.Moves.{Move, Records, moves_by, statement_moves_by}
 use Rattle.cob_move_apply.specs.Joined.{steps_in}
-use Rattle.cob_move_apply.specs.Marked.{AreEnds, ArePartedBy, StandBetween, items_between, last_mark, mark_at, parted_steps, statement_of}
+use Rattle.cob_move_apply.specs.Marked.{RiseUpTo, ArePartedBy, StandBetween, items_between, last_mark, mark_at, parted_steps, statement_of}
 use Rattle.cob_move_apply.specs.Planned.{AreMore, counted_steps}
 use Rattle.cob_move_apply.specs.Steps.{AreMovesCut, AreSteps, GainsCut, Grows, StandFor, Support, support_of}
 use Rattle.cob_move_apply.specs.declared.marking.Mark.{Mark}
@@ -272,11 +272,11 @@ ends_pushed marks made m pushed = ap (λ (ms : List Mark). map statement_of ms) 
 
 -- ---- ends, one behind another
 
-pub ends_next : (begin whole : ℕ) (es : List ℕ) (i : ℕ) → i < length es → AreEnds begin whole (drop i es) → (begin ≤ get_or es i 0) × (get_or es i 0 ≤ whole) × AreEnds (get_or es i 0) whole (drop (i + 1) es)
-ends_next begin whole es i lt ends = subst (λ (xs : List ℕ). AreEnds begin whole xs) (drop_more es i 0 lt) ends
+pub ends_next : (begin whole : ℕ) (es : List ℕ) (i : ℕ) → i < length es → RiseUpTo begin whole (drop i es) → (begin ≤ get_or es i 0) × (get_or es i 0 ≤ whole) × RiseUpTo (get_or es i 0) whole (drop (i + 1) es)
+ends_next begin whole es i lt ends = subst (λ (xs : List ℕ). RiseUpTo begin whole xs) (drop_more es i 0 lt) ends
 
-pub ends_done : (begin whole : ℕ) (es : List ℕ) (i : ℕ) → length es ≤ i → AreEnds begin whole (drop i es) → begin ≡ whole
-ends_done begin whole es i past ends = subst (λ (xs : List ℕ). AreEnds begin whole xs) (drop_all i es past) ends
+pub ends_done : (begin whole : ℕ) (es : List ℕ) (i : ℕ) → length es ≤ i → RiseUpTo begin whole (drop i es) → begin ≡ whole
+ends_done begin whole es i past ends = subst (λ (xs : List ℕ). RiseUpTo begin whole xs) (drop_all i es past) ends
 
 pub said_more : (was now : List ℕ) (es : List ℕ) (i : ℕ) → i < length es → was ≡ 0 ∷ take i es → now ≡ was ++ get_or es i 0 ∷ [] → now ≡ 0 ∷ take (i + 1) es
 said_more was now es i lt before pushed =

@@ -50,9 +50,9 @@ pub record ArePartedBy (r : Records) (given : List StatementMoves) (on : Support
   pub count : (x : Reading) → counted_steps steps ≡ parted_steps x r given 0 marks
 
 -- Numbers rise from one up to another, which is the last of them.
-abbrev pub AreEnds : (begin whole : ℕ) → List ℕ → Type 0
-AreEnds begin whole [] = begin ≡ whole
-AreEnds begin whole (end ∷ ends) = (begin ≤ end) × (end ≤ whole) × AreEnds end whole ends
+abbrev pub RiseUpTo : (begin whole : ℕ) → List ℕ → Type 0
+RiseUpTo begin whole [] = begin ≡ whole
+RiseUpTo begin whole (end ∷ ends) = (begin ≤ end) × (end ≤ whole) × RiseUpTo end whole ends
 
 -- ---- moves that are ready
 

@@ -30,7 +30,7 @@ pub struct MarkedMoves {
 }
 
 impl MarkedMoves {
-    ghost use Rattle.cob_move_apply.specs.Marked.{AreEnds, AreMarkedPrepared, ends_of_marks, moves_between_marks, marked_steps};
+    ghost use Rattle.cob_move_apply.specs.Marked.{RiseUpTo, AreMarkedPrepared, ends_of_marks, moves_between_marks, marked_steps};
     ghost use Rattle.cob_move_apply.specs.Prepared.{moves_of};
 
     /// Moves between the records of these layouts, made ready, with a mark before all of them, and one behind each of these numbers of statements. No copy
@@ -48,7 +48,7 @@ impl MarkedMoves {
     ) -> Result<MarkedMoves, AllocError>
         requires given { AreMoves (record { input = input.now; output = output.now })
             (moves (record { input = input.now; output = output.now }) given.items) }
-        requires ends { AreEnds 0 (length given.items) ends.now }
+        requires ends { RiseUpTo 0 (length given.items) ends.now }
         ensures made { IfOk result (λ m. (r : Records) → moves_of r m.moves ≡ moves r given.items) }
         ensures ends { IfOk result (λ m. ends_of_marks m ≡ 0 ∷ ends.now) }
         ensures prepared { IfOk result

@@ -2,7 +2,7 @@
 
 ghost use Rattle.std.specs.Prelude.{◌≡◌, ◌≤◌, ◌++◌, [], ◌∷◌, length, map, IfOk, OnOk};
 ghost use Rattle.cob_move_data.specs.Moves.{AreMoves, moves};
-ghost use Rattle.cob_move_apply.specs.Marked.{AreEnds, ArePartedBy, CountsSome, PlanGrows, StandForSome, last_mark, statement_of};
+ghost use Rattle.cob_move_apply.specs.Marked.{RiseUpTo, ArePartedBy, CountsSome, PlanGrows, StandForSome, last_mark, statement_of};
 ghost use Rattle.cob_move_apply.specs.Planned.{AreBetween, records_between};
 ghost use Rattle.cob_move_apply.specs.Steps.{support_of};
 
@@ -109,7 +109,7 @@ pub(crate) fn marked_plan(
 ) -> Result<MarkedPlan, AllocError>
     requires given { AreMoves (record { input = input.now; output = output.now })
         (moves (record { input = input.now; output = output.now }) given.now) }
-    requires ends { AreEnds 0 (length given.now) ends.now }
+    requires ends { RiseUpTo 0 (length given.now) ends.now }
     ensures parted { IfOk result (λ m. ArePartedBy (record { input = input.now; output = output.now })
         given.now (support_of m.plan) m.plan.steps.items m.marks.items) }
     ensures whole { IfOk result (λ m. (last_mark m.marks.items).statement ≡ length given.now) }

@@ -2,7 +2,7 @@ use Rattle.std.proofs.Common.{◌∙◌, List, ap, length, subst, sym}
 use Rattle.cob_codec.specs.declared.reading.Reading.TheVariants.{Pictured}
 use Rattle.cob_move_data.specs.declared.operands.StatementMoves.{StatementMoves}
 use Rattle.cob_move_data.specs.Moves.{Records}
-use Rattle.cob_move_apply.specs.Marked.{AreEnds, ArePartedBy}
+use Rattle.cob_move_apply.specs.Marked.{RiseUpTo, ArePartedBy}
 use Rattle.cob_move_apply.specs.Steps.{support_of}
 use Rattle.cob_move_apply.proofs.ReadingLemmas.{are_moves_so}
 use Rattle.cob_move_apply.proofs.marked.MarkedMoves.new.Goals as goal
@@ -17,4 +17,4 @@ returns-clause-prepared c =
     }
 
 pub marked_plan-made-requires-clause-ends : goal.marked_plan-made-requires-clause-ends
-marked_plan-made-requires-clause-ends c = subst (λ (ss : List StatementMoves). AreEnds 0 (length ss) c.args.ends.now) (sym c.as_slice.ensures.value) c.requires.ends
+marked_plan-made-requires-clause-ends c = subst (λ (ss : List StatementMoves). RiseUpTo 0 (length ss) c.args.ends.now) (sym c.as_slice.ensures.value) c.requires.ends
