@@ -46,7 +46,7 @@ pub(crate) struct PartnerPair<'s, 'a> {
 
 impl<'s, 'a> PartnerPair<'s, 'a> {
     /// The sender of the statement with these subscripts.
-    pub(crate) fn sender(&self, written: WrittenSubscripts<'s>) -> NamedReference<'s, 'a> {
+    pub(crate) fn sender<'w>(&self, written: WrittenSubscripts<'w>) -> NamedReference<'s, 'a, 'w> {
         NamedReference {
             bearer: self.from,
             qualifiers: self.from_qualifiers,
@@ -55,7 +55,10 @@ impl<'s, 'a> PartnerPair<'s, 'a> {
     }
 
     /// The receiver of that statement.
-    pub(crate) fn receiver(&self, written: WrittenSubscripts<'s>) -> NamedReference<'s, 'a> {
+    pub(crate) fn receiver<'w>(
+        &self,
+        written: WrittenSubscripts<'w>,
+    ) -> NamedReference<'s, 'a, 'w> {
         NamedReference {
             bearer: self.to,
             qualifiers: self.to_qualifiers,

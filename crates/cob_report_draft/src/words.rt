@@ -25,15 +25,15 @@ pub(crate) struct WrittenSubscripts<'s> {
 
 /// A reference to an entry: its name, so many of its qualifiers, the nearest first, and its subscripts.
 #[derive(Clone, Copy)]
-pub(crate) struct NamedReference<'s, 'a> {
+pub(crate) struct NamedReference<'s, 'a, 'w> {
     pub(crate) bearer: &'s DraftBearer<'a>,
     pub(crate) qualifiers: usize,
-    pub(crate) written: WrittenSubscripts<'s>,
+    pub(crate) written: WrittenSubscripts<'w>,
 }
 
-impl<'s, 'a> NamedReference<'s, 'a> {
+impl<'s, 'a> NamedReference<'s, 'a, 's> {
     /// A reference to an entry, or to all its elements, by its name and all its qualifiers.
-    pub(crate) fn whole(bearer: &'s DraftBearer<'a>) -> NamedReference<'s, 'a> {
+    pub(crate) fn whole(bearer: &'s DraftBearer<'a>) -> NamedReference<'s, 'a, 's> {
         NamedReference {
             bearer,
             qualifiers: bearer.above.len(),
@@ -103,7 +103,7 @@ impl fmt::Display for WrittenSubscripts<'_> {
     }
 }
 
-impl fmt::Display for NamedReference<'_, '_> {
+impl fmt::Display for NamedReference<'_, '_, '_> {
     fn fmt<W: fmt::Write>(&self, f: &mut fmt::Formatter<W>) -> fmt::Result {
         write_name(f, self.bearer.name.unwrap_or(b"FILLER"))?;
         for name in self.bearer.above.iter().take(self.qualifiers) {
