@@ -1,5 +1,6 @@
 pub mod Between
 pub mod Entries
+pub mod Deeds
 pub mod Paragraphs
 pub mod Laws
 pub mod Meaning

@@ -5,7 +5,7 @@ use Rattle.cob_move_apply.specs.declared.stop.Stop.{Stop}
 use Rattle.cob_move_apply.specs.Applied.{Applied, Ending, OneEnding, done, stopped}
 use Rattle.cob_move_apply.proofs.CutLemmas.{applied_both, applied_stopped}
 use Rattle.cob_move_apply.proofs.OneLemmas.{ok_is, ok_not, stop_of}
-use Rattle.cob_move_deeds.specs.Deeds.{Carried, Choice, Deeds, IsDetermined, IsStraight, Judging, Moving, Nothing, Then, moves_of_deeds, both_deeds}
+use Rattle.cob_move_deeds.specs.Deeds.{Carried, Choice, Deeds, IsDetermined, IsStraight, Judging, Moving, Nothing, Then, before_deeds, both_deeds, joined_deeds, moves_of_deeds}
 
 pub err_is : {A : Type 0} {E : Type 0} (a b : E) → ◌≡◌ {A = Result A E} (Err a) (Err b) → a ≡ b
 err_is a b e = cc
@@ -124,6 +124,68 @@ both_together judged r (Choice t holding lacking more) next input before end (in
           (then_then (λ k. Carried judged r lacking input before k) (λ s last. Carried judged r more input s last) (λ s last. Carried judged r next input s last) end (inr (stop, after, x, e))),
     ))
 both_together judged r (Choice t holding lacking more) next input before end (inr (stop, after, inr (inr (other, is, same)), e)) = inr (inr (other, is, e ∙ same))
+
+-- ---- moves that meet are together
+
+before_apart : {T : Type 0} (judged : Judging T) (r : Records) (ms : List Move) (d : Deeds T) (input before : List ℕ) (end : Ending)
+    → Carried judged r (before_deeds ms d) input before end → Then (λ e. Applied r ms input before e) (λ after last. Carried judged r d input after last) end
+before_apart judged r ms Nothing input before end x = x
+before_apart judged r ms (Moving own more) input before end x =
+    then_then (λ e. Applied r ms input before e) (λ after last. Applied r own input after last) (λ after last. Carried judged r more input after last) end
+    (then_map (λ e. Applied r (ms ++ own) input before e) (λ e. Then (λ k. Applied r ms input before k) (λ after last. Applied r own input after last) e)
+    (λ after last. Carried judged r more input after last) (λ after last. Carried judged r more input after last) end (λ e y. moves_apart r ms own input before e y) (λ after e y. y) x)
+before_apart judged r ms (Choice t holding lacking more) input before end x = x
+
+before_together : {T : Type 0} (judged : Judging T) (r : Records) (ms : List Move) (d : Deeds T) (input before : List ℕ) (end : Ending)
+    → Then (λ e. Applied r ms input before e) (λ after last. Carried judged r d input after last) end → Carried judged r (before_deeds ms d) input before end
+before_together judged r ms Nothing input before end x = x
+before_together judged r ms (Moving own more) input before end x =
+    then_map (λ e. Then (λ k. Applied r ms input before k) (λ after last. Applied r own input after last) e) (λ e. Applied r (ms ++ own) input before e)
+    (λ after last. Carried judged r more input after last) (λ after last. Carried judged r more input after last) end (λ e y. moves_together r ms own input before e y) (λ after e y. y)
+    (then_back (λ e. Applied r ms input before e) (λ after last. Applied r own input after last) (λ after last. Carried judged r more input after last) end x)
+before_together judged r ms (Choice t holding lacking more) input before end x = x
+
+pub joined_apart : {T : Type 0} (judged : Judging T) (r : Records) (d next : Deeds T) (input before : List ℕ) (end : Ending)
+    → Carried judged r (joined_deeds d next) input before end → Carried judged r (both_deeds d next) input before end
+joined_apart judged r Nothing next input before end x = x
+joined_apart judged r (Moving ms more) next input before end x =
+    then_map (λ e. Applied r ms input before e) (λ e. Applied r ms input before e) (λ after last. Carried judged r (joined_deeds more next) input after last)
+    (λ after last. Carried judged r (both_deeds more next) input after last) end (λ e y. y) (λ after e y. joined_apart judged r more next input after e y)
+    (before_apart judged r ms (joined_deeds more next) input before end x)
+joined_apart judged r (Choice t holding lacking more) next input before end (inl (is, x)) =
+    inl (
+      is,
+      then_map (λ e. Carried judged r holding input before e) (λ e. Carried judged r holding input before e) (λ after last. Carried judged r (joined_deeds more next) input after last)
+          (λ after last. Carried judged r (both_deeds more next) input after last) end (λ e y. y) (λ after e y. joined_apart judged r more next input after e y) x,
+    )
+joined_apart judged r (Choice t holding lacking more) next input before end (inr (inl (is, x))) =
+    inr (inl (
+      is,
+      then_map (λ e. Carried judged r lacking input before e) (λ e. Carried judged r lacking input before e) (λ after last. Carried judged r (joined_deeds more next) input after last)
+          (λ after last. Carried judged r (both_deeds more next) input after last) end (λ e y. y) (λ after e y. joined_apart judged r more next input after e y) x,
+    ))
+joined_apart judged r (Choice t holding lacking more) next input before end (inr (inr stops)) = inr (inr stops)
+
+pub joined_together : {T : Type 0} (judged : Judging T) (r : Records) (d next : Deeds T) (input before : List ℕ) (end : Ending)
+    → Carried judged r (both_deeds d next) input before end → Carried judged r (joined_deeds d next) input before end
+joined_together judged r Nothing next input before end x = x
+joined_together judged r (Moving ms more) next input before end x =
+    before_together judged r ms (joined_deeds more next) input before end
+    (then_map (λ e. Applied r ms input before e) (λ e. Applied r ms input before e) (λ after last. Carried judged r (both_deeds more next) input after last)
+    (λ after last. Carried judged r (joined_deeds more next) input after last) end (λ e y. y) (λ after e y. joined_together judged r more next input after e y) x)
+joined_together judged r (Choice t holding lacking more) next input before end (inl (is, x)) =
+    inl (
+      is,
+      then_map (λ e. Carried judged r holding input before e) (λ e. Carried judged r holding input before e) (λ after last. Carried judged r (both_deeds more next) input after last)
+          (λ after last. Carried judged r (joined_deeds more next) input after last) end (λ e y. y) (λ after e y. joined_together judged r more next input after e y) x,
+    )
+joined_together judged r (Choice t holding lacking more) next input before end (inr (inl (is, x))) =
+    inr (inl (
+      is,
+      then_map (λ e. Carried judged r lacking input before e) (λ e. Carried judged r lacking input before e) (λ after last. Carried judged r (both_deeds more next) input after last)
+          (λ after last. Carried judged r (joined_deeds more next) input after last) end (λ e y. y) (λ after e y. joined_together judged r more next input after e y) x,
+    ))
+joined_together judged r (Choice t holding lacking more) next input before end (inr (inr stops)) = inr (inr stops)
 
 -- an ending is one that is done, or one that stopped
 ended : (first : Ending → Type 0) (stop : Option Stop) (storage : List ℕ) → first (record { stop = stop; storage = storage })

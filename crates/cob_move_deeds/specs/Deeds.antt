@@ -36,6 +36,18 @@ both_deeds Nothing next = next
 both_deeds (Moving ms more) next = Moving ms (both_deeds more next)
 both_deeds (Choice t holding lacking more) next = Choice t holding lacking (both_deeds more next)
 
+-- moves in front of what is done: together with those that it begins with, if it begins with any
+abbrev pub before_deeds : {T : Type 0} → List Move → Deeds T → Deeds T
+before_deeds ms Nothing = Moving ms Nothing
+before_deeds ms (Moving own more) = Moving (ms ++ own) more
+before_deeds ms (Choice t holding lacking more) = Moving ms (Choice t holding lacking more)
+
+-- the one, and then the other; moves that meet are together, so that between two tests there are some at most once
+abbrev pub joined_deeds : {T : Type 0} → Deeds T → Deeds T → Deeds T
+joined_deeds Nothing next = next
+joined_deeds (Moving ms more) next = before_deeds ms (joined_deeds more next)
+joined_deeds (Choice t holding lacking more) next = Choice t holding lacking (joined_deeds more next)
+
 -- each of the moves that may be carried out, in order: those of both branches
 abbrev pub moves_of_deeds : {T : Type 0} → Deeds T → List Move
 moves_of_deeds Nothing = []

@@ -37,7 +37,7 @@ pub use checking::check;
 pub use counting::{is_few, is_shallow, loop_line};
 pub use laws::{breaks_none, no_turn, one_passage};
 pub use naming::{LoopFault, loops};
-pub use parts::Loop;
+pub use parts::{Loop, LoopBound};
 pub use stops::{behind_stop, behind_stops, is_stop};
 pub use turn::{Counter, in_turn};
 pub use words::{LoopWord, first_line, loop_word};
