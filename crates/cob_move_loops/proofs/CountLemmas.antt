@@ -114,7 +114,7 @@ pub nothing_written : (ns : List Counted) (p : Passage) (ws : List Lexeme) → I
 nothing_written ns NoMore ws is none = refl
 nothing_written ns (Moves own more) ws (rest, run, first, e, is) none = absurd (omega (arith, run_counts own run, none))
 nothing_written ns (Pause more) ws (pause, stops, rest, word, are, e, is) none = nothing_written ns more rest is none
-nothing_written ns (ALoop l body more) ws (head, own, stops, rest, end, h, ends, b, inner, word, are, e, is) none =
+nothing_written ns (ALoop l body more) ws (head, own, stops, rest, end, h, b, inner, word, are, e, is) none =
     let behind : statements_of more ≡ 0 = omega (arith, none) in
     let loop_none : turns_of l * statements_of body ≡ 0 = omega (arith, none) in
     let f : ℕ → List (List Lexeme) = λ i. words_by_turn (ns ++ counter_at l i ∷ []) body in

@@ -1,13 +1,17 @@
 -- The heads of loops.
-use Rattle.std.proofs.Common.{◌≡◌, ℕ, List, [], ◌∷◌, ◌++◌, length, refl, sym, ap, subst, ◌∙◌, append_assoc, arith, inl, inr, Option, Some, None}
+use Rattle.std.proofs.Common.{◌≡◌, ℕ, ◌<◌, List, [], ◌∷◌, ◌++◌, length, refl, sym, ap, subst, ◌∙◌, append_assoc, arith, rules, inl, inr, Bool, true, false, ◌||◌, Option, Some, None}
 use Rattle.std.specs.Prelude.{IfSome, codes}
+use denote.Ref.{Bor}
+use Rattle.std.specs.List.{AllByRecursion, list_any}
 use Rattle.cob_decimal.specs.Decimal.{number_of}
 use Rattle.cob_decimal.specs.Literals.{AreDigits, digits_in}
 use Rattle.cob_source.specs.Tokens.{Lexeme}
-use Rattle.std.specs.List.{AllByRecursion}
 use Rattle.cob_copybook_clauses.specs.Clauses.{IsNameWord, IsWord}
+use Rattle.cob_copybook_clauses.specs.Names.{is_letter}
 use Rattle.cob_copybook_clauses.specs.Reading.{StandInFront}
-use Rattle.cob_move_loops.specs.Reading.{AfterIs}
+use Rattle.cob_source.specs.declared.token.Token.{Token}
+use Rattle.cob_move_loops.specs.declared.parts.LoopBound.{LoopBound}
+use Rattle.cob_move_loops.specs.Reading.{AfterIs, AnswersBound}
 use Rattle.cob_move_loops.specs.Words.{AreItemWords, IsCounter, IsItemWord, IsNumber, NoItemWord}
 use Rattle.cob_move_loops.specs.Passages.{AreBoundWords, BoundEnds, IsGreater, IsHead, IsLoopBody, IsPastWord, IsStepping, IsUntil, IsVarying, NotThanFirst, ToItem, ToNumber, WrittenBound, WrittenLoop}
 
@@ -102,9 +106,16 @@ past_one g h a b (inr (inr (i, p, ii, ip, e))) (inr (inr (j, q, ij, iq, f))) m n
     let tail : p ++ a ≡ q ++ b = cc in
     greater_one p q a b ip iq m n tail
 
+digit_no_letter : (c : ℕ) → c < 58 → is_letter c ≡ false
+digit_no_letter c high = search rules
+
+no_letter : (text : List ℕ) → AreDigits text → list_any is_letter text ≡ true → ⊥
+no_letter [] digits some = let never : false ≡ true = some in cc
+no_letter (c ∷ cs) digits some = no_letter cs digits.1 (sym (ap (λ (b : Bool). b || list_any is_letter cs) (digit_no_letter c digits.0.1)) ∙ some)
+
 -- a number is no name: a name has a letter
 pub number_no_name : (n : ℕ) (w : Lexeme) → IsNumber n w → IsNameWord w → ⊥
-number_no_name n w is name = ?
+number_no_name n w is name = no_letter w.text is.spelled.digits name.1.letter
 
 -- THAN is no name of an item
 pub bound_no_than : (bound : WrittenBound) (own more : List Lexeme) → AreBoundWords bound own → NotThanFirst (own ++ more)
@@ -113,7 +124,7 @@ bound_no_than (ToItem []) own more (is, e) = absurd is
 bound_no_than (ToItem (w ∷ ws)) own more (is, e) = subst (λ (t : List Lexeme). NotThanFirst (t ++ more)) (sym e) is.1
 
 -- words of a reference end in one place
-items_one : (own us a b : List Lexeme) → AllByRecursion IsItemWord own → AllByRecursion IsItemWord us → NoItemWord a → NoItemWord b → own ++ a ≡ us ++ b → (own ≡ us) × (a ≡ b)
+pub items_one : (own us a b : List Lexeme) → AllByRecursion IsItemWord own → AllByRecursion IsItemWord us → NoItemWord a → NoItemWord b → own ++ a ≡ us ++ b → (own ≡ us) × (a ≡ b)
 items_one [] [] a b p q f g e = (refl, e)
 items_one [] (w ∷ us) a b p q f g e = absurd (subst NoItemWord e f q.0)
 items_one (w ∷ own) [] a b p q f g e = absurd (subst NoItemWord (sym e) g p.0)
@@ -124,7 +135,7 @@ items_one (w ∷ own) (v ∷ us) a b p q f g e =
     let first : w ≡ v = cc in
     (cc, rest.1)
 
-are_items : (own : List Lexeme) → AreItemWords own → AllByRecursion IsItemWord own
+pub are_items : (own : List Lexeme) → AreItemWords own → AllByRecursion IsItemWord own
 are_items [] is = absurd is
 are_items (w ∷ ws) is = is.2
 
@@ -151,6 +162,13 @@ bound_one (ToItem own) (ToItem us) x y a b (io, e) (iu, f) ends also same =
     let it : own ++ a ≡ us ++ b = sym (ap (λ (t : List Lexeme). t ++ a) e) ∙ same ∙ ap (λ (t : List Lexeme). t ++ b) f in
     let one = items_one own us a b (are_items own io) (are_items us iu) ends also it in
     (ap ToItem one.0, one.1)
+
+-- where no number comes first, what a loop ends by is an item
+pub bound_else : (words : List Lexeme) (answer : Option (LoopBound × Bor (List Token))) → ((n : ℕ) (w : Lexeme) (more : List Lexeme) → IsNumber n w → words ≡ w ∷ more → ⊥)
+    → ((own more : List Lexeme) → AreItemWords own → NoItemWord more → words ≡ own ++ more → AnswersBound answer (ToItem own) more)
+    → (bound : WrittenBound) (own more : List Lexeme) → AreBoundWords bound own → BoundEnds bound more → words ≡ own ++ more → AnswersBound answer bound more
+bound_else words answer none only (ToNumber n) own more (w, is, e) ends same = absurd (none n w more is (same ∙ ap (λ (t : List Lexeme). t ++ more) e))
+bound_else words answer none only (ToItem us) own more (is, e) ends same = only us more is ends (same ∙ ap (λ (t : List Lexeme). t ++ more) e)
 
 pub until_split : (u c : Lexeme) (past own a : List Lexeme) → (u ∷ c ∷ (past ++ own)) ++ a ≡ u ∷ c ∷ (past ++ (own ++ a))
 until_split u c past own a = ap (λ (t : List Lexeme). u ∷ c ∷ t) (append_assoc past own a)
@@ -195,16 +213,16 @@ pub head_words : (words ws more v s u : List Lexeme) → ws ≡ v ++ (s ++ u) �
 head_words words ws more v s u cut e = e ∙ ap (λ (t : List Lexeme). t ++ more) cut ∙ head_split v s u more
 
 -- the words of a bound end before the statements of the loop, and these are some
-pub ends_before : (l : WrittenLoop) (own more : List Lexeme) → IsLoopBody own → BoundEnds l.bound own → BoundEnds l.bound (own ++ more)
-ends_before l own more body ends = ends_in l.bound own more body.some ends
-  where
-    ends_in : (bound : WrittenBound) (own more : List Lexeme) → 0 < length own → BoundEnds bound own → BoundEnds bound (own ++ more)
-    ends_in (ToNumber n) own more some ends = tt
-    ends_in (ToItem ws) [] more some ends = absurd (omega (arith, some))
-    ends_in (ToItem ws) (w ∷ own) more some ends = ends
+ends_in : (bound : WrittenBound) (own more : List Lexeme) → 0 < length own → BoundEnds bound own → BoundEnds bound (own ++ more)
+ends_in (ToNumber n) own more some ends = tt
+ends_in (ToItem ws) [] more some ends = absurd (omega (arith, some))
+ends_in (ToItem ws) (w ∷ own) more some ends = ends
+
+pub ends_before : (bound : WrittenBound) (own more : List Lexeme) → IsLoopBody bound own → BoundEnds bound (own ++ more)
+ends_before bound own more body = ends_in bound own more body.some body.ends
 
 -- and back
-pub ends_of_body : (bound : WrittenBound) (own more : List Lexeme) → IsLoopBody own → BoundEnds bound (own ++ more) → BoundEnds bound own
-ends_of_body (ToNumber n) own more body ends = tt
-ends_of_body (ToItem ws) [] more body ends = tt
-ends_of_body (ToItem ws) (w ∷ own) more body ends = ends
+pub ends_of_body : (bound : WrittenBound) (own more : List Lexeme) → BoundEnds bound (own ++ more) → BoundEnds bound own
+ends_of_body (ToNumber n) own more ends = tt
+ends_of_body (ToItem ws) [] more ends = tt
+ends_of_body (ToItem ws) (w ∷ own) more ends = ends

@@ -42,7 +42,7 @@ first_word : (f : PassageFront) (ws more : List Lexeme) → FrontStands f ws mor
 first_word (ARun []) ws more (run, first, e) = absurd run
 first_word (ARun (w ∷ own)) ws more (run, first, e) = (w, own ++ more, e, run.1.0)
 first_word APause ws more (pause, stops, word, are, none, e) = (pause, stops ++ more, e, word)
-first_word (Looped l own) ws more (head, stops, end, h, ends, b, word, are, none, e) =
+first_word (Looped l own) ws more (head, stops, end, h, b, word, are, none, e) =
     let (w, tail, perform, f) = head_first l head h in
     (w, tail ++ (own ++ end ∷ (stops ++ more)), e ∙ ap (λ (t : List Lexeme). t ++ (own ++ end ∷ (stops ++ more))) f, perform)
 
@@ -69,8 +69,8 @@ one_front APause APause ws more others (pause, stops, word, are, none, e) (esuap
 one_front APause (Looped l own) ws more others p q = absurd (let never : Some loop.Continue ≡ Some loop.Perform = same_kind APause (Looped l own) ws more others p q in cc)
 one_front (Looped l own) (ARun us) ws more others p q = absurd (let never : Some loop.Perform ≡ None = same_kind (Looped l own) (ARun us) ws more others p q in cc)
 one_front (Looped l own) APause ws more others p q = absurd (let never : Some loop.Perform ≡ Some loop.Continue = same_kind (Looped l own) APause ws more others p q in cc)
-one_front (Looped l own) (Looped m us) ws more others (head, stops, end, h, ends, b, word, are, none, e) (deah, spots, dne, k, sdne, c, drow, era, enon, d) =
-    let heads = head_one l m head deah (own ++ end ∷ (stops ++ more)) (us ++ dne ∷ (spots ++ others)) h k (ends_before l own (end ∷ (stops ++ more)) b ends) (ends_before m us (dne ∷ (spots ++ others)) c sdne) (sym e ∙ d) in
+one_front (Looped l own) (Looped m us) ws more others (head, stops, end, h, b, word, are, none, e) (deah, spots, dne, k, c, drow, era, enon, d) =
+    let heads = head_one l m head deah (own ++ end ∷ (stops ++ more)) (us ++ dne ∷ (spots ++ others)) h k (ends_before l.bound own (end ∷ (stops ++ more)) b) (ends_before m.bound us (dne ∷ (spots ++ others)) c) (sym e ∙ d) in
     let cut = cut_one (Some 0) own us end dne (stops ++ more) (spots ++ others) b.closed word c.closed drow heads.1 in
     (λ i. Looped (heads.0 i) (cut.0 i), periods_one stops spots more others are era none enon cut.1)
 
@@ -89,8 +89,8 @@ nothing_else NoMore ws is e = refl
 nothing_else (Moves own more) ws (rest, run, first, cut, is) e = absurd (none_stands (ARun own) ws rest (run, first, cut) e)
 nothing_else (Pause more) ws (pause, stops, rest, word, are, cut, is) e =
     absurd (none_stands APause ws rest (pause, stops, word, are, no_period more rest is, cut) e)
-nothing_else (ALoop l body more) ws (head, own, stops, rest, end, h, ends, b, inner, word, are, cut, is) e =
-    absurd (none_stands (Looped l own) ws rest (head, stops, end, h, ends, b, word, are, no_period more rest is, cut) e)
+nothing_else (ALoop l body more) ws (head, own, stops, rest, end, h, b, inner, word, are, cut, is) e =
+    absurd (none_stands (Looped l own) ws rest (head, stops, end, h, b, word, are, no_period more rest is, cut) e)
 
 -- what is joined behind one thing in front is what another passage is joined of
 same_joined : (f : PassageFront) (p q : Passage) (ws rest : List Lexeme) → FrontStands f ws rest → IsPassage p rest → (k : InFront q ws)
@@ -111,8 +111,8 @@ one_passage (Pause more) q ws (pause, stops, rest, word, are, e, is) other =
     let k = in_front q ws other (some_words APause ws rest stands) in
     let same = same_joined APause more q ws rest stands is k (λ m it. one_passage more m rest is it) in
     ap (λ (m : Passage). Pause m) same.0 ∙ ap (λ (g : PassageFront). joined g k.body k.more) same.1 ∙ sym k.same
-one_passage (ALoop l body more) q ws (head, own, stops, rest, end, h, ends, b, inner, word, are, e, is) other =
-    let stands : FrontStands (Looped l own) ws rest = (head, stops, end, h, ends, b, word, are, no_period more rest is, e) in
+one_passage (ALoop l body more) q ws (head, own, stops, rest, end, h, b, inner, word, are, e, is) other =
+    let stands : FrontStands (Looped l own) ws rest = (head, stops, end, h, b, word, are, no_period more rest is, e) in
     let k = in_front q ws other (some_words (Looped l own) ws rest stands) in
     let same = same_joined (Looped l own) more q ws rest stands is k (λ m it. one_passage more m rest is it) in
     let within : Within (Looped l own) k.body = subst (λ (g : PassageFront). Within g k.body) (sym same.1) k.within in

@@ -37,7 +37,7 @@ pub no_period : (p : Passage) (ws : List Lexeme) → IsPassage p ws → NoPeriod
 no_period NoMore ws e = subst NoPeriod (sym e) tt
 no_period (Moves own more) ws (rest, run, first, e, is) = subst NoPeriod (sym e) (run_no_period own rest run)
 no_period (Pause more) ws (pause, stops, rest, word, are, e, is) = subst NoPeriod (sym e) (loop_no_period loop.Continue pause word)
-no_period (ALoop l body more) ws (head, own, stops, rest, end, h, ends, b, inner, word, are, e, is) =
+no_period (ALoop l body more) ws (head, own, stops, rest, end, h, b, inner, word, are, e, is) =
     let (w, tail, first, f) = head_first l head h in
     subst NoPeriod (sym (e ∙ ap (λ (t : List Lexeme). t ++ (own ++ end ∷ (stops ++ rest))) f)) (loop_no_period loop.Perform w first)
 
@@ -59,12 +59,12 @@ in_front (Moves own more) ws (rest, run, first, e, is) some =
     record { front = ARun own; behind = rest; body = NoMore; more = more; stands = (run, first, e); within = tt; is = is; same = refl }
 in_front (Pause more) ws (pause, stops, rest, word, are, e, is) some =
     record { front = APause; behind = rest; body = NoMore; more = more; stands = (pause, stops, word, are, no_period more rest is, e); within = tt; is = is; same = refl }
-in_front (ALoop l body more) ws (head, own, stops, rest, end, h, ends, b, inner, word, are, e, is) some = record {
+in_front (ALoop l body more) ws (head, own, stops, rest, end, h, b, inner, word, are, e, is) some = record {
   front = Looped l own;
   behind = rest;
   body = body;
   more = more;
-  stands = (head, stops, end, h, ends, b, word, are, no_period more rest is, e);
+  stands = (head, stops, end, h, b, word, are, no_period more rest is, e);
   within = inner;
   is = is;
   same = refl;
@@ -73,7 +73,7 @@ in_front (ALoop l body more) ws (head, own, stops, rest, end, h, ends, b, inner,
 pub joined_is : (f : PassageFront) (body more : Passage) (ws behind : List Lexeme) → FrontStands f ws behind → Within f body → IsPassage more behind → IsPassage (joined f body more) ws
 joined_is (ARun own) body more ws behind (run, first, e) within is = (behind, run, first, e, is)
 joined_is APause body more ws behind (pause, stops, word, are, none, e) within is = (pause, stops, behind, word, are, e, is)
-joined_is (Looped l own) body more ws behind (head, stops, end, h, ends, b, word, are, none, e) within is = (head, own, stops, behind, end, h, ends, b, within, word, are, e, is)
+joined_is (Looped l own) body more ws behind (head, stops, end, h, b, word, are, none, e) within is = (head, own, stops, behind, end, h, b, within, word, are, e, is)
 
 pub written_joined : (ns : List Counted) (f : PassageFront) (body more : Passage) → words_by_turn ns (joined f body more) ≡ written_front ns f body ++ words_by_turn ns more
 written_joined ns (ARun own) body more = refl
@@ -85,8 +85,8 @@ pub nothing_left : (q : Passage) (rest : List Lexeme) → IsPassage q rest → (
 nothing_left NoMore rest is none = refl
 nothing_left (Moves own more) rest (behind, run, first, e, is) none = absurd (none (ARun own) behind (run, first, e))
 nothing_left (Pause more) rest (pause, stops, behind, word, are, e, is) none = absurd (none APause behind (pause, stops, word, are, no_period more behind is, e))
-nothing_left (ALoop l body more) rest (head, own, stops, behind, end, h, ends, b, inner, word, are, e, is) none =
-    absurd (none (Looped l own) behind (head, stops, end, h, ends, b, word, are, no_period more behind is, e))
+nothing_left (ALoop l body more) rest (head, own, stops, behind, end, h, b, inner, word, are, e, is) none =
+    absurd (none (Looped l own) behind (head, stops, end, h, b, word, are, no_period more behind is, e))
 
 -- a front is the only one, and leaves the same words
 abbrev pub IsOnlyFront : PassageFront → List Lexeme → List Lexeme → Type 0
@@ -150,12 +150,12 @@ pub shorter : (f : PassageFront) (ws more : List Lexeme) → FrontStands f ws mo
 shorter (ARun []) ws more (run, first, e) = absurd run
 shorter (ARun (w ∷ own)) ws more (run, first, e) = omega (arith, ap length e, length-append own more)
 shorter APause ws more (pause, stops, word, are, none, e) = omega (arith, ap length e, length-append stops more)
-shorter (Looped l own) ws more (head, stops, end, h, ends, b, word, are, none, e) =
+shorter (Looped l own) ws more (head, stops, end, h, b, word, are, none, e) =
     omega (arith, ap length e, length-append head (own ++ end ∷ (stops ++ more)), length-append own (end ∷ (stops ++ more)), length-append stops more)
 
 -- the statements of a loop are fewer words
 pub body_shorter : (l : WrittenLoop) (own ws more : List Lexeme) → FrontStands (Looped l own) ws more → length own < length ws
-body_shorter l own ws more (head, stops, end, h, ends, b, word, are, none, e) =
+body_shorter l own ws more (head, stops, end, h, b, word, are, none, e) =
     omega (arith, ap length e, length-append head (own ++ end ∷ (stops ++ more)), length-append own (end ∷ (stops ++ more)), length-append stops more)
 
 -- ---- whether words are left

@@ -96,9 +96,11 @@ abbrev pub open_behind : Option ℕ → List Lexeme → Option ℕ
 open_behind depth [] = depth
 open_behind depth (w ∷ ws) = open_behind (open_by (loop_word w) depth) ws
 
--- the words of the statements in a loop: there is one, each PERFORM has its END-PERFORM, and no period stands among them
-pub record IsLoopBody (ws : List Lexeme) : Type 0 where
+-- the words of the statements in a loop: there is one, the words of what it ends by end before it, each PERFORM has its END-PERFORM, and no period stands
+-- among them
+pub record IsLoopBody (bound : WrittenBound) (ws : List Lexeme) : Type 0 where
   pub some : 0 < length ws
+  pub ends : BoundEnds bound ws
   pub closed : open_behind (Some 0) ws ≡ Some 0
   pub no_period : AllByRecursion IsNoPeriod ws
 
@@ -109,7 +111,7 @@ IsPassage (Moves own more) ws = (rest : List Lexeme) × IsRun own × LoopWordFir
 IsPassage (Pause more) ws = (pause : Lexeme) × (stops rest : List Lexeme)
     × IsLoopWord loop.Continue pause × AllByRecursion IsPeriod stops × (ws ≡ pause ∷ (stops ++ rest)) × IsPassage more rest
 IsPassage (ALoop l body more) ws = (head own stops rest : List Lexeme) × (end : Lexeme)
-    × IsHead l head × BoundEnds l.bound own × IsLoopBody own × IsPassage body own × IsLoopWord loop.EndPerform end × AllByRecursion IsPeriod stops
+    × IsHead l head × IsLoopBody l.bound own × IsPassage body own × IsLoopWord loop.EndPerform end × AllByRecursion IsPeriod stops
     × (ws ≡ head ++ (own ++ end ∷ (stops ++ rest))) × IsPassage more rest
 
 -- What stands in front of a passage: words of MOVE statements, CONTINUE, or a loop with the words of its statements.
@@ -124,7 +126,7 @@ FrontStands (ARun own) words more = IsRun own × LoopWordFirst more × (words �
 FrontStands APause words more = (pause : Lexeme) × (stops : List Lexeme)
     × IsLoopWord loop.Continue pause × AllByRecursion IsPeriod stops × NoPeriod more × (words ≡ pause ∷ (stops ++ more))
 FrontStands (Looped l own) words more = (head stops : List Lexeme) × (end : Lexeme)
-    × IsHead l head × BoundEnds l.bound own × IsLoopBody own × IsLoopWord loop.EndPerform end × AllByRecursion IsPeriod stops × NoPeriod more
+    × IsHead l head × IsLoopBody l.bound own × IsLoopWord loop.EndPerform end × AllByRecursion IsPeriod stops × NoPeriod more
     × (words ≡ head ++ (own ++ end ∷ (stops ++ more)))
 
 -- Where words are no passage, and on which line: nothing stands in front that may, and this is the line there; or it is so within a loop in front, or

@@ -4,11 +4,11 @@ ghost use Rattle.std.specs.Prelude.{◌≡◌, ◌↔◌, ℕ, ◌<◌, ◌≤�
 ghost use Rattle.std.specs.List.{AllByRecursion};
 ghost use Rattle.cob_source.specs.Tokens.{Lexeme, lexeme, lexemes};
 ghost use Rattle.cob_move_loops.specs.Words.{IsNoPeriod, IsOther, LoopWordFirst};
-ghost use Rattle.cob_move_loops.specs.Passages.{APause, ARun, PassageFront, FrontStands, IsLoopBody, IsRun, Looped, WrittenLoop, open_behind, open_by};
-ghost use Rattle.cob_move_loops.specs.Reading.{AnswersFront, ClosedInFront, item_front};
+ghost use Rattle.cob_move_loops.specs.Passages.{APause, ARun, BoundEnds, FrontStands, IsLoopBody, IsRun, Looped, PassageFront, WrittenLoop, open_behind, open_by};
+ghost use Rattle.cob_move_loops.specs.Reading.{AnswersFront, ClosedInFront, item_front, written_bound};
 
 use crate::head::head_at;
-use crate::parts::Loop;
+use crate::parts::{Loop, LoopBound};
 use crate::stops::{behind_stops, is_stop};
 use crate::words::{LoopWord, behind_loop_word, loop_word};
 use cob_copybook_clauses::{WordClass, front, is_term};
@@ -135,10 +135,11 @@ fn has_no_period(words: &[Token]) -> bool
     true
 }
 
-/// Whether words in which as many loops are closed as are opened may be the statements of a loop.
-fn is_body(words: &[Token]) -> bool
-    requires { open_behind (Some 0) (lexemes words.now) ≡ Some 0 }
-    ensures { IsTrue result ↔ IsLoopBody (lexemes words.now) }
+/// Whether words in which as many loops are closed as are opened may be the statements of a loop that ends by this.
+fn is_body(bound: &LoopBound<'_>, words: &[Token]) -> bool
+    requires closed { open_behind (Some 0) (lexemes words.now) ≡ Some 0 }
+    requires ends { BoundEnds (written_bound bound.now) (lexemes words.now) }
+    ensures { IsTrue result ↔ IsLoopBody (written_bound bound.now) (lexemes words.now) }
 {
     !words.is_empty() && has_no_period(words)
 }
@@ -153,7 +154,7 @@ fn loop_at(words: &[Token]) -> Option<(Item<'_>, &[Token])>
 {
     let (head, inner) = head_at(words)?;
     let (body, rest) = body_at(inner)?;
-    if !is_body(body) {
+    if !is_body(&head.bound, body) {
         return None;
     }
     Some((Item::Loop { head, body }, behind_stops(rest)))
