@@ -11,3 +11,5 @@ pub mod PieceLemmas
 pub mod PassageLemmas
 pub mod PlainLemmas
 pub mod LoopLemmas
+pub mod DeedsLemmas
+pub mod FlowLemmas

@@ -1,7 +1,7 @@
 pub mod Between
 pub mod Entries
-pub mod Deeds
 pub mod Paragraphs
+pub mod Deeds
 pub mod Laws
 pub mod Meaning
 pub mod Refusals
@@ -9,3 +9,4 @@ pub mod MeaningLaws
 pub mod Among
 pub mod Pieces
 pub mod Loops
+pub mod DeedsRead
