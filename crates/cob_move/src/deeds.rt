@@ -4,7 +4,7 @@ ghost use Rattle.std.specs.Prelude.{◌≡◌, ◌≢◌, ◌↔◌, ◌⊎◌, 
 ghost use Rattle.cob_copybook_tree.specs.declared.node.Item.{Item as TreeItem};
 ghost use Rattle.cob_limits.specs.Limits.{longest_record};
 ghost use Rattle.cob_move_deeds.specs.Tests.{IsBoundItem};
-ghost use Rattle.cob_move_loops.specs.Passages.{ARun, IsPassage, IsRun, IsUpToNumber, NoMore, Passage, ToItem};
+ghost use Rattle.cob_move_loops.specs.Passages.{ARun, IsPassage, IsRun, NoMore, Passage, ToItem, ToNumber};
 ghost use Rattle.cob_move_loops.specs.Reading.{counters, item_front, written_bound, written_loop};
 ghost use Rattle.cob_move_loops.specs.Turns.{in_turn};
 ghost use Rattle.cob_move_statements.specs.declared.fault.MoveRule.TheVariants.{Memory};
@@ -21,7 +21,9 @@ use cob_limits::{MAX_RECORD, MAX_WRITTEN_OUT};
 use cob_move_apply::PlacedEntry;
 use cob_move_data::StatementMoves;
 use cob_move_deeds::{Bound, CountedLoop, Flow};
-use cob_move_loops::{Counter, Item, Loop, LoopBound, in_turn, item_at, no_turn, with_counter};
+use cob_move_loops::{
+    Counter, Item, Loop, LoopBound, in_turn, item_at, no_turn, turns_to_write, with_counter,
+};
 use cob_move_names::Correspondences;
 use cob_move_statements::{MoveFault, MoveRule, reference_at};
 use cob_source::Token;
@@ -301,6 +303,7 @@ fn add_turns(
     entries: &Entries<'_, '_>,
     pairs: &mut Correspondences<'_>,
     head: &Loop<'_>,
+    bound: u32,
     body: &[Token],
     turn: &[Counter<'_>],
     made: &mut Made,
@@ -308,9 +311,11 @@ fn add_turns(
     requires named { AllMayBeNamed entries.now }
     requires pairs { ArePairsOf (records_of entries.now) pairs.old }
     requires made { IsMade (records_of entries.now) made.old }
-    requires number { IsUpToNumber (written_bound head.now.bound) }
-    ensures added { OnOk result (AddsLoop entries.now (counters turn.now) (written_loop head.now) (lexemes body.now) made.old made.new) }
-    ensures fault { IfErr result (λ f. LoopRefused f entries.now (counters turn.now) (written_loop head.now) (lexemes body.now) made.old) }
+    requires number { written_bound head.now.bound ≡ ToNumber bound }
+    ensures added { OnOk result (AddsLoop entries.now (counters turn.now) (written_loop head.now)
+        (lexemes body.now) made.old made.new) }
+    ensures fault { IfErr result (λ f. LoopRefused f entries.now (counters turn.now)
+        (written_loop head.now) (lexemes body.now) made.old) }
     ensures made { OnOk result (IsMade (records_of entries.now) made.new) }
     ensures grown { HasGrown made.old made.new }
     ensures pairs { ArePairsOf (records_of entries.now) pairs.new }
@@ -320,7 +325,9 @@ fn add_turns(
     while left > 0 {
         add_turn(alloc, entries, pairs, head, number, body, turn, made)?;
         left -= 1;
-        number = next_number(number, head.by, left)?;
+        if left > 0 {
+            number = next_number(number, head.by)?;
+        }
     }
     Ok(())
 }
@@ -370,7 +377,8 @@ fn try_turns(
         × TurnRefused f entries.now
         (in_its_turn (counters turn.now) (written_loop head.now) behind) (lexemes body.now)
         made.new) }
-    ensures fault { IfErr result (λ f. LoopRefused f entries.now (counters turn.now) (written_loop head.now) (lexemes body.now) made.old) }
+    ensures fault { IfErr result (λ f. LoopRefused f entries.now (counters turn.now)
+        (written_loop head.now) (lexemes body.now) made.old) }
     ensures made { OnOk result (IsMade (records_of entries.now) made.new) }
     ensures grown { HasGrown made.old made.new }
     ensures pairs { ArePairsOf (records_of entries.now) pairs.new }
@@ -494,8 +502,10 @@ fn add_tested(
     requires pairs { ArePairsOf (records_of entries.now) pairs.old }
     requires made { IsMade (records_of entries.now) made.old }
     requires item { written_bound head.now.bound ≡ ToItem (lexemes words.now) }
-    ensures added { OnOk result (AddsLoop entries.now (counters turn.now) (written_loop head.now) (lexemes body.now) made.old made.new) }
-    ensures fault { IfErr result (λ f. LoopRefused f entries.now (counters turn.now) (written_loop head.now) (lexemes body.now) made.old) }
+    ensures added { OnOk result (AddsLoop entries.now (counters turn.now) (written_loop head.now)
+        (lexemes body.now) made.old made.new) }
+    ensures fault { IfErr result (λ f. LoopRefused f entries.now (counters turn.now)
+        (written_loop head.now) (lexemes body.now) made.old) }
     ensures made { OnOk result (IsMade (records_of entries.now) made.new) }
     ensures grown { HasGrown made.old made.new }
     ensures pairs { ArePairsOf (records_of entries.now) pairs.new }
@@ -546,7 +556,7 @@ fn add_item(
         Item::Run(words) => add_run(alloc, entries, pairs, words, turn, made),
         Item::Pause => Ok(()),
         Item::Loop { head, body } => match head.bound {
-            LoopBound::Number(_) => add_turns(alloc, entries, pairs, head, body, turn, made),
+            LoopBound::Number(bound) => add_turns(alloc, entries, pairs, head, bound, body, turn, made),
             LoopBound::Item(words) => add_tested(alloc, entries, pairs, head, words, body, turn, made),
         },
     }
