@@ -36,17 +36,17 @@ use Rattle.cob_move.specs.Entries.{records_of}
 -- ---- what is made so far
 
 -- the last of some numbers, or this one where there is none
-abbrev pub last_end : ℕ → List ℕ → ℕ
-last_end before [] = before
-last_end before (end ∷ ends) = last_end end ends
+abbrev pub last_marked : ℕ → List ℕ → ℕ
+last_marked before [] = before
+last_marked before (end ∷ ends) = last_marked end ends
 
 -- so many statements stand before the last mark
-abbrev pub IsMarked : Made → ℕ → Type 0
-IsMarked m n = n ≡ last_end 0 m.ends.items
+abbrev pub StandBeforeLast : Made → ℕ → Type 0
+StandBeforeLast m n = n ≡ last_marked 0 m.ends.items
 
 -- the statements behind the last mark
 abbrev pub open_statements : Made → List StatementMoves
-open_statements m = drop (last_end 0 m.ends.items) m.list.items
+open_statements m = drop (last_marked 0 m.ends.items) m.list.items
 
 -- what they come to
 abbrev pub open_deeds : Records → List StatementMoves → Deeds Past
@@ -79,8 +79,8 @@ AreParted (Choice t holding lacking more) = AreParted more
 
 -- What is made so far may be carried out: marks rise, bounds are such, and flows name what is there and end in a test.
 pub record IsMade (r : Records) (m : Made) : Type 0 where
-  pub ends : AreEnds 0 (last_end 0 m.ends.items) m.ends.items
-  pub behind : last_end 0 m.ends.items ≤ length m.list.items
+  pub ends : AreEnds 0 (last_marked 0 m.ends.items) m.ends.items
+  pub behind : last_marked 0 m.ends.items ≤ length m.list.items
   pub bounds : AllByRecursion (IsBound r) m.bounds.items
   pub flows : (on : FlowSupport) → IsFrontOf m on → AreFlows on m.flows.items
   pub parted : (on : FlowSupport) → IsFrontOf m on → AreParted (all_deeds r on m.flows.items)
@@ -96,8 +96,8 @@ pub record HasGrown (old new : Made) : Type 0 where
 -- a mark stands behind all statements, and the moves behind the last one before are a flow; or there were none
 abbrev pub IsClosed : (old new : Made) → Type 0
 IsClosed old new =
-    ((length old.list.items ≡ last_end 0 old.ends.items) × (new ≡ old))
-    ⊎ ((length old.list.items ≡ last_end 0 old.ends.items → ⊥) × (new.list ≡ old.list) × (new.bounds ≡ old.bounds) × (new.loops ≡ old.loops)
+    ((length old.list.items ≡ last_marked 0 old.ends.items) × (new ≡ old))
+    ⊎ ((length old.list.items ≡ last_marked 0 old.ends.items → ⊥) × (new.list ≡ old.list) × (new.bounds ≡ old.bounds) × (new.loops ≡ old.loops)
     × (new.ends.items ≡ old.ends.items ++ length old.list.items ∷ []) × (new.flows.items ≡ old.flows.items ++ flow.Moves (length old.ends.items) ∷ []))
 
 -- how much of each there is
@@ -158,13 +158,13 @@ abbrev pub RunComesTo : Entries → List Counted → List Lexeme → Deeds Past 
 RunComesTo e ns own d many = (ms : List Move) × IsRunMeant e.input.now e.output.now (in_turn ns false 0 own) ms many × (d ≡ Moving ms Nothing)
 
 -- a passage, in a turn, comes to these deeds
-abbrev pub ComesTo : Entries → List Counted → Passage → Deeds Past → ℕ → Type 0
-ComesTo e ns p d many = AreDeeds (nameable e) e.input.now e.output.now ns p d many
+abbrev pub PassageComesTo : Entries → List Counted → Passage → Deeds Past → ℕ → Type 0
+PassageComesTo e ns p d many = AreDeeds (nameable e) e.input.now e.output.now ns p d many
 
 -- a loop with this passage comes to them
 abbrev pub LoopComesTo : Entries → List Counted → WrittenLoop → Passage → Deeds Past → ℕ → Type 0
 LoopComesTo e ns l p d many = (f : ℕ → Deeds Past) × (count : ℕ → ℕ)
-    × IsLoopOf (nameable e) ns l l.bound (λ i k c. ComesTo e (ns ++ counter_at l i ∷ []) p k c) f count d many
+    × IsLoopOf (nameable e) ns l l.bound (λ i k c. PassageComesTo e (ns ++ counter_at l i ∷ []) p k c) f count d many
 
 -- what stands in front comes to them, where its statements, if it is a loop, are this passage
 abbrev pub FrontComesTo : Entries → List Counted → PassageFront → Passage → Deeds Past → ℕ → Type 0
@@ -180,7 +180,7 @@ IsRefusedIn f e ns p = IsTurnRefused f (nameable e) e.input.now e.output.now ns 
 abbrev pub LoopIsRefused : MoveFault → Entries → List Counted → WrittenLoop → Passage → Type 0
 LoopIsRefused f e ns l p =
     IsLoopRefused f (nameable e) ns l l.bound (λ i. IsRefusedIn f e (ns ++ counter_at l i ∷ []) p)
-    (λ i. (d : Deeds Past) × (c : ℕ) × ComesTo e (ns ++ counter_at l i ∷ []) p d c)
+    (λ i. (d : Deeds Past) × (c : ℕ) × PassageComesTo e (ns ++ counter_at l i ∷ []) p d c)
 
 -- what stands in front is refused
 abbrev pub FrontIsRefused : MoveFault → Entries → List Counted → PassageFront → Passage → Type 0
@@ -195,7 +195,7 @@ FirstIn e ns p many = ComeFirst (nameable e) e.input.now e.output.now ns p many
 -- in a loop with this passage
 abbrev pub FirstInLoop : Entries → List Counted → WrittenLoop → Passage → ℕ → Type 0
 FirstInLoop e ns l p many =
-    ComeFirstInLoop l l.bound (λ i c. (d : Deeds Past) × ComesTo e (ns ++ counter_at l i ∷ []) p d c) (λ i c. FirstIn e (ns ++ counter_at l i ∷ []) p c) many
+    ComeFirstInLoop l l.bound (λ i c. (d : Deeds Past) × PassageComesTo e (ns ++ counter_at l i ∷ []) p d c) (λ i c. FirstIn e (ns ++ counter_at l i ∷ []) p c) many
 
 -- in what stands in front
 abbrev pub FirstInFront : Entries → List Counted → PassageFront → Passage → ℕ → Type 0
@@ -205,7 +205,7 @@ FirstInFront e ns (Looped l own) p many = FirstInLoop e ns l p many
 
 -- Whatever passage words are, what it comes to in a turn stands behind what was made before.
 abbrev pub AddsDeeds : Entries → List Counted → List Lexeme → (old new : Made) → Type 0
-AddsDeeds e ns words old new = (p : Passage) → IsPassage p words → AddsMade e (ComesTo e ns p) old new
+AddsDeeds e ns words old new = (p : Passage) → IsPassage p words → AddsMade e (PassageComesTo e ns p) old new
 
 -- whatever passage the statements of a loop are, so it is of the loop
 abbrev pub AddsLoop : Entries → List Counted → WrittenLoop → List Lexeme → (old new : Made) → Type 0
@@ -236,7 +236,7 @@ in_its_turn ns l number = ns ++ counter_at l number ∷ []
 pub record ReadsTurns (e : Entries) (ns : List Counted) (l : WrittenLoop) (p : Passage) (behind : ℕ) (turns : List (List Flow)) (old new : Made) : Type 0 where
   pub comes : ℕ → Deeds Past
   pub count : ℕ → ℕ
-  pub are : (i : ℕ) → l.from ≤ i → i < behind → ComesTo e (in_its_turn ns l i) p (comes i) (count i)
+  pub are : (i : ℕ) → l.from ≤ i → i < behind → PassageComesTo e (in_its_turn ns l i) p (comes i) (count i)
   pub kept : length turns ≡ turns_between l.from l.by (behind - 1)
   pub flows : (on : FlowSupport) → IsFrontOf new on → AreTurns (records_of e) on comes l.by l.from turns
   pub longer : length new.list.items ≡ length old.list.items + count_of_turns count l.by (length turns) l.from

@@ -10,7 +10,7 @@ ghost use Rattle.cob_move_loops.specs.Turns.{in_turn};
 ghost use Rattle.cob_move_statements.specs.declared.fault.MoveRule.TheVariants.{Memory};
 ghost use Rattle.cob_source.specs.Tokens.{lexemes};
 ghost use Rattle.cob_move.specs.Between.{ArePairsOf};
-ghost use Rattle.cob_move.specs.DeedsRead.{AddsDeeds, AddsFront, AddsLoop, AddsMade, AreSame, BoundRefused, FirstInFront, FrontIsRefused, FrontRefused, HasGrown, IsBoundRead, IsClosed, IsFrontRead, IsMade, IsMarked, IsSizeOf, IsTakenBack, IsWithoutFlows, LoopRefused, ReadsTurns, RefusedMade, RunComesTo, TurnRefused, flow_lists, in_its_turn, linked_size, linked_turns, open_statements};
+ghost use Rattle.cob_move.specs.DeedsRead.{AddsDeeds, AddsFront, AddsLoop, AddsMade, AreSame, BoundRefused, FirstInFront, FrontIsRefused, FrontRefused, HasGrown, IsBoundRead, IsClosed, IsFrontRead, IsMade, StandBeforeLast, IsSizeOf, IsTakenBack, IsWithoutFlows, LoopRefused, ReadsTurns, RefusedMade, RunComesTo, TurnRefused, flow_lists, in_its_turn, linked_size, linked_turns, open_statements};
 ghost use Rattle.cob_move.specs.Entries.{AllMayBeNamed, records_of};
 ghost use Rattle.cob_move.specs.Pieces.{IsRefusedMemory};
 
@@ -54,7 +54,7 @@ pub(crate) struct Sizes {
 impl Made {
     /// How many statements stand before the last mark.
     fn marked(&self) -> usize
-        ensures { IsMarked self.now result }
+        ensures { StandBeforeLast self.now result }
     {
         match self.ends.last() {
             Some(end) => *end,
