@@ -21,6 +21,7 @@
 //! The clauses `found`, `line` of `check` and `found`, `clash` of `loops`, those of `write_out`, `in_turn`, `is_few`, `is_shallow` and `loop_line`; its laws.
 #![tactic(auto)]
 
+mod bounded;
 mod checking;
 mod counting;
 mod front;
@@ -34,6 +35,7 @@ mod turn;
 mod words;
 mod writing;
 
+pub use bounded::check_bounds;
 pub use checking::check;
 pub use counting::{is_few, is_shallow, loop_line};
 pub use laws::{breaks_none, no_turn, one_passage};
