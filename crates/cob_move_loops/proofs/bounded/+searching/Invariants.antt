@@ -16,7 +16,7 @@ decreases-is_in_loop l = 3 * length (lexemes l.body.now) + 1
 
 abbrev pub invariant-has_subscript-loop-item : goal.invariant-has_subscript-loop-item
 invariant-has_subscript-loop-item l = record {
-  left : LeftToSearch l.name.now (lexemes l.words) (lexemes l.rest);
+  left : LeftToSearch l.name (lexemes l.words) (lexemes l.rest);
   fewer : length (lexemes l.rest) ≤ length (lexemes l.words);
 }
 
