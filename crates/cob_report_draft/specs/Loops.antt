@@ -1,5 +1,5 @@
 -- Which loops a statement of a draft stands in, which subscripts it has there, and which elements it moves.
-use Rattle.std.specs.Prelude.{◌≡◌, ℕ, zero, suc, ◌+◌, ◌&&◌, min, nat_eq, nat_le, nat_lt, if◌then◌else◌, List, [], ◌∷◌, ◌++◌, map, get_or, flat_map}
+use Rattle.std.specs.Prelude.{ℕ, zero, suc, ◌+◌, ◌&&◌, min, nat_eq, nat_le, nat_lt, if◌then◌else◌, List, [], ◌∷◌, ◌++◌, map, get_or, flat_map}
 use Rattle.cob_report_draft.specs.declared.loops.TableLoop.{TableLoop}
 use Rattle.cob_report_draft.specs.declared.words.Subscript.{Subscript}
 use Rattle.cob_report_draft.specs.declared.words.Subscript.TheVariants.{Counter, First}

@@ -1,4 +1,3 @@
-use Rattle.std.proofs.Common.{◌≡◌, sym, ◌∙◌}
 use Rattle.cob_report_partners.proofs.counters.counters_are_apart.Goals as goal
 
 pub returns : goal.returns
