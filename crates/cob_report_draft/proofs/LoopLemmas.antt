@@ -4,7 +4,7 @@ use Rattle.std.specs.Prelude.{nat_eq, nat_le, nat_lt, flat_map}
 use Rattle.std.specs.List.{AllByRecursion}
 use Rattle.std.proofs.lemmas.Bool.Decides.{Decides-ltb, eqb_tells, leb_tells}
 use Rattle.std.proofs.lemmas.List.{length-append, map-append}
-use Rattle.cob_report_draft.specs.Loops.{Turning, all_turns, elements, loops_from, loops_over, number_in, one_to, subscript_from, subscripts_from}
+use Rattle.cob_report_draft.specs.Loops.{Turning, all_turns, elements, loops_from, loops_over, number_in_turn, one_to, subscript_from, subscripts_from}
 use Rattle.cob_report_draft.specs.declared.words.Subscript.{Subscript}
 use Rattle.cob_report_draft.specs.declared.words.Subscript.TheVariants.{Counter, First}
 
@@ -106,7 +106,7 @@ deeper_with d n (l ∷ ls) below = (omega (arith, below.0), deeper_with d n ls b
 
 -- the subscripts of tables, in a turn of the loops in front and of their own
 abbrev subscripts_at : (front : List Turning) (head : List ℕ) (own : List Turning) (d : ℕ) (ns turn : List ℕ) → List ℕ
-subscripts_at front head own d ns turn = map (number_in (head ++ turn)) (subscripts_from (front ++ own) d ns)
+subscripts_at front head own d ns turn = map (number_in_turn (head ++ turn)) (subscripts_from (front ++ own) d ns)
 
 -- the loops of these tables, behind others, name each of their elements
 abbrev Names : (ns : List ℕ) (d : ℕ) (front : List Turning) (head : List ℕ) (own : List Turning) → Type 0
@@ -119,7 +119,7 @@ one_more ns d front head below rest =
     let own = loops_from (d + 1) ns in
     let inner = subscripts_at front head own (d + 1) ns in
     agree (subscripts_at front head own d (1 ∷ ns)) (λ turn. 1 ∷ inner turn)
-    (λ turn. ap (λ (s : Subscript). number_in (head ++ turn) s ∷ inner turn) (none_there 0 d 1 front ns below)) (all_turns own)
+    (λ turn. ap (λ (s : Subscript). number_in_turn (head ++ turn) s ∷ inner turn) (none_there 0 d 1 front ns below)) (all_turns own)
     ∙ sym (twice (λ (element : List ℕ). 1 ∷ element) inner (all_turns own))
     ∙ ap (λ es. map (λ (element : List ℕ). 1 ∷ element) es) rest
     ∙ sym (append-nil (map (λ (element : List ℕ). 1 ∷ element) (elements ns)))
@@ -138,9 +138,9 @@ several_more n ns d front head below as_many rest =
     ∙ ap (λ (ls : List Turning). Counter (length front) ∷ subscripts_from ls (d + 1) ns) (sym (append_assoc front (l ∷ []) own)) in
     let inner = λ (i : ℕ). subscripts_at behind (head ++ i ∷ []) own (d + 1) ns in
     let in_turn : (i : ℕ) (turn : List ℕ) → outer (i ∷ turn) ≡ i ∷ inner i turn = λ i turn.
-    ap (λ (ss : List Subscript). map (number_in (head ++ i ∷ turn)) ss) subscripts
-    ∙ ap (λ (m : ℕ). m ∷ map (number_in (head ++ i ∷ turn)) (subscripts_from (behind ++ own) (d + 1) ns)) (at_head head (length front) i turn as_many)
-    ∙ ap (λ (t : List ℕ). i ∷ map (number_in t) (subscripts_from (behind ++ own) (d + 1) ns)) (sym (append_assoc head (i ∷ []) turn)) in
+    ap (λ (ss : List Subscript). map (number_in_turn (head ++ i ∷ turn)) ss) subscripts
+    ∙ ap (λ (m : ℕ). m ∷ map (number_in_turn (head ++ i ∷ turn)) (subscripts_from (behind ++ own) (d + 1) ns)) (at_head head (length front) i turn as_many)
+    ∙ ap (λ (t : List ℕ). i ∷ map (number_in_turn t) (subscripts_from (behind ++ own) (d + 1) ns)) (sym (append_assoc head (i ∷ []) turn)) in
     let in_turns : (i : ℕ) → map outer (map (λ (turn : List ℕ). i ∷ turn) (all_turns own)) ≡ map (λ (element : List ℕ). i ∷ element) (elements ns) = λ i.
     twice outer (λ (turn : List ℕ). i ∷ turn) (all_turns own)
     ∙ agree (λ (turn : List ℕ). outer (i ∷ turn)) (λ (turn : List ℕ). i ∷ inner i turn) (in_turn i) (all_turns own)

@@ -50,9 +50,9 @@ all_turns [] = [] ∷ []
 all_turns (l ∷ ls) = flat_map (λ i. map (λ turn. i ∷ turn) (all_turns ls)) (one_to l.turns)
 
 -- the number of a subscript in a turn
-abbrev pub number_in : List ℕ → Subscript → ℕ
-number_in turn First = 1
-number_in turn (Counter k) = get_or turn k 1
+abbrev pub number_in_turn : List ℕ → Subscript → ℕ
+number_in_turn turn First = 1
+number_in_turn turn (Counter k) = get_or turn k 1
 
 -- the subscripts of all elements of these tables, the last one the fastest
 abbrev pub elements : List ℕ → List (List ℕ)

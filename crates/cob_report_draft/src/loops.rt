@@ -3,7 +3,7 @@
 ghost use Rattle.std.specs.Prelude.{◌≡◌, ◌+◌, ◌<◌, ◌≤◌, ◌++◌, ℕ, List, length, map};
 ghost use Rattle.std.specs.List.{AllByRecursion};
 ghost use Rattle.cob_limits.specs.Limits.{most_dimensions};
-ghost use Rattle.cob_report_draft.specs.Loops.{all_turns, elements, lesser, loops_over, number_in, subscript_from, subscripts_from, turning};
+ghost use Rattle.cob_report_draft.specs.Loops.{all_turns, elements, lesser, loops_over, number_in_turn, subscript_from, subscripts_from, turning};
 
 use crate::pairs::{PartnerPair, Records, number_of};
 use crate::words::Subscript;
@@ -278,5 +278,5 @@ pub(crate) fn counts_beside(own: &[u32], others: &[u32]) -> GreatestNumbers {
 /// A law: the loops of tables, turn by turn, name each of their elements once, in order.
 pub fn loops_name_elements()
     ensures { (ns : List ℕ) → AllByRecursion (λ n. 0 < n) ns
-        → map (λ turn. map (number_in turn) (subscripts_from (loops_over ns) 0 ns)) (all_turns (loops_over ns)) ≡ elements ns }
+        → map (λ turn. map (number_in_turn turn) (subscripts_from (loops_over ns) 0 ns)) (all_turns (loops_over ns)) ≡ elements ns }
 {}

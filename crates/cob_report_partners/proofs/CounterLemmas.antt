@@ -5,7 +5,7 @@ use Rattle.std.specs.List.{list_any}
 use Rattle.cob_copybook_names.specs.declared.bearer.Bearer.{Bearer as Listed}
 use Rattle.cob_copybook_names.specs.Listed.{name_text}
 use Rattle.cob_copybook_names.specs.Naming.{Bearer, has_name}
-use Rattle.cob_report_partners.specs.Counters.{AreTaken, counter_text, is_taken}
+use Rattle.cob_report_partners.specs.Counters.{AreAllTaken, counter_text, is_taken}
 use Rattle.cob_report_partners.specs.Entries.{DraftEntry, listed_bearer}
 use Rattle.cob_report_partners.specs.declared.entries.DraftEntry.{DraftEntry as ListedEntry}
 
@@ -34,7 +34,7 @@ pub taken_rest : (name : List ℕ) (xs ys : List (Listed ListedEntry)) → is_li
 taken_rest name xs ys is = taken_both name xs ys ∙ ap (λ t. t || is_listed name ys) is
 
 -- names that entries have, with the next one
-pub taken_more : (all : List (Bearer DraftEntry)) (letter n : ℕ) → AreTaken all letter n → is_taken all (counter_text letter n) ≡ true → AreTaken all letter (n + 1)
+pub taken_more : (all : List (Bearer DraftEntry)) (letter n : ℕ) → AreAllTaken all letter n → is_taken all (counter_text letter n) ≡ true → AreAllTaken all letter (n + 1)
 taken_more all letter n before now = λ k lt. elim (eqb_tells k n) [
   | inl told ↦ subst (λ (m : ℕ). is_taken all (counter_text letter m) ≡ true) (sym told.1) now
   | inr told ↦ before k (omega (arith, lt, told.1))

@@ -20,5 +20,5 @@ pub record IsCounterName (all : List (Bearer DraftEntry)) (letter : ℕ) (name :
   pub first : (k : ℕ) → k < number → IsTrue (is_taken all (counter_text letter k))
 
 -- so many of these names are those of entries
-abbrev pub AreTaken : List (Bearer DraftEntry) → ℕ → ℕ → Type 0
-AreTaken all letter count = (k : ℕ) → k < count → IsTrue (is_taken all (counter_text letter k))
+abbrev pub AreAllTaken : List (Bearer DraftEntry) → ℕ → ℕ → Type 0
+AreAllTaken all letter count = (k : ℕ) → k < count → IsTrue (is_taken all (counter_text letter k))

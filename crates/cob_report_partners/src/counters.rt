@@ -5,7 +5,7 @@ ghost use Rattle.std.specs.Prelude.{◌≡◌, ◌≢◌, ◌+◌, ◌*◌, ℕ,
 ghost use Rattle.cob_limits.specs.Limits.{most_entries};
 ghost use Rattle.cob_copybook_names.specs.Listed.{name_text};
 ghost use Rattle.cob_copybook_names.specs.Naming.{Bearer, has_name};
-ghost use Rattle.cob_report_partners.specs.Counters.{AreTaken, IsCounterName, counter_text, is_taken};
+ghost use Rattle.cob_report_partners.specs.Counters.{AreAllTaken, IsCounterName, counter_text, is_taken};
 ghost use Rattle.cob_report_partners.specs.Entries.{DraftEntry};
 ghost use Rattle.cob_report_partners.specs.Partners.{all_bearers};
 
@@ -63,7 +63,7 @@ pub fn counter_name(
     ensures some { IfOk result (λ found. IfSome found
         (λ name. IsCounterName (all_bearers records.now) letter name.items)) }
     ensures none { IfOk result (λ found. IfNone found
-        (AreTaken (all_bearers records.now) letter (2 * most_entries + 3))) }
+        (AreAllTaken (all_bearers records.now) letter (2 * most_entries + 3))) }
 {
     for number in 0..TRIED {
         let name = counter_text(alloc, letter, number)?;
