@@ -1,12 +1,12 @@
 //! The lines of a paragraph's statements, those of a loop once for each of its turns.
 
-ghost use Rattle.std.specs.Prelude.{◌≡◌, ℕ, List, [], IfOk, IsOkAnd, map};
+ghost use Rattle.std.specs.Prelude.{◌≡◌, ℕ, List, [], IfErr, IfOk, IsOkAnd, map};
 ghost use Rattle.cob_move_loops.specs.Passages.{IsPassage, Passage};
 ghost use Rattle.cob_move_loops.specs.Reading.{all_runs, run_words};
 ghost use Rattle.cob_move_loops.specs.Turns.{words_by_turn};
 ghost use Rattle.cob_move_statements.specs.Reading.{IsOrLacksMemory};
 ghost use Rattle.cob_move_statements.specs.Written.{written_statements};
-ghost use Rattle.cob_report_lossless.specs.Lines.{AreLinesOf, AreRunLines, AreStatementLines, HasBody, line_of};
+ghost use Rattle.cob_report_lossless.specs.Lines.{AreLinesOf, AreRunLines, AreStatementLines, HasBody, SaysMoves, line_of};
 ghost use Rattle.cob_source.specs.Tokens.{Lexeme, lexemes};
 
 use cob_move_loops::{Run, breaks_none, check, in_turn, no_turn, one_passage, write_out};
@@ -72,7 +72,7 @@ fn body_of(words: &[Token]) -> Result<&[Token], MoveFault>
     ensures found { IfOk result (λ body. HasBody (lexemes words.now) (lexemes body.now)) }
     ensures only { (body : List Lexeme) (has : HasBody (lexemes words.now) body)
         → IsOkAnd result (λ own. (p : Passage) → IsPassage p (lexemes own.now)
-        → words_by_turn [] p ≡ words_by_turn [] has.passage) }
+            → words_by_turn [] p ≡ words_by_turn [] has.passage) }
 {
     one_passage();
     breaks_none();
@@ -100,6 +100,8 @@ pub fn lines_of(alloc: Global, text: &[u8]) -> Result<Vec<u32>, MoveFault>
     // A text that has such lines is answered by them; it is refused for want of memory alone.
     ensures only { (lines : List ℕ) → AreLinesOf text.now lines
         → IsOrLacksMemory (λ v. v.items ≡ lines) result }
+    // So is each text that is a paragraph between two records.
+    ensures paragraph { SaysMoves text.now → IfErr result (λ f. f.rule ≡ MoveRule.Memory) }
 {
     paragraph_words_are_one();
     let words = paragraph_tokens(alloc, text)?;
@@ -107,6 +109,24 @@ pub fn lines_of(alloc: Global, text: &[u8]) -> Result<Vec<u32>, MoveFault>
     let runs = write_out(alloc, body)?;
     let lines = all_lines(alloc, runs.as_slice())?;
     Ok(lines)
+}
+
+/// The same of a paragraph that was read before, so that only memory can lack.
+///
+/// # Errors
+///
+/// Memory was refused.
+pub fn paragraph_lines(alloc: Global, text: &[u8]) -> Result<Vec<u32>, AllocError>
+    requires { SaysMoves text.now }
+    ensures { IfOk result (λ lines. AreLinesOf text.now lines.items) }
+{
+    match lines_of(alloc, text) {
+        Ok(lines) => Ok(lines),
+        Err(fault) => match fault.rule {
+            MoveRule::Memory => Err(AllocError),
+            _ => unreachable!(),
+        },
+    }
 }
 
 /// The line of the statement with this number, from 0.

@@ -5,7 +5,7 @@ use Rattle.cob_source.specs.Words.{AreParagraphWordsOf}
 use Rattle.cob_move_loops.specs.Reading.{all_runs}
 use Rattle.cob_move_loops.specs.declared.writing.Run.{Run}
 use Rattle.cob_report_lossless.specs.Lines.{AreRunLines}
-use Rattle.cob_report_lossless.proofs.LineLemmas.{body_read, lines_said, runs_read}
+use Rattle.cob_report_lossless.proofs.LineLemmas.{body_read, has_lines, lines_said, runs_read, words_memory}
 use Rattle.cob_report_lossless.proofs.lines.lines_of.Goals as goal
 
 pub returns-clause-found : goal.returns-clause-found
@@ -35,3 +35,18 @@ returns-clause-only c = λ lines a.
     let same = c.paragraph_words_are_one.ensures c.args.text.now a.words words a.are_words are in
     let runs : AreRunLines (all_runs c.as_slice-2.result.now) lines = rw c.as_slice-2.ensures.value (runs_read c.args.text.now words (lexemes c.in_ok-body.body.now) (all_runs c.in_ok-runs.runs.items) lines a same c.in_ok-body.ensures.found c.in_ok-runs.ensures c.in_ok-body.ensures.only) in
     c.in_ok-lines.ensures.only lines runs
+
+-- a paragraph has lines
+pub returns-in_err-words-clause-paragraph : goal.returns-in_err-words-clause-paragraph
+returns-in_err-words-clause-paragraph c = λ says.
+    let (lines, a) = has_lines c.args.text.now says in
+    let p = err_from_is_err_and c.from_residual.result c.from_residual.ensures.1 in
+    rw (p.1, p.2) (words_memory c.in_err-words.field-0.0 (c.in_err-words.ensures.reads a.words a.are_words))
+
+pub returns-in_err-body-clause-paragraph : goal.returns-in_err-body-clause-paragraph
+returns-in_err-body-clause-paragraph c = λ says.
+    let (lines, a) = has_lines c.args.text.now says in (returns-in_err-body-clause-only c lines a).1
+
+pub returns-in_err-lines-clause-paragraph : goal.returns-in_err-lines-clause-paragraph
+returns-in_err-lines-clause-paragraph c = λ says.
+    let (lines, a) = has_lines c.args.text.now says in (returns-in_err-lines-clause-only c lines a).1
