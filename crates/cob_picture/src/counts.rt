@@ -166,7 +166,7 @@ pub fn runs_before_point(runs: &[Run]) -> usize
 }
 
 /// What is counted over a picture's positions.
-#[derive(Clone, Copy, Debug, PartialEq, Eq)]
+#[derive(Clone, Copy)]
 pub struct PictureCounts {
     /// How many digits are kept.
     pub digits: u32,

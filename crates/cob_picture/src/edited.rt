@@ -13,7 +13,7 @@ use crate::symbol::{Run, Symbol};
 use arrayvec::ArrayVec;
 
 /// What a symbol is in a numeric edited picture.
-#[derive(Clone, Copy, Debug, PartialEq, Eq)]
+#[derive(Clone, Copy, PartialEq, Eq)]
 pub enum SymbolKind {
     OfRun,
     OfInsertion,
@@ -26,7 +26,7 @@ pub enum SymbolKind {
 }
 
 /// The parts of a numeric edited picture, in order.
-#[derive(Clone, Copy, Debug, PartialEq, Eq)]
+#[derive(Clone, Copy, PartialEq, Eq)]
 pub enum EditedPart {
     Lead,
     Currency,
@@ -38,7 +38,7 @@ pub enum EditedPart {
 }
 
 /// What is counted in the parts of a numeric edited picture.
-#[derive(Clone, Copy, Debug, PartialEq, Eq)]
+#[derive(Clone, Copy)]
 pub struct EditedCounts {
     /// The signs, CR and DB outside the run.
     pub signs: u32,

@@ -7,7 +7,7 @@ ghost use Rattle.cob_picture.specs.declared.numeric.NumericParts.{NumericParts};
 use crate::symbol::{Run, Symbol};
 
 /// How often each symbol stands in a numeric picture, in order.
-#[derive(Clone, Copy, Debug, PartialEq, Eq)]
+#[derive(Clone, Copy)]
 pub struct NumericParts {
     pub signs: u32,
     pub points: u32,

@@ -18,7 +18,7 @@ use cob_limits::MAX_PICTURE_TEXT;
 use std::marker::Model;
 
 /// A picture, as a PICTURE clause gives it: contracts see its category and its positions, each with its role.
-#[derive(Debug, Drop)]
+#[derive(Drop)]
 pub struct Picture {
     category: Category,
     size: u16,

@@ -9,7 +9,7 @@ use crate::symbol::{Run, Symbol};
 use arrayvec::ArrayVec;
 
 /// What a position of a picture is for.
-#[derive(Clone, Copy, Debug, PartialEq, Eq)]
+#[derive(Clone, Copy, PartialEq, Eq)]
 pub enum PositionRole {
     /// A place that holds any character: A, X, or the 9 of a picture that shows no number.
     Character,
@@ -53,7 +53,7 @@ impl PositionRole {
 }
 
 /// One position of a picture.
-#[derive(Clone, Copy, Debug, PartialEq, Eq)]
+#[derive(Clone, Copy)]
 pub struct Position {
     pub symbol: Symbol,
     pub role: PositionRole,
