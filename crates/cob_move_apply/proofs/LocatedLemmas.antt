@@ -1,5 +1,6 @@
 -- Single moves that are made ready wherever their items stand.
-use Rattle.std.proofs.Common.{◌≡◌, ℕ, Bool, true, false, List, [], ◌∷◌, get_or, refl, sym, ap, subst, ◌∙◌, inl, inr, Option, Some, None}
+use Rattle.std.proofs.Common.{◌≡◌, ℕ, ◌+◌, ◌-◌, ◌≤◌, Bool, true, false, List, [], ◌∷◌, ◌++◌, drop, get_or, length, replicate, refl, sym, ap, subst, ◌∙◌, arith, inl, inr, Option, Some, None}
+use Rattle.std.proofs.Math.Seq.{take-append_seam}
 use Rattle.cob_codec.specs.declared.reading.Reading.{Reading}
 use Rattle.cob_codec.specs.declared.reading.Reading.TheVariants.{Pictured, Whole}
 use Rattle.cob_copybook_tree.specs.declared.node.Kind.{Kind}
@@ -11,15 +12,18 @@ use Rattle.cob_move_data.specs.declared.operands.Side.{Side}
 use Rattle.cob_move_data.specs.declared.operands.Side.TheVariants.{In}
 use Rattle.cob_move_data.specs.Moves.{IsOperand, Move, Records, operand_in, record_of}
 use Rattle.cob_move_steps.specs.Pool.{IsMoveStep, MoveKinds}
+use Rattle.cob_move_steps.specs.declared.characters_step.CharactersStep.{CharactersStep}
 use Rattle.cob_move_steps.specs.declared.pictured.PicturedStep.{PicturedStep}
 use Rattle.cob_move_steps.specs.declared.pictured.PicturedSteps.{PicturedSteps}
 use Rattle.cob_move_steps.specs.declared.pool.MoveStep.{MoveStep}
 use Rattle.cob_move_steps.specs.declared.pool.MoveStep.TheVariants.{Characters}
 use Rattle.cob_move_steps.specs.declared.pool.MoveSteps.{MoveSteps}
+use Rattle.cob_move_steps.proofs.CopyLemmas.{characters_received}
 use Rattle.cob_move_steps.proofs.PoolLemmas.{read_at}
+use Rattle.cob_move_receive.specs.Characters.{padded, padded_left}
 use Rattle.cob_move_receive.specs.Received.{Received}
 use Rattle.cob_move_receive.specs.Sent as sent
-use Rattle.cob_move_apply.specs.Applied.{Applied, Ending, IsMoved, content_at, storage_of}
+use Rattle.cob_move_apply.specs.Applied.{Applied, Ending, IsMoved, content_at, done, storage_of}
 use Rattle.cob_move_apply.specs.Located.{stop_at}
 use Rattle.cob_move_apply.specs.Made.{IsMadePictured, IsMadeReady, StandAt}
 use Rattle.cob_move_apply.specs.Placed.{IsBasis}
@@ -32,6 +36,7 @@ use Rattle.cob_move_apply.specs.declared.step.LocatedStep.TheVariants as located
 use Rattle.cob_move_apply.specs.declared.step.MovePlaces.{MovePlaces}
 use Rattle.cob_move_apply.specs.declared.stop.Stop.{Stop}
 use Rattle.cob_move_apply.specs.declared.stop.StopCause.TheVariants.{NoValue}
+use Rattle.cob_move_apply.proofs.CopyLemmas.{as_long}
 use Rattle.cob_move_apply.proofs.PreparedLemmas.{kinds_of}
 use Rattle.cob_move_apply.proofs.StepLemmas.{made_one}
 
@@ -103,6 +108,27 @@ pub made_characters : (side : Side) (r : Records) (x : Reading) (steps : MoveSte
     → IsMoved r (copied_move side x r one.sent one.receiver) input before end
 made_characters side r x steps one right p input before end stand gives made =
     made_there side r x steps one (characters_at p right) p input before end stand (characters_there side r steps one right p input before stand gives) made
+
+-- characters that stand in as many bytes stay as they are
+same_padded : (n : ℕ) (bytes : List ℕ) → length bytes ≡ n → bytes ≡ padded n bytes
+same_padded n bytes long = sym (take-append_seam bytes (replicate (length bytes) 0x40)) ∙ ap (λ (m : ℕ). padded m bytes) long
+
+same_padded_left : (n : ℕ) (bytes : List ℕ) → length bytes ≡ n → bytes ≡ padded_left n bytes
+same_padded_left n bytes long =
+    let none : n - length bytes ≡ 0 = omega (arith, long) in
+    let all : length bytes - n ≡ 0 = omega (arith, long) in
+    sym (ap (λ (m : ℕ). replicate m 0x40 ++ drop (length bytes - n) bytes) none ∙ ap (λ (m : ℕ). drop m bytes) all)
+
+-- a step of characters copies them to a receiver of as many bytes
+pub made_by_copy : (steps : MoveSteps) (step : CharactersStep) (p : MovePlaces) (input before after : List ℕ) → p.from.length ≡ p.to.length → p.from.offset + p.from.length ≤ length input → after ≡ with_field before p.to (field_of p.from input)
+    → IsMadeReady In (record { places = p; step = Characters step }) steps input before (done after)
+made_by_copy steps step p input before after same reads copied k is places =
+    let bytes : List ℕ = field_of p.from input in
+    let long : length bytes ≡ k.received = as_long p.from input reads ∙ same ∙ sym places.received in (
+      Some bytes,
+      λ reading. characters_received k.sender k.receiver reading k.received bytes bytes step.right is.between.gives is.between.side (λ left. same_padded k.received bytes long) (λ other. same_padded_left k.received bytes long),
+      ap done copied,
+    )
 
 pub made_by_picture : (r : Records) (x : Reading) (steps : PicturedSteps) (one : LocatedMove) (step : PicturedStep) (p : MovePlaces) (input before : List ℕ) (end : Ending) → x ≡ Pictured → StandAt In r one input before p
     → CarriesPictured steps (operand_in r.input one.sent).kind (operand_in r.output one.receiver).kind step → IsMadePictured (record { places = p; step = step }) steps input before end → IsMoved r (copied_move In x r one.sent one.receiver) input before end

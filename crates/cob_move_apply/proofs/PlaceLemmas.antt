@@ -30,7 +30,7 @@ use Rattle.cob_move_apply.specs.declared.basis.Basis.{Basis}
 use Rattle.cob_move_apply.specs.declared.basis.Basis.TheVariants as basis
 use Rattle.cob_move_apply.specs.Located.{Located, StandsUnder, stop_of}
 use Rattle.cob_move_apply.specs.declared.stop.Stop.{Stop}
-use Rattle.cob_move_apply.specs.Placed.{IsFixed, IsPlaced, IsBasis}
+use Rattle.cob_move_apply.specs.Placed.{IsFixed, StandsAsNoted, IsPlaced, IsBasis}
 use Rattle.cob_move_apply.specs.Surveyed.{IsSurvey}
 use Rattle.cob_move_apply.specs.declared.survey.Survey.{Survey}
 use Rattle.cob_layout.specs.Sound.{IsSound, IsStorableKind, AreStorable}
@@ -90,9 +90,6 @@ nowhere side t receiving o bytes r f stop is same found =
 
 -- ---- what a place rests on
 
-pub fixed_in : (t : Forest Resolved) (receiving : Bool) (o : Operand) (b : Basis) (p : Place) → IsPlaced t receiving o b → b ≡ basis.Fixed p → IsFixed t receiving o p
-fixed_in t receiving o b p is e = subst (IsBasis t receiving o) e is.basis
-
 -- where no count is read
 pub fixed : (t : Forest Resolved) (receiving : Bool) (o : Operand) (p : Place) → ReadsNone t o.entry.node receiving → StandsUnder t o (greatest_counts t) (Ok p)
     → p.offset + p.length ≤ greatest_length t → IsFixed t receiving o p
@@ -101,20 +98,28 @@ fixed t receiving o p none stands within = record {
   within = within;
 }
 
--- ---- an element that one count decides
+-- ---- what is noted of a place
 
--- where the count of its table is kept and it is there by that, it stands there
-pub element_at : KeptPlaceElements → (side : Side) (t : Forest Resolved) (receiving : Bool) (o : Operand) (bytes : List ℕ) (s : Survey) (e : ElementPlace) (p : Place) → IsSound t → IsOperand t o → IsSurvey t bytes s
+-- where the count of its table is kept and an element is there by that, it stands there
+element_at : KeptPlaceElements → (side : Side) (t : Forest Resolved) (receiving : Bool) (o : Operand) (bytes : List ℕ) (s : Survey) (e : ElementPlace) (p : Place) → IsSound t → IsOperand t o → IsSurvey t bytes s
     → IsElementPlace t o.entry receiving e → (p ≡ e.place) × IsThereBy s.counts.kept e → Located side t receiving o bytes (Ok p)
 element_at law side t receiving o bytes s e p sound operand survey is (same, there) =
     let long : length s.counts.kept ≡ length (tables_of t) = ap (λ (r : RoomForCounts). r.tables) survey.room in
     subst (λ (q : Place). Located side t receiving o bytes (Ok q)) (sym same) (law t bytes s.counts.kept o.entry receiving e sound operand.refers long survey.kept is there)
 
--- and within the record
-pub element_within : (t : Forest Resolved) (receiving : Bool) (o : Operand) (ks : List (Option StoredCount)) (e : ElementPlace) (p : Place) → IsElementPlace t o.entry receiving e → (p ≡ e.place) × IsThereBy ks e
-    → p.offset + p.length ≤ greatest_length t
-element_within t receiving o ks e p is (same, there) = omega (arith, is.within, ap (λ (q : Place). q.offset) same, ap (λ (q : Place). q.length) same)
+-- what stands where another place is ends where that ends
+ends_as : (most : ℕ) (p q : Place) → p ≡ q → q.offset + q.length ≤ most → p.offset + p.length ≤ most
+ends_as most p q same within = omega (arith, within, ap (λ (x : Place). x.offset) same, ap (λ (x : Place). x.length) same)
 
--- what an element's place rests on
-pub element_in : (t : Forest Resolved) (receiving : Bool) (o : Operand) (b : Basis) (e : ElementPlace) → IsPlaced t receiving o b → b ≡ basis.Element e → IsElementPlace t o.entry receiving e
-element_in t receiving o b e is same = subst (IsBasis t receiving o) same is.basis
+-- an operand stands where what is noted says
+pub noted_at : KeptPlaceElements → (side : Side) (t : Forest Resolved) (receiving : Bool) (o : Operand) (bytes : List ℕ) (s : Survey) (b : Basis) (p : Place) → IsSound t → IsPlaced t receiving o b → IsSurvey t bytes s
+    → StandsAsNoted b s.counts.kept p → Located side t receiving o bytes (Ok p)
+noted_at law side t receiving o bytes s (basis.Fixed q) p sound is survey same = subst (λ (x : Place). Located side t receiving o bytes (Ok x)) (sym same) (is.basis.place side bytes)
+noted_at law side t receiving o bytes s (basis.Element e) p sound is survey noted = element_at law side t receiving o bytes s e p sound is.operand survey is.basis noted
+noted_at law side t receiving o bytes s basis.Counted p sound is survey none = absurd none
+
+-- which is within the record
+pub noted_within : (t : Forest Resolved) (receiving : Bool) (o : Operand) (ks : List (Option StoredCount)) (b : Basis) (p : Place) → IsPlaced t receiving o b → StandsAsNoted b ks p → p.offset + p.length ≤ greatest_length t
+noted_within t receiving o ks (basis.Fixed q) p is same = ends_as (greatest_length t) p q same is.basis.within
+noted_within t receiving o ks (basis.Element e) p is noted = ends_as (greatest_length t) p e.place noted.0 is.basis.within
+noted_within t receiving o ks basis.Counted p is none = absurd none

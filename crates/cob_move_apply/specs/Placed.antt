@@ -1,9 +1,10 @@
 -- Moves, with what the places of their operands rest on.
-use Rattle.std.specs.Prelude.{◌≡◌, ℕ, ◌+◌, ◌≤◌, Bool, true, false, List, [], ◌∷◌, ◌++◌, map, Ok}
+use Rattle.std.specs.Prelude.{◌≡◌, ℕ, ◌+◌, ◌≤◌, Bool, true, false, List, [], ◌∷◌, ◌++◌, map, Option, Ok}
 use Rattle.cob_copybook_tree.specs.Forests.{Forest}
 use Rattle.cob_copybook_tree.specs.Nodes.{Resolved}
+use Rattle.cob_layout.specs.declared.counts.StoredCount.{StoredCount}
 use Rattle.cob_layout.specs.declared.fields.Place.{Place}
-use Rattle.cob_layout.specs.Elements.{IsElementPlace}
+use Rattle.cob_layout.specs.Elements.{IsElementPlace, IsThereBy}
 use Rattle.cob_layout.specs.Storage.{greatest_length}
 use Rattle.cob_move_data.specs.declared.operands.Sender as code_sender
 use Rattle.cob_move_data.specs.declared.operands.Side.{Side}
@@ -32,6 +33,12 @@ abbrev pub IsBasis : Forest Resolved → Bool → Operand → Basis → Type 0
 IsBasis tree receiving o (basis.Fixed p) = IsFixed tree receiving o p
 IsBasis tree receiving o (basis.Element e) = IsElementPlace tree o.entry receiving e
 IsBasis tree receiving o basis.Counted = Unit {0}
+
+-- what is noted of a place, and the counts that are kept, say that it is this
+abbrev pub StandsAsNoted : Basis → List (Option StoredCount) → Place → Type 0
+StandsAsNoted (basis.Fixed q) ks p = p ≡ q
+StandsAsNoted (basis.Element e) ks p = (p ≡ e.place) × IsThereBy ks e
+StandsAsNoted basis.Counted ks p = ⊥
 
 -- an operand of the record, with what its place rests on
 pub record IsPlaced (tree : Forest Resolved) (receiving : Bool) (o : Operand) (b : Basis) : Type 0 where

@@ -17,7 +17,7 @@ use crate::basis::{PlacedReceivers, SentEntry, entry_kind, placed_operand};
 use crate::layouts::Layouts;
 use crate::pictured::run_pictured;
 use crate::places::{Stored, locate_if_there};
-use crate::prepared::{make_characters, make_prepared};
+use crate::prepared::{make_characters, make_prepared, make_text};
 use crate::rule::{Kinds, receive_by_rule};
 use crate::senders::move_entry;
 use crate::step::{LocatedMove, LocatedStep, MovePlaces, PicturedMove, Plan};
@@ -26,7 +26,7 @@ use crate::workspace::Workspace;
 use cob_codec::Reading;
 use cob_layout::{field, places_lie_in_storage};
 use cob_move_data::Side;
-use cob_move_steps::CharactersStep;
+use cob_move_steps::{CharactersStep, MoveStep};
 use std::slice;
 
 /// Whether a step carries its moves out where senders are read so.
@@ -132,7 +132,62 @@ fn run_by_rule(
     }
 }
 
-/// Carries out a move between the places where its sender and its receiver stand. False where a value of the sender is missing: all is as it was then.
+/// Carries out a move between the places where its sender and its receiver stand. False where senders are read otherwise than it was made ready for, or where a
+/// value of the sender is missing: all is as it was then. It isn't inlined, so that the loop over moves whose places are found stays short.
+#[inline(never)]
+fn run_rarer(
+    plan: &Plan,
+    one: &LocatedMove,
+    places: MovePlaces,
+    layouts: &Layouts<'_>,
+    input: &[u8],
+    output: &mut [u8],
+    space: &mut Workspace,
+) -> bool
+    requires in_sound { IsSound layouts.now.input.now }
+    requires out_sound { IsSound layouts.now.output.now }
+    requires ready { IsReadyAnywhere In (records layouts.now) plan.now.prepared plan.now.pictured
+        one.now }
+    requires stand { StandAt In (records layouts.now) one.now input.now output.old places }
+    requires output { length output.old ≡ greatest_length layouts.now.output.now }
+    requires space { IsWorkspace (records layouts.now) input.now output.old space.old }
+    ensures moved { IsTrue result → IsMoved (records layouts.now)
+        (located_move In layouts.now one.now) input.now output.old (done output.new) }
+    ensures space { IsWorkspace (records layouts.now) input.now output.new space.new }
+    ensures spends { IsTrue result → MoveHasSpent layouts.now
+        (located_move In layouts.now one.now) input.now output.old output.new space.old
+        space.new }
+    ensures same { result ≡ false → (output.new ≡ output.old) × (space.new ≡ space.old) }
+{
+    if !serves(one.step, layouts.reading) {
+        return false;
+    }
+    let prepared = &plan.prepared;
+    match one.step {
+        LocatedStep::Characters(right) => {
+            let sent = places.from.length as usize;
+            let step = CharactersStep { sent, right };
+            make_characters(prepared, &places, step, layouts, input, output, space);
+            true
+        }
+        LocatedStep::Always(step) => {
+            match make_prepared(prepared, &places, step, layouts, input, output, space) {
+                Ok(()) => true,
+                Err(_) => false,
+            }
+        }
+        LocatedStep::Pictured(step) => {
+            let ready = PicturedMove { places, step };
+            match run_pictured(&plan.pictured, ready, layouts, input, output, space) {
+                Ok(()) => true,
+                Err(_) => false,
+            }
+        }
+        LocatedStep::Rule => run_by_rule(one, &places, layouts, input, output, space),
+    }
+}
+
+/// Does what [`run_rarer`] does. Plain copies, characters and numbers of up to sixteen digits have ways of their own here.
 #[inline(always)]
 fn run_between(
     plan: &Plan,
@@ -147,7 +202,6 @@ fn run_between(
     requires out_sound { IsSound layouts.now.output.now }
     requires ready { IsReadyAnywhere In (records layouts.now) plan.now.prepared plan.now.pictured
         one.now }
-    requires serves { serves one.now.step layouts.now.reading ≡ true }
     requires stand { StandAt In (records layouts.now) one.now input.now output.old places.now }
     requires output { length output.old ≡ greatest_length layouts.now.output.now }
     requires space { IsWorkspace (records layouts.now) input.now output.old space.old }
@@ -164,26 +218,19 @@ fn run_between(
         LocatedStep::Characters(right) => {
             let sent = places.from.length as usize;
             let step = CharactersStep { sent, right };
-            make_characters(prepared, places, step, layouts, input, output, space);
+            make_text(prepared, places, step, layouts, input, output, space);
             true
         }
-        LocatedStep::Always(step) => {
-            match make_prepared(prepared, places, step, layouts, input, output, space) {
-                Ok(()) => true,
-                Err(_) => false,
+        LocatedStep::Always(step) => match step {
+            MoveStep::Number(_) => {
+                match make_prepared(prepared, places, step, layouts, input, output, space) {
+                    Ok(()) => true,
+                    Err(_) => false,
+                }
             }
-        }
-        LocatedStep::Pictured(step) => {
-            let ready = PicturedMove {
-                places: *places,
-                step,
-            };
-            match run_pictured(&plan.pictured, ready, layouts, input, output, space) {
-                Ok(()) => true,
-                Err(_) => false,
-            }
-        }
-        LocatedStep::Rule => run_by_rule(one, places, layouts, input, output, space),
+            _ => run_rarer(plan, one, *places, layouts, input, output, space),
+        },
+        _ => run_rarer(plan, one, *places, layouts, input, output, space),
     }
 }
 
@@ -213,9 +260,6 @@ pub(crate) fn run_located(
         × IsSpent layouts.now.output.now 0 space.old.output space.new.output }
 {
     let one = &plan.located[number];
-    if !serves(one.step, layouts.reading) {
-        return false;
-    }
     let Some(places) = both_places(one, layouts, input, output, space) else {
         return false;
     };

@@ -1,13 +1,12 @@
 //! Where operands stand.
 
 ghost use Rattle.std.specs.Prelude.{◌≡◌, ◌+◌, ◌≤◌, IfOk, IfErr, IfSome, OnOk, Ok, Err};
-ghost use Rattle.cob_layout.specs.Elements.{IsElementPlace};
 ghost use Rattle.cob_layout.specs.Sound.{IsSound};
 ghost use Rattle.cob_layout.specs.Storage.{greatest_length};
 ghost use Rattle.cob_move_data.specs.Moves.{IsOperand};
 ghost use Rattle.cob_move_receive.specs.Sent.{Occupies};
 ghost use Rattle.cob_move_apply.specs.Located.{Located, stop_of};
-ghost use Rattle.cob_move_apply.specs.Placed.{IsPlaced};
+ghost use Rattle.cob_move_apply.specs.Placed.{StandsAsNoted, IsPlaced};
 ghost use Rattle.cob_move_apply.specs.Seen.{operand_of};
 ghost use Rattle.cob_move_apply.specs.Spent.{IsSpent, Spends};
 ghost use Rattle.cob_move_apply.specs.Surveyed.{IsSurvey};
@@ -16,8 +15,7 @@ use crate::basis::{Basis, PlacedOperand};
 use crate::stop::{Stop, StopCause};
 use crate::survey::Survey;
 use cob_layout::{
-    ElementPlace, FindFault, Layout, Place, kept_give_needed, kept_place_elements,
-    one_outcome_of_counts,
+    Counts, FindFault, Layout, Place, kept_give_needed, kept_place_elements, one_outcome_of_counts,
 };
 use cob_layout_places::needs_are_read;
 use cob_move_data::Side;
@@ -84,40 +82,19 @@ fn place_by_counts(
     }
 }
 
-/// Where an operand stands in a storage, sending or receiving, that rests on one count, and on that only whether it is there: at once where this is kept.
-///
-/// # Errors
-///
-/// The first count that it needs and that isn't valid; a subscript past its table's count.
+/// Where an operand stands, where what is noted of its place and the counts that are kept say it.
 #[inline(always)]
-fn place_of_element(
-    stored: &Stored<'_>,
-    operand: &PlacedOperand<'_>,
-    element: ElementPlace,
-    receiving: bool,
-    survey: &mut Survey,
-) -> Result<Place, Stop>
-    requires sound { IsSound stored.now.layout.now }
-    requires operand { IsOperand stored.now.layout.now (operand_of operand.now) }
-    requires element { IsElementPlace stored.now.layout.now operand.now.entry.now receiving
-        element }
-    requires survey { IsSurvey stored.now.layout.now stored.now.bytes.now survey.old }
-    ensures located { Located stored.now.side stored.now.layout.now receiving
-        (operand_of operand.now) stored.now.bytes.now result }
-    ensures fits { IfOk result
-        (λ p. p.offset + p.length ≤ greatest_length stored.now.layout.now) }
-    ensures filled { IfOk result (λ p. Occupies operand.now.kind.now p.length) }
-    ensures survey { IsSurvey stored.now.layout.now stored.now.bytes.now survey.new }
-    ensures spends { Spends stored.now.layout.now 0 result survey.old survey.new }
+pub(crate) fn noted_place(basis: Basis, counts: &Counts) -> Option<Place>
+    ensures { IfSome result (StandsAsNoted basis counts.now.kept) }
 {
-    kept_place_elements();
-    match survey.counts.place_of(element) {
-        Some(place) => Ok(place),
-        None => place_by_counts(stored, operand, receiving, survey),
+    match basis {
+        Basis::Fixed(place) => Some(place),
+        Basis::Element(element) => counts.place_of(element),
+        Basis::Counted => None,
     }
 }
 
-/// Where an operand stands in a storage, sending or receiving. It is inlined so that a place that rests on no count costs no call.
+/// Where an operand stands in a storage, sending or receiving. It is inlined so that a place that is noted costs no call.
 ///
 /// # Errors
 ///
@@ -141,10 +118,10 @@ pub(crate) fn locate(
     ensures survey { IsSurvey stored.now.layout.now stored.now.bytes.now survey.new }
     ensures spends { Spends stored.now.layout.now 0 result survey.old survey.new }
 {
-    match placed.basis {
-        Basis::Fixed(place) => Ok(place),
-        Basis::Element(element) => { place_of_element(stored, placed, element, receiving, survey) }
-        Basis::Counted => place_by_counts(stored, placed, receiving, survey),
+    kept_place_elements();
+    match noted_place(placed.basis, &survey.counts) {
+        Some(place) => Ok(place),
+        None => place_by_counts(stored, placed, receiving, survey),
     }
 }
 
@@ -191,37 +168,8 @@ fn place_if_there(
     }
 }
 
-/// Where an operand stands in a storage, as [`place_of_element`] finds it. None where it stands nowhere: counts that were read for nothing aren't told.
-#[inline(always)]
-fn element_if_there(
-    stored: &Stored<'_>,
-    operand: &PlacedOperand<'_>,
-    element: ElementPlace,
-    receiving: bool,
-    survey: &mut Survey,
-) -> Option<Place>
-    requires sound { IsSound stored.now.layout.now }
-    requires operand { IsOperand stored.now.layout.now (operand_of operand.now) }
-    requires element { IsElementPlace stored.now.layout.now operand.now.entry.now receiving
-        element }
-    requires survey { IsSurvey stored.now.layout.now stored.now.bytes.now survey.old }
-    ensures located { IfSome result (λ p. Located stored.now.side stored.now.layout.now receiving
-        (operand_of operand.now) stored.now.bytes.now (Ok p)) }
-    ensures fits { IfSome result
-        (λ p. p.offset + p.length ≤ greatest_length stored.now.layout.now) }
-    ensures filled { IfSome result (λ p. Occupies operand.now.kind.now p.length) }
-    ensures survey { IsSurvey stored.now.layout.now stored.now.bytes.now survey.new }
-    ensures spends { IsSpent stored.now.layout.now 0 survey.old survey.new }
-{
-    kept_place_elements();
-    match survey.counts.place_of(element) {
-        Some(place) => Some(place),
-        None => place_if_there(stored, operand, receiving, survey),
-    }
-}
-
 /// Where an operand stands in a storage, as [`locate`] finds it. None where it stands nowhere: counts that were read for nothing aren't told. It is
-/// inlined so that a place that rests on no count costs no call.
+/// inlined so that a place that is noted costs no call.
 #[inline(always)]
 pub(crate) fn locate_if_there(
     stored: &Stored<'_>,
@@ -241,12 +189,12 @@ pub(crate) fn locate_if_there(
     ensures survey { IsSurvey stored.now.layout.now stored.now.bytes.now survey.new }
     ensures spends { IsSpent stored.now.layout.now 0 survey.old survey.new }
 {
-    match placed.basis {
-        Basis::Fixed(place) => Some(Place {
+    kept_place_elements();
+    match noted_place(placed.basis, &survey.counts) {
+        Some(place) => Some(Place {
             offset: place.offset,
             length: place.length,
         }),
-        Basis::Element(element) => { element_if_there(stored, placed, element, receiving, survey) }
-        Basis::Counted => place_if_there(stored, placed, receiving, survey),
+        None => place_if_there(stored, placed, receiving, survey),
     }
 }
