@@ -98,11 +98,11 @@ pub moves_on : (r : Records) (m : MarkedMoves) (a b c : ℕ) → AreMarkedPrepar
     → moves_between_marks r m a b ++ moves_between_marks r m b c ≡ moves_between_marks r m a c
 moves_on r m a b c prepared le more within =
     let first = (prepared.parted.rise a b le (omega (arith, more, within))).0 in
-    let then = (prepared.parted.rise b c more within).0 in
+    let second = (prepared.parted.rise b c more within).0 in
     let given = m.moves.statements.items in
     let at : ℕ → ℕ = λ k. (mark_at m.marks.items k).statement in
     sym (moves_append m.moves.reading r (items_between (at a) (at b) given) (items_between (at b) (at c) given))
-    ∙ ap (moves_by m.moves.reading r) (sym (between_both (at a) (at b) (at c) given first then))
+    ∙ ap (moves_by m.moves.reading r) (sym (between_both (at a) (at b) (at c) given first second))
 
 -- the turn of a number
 turn_at : (from by j : ℕ) → 0 < by → ((from + j * by) - from) / by ≡ j
@@ -138,8 +138,10 @@ pub turns_all : (r : Records) (m : MarkedMoves) (l : CountedLoop) (k : ℕ) → 
 turns_all r m l k prepared some within =
     let from : l.from ≡ l.from + 0 * l.by = omega arith in
     let first : l.first + 0 ≡ l.first = omega arith in
+    let count : 0 + k ≡ k = omega arith in
     ap (λ (n : ℕ). turns (moves_of_turn r m l) l.by k n) from
     ∙ turns_are r m l k 0 prepared some (omega (arith, within))
+    ∙ ap (λ (n : ℕ). moves_between_marks r m (l.first + 0) (l.first + n)) count
     ∙ ap (λ (n : ℕ). moves_between_marks r m n (l.first + k)) first
 
 -- ---- a loop carried out

@@ -18,7 +18,7 @@ use Rattle.cob_move_deeds.proofs.DeedLemmas.{one_carried, says_not}
 use Rattle.cob_move_deeds.proofs.TestLemmas.{determined}
 use Rattle.cob_move_deeds.proofs.TurnLemmas.{before_last, past_not}
 
-plain : (n : ℕ) → n ≡ 0 + n
+pub plain : (n : ℕ) → n ≡ 0 + n
 plain n = omega arith
 
 -- ---- moves behind moves

@@ -1,5 +1,5 @@
 -- How many counts are read as flows are carried out: receivers of deeds, one flow behind another.
-use Rattle.std.proofs.Common.{◌≡◌, ◌⊎◌, ℕ, zero, suc, ◌+◌, ◌*◌, ◌≤◌, Bool, true, false, List, [], ◌∷◌, ◌++◌, drop, length, nat_lt, take, refl, sym, ap, subst, ◌∙◌, arith, inl, inr, append_assoc, append-nil, length-append, length-drop, Ok, Err, Result, Option, Some}
+use Rattle.std.proofs.Common.{◌≡◌, ◌⊎◌, ℕ, zero, suc, ◌+◌, ◌*◌, ◌<◌, ◌≤◌, Bool, true, false, List, [], ◌∷◌, ◌++◌, drop, length, nat_lt, take, refl, sym, ap, subst, ◌∙◌, arith, inl, inr, append_assoc, append-nil, length-append, length-drop, Ok, Err, Result, Option, Some}
 use Rattle.std.specs.List.{AllByRecursion, slice_get}
 use Rattle.std.proofs.lemmas.List.{drop-append-le, length-take-le, take-append-drop}
 use Rattle.std.proofs.Math.Nat.{mul-add, mul_comm}
@@ -54,13 +54,13 @@ loop_met r on l b v input before m prepared is at same gives below h =
 
 -- ---- reads, one behind another
 
-pub reads_behind : {A : Type 0} (tree : Forest Resolved) (met : ℕ) (result : Result A Stop) (old mid new : Scratching) → ReadsFor tree 0 (Ok tt) old mid → ReadsFor tree met result mid new → ReadsFor tree met result old new
+pub reads_behind : {A : Type 0} (tree : Forest Resolved) (met : ℕ) (result : Result A Stop) (old mid new : Scratching) → ReadsFor {A = Unit {0}} tree 0 (Ok tt) old mid → ReadsFor tree met result mid new → ReadsFor tree met result old new
 reads_behind tree met (Ok a) old mid new first then = omega (arith, first, then, allowed_none tree)
 reads_behind tree met (Err stop) old mid new first then = omega (arith, first, then, allowed_none tree)
 
 -- a loop whose bound was read, and then its moves
 pub loop_reads : {A : Type 0} (r : Records) (on : FlowSupport) (l : CountedLoop) (b : Bound) (v k : ℕ) (input before : List ℕ) (result : Result A Stop) (old mid new : Scratching) → AreMarkedPrepared r on.moves → (is : IsLoop on l)
-    → slice_get on.bounds l.bound ≡ Some b → is.bound ≡ b → BoundGives r (past_bound r b 0) input before v → v ≤ b.most → k ≡ turns_between l.from l.by v → ReadsFor r.output 0 (Ok tt) old mid
+    → slice_get on.bounds l.bound ≡ Some b → is.bound ≡ b → BoundGives r (past_bound r b 0) input before v → v ≤ b.most → k ≡ turns_between l.from l.by v → ReadsFor {A = Unit {0}} r.output 0 (Ok tt) old mid
     → ReadsOfMoves r (moves_between_marks r on.moves l.first (l.first + k)) input before result mid new → ReadsOfDeeds r (loop_done r on (Some l)) input before result old new
 loop_reads r on l b v k input before result old mid new prepared is at same gives below count first (met, have, then) = (
   met,
@@ -136,7 +136,7 @@ none_met_flows r on fs input before n le = none_done r (carried_from r on n fs) 
 -- ---- what is read at a flow
 
 pub moves_spend : (r : Records) (on : FlowSupport) (number : ℕ) (more : List Flow) (input before after : List ℕ) (old new : Scratching) → Applied r (moves_between_marks r on.moves number (number + 1)) input before (done after)
-    → ReadsOfMoves r (moves_between_marks r on.moves number (number + 1)) input before (Ok tt) old new → FlowSpends r on (flow.Moves number ∷ more) more input before after old new
+    → ReadsOfMoves {A = Unit {0}} r (moves_between_marks r on.moves number (number + 1)) input before (Ok tt) old new → FlowSpends r on (flow.Moves number ∷ more) more input before after old new
 moves_spend r on number more input before after old new made (met, own, spent) = (met, meet_moves r on number more input before after met made own, spent)
 
 pub moves_stop_reads : (r : Records) (on : FlowSupport) (number : ℕ) (more : List Flow) (input before : List ℕ) (stop : Stop) (old new : Scratching)
@@ -144,7 +144,7 @@ pub moves_stop_reads : (r : Records) (on : FlowSupport) (number : ℕ) (more : L
 moves_stop_reads r on number more input before stop old new (met, own, spent) = (met, met_moves r on number more input before met own, spent)
 
 pub turns_spend : OneOfNeeded → OneEnding → (r : Records) (on : FlowSupport) (number : ℕ) (more : List Flow) (l : CountedLoop) (input before after : List ℕ) (old new : Scratching) → slice_get on.loops number ≡ Some l
-    → Carried (Judged r) r (loop_done r on (Some l)) input before (done after) → ReadsOfDeeds r (loop_done r on (Some l)) input before (Ok tt) old new → FlowSpends r on (flow.Turns number ∷ more) more input before after old new
+    → Carried (Judged r) r (loop_done r on (Some l)) input before (done after) → ReadsOfDeeds {A = Unit {0}} r (loop_done r on (Some l)) input before (Ok tt) old new → FlowSpends r on (flow.Turns number ∷ more) more input before after old new
 turns_spend law one r on number more l input before after old new at made (met, own, spent) = (met, meet_turns law one r on number more l input before after met at made own, spent)
 
 pub turns_stop_reads : (r : Records) (on : FlowSupport) (number : ℕ) (more : List Flow) (l : CountedLoop) (input before : List ℕ) (stop : Stop) (old new : Scratching) → slice_get on.loops number ≡ Some l
@@ -152,11 +152,11 @@ pub turns_stop_reads : (r : Records) (on : FlowSupport) (number : ℕ) (more : L
 turns_stop_reads r on number more l input before stop old new at (met, own, spent) = (met, met_turns r on number more l input before met at own, spent)
 
 pub past_spends : (r : Records) (on : FlowSupport) (bound number skip : ℕ) (more left : List Flow) (b : Bound) (input before : List ℕ) (v : ℕ) (old new : Scratching) → slice_get on.bounds bound ≡ Some b → BoundGives r (past_bound r b 0) input before v
-    → nat_lt v number ≡ true → left ≡ drop skip more → ReadsFor r.output 0 (Ok tt) old new → FlowSpends r on (flow.Until bound number skip ∷ more) left input before before old new
+    → nat_lt v number ≡ true → left ≡ drop skip more → ReadsFor {A = Unit {0}} r.output 0 (Ok tt) old new → FlowSpends r on (flow.Until bound number skip ∷ more) left input before before old new
 past_spends r on bound number skip more left b input before v old new at gives past same spent = (0, meet_past r on bound number skip more left b input before v at gives past same, spent)
 
 pub within_spends : (r : Records) (on : FlowSupport) (bound number skip : ℕ) (more : List Flow) (b : Bound) (input before : List ℕ) (v : ℕ) (old new : Scratching) → slice_get on.bounds bound ≡ Some b → BoundGives r (past_bound r b 0) input before v
-    → nat_lt v number ≡ false → ReadsFor r.output 0 (Ok tt) old new → FlowSpends r on (flow.Until bound number skip ∷ more) more input before before old new
+    → nat_lt v number ≡ false → ReadsFor {A = Unit {0}} r.output 0 (Ok tt) old new → FlowSpends r on (flow.Until bound number skip ∷ more) more input before before old new
 within_spends r on bound number skip more b input before v old new at gives past spent = (0, meet_within r on bound number skip more b input before v at gives past, spent)
 
 pub test_stop_reads : (r : Records) (on : FlowSupport) (fs : List Flow) (input before : List ℕ) (stop : Stop) (old new : Scratching) → ReadsFor {A = ℕ} r.output 0 (Err stop) old new → FlowSpendsAtStop r on fs input before old new
@@ -182,14 +182,14 @@ pub spends_on : (r : Records) (on : FlowSupport) (all left next : List Flow) (in
 spends_on r on all left next input before now after old mid new (met, so, first) (own, one, then) =
     (met + own, meet_on r on all left next input before now after met own so one, omega (arith, first, then, allowed_both r.output met own))
 
-pub stop_reads : {A : Type 0} (r : Records) (on : FlowSupport) (all left : List Flow) (input before now : List ℕ) (stop : Stop) (old mid new : Scratching) → FlowSpends r on all left input before now old mid
-    → FlowSpendsAtStop r on left input now mid new → ReadsOfDeeds {A = A} r (carried_from r on (length all) all) input before (Err stop) old new
+pub stop_reads : (r : Records) (on : FlowSupport) (all left : List Flow) (input before now : List ℕ) (stop : Stop) (old mid new : Scratching) → FlowSpends r on all left input before now old mid
+    → FlowSpendsAtStop r on left input now mid new → ReadsOfDeeds {A = Unit {0}} r (carried_from r on (length all) all) input before (Err stop) old new
 stop_reads r on all left input before now stop old mid new (met, so, first) (own, one, then) =
     let (m, few, back) = so (length all) (omega arith) in
     (met + own, back own (one m few), omega (arith, first, then, allowed_both r.output met own))
 
 pub all_reads : (r : Records) (on : FlowSupport) (all left : List Flow) (input before now : List ℕ) (old new : Scratching) → left ≡ [] → FlowSpends r on all left input before now old new
-    → ReadsOfDeeds r (carried_from r on (length all) all) input before (Ok tt) old new
+    → ReadsOfDeeds {A = Unit {0}} r (carried_from r on (length all) all) input before (Ok tt) old new
 all_reads r on all left input before now old new none (met, so, spent) =
     let (m, few, back) = so (length all) (omega arith) in
     let sum : met + 0 ≡ met = omega arith in (

@@ -1,16 +1,17 @@
 -- Deeds whose binary senders are read otherwise.
-use Rattle.std.proofs.Common.{◌≡◌, ℕ, zero, suc, ◌+◌, List, [], ◌∷◌, drop, map, take, refl, sym, ap, ◌∙◌, Option, Some, None}
-use Rattle.std.specs.List.{slice_get}
+use Rattle.std.proofs.Common.{◌≡◌, ℕ, zero, suc, ◌+◌, List, [], ◌∷◌, arith, drop, length, map, take, refl, sym, ap, ◌∙◌, Option, Some, None}
+use Rattle.std.specs.List.{AllByRecursion, slice_get}
+use Rattle.std.proofs.lemmas.List.{length-map}
 use Rattle.cob_codec.specs.declared.reading.Reading.{Reading}
 use Rattle.cob_move_data.specs.Moves.{Move, Records, read_by}
-use Rattle.cob_move_apply.specs.Marked.{moves_between_marks}
+use Rattle.cob_move_apply.specs.Marked.{ends_of_marks, moves_between_marks, statement_of}
 use Rattle.cob_move_apply.specs.declared.marked.MarkedMoves.{MarkedMoves}
 use Rattle.cob_move_deeds.specs.declared.flow.Bound.{Bound}
 use Rattle.cob_move_deeds.specs.declared.flow.CountedLoop.{CountedLoop}
 use Rattle.cob_move_deeds.specs.declared.flow.Flow.{Flow}
 use Rattle.cob_move_deeds.specs.declared.flow.Flow.TheVariants as flow
 use Rattle.cob_move_deeds.specs.Deeds.{Choice, Deeds, Moving, Nothing, both_deeds}
-use Rattle.cob_move_deeds.specs.Flows.{FlowSupport, deeds_by, deeds_from, loop_done, moves_of_turn, turns_to, unless_past}
+use Rattle.cob_move_deeds.specs.Flows.{FlowSupport, IsFlow, IsLoop, deeds_by, deeds_from, loop_done, moves_of_turn, turns_to, unless_past}
 use Rattle.cob_move_deeds.specs.Tests.{Past, past_bound, with_number}
 use Rattle.cob_move_deeds.specs.Turns.{turns_from}
 
@@ -62,3 +63,23 @@ flows_read x r on new same (suc n) (flow.Until bound number skip ∷ rest) =
     test_read x r (slice_get on.bounds bound) number (deeds_from r on n (take skip rest)) (deeds_from r on n (drop skip rest))
     (deeds_from r (record { moves = new; bounds = on.bounds; loops = on.loops }) n (take skip rest)) (deeds_from r (record { moves = new; bounds = on.bounds; loops = on.loops }) n (drop skip rest))
     (flows_read x r on new same n (take skip rest)) (flows_read x r on new same n (drop skip rest))
+
+-- ---- flows that may be carried out, over moves with as many marks
+
+same_marks : (old new : MarkedMoves) → ends_of_marks new ≡ ends_of_marks old → length new.marks.items ≡ length old.marks.items
+same_marks old new same = sym (length-map new.marks.items statement_of) ∙ ap length same ∙ length-map old.marks.items statement_of
+
+loop_still : (on : FlowSupport) (new : MarkedMoves) (l : CountedLoop) → length new.marks.items ≡ length on.moves.marks.items → IsLoop on l
+    → IsLoop (record { moves = new; bounds = on.bounds; loops = on.loops }) l
+loop_still on new l same is = record { bound = is.bound; at = is.at; of_input = is.of_input; grows = is.grows; far = is.far; marks = omega (arith, same, is.marks) }
+
+flow_still : (on : FlowSupport) (new : MarkedMoves) → length new.marks.items ≡ length on.moves.marks.items → (f : Flow) → IsFlow on f
+    → IsFlow (record { moves = new; bounds = on.bounds; loops = on.loops }) f
+flow_still on new same (flow.Moves number) is = omega (arith, same, is)
+flow_still on new same (flow.Turns number) (l, at, is) = (l, at, loop_still on new l same is)
+flow_still on new same (flow.Until bound number skip) is = is
+
+pub flows_still : (on : FlowSupport) (new : MarkedMoves) → ends_of_marks new ≡ ends_of_marks on.moves → (fs : List Flow) → AllByRecursion (IsFlow on) fs
+    → AllByRecursion (IsFlow (record { moves = new; bounds = on.bounds; loops = on.loops })) fs
+flows_still on new same [] each = each
+flows_still on new same (f ∷ fs) each = (flow_still on new (same_marks on.moves new same) f each.0, flows_still on new same fs each.1)

@@ -1,4 +1,4 @@
-use Rattle.std.proofs.Common.{◌∷◌, List, arith, refl, subst, sym, ◌∙◌}
+use Rattle.std.proofs.Common.{◌∷◌, List, arith, length, refl, subst, sym, ◌∙◌}
 use Rattle.std.specs.List.{AllByRecursion}
 use Rattle.std.proofs.lemmas.Result.{err_from_is_err_and}
 use Rattle.cob_move_data.specs.Moves.{Records}
@@ -20,8 +20,8 @@ returns-clause-reads c =
     all_reads (records_of_sides c.args.sides.now) (flow_support c.args.deeds.now) c.args.deeds.now.flows.items c.loop-flow.rest.now c.args.sides.now.input.now c.args.output.now c.loop-flow.output c.args.scratch.now c.loop-flow.scratch
     (flows_none c.loop-flow.rest.now (omega (arith, c.in_default.ensures.cases))) c.loop-flow.invariant.reads
 
-pub next-rest-requires-clause-flow : goal.next-rest-requires-clause-flow
-next-rest-requires-clause-flow c =
+pub next-requires-clause-flow : goal.next-requires-clause-flow
+next-requires-clause-flow c =
     let on : FlowSupport = flow_support c.args.deeds.now in
     (subst (λ (fs : List Flow). AllByRecursion (IsFlow on) fs) c.in-Some.ensures.cases.0 c.loop-flow.invariant.each).0
 
@@ -33,7 +33,7 @@ returns-in_err-rest-clause-carried c =
     let fs : List Flow = c.in-Some.flow.now ∷ c.in-Some.more.now in
     let p = err_from_is_err_and c.from_residual.result c.from_residual.ensures.1 in
     let left = subst (λ (gs : List Flow). LeavesFlows r on all gs c.args.sides.now.input.now c.args.output.now c.loop-flow.output) c.in-Some.ensures.cases.0 c.loop-flow.invariant.left in
-    rw (p.1, p.2) (stops_on r on all fs c.args.sides.now.input.now c.args.output.now c.loop-flow.output c.next-rest.new.output c.in_err-rest.field-0.0 left c.in_err-rest.ensures.stops (length all) (omega arith))
+    rw (p.1, p.2) (stops_on r on all fs c.args.sides.now.input.now c.args.output.now c.loop-flow.output c.next.new.output c.in_err-rest.field-0.0 left c.in_err-rest.ensures.stops (length all) (omega arith))
 
 pub returns-in_err-rest-clause-reads : goal.returns-in_err-rest-clause-reads
 returns-in_err-rest-clause-reads c =
@@ -43,7 +43,7 @@ returns-in_err-rest-clause-reads c =
     let fs : List Flow = c.in-Some.flow.now ∷ c.in-Some.more.now in
     let p = err_from_is_err_and c.from_residual.result c.from_residual.ensures.1 in
     let spent = subst (λ (gs : List Flow). FlowSpends r on all gs c.args.sides.now.input.now c.args.output.now c.loop-flow.output c.args.scratch.now c.loop-flow.scratch) c.in-Some.ensures.cases.0 c.loop-flow.invariant.reads in
-    rw (p.1, p.2) (stop_reads {A = Unit {0}} r on all fs c.args.sides.now.input.now c.args.output.now c.loop-flow.output c.in_err-rest.field-0.0 c.args.scratch.now c.loop-flow.scratch c.next-rest.new.scratch spent c.in_err-rest.ensures.spent)
+    rw p.1 (stop_reads r on all fs c.args.sides.now.input.now c.args.output.now c.loop-flow.output c.in_err-rest.field-0.0 c.args.scratch.now c.loop-flow.scratch c.next.new.scratch spent c.in_err-rest.ensures.spent)
 
 pub loop-flow-init : goal.loop-flow-init
 loop-flow-init c =
@@ -68,9 +68,9 @@ loop-flow-preserved c =
     let left = subst (λ (gs : List Flow). LeavesFlows r on all gs c.args.sides.now.input.now c.args.output.now c.loop-flow.output) c.in-Some.ensures.cases.0 c.loop-flow.invariant.left in
     let spent = subst (λ (gs : List Flow). FlowSpends r on all gs c.args.sides.now.input.now c.args.output.now c.loop-flow.output c.args.scratch.now c.loop-flow.scratch) c.in-Some.ensures.cases.0 c.loop-flow.invariant.reads in
     let each = subst (λ (gs : List Flow). AllByRecursion (IsFlow on) gs) c.in-Some.ensures.cases.0 c.loop-flow.invariant.each in record {
-      left = leaves_on r on all fs c.in_ok-rest.rest.now c.args.sides.now.input.now c.args.output.now c.loop-flow.output c.next-rest.new.output left c.in_ok-rest.ensures.leaves;
+      left = leaves_on r on all fs c.in_ok-rest.rest.now c.args.sides.now.input.now c.args.output.now c.loop-flow.output c.next.new.output left c.in_ok-rest.ensures.leaves;
       each = subst (λ (gs : List Flow). AllByRecursion (IsFlow on) gs) (sym behind) (all_behind (IsFlow on) count c.in-Some.more.now each.1);
-      output = c.next-rest.auto.output ∙ c.loop-flow.invariant.output;
-      reads = spends_on r on all fs c.in_ok-rest.rest.now c.args.sides.now.input.now c.args.output.now c.loop-flow.output c.next-rest.new.output c.args.scratch.now c.loop-flow.scratch c.next-rest.new.scratch spent c.in_ok-rest.ensures.spends;
+      output = c.next.auto.output ∙ c.loop-flow.invariant.output;
+      reads = spends_on r on all fs c.in_ok-rest.rest.now c.args.sides.now.input.now c.args.output.now c.loop-flow.output c.next.new.output c.args.scratch.now c.loop-flow.scratch c.next.new.scratch spent c.in_ok-rest.ensures.spends;
       kept = c.in_ok-rest.ensures.kept;
     }

@@ -44,7 +44,7 @@ returns-in_err-number-clause-reads c =
     let r : Records = records_of_sides c.args.sides.now in
     let on : FlowSupport = flow_support c.args.deeds.now in
     let p = err_from_is_err_and c.from_residual.result c.from_residual.ensures.1 in
-    rw (p.1, p.2) (none_reads {A = Unit {0}} r (loop_done r on (Some c.args.one.now)) c.args.sides.now.input.now c.args.output.now (Err c.in_err-number.field-0.0) c.args.scratch.now c.read_bound-number.new.scratch c.in_err-number.ensures.reads)
+    rw p.1 (none_reads {A = Unit {0}} r (loop_done r on (Some c.args.one.now)) c.args.sides.now.input.now c.args.output.now (Err c.in_err-number.field-0.0) c.args.scratch.now c.read_bound.new.scratch c.in_err-number.ensures.reads)
 
 pub returns-clause-reads : goal.returns-clause-reads
 returns-clause-reads c =
@@ -53,5 +53,5 @@ returns-clause-reads c =
     let is = c.requires.counted in
     let gives = c.in_ok-number.ensures.says is.bound is.at in
     let below = below_most r (past_bound r is.bound 0) c.args.sides.now.input.now c.args.output.now c.in_ok-number.number gives in
-    loop_reads r on c.args.one.now is.bound c.in_ok-number.number c.turns_up_to-turns.result c.args.sides.now.input.now c.args.output.now c.make_moves.result c.args.scratch.now c.read_bound-number.new.scratch c.make_moves.new.scratch
+    loop_reads r on c.args.one.now is.bound c.in_ok-number.number c.turns_up_to-turns.result c.args.sides.now.input.now c.args.output.now c.make_moves.result c.args.scratch.now c.read_bound.new.scratch c.make_moves.new.scratch
     c.requires.prepared.moves is is.at refl gives below c.turns_up_to-turns.ensures c.in_ok-number.ensures.reads c.make_moves.ensures.reads
