@@ -1,7 +1,7 @@
 -- Deeds whose binary senders are read otherwise.
-use Rattle.std.proofs.Common.{◌≡◌, ℕ, zero, suc, ◌+◌, List, [], ◌∷◌, arith, drop, length, map, take, refl, sym, ap, ◌∙◌, Option, Some, None}
+use Rattle.std.proofs.Common.{◌≡◌, ℕ, zero, suc, ◌+◌, List, [], ◌∷◌, ◌++◌, arith, drop, length, map, take, refl, sym, ap, ◌∙◌, Option, Some, None}
 use Rattle.std.specs.List.{AllByRecursion, slice_get}
-use Rattle.std.proofs.lemmas.List.{length-map}
+use Rattle.std.proofs.lemmas.List.{length-map, map-append}
 use Rattle.cob_codec.specs.declared.reading.Reading.{Reading}
 use Rattle.cob_move_data.specs.Moves.{Move, Records, read_by}
 use Rattle.cob_move_apply.specs.Marked.{ends_of_marks, moves_between_marks, statement_of}
@@ -10,7 +10,7 @@ use Rattle.cob_move_deeds.specs.declared.flow.Bound.{Bound}
 use Rattle.cob_move_deeds.specs.declared.flow.CountedLoop.{CountedLoop}
 use Rattle.cob_move_deeds.specs.declared.flow.Flow.{Flow}
 use Rattle.cob_move_deeds.specs.declared.flow.Flow.TheVariants as flow
-use Rattle.cob_move_deeds.specs.Deeds.{Choice, Deeds, Moving, Nothing, both_deeds}
+use Rattle.cob_move_deeds.specs.Deeds.{Choice, Deeds, Moving, Nothing, both_deeds, moves_of_deeds}
 use Rattle.cob_move_deeds.specs.Flows.{FlowSupport, IsFlow, IsLoop, deeds_by, deeds_from, loop_done, moves_of_turn, turns_to, unless_past}
 use Rattle.cob_move_deeds.specs.Tests.{Past, past_bound, with_number}
 use Rattle.cob_move_deeds.specs.Turns.{turns_from}
@@ -63,6 +63,19 @@ flows_read x r on new same (suc n) (flow.Until bound number skip ∷ rest) =
     test_read x r (slice_get on.bounds bound) number (deeds_from r on n (take skip rest)) (deeds_from r on n (drop skip rest))
     (deeds_from r (record { moves = new; bounds = on.bounds; loops = on.loops }) n (take skip rest)) (deeds_from r (record { moves = new; bounds = on.bounds; loops = on.loops }) n (drop skip rest))
     (flows_read x r on new same n (take skip rest)) (flows_read x r on new same n (drop skip rest))
+
+-- the moves of deeds whose binary senders are read so
+pub moves_read : (x : Reading) (d : Deeds Past) → moves_of_deeds (deeds_by x d) ≡ map (read_by x) (moves_of_deeds d)
+moves_read x Nothing = refl
+moves_read x (Moving ms more) =
+    ap (λ (ns : List Move). map (read_by x) ms ++ ns) (moves_read x more) ∙ sym (map-append (read_by x) ms (moves_of_deeds more))
+moves_read x (Choice t holding lacking more) =
+    ap (λ (ns : List Move). ns ++ (moves_of_deeds (deeds_by x lacking) ++ moves_of_deeds (deeds_by x more))) (moves_read x holding)
+    ∙ ap (λ (ns : List Move). map (read_by x) (moves_of_deeds holding) ++ ns)
+    (ap (λ (ns : List Move). ns ++ moves_of_deeds (deeds_by x more)) (moves_read x lacking)
+    ∙ ap (λ (ns : List Move). map (read_by x) (moves_of_deeds lacking) ++ ns) (moves_read x more)
+    ∙ sym (map-append (read_by x) (moves_of_deeds lacking) (moves_of_deeds more)))
+    ∙ sym (map-append (read_by x) (moves_of_deeds holding) (moves_of_deeds lacking ++ moves_of_deeds more))
 
 -- ---- flows that may be carried out, over moves with as many marks
 

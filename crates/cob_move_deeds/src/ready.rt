@@ -33,7 +33,7 @@ pub struct ReadyDeeds {
 }
 
 impl ReadyDeeds {
-    ghost use Rattle.cob_move_deeds.specs.Prepared.{AreDeedsPrepared, deeds_of, flow_support};
+    ghost use Rattle.cob_move_deeds.specs.Prepared.{AreDeedsPrepared, HaveAllMoves, deeds_of, flow_support};
 
     /// What these flows come to, over moves that were made ready, bounds and loops.
     pub fn new(
@@ -63,6 +63,7 @@ impl ReadyDeeds {
     pub fn with_reading(self, reading: Reading) -> ReadyDeeds
         ensures deeds { (r : Records) → deeds_of r result ≡ deeds_by reading (deeds_of r self) }
         ensures prepared { (r : Records) → AreDeedsPrepared r self → AreDeedsPrepared r result }
+        ensures whole { (r : Records) → HaveAllMoves r self → HaveAllMoves r result }
     {
         ReadyDeeds {
             moves: self.moves.with_reading(reading),
