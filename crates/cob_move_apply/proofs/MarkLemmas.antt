@@ -317,13 +317,14 @@ stand_read x r given on steps marks from to p q parted le lt here there =
     (parted.stand x from to le lt))
 
 -- the same, of statements and steps that are slices
-pub stand_sliced : (x : Reading) (r : Records) (given said : List StatementMoves) (on : Support) (steps sliced : List Step) (marks : List Mark) (from to : ℕ) (p q : Mark) → said ≡ given → sliced ≡ steps → ArePartedBy r given on steps marks
-    → from ≤ to → to < length marks → p ≡ get_or marks from p → q ≡ get_or marks to q
-    → StandFor x r said (items_between p.step q.step sliced) on (moves_by x r (items_between (mark_at marks from).statement (mark_at marks to).statement given))
-stand_sliced x r given said on steps sliced marks from to p q same as_steps parted le lt here there =
+pub stand_sliced : (x : Reading) (r : Records) (given said : List StatementMoves) (on : Support) (steps sliced taken : List Step) (marks : List Mark) (from to : ℕ) (p q : Mark) → said ≡ given → sliced ≡ steps
+    → taken ≡ items_between p.step q.step sliced → ArePartedBy r given on steps marks → from ≤ to → to < length marks → p ≡ get_or marks from p → q ≡ get_or marks to q
+    → StandFor x r said taken on (moves_by x r (items_between (mark_at marks from).statement (mark_at marks to).statement given))
+stand_sliced x r given said on steps sliced taken marks from to p q same as_steps part parted le lt here there =
     let ms : List Move = moves_by x r (items_between (mark_at marks from).statement (mark_at marks to).statement given) in
-    subst (λ (ss : List StatementMoves). StandFor x r ss (items_between p.step q.step sliced) on ms) (sym same)
-    (subst (λ (ts : List Step). StandFor x r given (items_between p.step q.step ts) on ms) (sym as_steps) (stand_read x r given on steps marks from to p q parted le lt here there))
+    subst (λ (ts : List Step). StandFor x r said ts on ms) (sym part)
+    (subst (λ (ss : List StatementMoves). StandFor x r ss (items_between p.step q.step sliced) on ms) (sym same)
+    (subst (λ (ts : List Step). StandFor x r given (items_between p.step q.step ts) on ms) (sym as_steps) (stand_read x r given on steps marks from to p q parted le lt here there)))
 
 -- and they lie within the steps
 pub step_within : (r : Records) (given : List StatementMoves) (on : Support) (steps : List Step) (marks : List Mark) (from to : ℕ) (p q : Mark) → ArePartedBy r given on steps marks → from ≤ to → to < length marks

@@ -6,6 +6,7 @@ ghost use Rattle.cob_layout.specs.Kept.{AreKeptOf};
 ghost use Rattle.cob_layout.specs.Storage.{greatest_length, IsStorage};
 ghost use Rattle.cob_move_data.specs.Moves.{AreMoves, Records, moves, moves_by, read_by};
 ghost use Rattle.cob_move_apply.specs.Applied.{Applied, ending};
+ghost use Rattle.cob_move_apply.specs.Marked.{items_between};
 ghost use Rattle.cob_move_apply.specs.Reads.{ReadsOfMoves};
 ghost use Rattle.cob_move_apply.specs.Room.{room_of};
 ghost use Rattle.cob_move_apply.specs.Told.{most_moves_told, single_moves};
@@ -15,7 +16,7 @@ use crate::layouts::Layouts;
 use crate::marking::{Mark, marked_plan};
 use crate::moves::Moves;
 use crate::scratch::Scratch;
-use crate::step::counted;
+use crate::step::{Step, counted};
 use crate::stop::Stop;
 use cob_codec::Reading;
 use cob_layout::{Layout, records_are_sound};
@@ -27,6 +28,16 @@ use std::alloc::{AllocError, Global};
 pub struct MarkedMoves {
     pub(crate) moves: Moves,
     pub(crate) marks: Vec<Mark>,
+}
+
+/// The steps from one number up to another.
+#[inline(always)]
+fn steps_between(steps: &[Step], begin: usize, end: usize) -> &[Step]
+    requires rises { begin ≤ end }
+    requires within { end ≤ length steps.now }
+    ensures { result.now ≡ items_between begin end steps.now }
+{
+    &steps[begin..end]
 }
 
 impl MarkedMoves {
@@ -167,7 +178,7 @@ impl MarkedMoves {
         };
         let begin = self.marks[from].step;
         let end = self.marks[to].step;
-        let steps = &self.moves.plan.steps.as_slice()[begin..end];
+        let steps = steps_between(self.moves.plan.steps.as_slice(), begin, end);
         let statements = self.moves.statements.as_slice();
         let plan = &self.moves.plan;
         apply_some(

@@ -44,7 +44,7 @@ returns-in_err-make_step-clause-spends c =
     let p = err_from_is_err_and c.from_residual.result c.from_residual.ensures.1 in
     λ ms before first all.
     let spent = subst (λ (ss : List Step). SpentSteps x r c.args.given.now ms ss on 0 c.args.input.now before c.loop-step.output first c.loop-step.space.output) c.in-Some.ensures.cases.0 (c.loop-step.invariant.spends ms before first all) in
-    rw (p.1, p.2) (spent_steps_stop x r c.args.given.now ms steps on 0 step step c.args.input.now before c.loop-step.output first c.loop-step.space.output c.make_step.new.space.output (omega arith) refl spent c.in_err-make_step.ensures.spends)
+    rw p.1 (spent_steps_stop x r c.args.given.now ms steps on 0 step step c.args.input.now before c.loop-step.output first c.loop-step.space.output c.make_step.new.space.output (omega arith) refl spent c.in_err-make_step.ensures.spends)
 
 pub run_ready-rest-requires-clause-steps : goal.run_ready-rest-requires-clause-steps
 run_ready-rest-requires-clause-steps c =

@@ -16,5 +16,5 @@ returns-clause-prepared c =
       moves = λ x. are_moves_so x Pictured r c.args.given.items c.requires.given;
     }
 
-pub marked_plan-made-requires-clause-ends : goal.marked_plan-made-requires-clause-ends
-marked_plan-made-requires-clause-ends c = subst (λ (ss : List StatementMoves). RiseUpTo 0 (length ss) c.args.ends.now) (sym c.as_slice.ensures.value) c.requires.ends
+pub marked_plan-requires-clause-ends : goal.marked_plan-requires-clause-ends
+marked_plan-requires-clause-ends c = subst (λ (ss : List StatementMoves). RiseUpTo 0 (length ss) c.args.ends.now) (sym c.as_slice.ensures.value) c.requires.ends
