@@ -45,7 +45,7 @@
 //! # Where it is proved
 //!
 //! The clauses `applied` and `reads` of `Moves::apply` (the latter bounds how many counts of the output record are read, by `HaveMet`), those of
-//! `Moves::with_reading`, `Moves::statements` and `Moves::reading`; the clauses of `Moves::apply_kept`, `Scratch::input_length`, `Scratch::output_length`
+//! `Moves::with_reading`, `Moves::statements` and `Moves::reading`; the clauses of `Moves::apply_kept`, `Scratch::input_length`, `Scratch::output_length`,
 //! `Scratch::forget_output` and `Scratch::forget_input`: the same by counts that are kept from the length of the input on to that of the output (`keeps`, by
 //! `AreKeptOf`); the clauses of `MarkedMoves::new`, `with_reading`, `statements`, `reading`, `single_moves`, `steps` and `apply_between`, and of
 //! `PlacedEntry::new`, `side`, `entry` and `place`; which stop the fault of a place is (`stop_of`); the law `one_ending`.
