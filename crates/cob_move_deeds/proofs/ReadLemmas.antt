@@ -58,6 +58,11 @@ pub reads_behind : {A : Type 0} (tree : Forest Resolved) (met : ℕ) (result : R
 reads_behind tree met (Ok a) old mid new first then = omega (arith, first, then, allowed_none tree)
 reads_behind tree met (Err stop) old mid new first then = omega (arith, first, then, allowed_none tree)
 
+-- what was read on the way to something is no more than what is allowed where that is missing
+pub read_so : {A B : Type 0} (tree : Forest Resolved) (met : ℕ) (a : A) (result : Result B Stop) (old new : Scratching) → ReadsFor tree met (Ok a) old new → ReadsFor tree met result old new
+read_so tree met a (Ok b) old new spent = spent
+read_so tree met a (Err stop) old new spent = omega (arith, spent, most_kept_among tree new.kept_output)
+
 -- a loop whose bound was read, and then its moves
 pub loop_reads : {A : Type 0} (r : Records) (on : FlowSupport) (l : CountedLoop) (b : Bound) (v k : ℕ) (input before : List ℕ) (result : Result A Stop) (old mid new : Scratching) → AreMarkedPrepared r on.moves → (is : IsLoop on l)
     → slice_get on.bounds l.bound ≡ Some b → is.bound ≡ b → BoundGives r (past_bound r b 0) input before v → v ≤ b.most → k ≡ turns_between l.from l.by v → ReadsFor {A = Unit {0}} r.output 0 (Ok tt) old mid
