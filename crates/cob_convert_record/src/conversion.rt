@@ -30,19 +30,23 @@ pub struct Conversion {
 }
 
 impl Model for Conversion {
-    ghost use Rattle.std.specs.Prelude.{◌≡◌, length};
+    ghost use Rattle.std.specs.Prelude.{◌≡◌, length, List};
     ghost use Rattle.cob_layout.specs.Storage.{greatest_length};
     ghost use Rattle.cob_move_initial.specs.Initial.{IsInitial};
     ghost use Rattle.cob_records.specs.Forms.{HasBlockSize};
     ghost use Rattle.cob_convert_record.specs.Conversion.{Conversion};
     ghost use Rattle.cob_move_deeds.specs.Codes.{coded_deeds};
     ghost use Rattle.cob_move_deeds.specs.Prepared.{AreDeedsPrepared, HaveAllMoves, deeds_of};
-    ghost use Rattle.std.specs.Coded.{codes};
+    ghost use Rattle.std.specs.Coded.{Coded, codes};
+    ghost use Rattle.cob_move_data.specs.Moves.{Move};
+    ghost use Rattle.cob_move_deeds.specs.Tests.{Past};
     ghost use Rattle.cob_copybook.specs.Codes.{coded_forest};
 
     ghost Value = { Conversion };
 
-    ghost coded = { Prim.hlevel (codes, coded_forest, coded_deeds) };
+    ghost coded = { let ms : Coded (List Move) = Prim.hlevel (codes, coded_forest) in
+        let tests : Coded Past = Prim.hlevel (codes, coded_forest) in
+        Prim.hlevel (codes, coded_forest, coded_deeds {T = Past} ms tests) };
 
     ghost view = { λ c. record {
       in_form = c.in_form;
