@@ -45,10 +45,14 @@
 //! The clauses `found`, `only`, `fault` of `all_meant` and of `Paragraph::read`, those of `Paragraph::with_reading`; its laws.
 #![tactic(auto)]
 
+mod body;
 mod corresponding;
+mod deeds;
 mod entries;
 mod laws;
+mod linking;
 mod loops;
+mod made;
 mod meaning;
 mod meaning_laws;
 mod paragraph;

@@ -22,5 +22,6 @@ returns-clause-added c = record {
   own = c.in_ok-own.own.items;
   spelled = let is = c.in_ok-statements.ensures.found in rw c.as_slice.ensures.value is;
   meant = c.in_ok-own.ensures.found;
+  many = ?;
   added = c.in_ok-append.ensures.items;
 }

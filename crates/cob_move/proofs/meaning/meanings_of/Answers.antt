@@ -23,6 +23,7 @@ loop-statement-preserved c = record {
   broken = λ f h. c.loop-statement.invariant.broken f
       (some_later written_statement (BreaksOn f (entries_named c.args.entries.now.names.now) c.args.entries.now.input.now c.args.entries.now.output.now) c.args.statements.now c.loop-statement.statement-index c.statement-item.result
       c.loop-statement-test.true c.statement-item.is h);
+  many = ?;
   pairs = c.in_ok-own.ensures.pairs;
 }
 
