@@ -23,7 +23,7 @@ use Rattle.cob_move.specs.declared.made.NotRead.{NotRead}
 use Rattle.cob_move.specs.declared.made.NotRead.TheVariants as why
 use Rattle.cob_move.specs.declared.entries.Entries.{Entries}
 use Rattle.cob_move.specs.Among.{nameable}
-use Rattle.cob_move.specs.DeedsRead.{AddsDeeds, DeedsRefused, IsFrontOf, IsMade, MadeLists, SaysDeeds, TurnRefused, all_deeds, closed, closed_where, last_marked, made_deeds, nothing_made}
+use Rattle.cob_move.specs.DeedsRead.{AddsDeeds, DeedsRefused, IsFrontOf, IsMade, MadeLists, SaysDeeds, TellsFault, TurnRefused, all_deeds, closed, closed_where, last_marked, made_deeds, nothing_made}
 use Rattle.cob_move.specs.Entries.{records_of}
 use Rattle.cob_move.specs.Loops.{HasJudged}
 use Rattle.cob_move.specs.Paragraphs.{IsPassageRefusal}
@@ -46,14 +46,10 @@ empty_made r = record {
 pub memory_refuses : (f : MoveFault) (e : Entries) (body : List Lexeme) → IsRefusedMemory f → DeedsRefused f e body
 memory_refuses f e body is = subst (λ (g : MoveFault). DeedsRefused g e body) (sym is) (inl refl)
 
-pub body_refused : (n : NotRead) (f : MoveFault) (e : Entries) (body : List Lexeme) (p : Passage) → IsPassage p body → (n ≡ why.Memory → IsRefusedMemory f)
-    → (n ≡ why.TooMany → (f.rule ≡ rule.TooMany) × (f.line ≡ loop_line body)) → ((g : MoveFault) → n ≡ why.Broken g → f ≡ g) → TurnRefused n e [] body nothing_made → DeedsRefused f e body
-body_refused why.Memory f e body p is memory many broken refused = memory_refuses f e body (memory refl)
-body_refused why.TooMany f e body p is memory many broken refused =
-    let told = many refl in
-    inr (p, is, inr (inl (told.0, told.1, refused p is)))
-body_refused (why.Broken g) f e body p is memory many broken refused =
-    subst (λ (h : MoveFault). DeedsRefused h e body) (sym (broken g refl)) (inr (p, is, inr (inr (refused p is).1)))
+pub body_refused : (n : NotRead) (f : MoveFault) (e : Entries) (body : List Lexeme) (p : Passage) → IsPassage p body → TellsFault n f body → TurnRefused n e [] body nothing_made → DeedsRefused f e body
+body_refused why.Memory f e body p is told refused = memory_refuses f e body told
+body_refused why.TooMany f e body p is told refused = inr (p, is, inr (inl (told.0, told.1, refused p is)))
+body_refused (why.Broken g) f e body p is told refused = subst (λ (h : MoveFault). DeedsRefused h e body) (sym told) (inr (p, is, inr (inr (refused p is).1)))
 
 pub unbounded_refused : (f : MoveFault) (e : Entries) (body : List Lexeme) (p : Passage) → IsPassage p body → f.rule ≡ rule.Counter → ((q : Passage) → IsPassage q body → LacksBound q f.line) → DeedsRefused f e body
 unbounded_refused f e body p is same lacks = inr (p, is, inl (same, lacks p is))

@@ -30,7 +30,7 @@ use Rattle.cob_move.specs.declared.entries.Entries.{Entries}
 use Rattle.cob_move.specs.declared.entries.NamedEntry.{NamedEntry}
 use Rattle.cob_move.specs.Among.{nameable}
 use Rattle.cob_move.specs.Deeds.{AreDeeds, ComeFirstInLoop, IsLoopOf, IsLoopRefused, IsTurnRefused, count_of_turns}
-use Rattle.cob_move.specs.DeedsRead.{AddsDeeds, AddsLoop, AddsMade, AreKept, AreParted, AreTurns, BoundNotRead, BreaksInTurn, FirstIn, HasGrown, HasNoTurn, IsBoundRead, IsFrontOf, IsMade, IsRefusedIn, LoopComesTo, LoopRefused, MadeLists, PassageComesTo, ReadsTurns, TurnRefused, all_deeds, closed, closed_where, in_its_turn, last_marked, linked_turns, made_deeds, open_deeds, open_statements, without_flows}
+use Rattle.cob_move.specs.DeedsRead.{AddsDeeds, AddsLoop, AddsMade, AreKept, AreParted, AreTurns, BoundNotRead, BreaksInTurn, FirstIn, HasBounds, HasGrown, HasNoTurn, IsBoundRead, IsFrontOf, IsMade, IsNotBroken, IsRefusedIn, LoopComesTo, LoopRefused, MadeLists, PassageComesTo, ReadsTurns, TurnRefused, all_deeds, closed, closed_where, in_its_turn, last_marked, linked_turns, made_deeds, open_deeds, open_statements, without_flows}
 use Rattle.cob_move.specs.Entries.{AllMayBeNamed, records_of}
 use Rattle.cob_move.specs.MeaningLaws.{MeantBreakNoRule}
 use Rattle.cob_move.specs.Joined.{before_deeds, joined_deeds}
@@ -243,10 +243,10 @@ first_refused f e ns l ws body number old bound first broken p is = (
 )
 
 pub later_refused : (n : NotRead) (e : Entries) (ns : List Counted) (l : WrittenLoop) (ws body : List Lexeme) (behind next : ℕ) (turns : List (List Flow)) (old now : MadeLists) → l.bound ≡ ToItem ws
-    → AreKept l.from l.by (length turns) behind next → ((p : Passage) → IsPassage p body → ReadsTurns e ns l p behind turns old now) → ((f : MoveFault) → n ≡ why.Broken f → ⊥)
+    → AreKept l.from l.by (length turns) behind next → ((p : Passage) → IsPassage p body → ReadsTurns e ns l p behind turns old now) → IsNotBroken n
     → TurnRefused n e (in_its_turn ns l behind) body now → LoopRefused n e ns l body old
 later_refused why.Memory e ns l ws body behind next turns old now bound kept reads only refused p is = tt
-later_refused (why.Broken f) e ns l ws body behind next turns old now bound kept reads only refused p is = absurd (only f refl)
+later_refused (why.Broken f) e ns l ws body behind next turns old now bound kept reads only refused p is = absurd only
 later_refused why.TooMany e ns l ws body behind next turns old now bound kept reads only refused p is =
     let (m, first, most) = refused p is in
     let so = reads p is in
@@ -463,3 +463,43 @@ no_turn_comes ended unbroken reference one none e ns p body named (f, broken) is
     k.0 (deeds_unrefused ended unbroken reference one none f e.input.now e.output.now ns p d c
     (subst (λ (all : List Candidate). AreDeeds all e.input.now e.output.now ns p d c) named comes)
     (subst (λ (all : List Candidate). IsTurnRefused f all e.input.now e.output.now ns p) named k.1))
+
+-- ---- what the reader of a loop to an item answers
+
+-- what is known of it, whatever passage its statements are
+pub record HasReadLoop (e : Entries) (ns : List Counted) (l : WrittenLoop) (body : List Lexeme) (n : NamedEntry) (behind : ℕ) (turns : List (List Flow)) (b : Bound) (old now : MadeLists) : Type 0 where
+  pub made : IsMade (records_of e) old
+  pub after : IsMade (records_of e) now
+  pub grown : HasGrown (without_flows (closed old)) now
+  pub none : now.flows ≡ []
+  pub marked : open_statements now ≡ []
+  pub bound : IsBoundFor e n (behind - 1) b
+  pub reads : (p : Passage) → IsPassage p body → ReadsTurns e ns l p behind turns (without_flows (closed old)) now
+
+loop_read : (e : Entries) (ns : List Counted) (l : WrittenLoop) (body : List Lexeme) (n : NamedEntry) (behind : ℕ) (turns : List (List Flow)) (b : Bound) (old now : MadeLists) → HasReadLoop e ns l body n behind turns b old now
+    → (p : Passage) → IsPassage p body → IsLoopRead e ns l p n behind turns b old now
+loop_read e ns l body n behind turns b old now so p is = record {
+  made = so.made;
+  after = so.after;
+  grown = so.grown;
+  none = so.none;
+  marked = so.marked;
+  bound = so.bound;
+  reads = so.reads p is;
+}
+
+pub tested_added : (e : Entries) (ns : List Counted) (l : WrittenLoop) (ws body : List Lexeme) (n : NamedEntry) (behind next : ℕ) (turns : List (List Flow)) (b : Bound) (old now new : MadeLists) → l.bound ≡ ToItem ws
+    → IsBoundRead e (in_turn ns false 0 ws) n → AreKept l.from l.by (length turns) behind next → l.from < behind → behind ≤ l.from + longest_record
+    → ((p : Passage) → IsPassage p body → (d : Deeds Past) (c : ℕ) → PassageComesTo e (in_its_turn ns l behind) p d c → ⊥) → HasReadLoop e ns l body n behind turns b old now
+    → new ≡ with_loop old now b (linked_turns (length now.bounds) l.by l.from turns) → AddsLoop e ns l body old new
+tested_added e ns l ws body n behind next turns b old now new bound named kept first last none so same p is =
+    subst (λ (m : MadeLists). AddsMade e (λ d many. LoopComesTo e ns l p d many) old m) (sym same)
+    (loop_added e ns l p n ws behind next turns b old now bound named kept first last (none p is) (loop_read e ns l body n behind turns b old now so p is))
+
+pub tested_made : (e : Entries) (ns : List Counted) (l : WrittenLoop) (body : List Lexeme) (n : NamedEntry) (behind : ℕ) (turns : List (List Flow)) (b : Bound) (old now new : MadeLists) → HasBounds body
+    → HasReadLoop e ns l body n behind turns b old now → new ≡ with_loop old now b (linked_turns (length now.bounds) l.by l.from turns) → IsMade (records_of e) new
+tested_made e ns l body n behind turns b old now new (p, is, bounded) so same =
+    subst (λ (m : MadeLists). IsMade (records_of e) m) (sym same) (loop_made e ns l p n behind turns b old now (loop_read e ns l body n behind turns b old now so p is))
+
+pub tested_grown : (old now new : MadeLists) (b : Bound) (linked : List Flow) → HasGrown (without_flows (closed old)) now → new ≡ with_loop old now b linked → HasGrown old new
+tested_grown old now new b linked g same = subst (λ (m : MadeLists). HasGrown old m) (sym same) (all_grown old now b linked g)

@@ -16,6 +16,7 @@ use Rattle.cob_move_deeds.specs.Deeds.{Choice, Deeds, Moving, Nothing, both_deed
 use Rattle.cob_move_deeds.specs.Flows.{AreFlows, FlowSupport, deeds_from}
 use Rattle.cob_move_deeds.specs.Tests.{IsBound, IsBoundItem, Past}
 use Rattle.cob_move_loops.specs.Bounded.{AreBounded, BoundedFront}
+use Rattle.cob_move_loops.specs.Few.{loop_line}
 use Rattle.cob_move_loops.specs.Passages.{APause, ARun, IsPassage, IsRun, Looped, Passage, PassageFront, WrittenLoop}
 use Rattle.cob_move_loops.specs.Reading.{Within}
 use Rattle.cob_move_loops.specs.Turns.{Counted, counter_at, in_turn}
@@ -36,6 +37,7 @@ use Rattle.cob_move.specs.Entries.{records_of}
 use Rattle.cob_move.specs.Joined.{joined_deeds}
 use Rattle.cob_move.specs.Loops.{HasJudged}
 use Rattle.cob_move.specs.Paragraphs.{RunIsRefused}
+use Rattle.cob_move.specs.Pieces.{IsRefusedMemory}
 
 -- ---- what is made so far
 
@@ -163,6 +165,18 @@ abbrev pub RefusedMade : NotRead → (MoveFault → Type 0) → (ℕ → Type 0)
 RefusedMade why.Memory refused first old = Unit {0}
 RefusedMade why.TooMany refused first old = (many : ℕ) × first many × (most_written_out < length old.list + many)
 RefusedMade (why.Broken f) refused first old = ((f.rule ≡ rule.Memory) → ⊥) × refused f
+
+-- it breaks no rule
+abbrev pub IsNotBroken : NotRead → Type 0
+IsNotBroken why.Memory = Unit {0}
+IsNotBroken why.TooMany = Unit {0}
+IsNotBroken (why.Broken f) = ⊥
+
+-- the fault of words behind a heading that are not read: where they come to too much, on the line of the first loop
+abbrev pub TellsFault : NotRead → MoveFault → List Lexeme → Type 0
+TellsFault why.Memory f body = IsRefusedMemory f
+TellsFault why.TooMany f body = (f.rule ≡ rule.TooMany) × (f.line ≡ loop_line body)
+TellsFault (why.Broken g) f body = f ≡ g
 
 -- words of MOVE statements, in a turn, come to one thing
 abbrev pub RunComesTo : Entries → List Counted → List Lexeme → Deeds Past → ℕ → Type 0

@@ -3,16 +3,12 @@
 ghost use Rattle.std.specs.Prelude.{◌≡◌, [], IfErr, IfOk, OnOk};
 ghost use Rattle.cob_move_deeds.specs.Prepared.{AreDeedsPrepared, deeds_of};
 ghost use Rattle.cob_move_loops.specs.Bounded.{AreBounded, LacksBound};
-ghost use Rattle.cob_move_loops.specs.Few.{loop_line};
 ghost use Rattle.cob_move_loops.specs.Passages.{IsPassage, Passage};
-ghost use Rattle.cob_move_statements.specs.declared.fault.MoveRule.TheVariants.{Counter, TooMany};
-ghost use Rattle.cob_move_statements.specs.declared.fault.MoveFault.{MoveFault as Fault};
+ghost use Rattle.cob_move_statements.specs.declared.fault.MoveRule.TheVariants.{Counter};
 ghost use Rattle.cob_source.specs.Tokens.{lexemes};
 ghost use Rattle.cob_move.specs.Between.{ArePairsOf};
-ghost use Rattle.cob_move.specs.DeedsRead.{DeedsRefused, SaysDeeds, made_lists, nothing_made};
+ghost use Rattle.cob_move.specs.DeedsRead.{DeedsRefused, SaysDeeds, TellsFault, made_lists, nothing_made};
 ghost use Rattle.cob_move.specs.Entries.{AllMayBeNamed, records_of};
-ghost use Rattle.cob_move.specs.Pieces.{IsRefusedMemory};
-ghost use Rattle.cob_move.specs.declared.made.NotRead.TheVariants as unread;
 
 use crate::deeds::add_passage;
 use crate::entries::Entries;
@@ -43,10 +39,7 @@ impl Made {
 
 /// The fault of words behind a heading that are not read: where they come to too much, on the line of the first loop.
 fn fault_told(why: NotRead, body: &[Token]) -> MoveFault
-    ensures memory { why ≡ unread.Memory → IsRefusedMemory result }
-    ensures many { why ≡ unread.TooMany → (result.rule ≡ TooMany)
-        × (result.line ≡ loop_line (lexemes body.now)) }
-    ensures broken { (f : Fault) → why ≡ unread.Broken f → result ≡ f }
+    ensures { TellsFault why result (lexemes body.now) }
 {
     match why {
         NotRead::Memory => refused_memory(),

@@ -11,7 +11,7 @@ ghost use Rattle.cob_move_loops.specs.Turns.{in_turn};
 ghost use Rattle.cob_move_statements.specs.declared.fault.MoveRule.TheVariants.{Memory};
 ghost use Rattle.cob_source.specs.Tokens.{Lexeme, lexemes};
 ghost use Rattle.cob_move.specs.Between.{ArePairsOf};
-ghost use Rattle.cob_move.specs.DeedsRead.{AddsDeeds, AddsFront, AddsLoop, AddsMoved, AreKept, BoundNotRead, BoundRefused, BreaksInTurn, FrontHasBounds, FrontRefused, HasBounds, HasGrown, HasNoTurn, IsBoundRead, IsFrontRead, IsMade, IsSizeOf, LoopRefused, MovedRefused, ReadsTurns, TurnRefused, closed, flow_lists, in_its_turn, last_marked, linked_size, linked_turns, made_lists, open_statements, taken_back, without_flows};
+ghost use Rattle.cob_move.specs.DeedsRead.{AddsDeeds, AddsFront, AddsLoop, AddsMoved, AreKept, BoundNotRead, BoundRefused, BreaksInTurn, FrontHasBounds, FrontRefused, HasBounds, HasGrown, HasNoTurn, IsBoundRead, IsFrontRead, IsMade, IsNotBroken, LoopRefused, MovedRefused, ReadsTurns, TurnRefused, closed, flow_lists, in_its_turn, last_marked, linked_size, linked_turns, made_lists, open_statements, taken_back, without_flows};
 ghost use Rattle.cob_move.specs.Entries.{AllMayBeNamed, records_of};
 ghost use Rattle.cob_move.specs.Loops.{AddsRun, RunRefused};
 ghost use Rattle.cob_move.specs.declared.made.NotRead.TheVariants as unread;
@@ -23,8 +23,8 @@ use crate::made::{Made, NotRead, keep_turn};
 use crate::meaning_laws::{meant_are_moves, meant_break_no_rule};
 use cob_copybook_tree::{Kind, is_number_item};
 use cob_limits::{MAX_RECORD, MAX_WRITTEN_OUT};
-use cob_move_data::StatementMoves;
 use cob_move_apply::PlacedEntry;
+use cob_move_data::StatementMoves;
 use cob_move_deeds::{Bound, Flow};
 use cob_move_loops::{
     Counter, Loop, LoopBound, PassageItem, in_turn, item_at, no_turn, one_passage, turns_to_write,
@@ -245,7 +245,7 @@ fn try_turn(
     ensures fault { IfErr result (λ n. TurnRefused n entries.now
         (in_its_turn (counters turn.now) (written_loop head.now) number) (lexemes body.now)
         (made_lists made.old)) }
-    ensures only { IfErr result (λ n. (f : MoveFault) → n ≡ unread.Broken f → ⊥) }
+    ensures only { IfErr result IsNotBroken }
     ensures made { OnOk result (IsMade (records_of entries.now) (made_lists made.new)) }
     ensures grown { HasGrown (made_lists made.old) (made_lists made.new) }
     ensures pairs { ArePairsOf (records_of entries.now) pairs.new }
