@@ -19,3 +19,4 @@ mod ReadingLemmas
 mod TurnsLemmas
 mod TestedLemmas
 mod BodyLemmas
+mod JoinedLemmas

@@ -19,11 +19,9 @@ use Rattle.cob_move_deeds.specs.Turns.{turns_from}
 use Rattle.cob_move_loops.specs.Passages.{IsPassage, Passage, ToItem, WrittenBound, WrittenLoop}
 use Rattle.cob_move_loops.specs.Turns.{Counted, in_turn, turns_between}
 use Rattle.cob_move_names.specs.Candidates.{Candidate}
-use Rattle.cob_move_names.specs.Laws.{NamedBreakNoRule, OneNamed}
 use Rattle.cob_move_statements.specs.declared.fault.MoveFault.{MoveFault}
 use Rattle.cob_move_statements.specs.declared.fault.MoveRule.{MoveRule}
 use Rattle.cob_move_statements.specs.declared.fault.MoveRule.TheVariants as rule
-use Rattle.cob_move_statements.specs.Laws.{OneListOfEnded, OneReference}
 use Rattle.cob_move.specs.declared.made.NotRead.{NotRead}
 use Rattle.cob_move.specs.declared.made.NotRead.TheVariants as why
 use Rattle.cob_move.specs.declared.entries.Entries.{Entries}
@@ -32,10 +30,10 @@ use Rattle.cob_move.specs.Among.{nameable}
 use Rattle.cob_move.specs.Deeds.{AreDeeds, ComeFirstInLoop, IsLoopOf, IsLoopRefused, IsTurnRefused, count_of_turns}
 use Rattle.cob_move.specs.DeedsRead.{AddsDeeds, AddsLoop, AddsMade, AreKept, AreParted, AreTurns, BoundNotRead, BreaksInTurn, FirstIn, HasBounds, HasGrown, HasNoTurn, IsBoundRead, IsFrontOf, IsMade, IsNotBroken, IsRefusedIn, LoopComesTo, LoopRefused, MadeLists, PassageComesTo, ReadsTurns, TurnRefused, all_deeds, closed, closed_where, in_its_turn, last_marked, linked_turns, made_deeds, open_deeds, open_statements, without_flows}
 use Rattle.cob_move.specs.Entries.{AllMayBeNamed, records_of}
-use Rattle.cob_move.specs.MeaningLaws.{MeantBreakNoRule}
+use Rattle.cob_move.specs.DeedsLaws.{DeedsBreakNoRule}
 use Rattle.cob_move.specs.Joined.{before_deeds, joined_deeds}
 use Rattle.cob_move.proofs.CloseLemmas.{closed_deeds, closed_flows, closed_grown, closed_open}
-use Rattle.cob_move.proofs.DeedsLemmas.{counted_same, deeds_unrefused, either_side, mul_within, up_to_some}
+use Rattle.cob_move.proofs.DeedsLemmas.{counted_same, either_side, mul_within, up_to_some}
 use Rattle.cob_move.proofs.FlowLemmas.{before_parted, before_turns, both_assoc, both_flows, both_nothing, both_parted, flows_both, linked_deeds, linked_flows, parted_joined, turns_parted}
 use Rattle.cob_move.proofs.MadeLemmas.{front_back}
 use Rattle.cob_move.proofs.TurnsLemmas.{changed, changed_elsewhere, changed_there}
@@ -456,12 +454,10 @@ loop_added e ns l p n ws behind next turns b old now bound named kept first last
     }
 
 -- a turn that breaks a rule comes to nothing
-pub no_turn_comes : OneListOfEnded → MeantBreakNoRule → OneReference → OneNamed → NamedBreakNoRule → (e : Entries) (ns : List Counted) (p : Passage) (body : List Lexeme) → AllMayBeNamed e → HasNoTurn e ns body → IsPassage p body
-    → (d : Deeds Past) (c : ℕ) → PassageComesTo e ns p d c → ⊥
-no_turn_comes ended unbroken reference one none e ns p body named (f, broken) is d c comes =
+pub no_turn_comes : DeedsBreakNoRule → (e : Entries) (ns : List Counted) (p : Passage) (body : List Lexeme) → AllMayBeNamed e → HasNoTurn e ns body → IsPassage p body → (d : Deeds Past) (c : ℕ) → PassageComesTo e ns p d c → ⊥
+no_turn_comes law e ns p body named (f, broken) is d c comes =
     let k = broken p is in
-    k.0 (deeds_unrefused ended unbroken reference one none f e.input.now e.output.now ns p d c
-    (subst (λ (all : List Candidate). AreDeeds all e.input.now e.output.now ns p d c) named comes)
+    k.0 (law f e.input.now e.output.now ns p d c (subst (λ (all : List Candidate). AreDeeds all e.input.now e.output.now ns p d c) named comes)
     (subst (λ (all : List Candidate). IsTurnRefused f all e.input.now e.output.now ns p) named k.1))
 
 -- ---- what the reader of a loop to an item answers

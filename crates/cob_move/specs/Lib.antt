@@ -11,3 +11,4 @@ pub mod Loops
 pub mod Joined
 pub mod Deeds
 pub mod DeedsRead
+pub mod DeedsLaws

@@ -16,11 +16,12 @@ ghost use Rattle.cob_move.specs.Entries.{AllMayBeNamed, records_of};
 ghost use Rattle.cob_move.specs.Loops.{AddsRun, RunRefused};
 ghost use Rattle.cob_move.specs.declared.made.NotRead.TheVariants as unread;
 
+use crate::deeds_laws::deeds_break_no_rule;
 use crate::entries::{Entries, NamedEntry};
 use crate::linking::{link_turns, next_number};
 use crate::loops::{add_words, fault_of};
 use crate::made::{Made, NotRead, keep_turn};
-use crate::meaning_laws::{meant_are_moves, meant_break_no_rule};
+use crate::meaning_laws::meant_are_moves;
 use cob_copybook_tree::{Kind, is_number_item};
 use cob_limits::{MAX_RECORD, MAX_WRITTEN_OUT};
 use cob_move_apply::PlacedEntry;
@@ -30,7 +31,7 @@ use cob_move_loops::{
     Counter, Loop, LoopBound, PassageItem, in_turn, item_at, no_turn, one_passage, turns_to_write,
     with_counter,
 };
-use cob_move_names::{Correspondences, named_break_no_rule, one_named};
+use cob_move_names::Correspondences;
 use cob_move_statements::{MoveFault, MoveRule, one_list_of_ended, one_reference, whole_reference};
 use cob_source::Token;
 use std::alloc::Global;
@@ -389,12 +390,8 @@ fn add_tested(
     ensures grown { HasGrown (made_lists made.old) (made_lists made.new) }
     ensures pairs { ArePairsOf (records_of entries.now) pairs.new }
 {
-    // A turn that is refused has no meaning: what words say, and what that means, is one thing.
-    one_list_of_ended();
-    meant_break_no_rule();
-    one_reference();
-    one_named();
-    named_break_no_rule();
+    // A turn that breaks a rule comes to nothing.
+    deeds_break_no_rule();
     let found = read_bound(alloc, entries, head, words, turn)?;
     made.close()?;
     let outside = replace(&mut made.flows, Vec::new(alloc));
