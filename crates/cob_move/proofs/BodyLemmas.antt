@@ -48,7 +48,9 @@ memory_refuses f e body is = subst (λ (g : MoveFault). DeedsRefused g e body) (
 
 pub body_refused : (n : NotRead) (f : MoveFault) (e : Entries) (body : List Lexeme) (p : Passage) → IsPassage p body → TellsFault n f body → TurnRefused n e [] body nothing_made → DeedsRefused f e body
 body_refused why.Memory f e body p is told refused = memory_refuses f e body told
-body_refused why.TooMany f e body p is told refused = inr (p, is, inr (inl (told.0, told.1, refused p is)))
+body_refused why.TooMany f e body p is told refused =
+    let (m, first, most) = refused p is in
+    inr (p, is, inr (inl (told.0, told.1, (m, first, omega (arith, most)))))
 body_refused (why.Broken g) f e body p is told refused = subst (λ (h : MoveFault). DeedsRefused h e body) (sym told) (inr (p, is, inr (inr (refused p is).1)))
 
 pub unbounded_refused : (f : MoveFault) (e : Entries) (body : List Lexeme) (p : Passage) → IsPassage p body → f.rule ≡ rule.Counter → ((q : Passage) → IsPassage q body → LacksBound q f.line) → DeedsRefused f e body

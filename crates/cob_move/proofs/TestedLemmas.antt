@@ -42,7 +42,7 @@ use Rattle.cob_move.proofs.TurnsLemmas.{changed, changed_elsewhere, changed_ther
 
 pub kept_first : (from by kept behind next : ℕ) → kept ≡ 0 → behind ≡ from → next ≡ from → AreKept from by kept behind next
 kept_first from by kept behind next none first same = record {
-  next = same ∙ sym (ap (λ (n : ℕ). from + n * by) none ∙ omega arith);
+  at = same ∙ sym (ap (λ (n : ℕ). from + n * by) none ∙ omega arith);
   first = omega (arith, first);
   below = omega (arith, first, same);
   last = λ some. absurd (omega (arith, some, none));
@@ -51,32 +51,32 @@ kept_first from by kept behind next none first same = record {
 
 pub kept_more : (from by kept behind next : ℕ) → 0 < by → AreKept from by kept behind next → behind ≡ next → AreKept from by (kept + 1) (behind + 1) (next + by)
 kept_more from by kept behind next some k here = record {
-  next = omega (arith, k.next, one_more kept by);
+  at = omega (arith, k.at, one_more kept by);
   first = omega (arith, k.first);
   below = omega (arith, k.below, some, here);
   last = λ more. omega (arith, here);
   none = λ e. absurd (omega (arith, e));
 }
   where
-    one_more : (n m : ℕ) → (n + 1) * m ≡ n * m + m
-    one_more n m = ap (λ (j : ℕ). j * m) (next_of n) ∙ suc-mul n m ∙ turned (n * m) m
-
     next_of : (n : ℕ) → n + 1 ≡ suc n
     next_of n = omega arith
 
     turned : (n m : ℕ) → m + n ≡ n + m
     turned n m = omega arith
 
+    one_more : (n m : ℕ) → (n + 1) * m ≡ n * m + m
+    one_more n m = ap (λ (j : ℕ). j * m) (next_of n) ∙ suc-mul n m ∙ turned (n * m) m
+
 pub kept_same : (from by kept behind next : ℕ) → AreKept from by kept behind next → (behind ≡ next → ⊥) → AreKept from by kept (behind + 1) next
 kept_same from by kept behind next k other = record {
-  next = k.next;
+  at = k.at;
   first = omega (arith, k.first);
   below = elim (either_side behind next) [
     | inl less ↦ omega (arith, less)
     | inr above ↦ absurd (other (omega (arith, above, k.below)))
   ];
   last = λ some. omega (arith, k.last some);
-  none = λ e. absurd (other (k.none e ∙ zero_next e ∙ sym k.next));
+  none = λ e. absurd (other (k.none e ∙ zero_next e ∙ sym k.at));
 }
   where
     zero_next : kept ≡ 0 → from ≡ from + kept * by
@@ -87,7 +87,7 @@ pub kept_below : (from by kept behind next k : ℕ) → AreKept from by kept beh
 kept_below from by zero behind next k is less = absurd (omega (arith, less))
 kept_below from by (suc kept) behind next k is less =
     let few : k * by ≤ kept * by = mul_within k kept by (omega (arith, less)) in
-    omega (arith, is.next, is.last (omega arith), suc-mul kept by, few)
+    omega (arith, is.at, is.last (omega arith), suc-mul kept by, few)
 
 -- as many are kept as the counter takes up to the number before
 pub kept_turns : (from by kept behind next : ℕ) → AreKept from by kept behind next → from < behind → turns_between from by (behind - 1) ≡ kept
@@ -96,7 +96,7 @@ kept_turns from by (suc kept) behind next is some =
     let low : from + kept * by < behind = kept_below from by (suc kept) behind next kept is (omega arith) in
     let rest = behind - 1 - from - kept * by in
     let whole : behind - 1 - from ≡ kept * by + rest = omega (arith, low) in
-    let small : rest < by = omega (arith, is.below, is.next, suc-mul kept by, low, some) in
+    let small : rest < by = omega (arith, is.below, is.at, suc-mul kept by, low, some) in
     up_to_some from by (behind - 1) (omega (arith, some))
     ∙ ap (λ (n : ℕ). n / by + 1) whole ∙ ap (λ (n : ℕ). n + 1) (div-mul-add kept by rest small) ∙ omega arith
 
@@ -205,7 +205,7 @@ reads_kept e ns l p behind next turns old now mid kept here none marked grown ma
     let r = records_of e in
     let after = without_flows (closed mid) in
     let other : (k : ℕ) → k < length turns → (l.from + k * l.by ≡ behind) → ⊥ = λ k less e. omega (arith, kept_below l.from l.by (length turns) behind next k kept less, e) in
-    let at : l.from + length turns * l.by ≡ behind = sym kept.next ∙ sym here in
+    let at : l.from + length turns * l.by ≡ behind = sym kept.at ∙ sym here in
     let f = changed so.comes behind a.deeds in
     let count = changed so.count behind a.many in
     let counts : count_of_turns so.count l.by (length turns) l.from ≡ count_of_turns count l.by (length turns) l.from =
@@ -257,7 +257,7 @@ later_refused why.TooMany e ns l ws body behind next turns old now bound kept re
         so.count,
         kept.first,
         λ j low less. (so.comes j, so.are j low less),
-        omega (arith, kept.below, kept.next),
+        omega (arith, kept.below, kept.at),
         λ k less. kept_below l.from l.by (length turns) behind next k kept less,
         first,
         refl,
@@ -305,8 +305,8 @@ slice_at (c ∷ bs) more b = slice_at bs more b
 abbrev pub past_of : Entries → NamedEntry → ℕ → Past
 past_of e n most = record { number = 0; most = most; side = n.side; bound = operand_in (record_of (records_of e) n.side) n.entry }
 
-pub record IsBoundFor (e : Entries) (n : NamedEntry) (most : ℕ) (b : Bound) : Type 0 where
-  pub most : b.most ≡ most
+pub record IsBoundFor (e : Entries) (n : NamedEntry) (greatest : ℕ) (b : Bound) : Type 0 where
+  pub most : b.most ≡ greatest
   pub side : b.item.side ≡ n.side
   pub entry : b.item.entry ≡ n.entry
   pub placed : IsBound (records_of e) b

@@ -213,7 +213,7 @@ none_of_turns by (suc n) i = none_of_turns by n (i + by)
 
 none_counted : (by n i : ℕ) → count_of_turns (λ j. 0) by n i ≡ 0
 none_counted by zero i = refl
-none_counted by (suc n) i = none_counted by n (i + by)
+none_counted by (suc n) i = omega (arith, none_counted by n (i + by))
 
 no_product : (a b k : ℕ) → a * b ≡ 0 → k < a → b ≡ 0
 no_product zero b k e less = absurd (omega (arith, less))
@@ -265,7 +265,7 @@ turns_end e ns l body turns n old now some one bounds bound (inl all) so p is =
 turns_end e ns l body turns n old now some one (q, are, bounded) bound (inr (zero_is, none)) so p is =
     let a = so p is in
     let nothing : (a.deeds ≡ Nothing) × (a.many ≡ 0) = subst (λ (k : ℕ). AreTurnsMeant (λ i t c. TurnComesTo e ns l p i t c) l.by k l.from a.deeds a.many) zero_is a.are in
-    let all : AreBounded p = subst AreBounded (one body q p are is) bounded in
+    let all : AreBounded p = subst AreBounded (one q p body are is) bounded in
     let product : turns_of l * statements_of p ≡ 0 = ap (λ (k : ℕ). turns_of l * k) (none p is) ∙ omega arith in
     let loop = loop_nothing e ns l (ToNumber n) p body bound is all tt (λ i k. nothing_comes e (in_its_turn ns l i) p body is all k) product in
     made_as e (λ d many. AreTurnsMeant (λ i k c. TurnComesTo e ns l p i k c) l.by turns l.from d many) (λ d many. LoopComesTo e ns l p d many) old now a

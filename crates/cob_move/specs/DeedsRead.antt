@@ -313,7 +313,7 @@ pub record ReadsTurns (e : Entries) (ns : List Counted) (l : WrittenLoop) (p : P
 
 -- So many turns are kept of those whose numbers stand below one: the counter takes the next number then.
 pub record AreKept (from by kept behind next : ℕ) : Type 0 where
-  pub next : next ≡ from + kept * by
+  pub at : next ≡ from + kept * by
   pub first : from ≤ behind
   pub below : behind ≤ next
   pub last : (0 < kept) → next < behind + by
