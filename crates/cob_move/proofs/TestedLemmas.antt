@@ -61,11 +61,8 @@ kept_more from by kept behind next some k here = record {
     next_of : (n : ℕ) → n + 1 ≡ suc n
     next_of n = omega arith
 
-    turned : (n m : ℕ) → m + n ≡ n + m
-    turned n m = omega arith
-
     one_more : (n m : ℕ) → (n + 1) * m ≡ n * m + m
-    one_more n m = ap (λ (j : ℕ). j * m) (next_of n) ∙ suc-mul n m ∙ turned (n * m) m
+    one_more n m = ap (λ (j : ℕ). j * m) (next_of n) ∙ suc-mul n m
 
 pub kept_same : (from by kept behind next : ℕ) → AreKept from by kept behind next → (behind ≡ next → ⊥) → AreKept from by kept (behind + 1) next
 kept_same from by kept behind next k other = record {
