@@ -96,9 +96,15 @@ abbrev pub open_behind : Option ℕ → List Lexeme → Option ℕ
 open_behind depth [] = depth
 open_behind depth (w ∷ ws) = open_behind (open_by (loop_word w) depth) ws
 
+-- it is a number: so it has to be, until moves are read in loops to items
+abbrev pub IsUpToNumber : WrittenBound → Type 0
+IsUpToNumber (ToNumber n) = Unit {0}
+IsUpToNumber (ToItem own) = ⊥
+
 -- the words of the statements in a loop: there is one, the words of what it ends by end before it, each PERFORM has its END-PERFORM, and no period stands
 -- among them
 pub record IsLoopBody (bound : WrittenBound) (ws : List Lexeme) : Type 0 where
+  pub up_to : IsUpToNumber bound
   pub some : 0 < length ws
   pub ends : BoundEnds bound ws
   pub closed : open_behind (Some 0) ws ≡ Some 0

@@ -4,7 +4,7 @@ ghost use Rattle.std.specs.Prelude.{◌≡◌, ◌↔◌, ℕ, ◌<◌, ◌≤�
 ghost use Rattle.std.specs.List.{AllByRecursion};
 ghost use Rattle.cob_source.specs.Tokens.{Lexeme, lexeme, lexemes};
 ghost use Rattle.cob_move_loops.specs.Words.{IsNoPeriod, IsOther, LoopWordFirst};
-ghost use Rattle.cob_move_loops.specs.Passages.{APause, ARun, BoundEnds, FrontStands, IsLoopBody, IsRun, Looped, PassageFront, WrittenLoop, open_behind, open_by};
+ghost use Rattle.cob_move_loops.specs.Passages.{APause, ARun, BoundEnds, FrontStands, IsLoopBody, IsRun, IsUpToNumber, Looped, PassageFront, WrittenLoop, open_behind, open_by};
 ghost use Rattle.cob_move_loops.specs.Reading.{AnswersFront, ClosedInFront, item_front, written_bound};
 
 use crate::head::head_at;
@@ -135,13 +135,23 @@ fn has_no_period(words: &[Token]) -> bool
     true
 }
 
+/// Whether a loop ends by a number.
+fn is_up_to_number(bound: &LoopBound<'_>) -> bool
+    ensures { IsTrue result ↔ IsUpToNumber (written_bound bound.now) }
+{
+    match bound {
+        LoopBound::Number(_) => true,
+        LoopBound::Item(_) => false,
+    }
+}
+
 /// Whether words in which as many loops are closed as are opened may be the statements of a loop that ends by this.
 fn is_body(bound: &LoopBound<'_>, words: &[Token]) -> bool
     requires closed { open_behind (Some 0) (lexemes words.now) ≡ Some 0 }
     requires ends { BoundEnds (written_bound bound.now) (lexemes words.now) }
     ensures { IsTrue result ↔ IsLoopBody (written_bound bound.now) (lexemes words.now) }
 {
-    !words.is_empty() && has_no_period(words)
+    is_up_to_number(bound) && !words.is_empty() && has_no_period(words)
 }
 
 /// The loop in front, and what is behind it and its periods.

@@ -2,8 +2,8 @@
 //!
 //! What stands behind a paragraph's heading is a passage: words of MOVE statements, CONTINUE, and loops, which hold passages. A loop ends by a number, or by
 //! that of an item ([`LoopBound`]). A loop means its turns, and a turn is words: those of the loop's statements, with a counter's number in the place of its
-//! name. How many turns there are up to an item's number the records say alone; written out here it has its first. What MOVE statements say, in a turn or
-//! outside of loops, and which words name an item, is for the crates above.
+//! name. How many turns there are up to an item's number the records say alone: until moves are read in such loops, words with one are no passage. What MOVE
+//! statements say, in a turn or outside of loops, and which words name an item, is for the crates above.
 //!
 //! What is promised: [`check`] answers `Ok` exactly for the words of a passage (`found`), and else the line where they break off (`line`). Words are one
 //! passage at most ([`one_passage`]), and those that break off are none ([`breaks_none`]). [`is_shallow`] says whether few loops of words hold one another, and
