@@ -17,6 +17,7 @@ use cob_copybook_tree::{Item, Kind, Value, is_number, read_sent};
 use std::cmp::Ordering;
 
 /// The characters that an entry gives: its bytes, or the digits of its number.
+#[derive(Drop)]
 pub(crate) enum Characters<'a> {
     Bytes(&'a [u8]),
     Digits(Numerals),

@@ -1,6 +1,6 @@
 //! The order of texts.
 
-ghost use Rattle.std.specs.Prelude.{◌≡◌, ◌<◌, ℕ, List, length, replicate};
+ghost use Rattle.std.specs.Prelude.{◌≡◌, ◌+◌, ◌<◌, true, false, ℕ, List, length, replicate};
 ghost use Rattle.std.specs.Ordering.{ordering_reverse};
 ghost use Rattle.cob_copybook_entry.specs.Described.{Repeated};
 ghost use Rattle.cob_move_receive.specs.Characters.{AreBytesOf, GivesConstant, IsByteOf, figurative_byte};
@@ -22,13 +22,21 @@ fn next_byte(text: &[u8]) -> (u8, &[u8])
     }
 }
 
+/// Whether something is left of one of two texts.
+fn any_left(first: &[u8], second: &[u8]) -> bool
+    ensures goes { result ≡ true → 0 < length first.now + length second.now }
+    ensures ends { result ≡ false → length first.now + length second.now ≡ 0 }
+{
+    !(first.is_empty() && second.is_empty())
+}
+
 /// The order of two texts, the shorter with spaces behind it.
 pub(crate) fn text_order(first: &[u8], second: &[u8]) -> Ordering
     ensures { result ≡ text_order first.now second.now }
 {
     let mut left = first;
     let mut right = second;
-    while !(left.is_empty() && right.is_empty()) {
+    while any_left(left, right) {
         let (one, behind) = next_byte(left);
         let (other, others) = next_byte(right);
         if one < other {
@@ -90,9 +98,10 @@ fn byte_of(character: u8) -> u8
 
 /// The byte of the first character of a literal and the characters behind it; a space and nothing where there is none.
 fn next_character(literal: &[u8]) -> (u8, &[u8])
-    ensures { (bytes : List ℕ) → AreBytesOf result.1.now bytes → (coded : List ℕ)
+    ensures coded { (bytes : List ℕ) → AreBytesOf result.1.now bytes → (coded : List ℕ)
         × AreBytesOf literal.now coded
         × (first_or_space coded ≡ result.0) × (behind_first coded ≡ bytes) }
+    ensures behind { result.1.now ≡ behind_first literal.now }
 {
     match literal.split_first() {
         Some((character, behind)) => (byte_of(*character), behind),
@@ -107,7 +116,7 @@ pub(crate) fn literal_order(text: &[u8], literal: &[u8]) -> Ordering
 {
     let mut left = text;
     let mut right = literal;
-    while !(left.is_empty() && right.is_empty()) {
+    while any_left(left, right) {
         let (one, behind) = next_byte(left);
         let (other, others) = next_character(right);
         if one < other {
