@@ -41,7 +41,7 @@ text_reversed (x ∷ xs) (y ∷ ys) = both_reversed x y (text_order xs ys) (text
 -- ---- a literal that is repeated
 
 -- n bytes of a text that is repeated, from this place of it on
-pub turning : List ℕ → (i n : ℕ) → List ℕ
+abbrev pub turning : List ℕ → (i n : ℕ) → List ℕ
 turning coded i zero = []
 turning coded i (suc n) = get_or coded (i % length coded) 0 ∷ turning coded (i + 1) n
 
@@ -67,7 +67,7 @@ one_byte character a b p q =
     cc
 
 -- the bytes of a literal's characters
-pub bytes_in : List ℕ → List ℕ
+abbrev pub bytes_in : List ℕ → List ℕ
 bytes_in literal = (some_bytes literal).0
 
 long_as : (literal : List ℕ) → length (bytes_in literal) ≡ length literal
@@ -78,8 +78,10 @@ pub turning_is : (literal : List ℕ) (n : ℕ) → 0 < length literal → Gives
 turning_is literal n some =
     repeated_is one_to_one literal (turning (bytes_in literal) 0 n) n (length-turning (bytes_in literal) 0 n) some (λ k lt.
     let inside : k % length literal < length literal = mod-lt k some in
+    let none_before : 0 + k ≡ k = omega arith in
     let here : get_or (turning (bytes_in literal) 0 n) k 0 ≡ get_or (bytes_in literal) (k % length literal) 0 =
-    turning_at (bytes_in literal) 0 n k 0 lt ∙ ap (λ (j : ℕ). get_or (bytes_in literal) (k % j) 0) (long_as literal) in
+    turning_at (bytes_in literal) 0 n k 0 lt ∙ ap (λ (j : ℕ). get_or (bytes_in literal) (j % length (bytes_in literal)) 0) none_before
+    ∙ ap (λ (j : ℕ). get_or (bytes_in literal) (k % j) 0) (long_as literal) in
     subst (IsByteOf (get_or literal (k % length literal) 0)) (sym here) (byte_at literal (bytes_in literal) (k % length literal) (some_bytes literal).1 inside))
 
 -- the byte of the character that is its turn

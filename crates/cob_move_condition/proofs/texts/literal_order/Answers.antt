@@ -6,7 +6,7 @@ use Rattle.cob_move_condition.proofs.texts.literal_order.Goals as goal
 
 pub returns-then-one-other : goal.returns-then-one-other
 returns-then-one-other c =
-    let some : 0 < length c.loop-left.left.now + length c.loop-left.right.now = c.any_left.ensures.goes c.if-any_left.true in
+    let some : 0 < length c.loop-left.left.now + length c.loop-left.right.now = c.any_left.ensures.goes c.loop-left-test.true in
     literal_decides c.args.text.now c.args.literal.now c.next_byte-one.result.1.now c.next_character-other.result.1.now c.next_byte-one.result.0 c.next_character-other.result.0 Less
     (literal_step c.args.text.now c.args.literal.now c.loop-left.left.now c.loop-left.right.now c.next_byte-one.result.1.now c.next_character-other.result.1.now c.next_byte-one.result.0
     c.next_character-other.result.0 c.loop-left.invariant some c.next_byte-one.ensures.byte c.next_byte-one.ensures.behind c.next_character-other.ensures.coded)
@@ -14,11 +14,11 @@ returns-then-one-other c =
 
 pub returns-then-other-one : goal.returns-then-other-one
 returns-then-other-one c =
-    let some : 0 < length c.loop-left.left.now + length c.loop-left.right.now = c.any_left.ensures.goes c.if-any_left.true in
+    let some : 0 < length c.loop-left.left.now + length c.loop-left.right.now = c.any_left.ensures.goes c.loop-left-test.true in
     literal_decides c.args.text.now c.args.literal.now c.next_byte-one.result.1.now c.next_character-other.result.1.now c.next_byte-one.result.0 c.next_character-other.result.0 Greater
     (literal_step c.args.text.now c.args.literal.now c.loop-left.left.now c.loop-left.right.now c.next_byte-one.result.1.now c.next_character-other.result.1.now c.next_byte-one.result.0
     c.next_character-other.result.0 c.loop-left.invariant some c.next_byte-one.ensures.byte c.next_byte-one.ensures.behind c.next_character-other.ensures.coded)
     (cmp_greater c.next_byte-one.result.0 c.next_character-other.result.0 (omega arith)) (λ p. refl)
 
 pub returns : goal.returns
-returns c = literal_done c.args.text.now c.args.literal.now c.loop-left.left.now c.loop-left.right.now c.loop-left.invariant (omega (arith, c.any_left.ensures.ends c.if-any_left.false)) (omega (arith, c.any_left.ensures.ends c.if-any_left.false))
+returns c = literal_done c.args.text.now c.args.literal.now c.loop-left.left.now c.loop-left.right.now c.loop-left.invariant (omega (arith, c.any_left.ensures.ends c.loop-left-test.false)) (omega (arith, c.any_left.ensures.ends c.loop-left-test.false))
