@@ -5,7 +5,6 @@ use Rattle.cob_codec.specs.declared.reading.Reading.{Reading}
 use Rattle.cob_decimal.specs.declared.number.Number.{Number}
 use Rattle.cob_copybook_tree.specs.declared.node.Kind.{Kind}
 use Rattle.cob_copybook_tree.specs.declared.node.Kind.TheVariants.{Group, Item as ItemKind}
-use Rattle.cob_copybook_tree.specs.Resolving.{is_number}
 use Rattle.cob_move_receive.specs.Sent.{Amount, Sent, Entry, amount}
 use Rattle.cob_move_receive.specs.Numbers.{GivesNumber}
 use Rattle.cob_move_receive.specs.Table as known

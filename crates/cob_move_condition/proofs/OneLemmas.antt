@@ -1,5 +1,5 @@
 -- What a condition says is one thing.
-use Rattle.std.proofs.Common.{◌≡◌, ℕ, ◌⊎◌, Bool, true, false, ◌||◌, not, List, length, refl, sym, ap, subst, ◌∙◌, inl, inr, Ok, Err, Result}
+use Rattle.std.proofs.Common.{◌≡◌, ℕ, Bool, true, false, ◌||◌, not, List, length, refl, sym, ap, subst, ◌∙◌, inl, inr, Ok, Err, Result}
 use Rattle.std.specs.Prelude.{MatchBool, ℤ}
 use Rattle.std.specs.declared.cmp.Ordering.{Ordering}
 use Rattle.cob_codec.specs.declared.reading.Reading.{Reading}
@@ -30,7 +30,7 @@ use Rattle.cob_move_condition.specs.Classes.{IsInClass}
 use Rattle.cob_move_condition.specs.Comparable.{compares_numbers, kind_of_sent}
 use Rattle.cob_move_condition.specs.Compared.{GiveCharacters, GivesBeside, GivesNumerals, IsCompared, IsWithoutValue, NumbersCompared, TextsCompared, amount_order, text_order}
 use Rattle.cob_move_condition.specs.Conditions.{Condition, Always, Compares, HasClass, Not, Both, Either}
-use Rattle.cob_move_condition.specs.Laws.{GivesOne, LacksOne, OneSaying}
+use Rattle.cob_move_condition.specs.Laws.{ComparesTo, GivesOne, LacksOne, OneComparison, OneSaying}
 use Rattle.cob_move_condition.specs.Says.{Says, SaysClass, SaysRelation, is_relation, negated, one_of_two}
 
 -- the laws below
@@ -150,6 +150,12 @@ one_without a b First First p q = refl
 one_without a b First Second (e, none) (f, (v, has), other) = absurd (none v has)
 one_without a b Second First (f, (v, has), other) (e, none) = absurd (none v has)
 one_without a b Second Second p q = refl
+
+pub one_comparison : Laws → OneComparison
+one_comparison law a b (Ok o) (Ok p) x y = ap (λ (k : Ordering). Ok k) (one_compared law a b o p x y)
+one_comparison law a b (Ok o) (Err which) x y = absurd (compared_or_without a b o which x y)
+one_comparison law a b (Err which) (Ok o) x y = absurd (compared_or_without a b o which y x)
+one_comparison law a b (Err which) (Err other) x y = ap (λ (k : WithoutValue). Err k) (one_without a b which other x y)
 
 -- ---- what a condition says, where what operands give is one thing
 

@@ -1,5 +1,5 @@
 -- The order of texts.
-use Rattle.std.proofs.Common.{◌≡◌, ℕ, zero, suc, ◌+◌, ◌-◌, ◌%◌, ◌<◌, ◌≤◌, List, [], ◌∷◌, length, get_or, drop, replicate, refl, sym, ap, ◌∙◌, arith}
+use Rattle.std.proofs.Common.{◌≡◌, ℕ, zero, suc, ◌+◌, ◌-◌, ◌%◌, ◌<◌, ◌≤◌, List, [], ◌∷◌, length, get_or, drop, refl, sym, ap, ◌∙◌, arith}
 use Rattle.std.specs.declared.cmp.Ordering.{Ordering}
 use Rattle.std.specs.declared.cmp.Ordering.TheVariants.{Less, Equal, Greater}
 use Rattle.std.specs.Ordering.{nat_cmp, ordering_reverse, ordering_then}
@@ -13,7 +13,7 @@ use Rattle.cob_copybook_entry.specs.Described.{Repeated}
 use Rattle.cob_move_receive.specs.Characters.{AreBytesOf, GivesConstant, IsByteOf}
 use Rattle.cob_move_receive.proofs.CharacterLemmas.{bytes_length, one_text, repeated_is, some_bytes}
 use Rattle.cob_move_condition.specs.Compared.{text_order}
-use Rattle.cob_move_condition.specs.Texts.{first_or_space, behind_first}
+use Rattle.cob_move_condition.specs.Texts.{BeginsBy, first_or_space, behind_first}
 
 -- one byte of each, and then the others
 pub text_step : (xs ys : List ℕ) → 0 < length xs + length ys
@@ -128,8 +128,7 @@ LeaveOrder text literal left right = (bytes : List ℕ) → AreBytesOf right byt
 -- one byte of each, and then the others
 pub literal_step : (text literal left right behind others : List ℕ) (byte other : ℕ) → LeaveOrder text literal left right
     → 0 < length left + length right → byte ≡ first_or_space left → behind ≡ behind_first left
-    → ((bytes : List ℕ) → AreBytesOf others bytes → (coded : List ℕ) × AreBytesOf right coded × (first_or_space coded ≡ other) × (behind_first coded ≡ bytes))
-    → (bytes : List ℕ) → AreBytesOf others bytes → (coded : List ℕ) × AreBytesOf literal coded × (text_order text coded ≡ ordering_then (nat_cmp byte other) (text_order behind bytes))
+    → BeginsBy right other others → (bytes : List ℕ) → AreBytesOf others bytes → (coded : List ℕ) × AreBytesOf literal coded × (text_order text coded ≡ ordering_then (nat_cmp byte other) (text_order behind bytes))
 literal_step text literal left right behind others byte other leaves some head tail next bytes are =
     let (coded, own, first, rest) = next bytes are in
     let (all, whole, so_far) = leaves coded own in

@@ -1,12 +1,11 @@
 -- Which operands are compared by their values, and which may be compared at all (ANSI X3.23-1985, Nucleus: relation conditions).
-use Rattle.std.specs.Prelude.{ℤ, Bool, true, false, ◌&&◌, ◌||◌, not}
+use Rattle.std.specs.Prelude.{Bool, true, false, ◌&&◌, ◌||◌, not}
 use Rattle.cob_picture.specs.Counts.{scale}
 use Rattle.cob_copybook_entry.specs.declared.kinds.Figurative.{Figurative}
 use Rattle.cob_copybook_entry.specs.declared.kinds.Figurative.TheVariants.{Space, Zero, HighValue, LowValue, Quote}
 use Rattle.cob_copybook_entry.specs.Described.{PlainValue, Numeric, Quoted, Figure, Repeated}
 use Rattle.cob_copybook_entry.specs.Kinds.{is_display}
 use Rattle.cob_copybook_tree.specs.declared.node.Item.{Item}
-use Rattle.cob_copybook_tree.specs.declared.node.Kind.{Kind}
 use Rattle.cob_copybook_tree.specs.declared.node.Kind.TheVariants.{Group, Item as ItemKind}
 use Rattle.cob_copybook_tree.specs.Resolving.{is_number}
 use Rattle.cob_move_receive.specs.Sent.{Sent}

@@ -4,6 +4,6 @@ use Rattle.cob_move_condition.specs.declared.characters.Characters.{Characters}
 use Rattle.cob_move_condition.specs.declared.characters.Characters.TheVariants.{Bytes, Digits}
 
 -- the characters that the code's value stands for
-abbrev pub characters_of : Characters → List ℕ
-characters_of (Bytes bytes) = bytes.now
-characters_of (Digits digits) = digits.items
+abbrev pub text_given : Characters → List ℕ
+text_given (Bytes bytes) = bytes.now
+text_given (Digits digits) = digits.items

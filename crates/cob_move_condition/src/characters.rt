@@ -8,7 +8,7 @@ ghost use Rattle.cob_copybook_tree.specs.declared.node.Kind.TheVariants.{Item as
 ghost use Rattle.cob_copybook_tree.specs.Items.{IsStorable};
 ghost use Rattle.cob_copybook_tree.specs.Lengths.{item_size};
 ghost use Rattle.cob_move_condition.specs.Compared.{GivesBeside, text_order};
-ghost use Rattle.cob_move_condition.specs.Given.{characters_of};
+ghost use Rattle.cob_move_condition.specs.Given.{text_given};
 
 use crate::numerals::{Numerals, numerals, numerals_to_point};
 use crate::texts::{figurative_order, literal_order, repeated_order, text_order};
@@ -26,7 +26,7 @@ pub(crate) enum Characters<'a> {
 impl Characters<'_> {
     /// All of them.
     pub(crate) fn as_slice(&self) -> &[u8]
-        ensures { result.now ≡ characters_of self.now }
+        ensures { result.now ≡ text_given self.now }
     {
         match self {
             Characters::Bytes(bytes) => bytes,
@@ -39,7 +39,7 @@ impl Characters<'_> {
 fn item_beside<'a>(group: bool, item: &Item, bytes: &'a [u8], reading: Reading) -> Characters<'a>
     requires storable { IsStorable item.now }
     requires long { length bytes.now ≡ item_size item.now }
-    ensures { GivesBeside group (ItemKind item.now) bytes.now reading (characters_of result) }
+    ensures { GivesBeside group (ItemKind item.now) bytes.now reading (text_given result) }
 {
     if group || !is_number(item) {
         return Characters::Bytes(bytes);
@@ -58,7 +58,7 @@ pub(crate) fn entry_beside<'a>(
     reading: Reading,
 ) -> Characters<'a>
     requires { Occupies kind.now (length bytes.now) }
-    ensures { GivesBeside group kind.now bytes.now reading (characters_of result) }
+    ensures { GivesBeside group kind.now bytes.now reading (text_given result) }
 {
     match kind {
         Kind::Group => Characters::Bytes(bytes),

@@ -5,7 +5,8 @@
 //!
 //! - [`compare`] tells which order two operands have (`IsCompared` of specs/Compared.antt). Two numbers have that of their values, whatever their usages and
 //!   scales. All else is compared by its bytes in code page 037, the shorter text with spaces behind it; a figurative constant, or ALL and a literal, is as
-//!   long as the other; and a number beside characters gives its digits. Where one of two numbers has no value, it is told which.
+//!   long as the other; and a number beside characters gives its digits. Where one of two numbers has no value, it is told which. A law
+//!   says that this is one answer ([`one_comparison`]).
 //! - [`may_compare`] says which operands may be compared (`may_compare` of specs/Comparable.antt).
 //! - [`is_in_class`] tells whether what an entry gives is numeric, or of letters and spaces (`IsInClass` of specs/Classes.antt).
 //! - [`says`] tells what a [`Condition`] says of what its operands give (`Says` of specs/Says.antt): it is looked at from left to right, and no further than it
@@ -17,7 +18,7 @@
 //!
 //! # Where it is proved
 //!
-//! The clauses of `compare`, `may_compare`, `is_in_class` and `says`; the law `one_saying`.
+//! The clauses of `compare`, `may_compare`, `is_in_class` and `says`; the laws `one_comparison`, `one_saying`.
 #![tactic(auto)]
 
 mod characters;
@@ -38,6 +39,6 @@ pub use classes::is_in_class;
 pub use comparable::may_compare;
 pub use comparing::{WithoutValue, compare};
 pub use condition::{Comparand, Condition};
-pub use laws::one_saying;
+pub use laws::{one_comparison, one_saying};
 pub use operands::Operands;
 pub use saying::says;

@@ -34,7 +34,8 @@ fn magnitude_order(first: &[u8], finer: usize, second: &[u8], second_finer: usiz
     requires second_few { length second.now ≤ most_digits }
     requires low { finer ≤ 100 }
     requires high { second_finer ≤ 100 }
-    ensures { result ≡ nat_cmp (number_of first.now * 10 ^ finer) (number_of second.now * 10 ^ second_finer) }
+    ensures { result ≡ nat_cmp (number_of first.now * 10 ^ finer)
+        (number_of second.now * 10 ^ second_finer) }
 {
     let size = (first.len() + finer).max(second.len() + second_finer);
     for step in 0..size {

@@ -5,7 +5,7 @@ ghost use Rattle.std.specs.Ordering.{ordering_reverse};
 ghost use Rattle.cob_copybook_entry.specs.Described.{Repeated};
 ghost use Rattle.cob_move_receive.specs.Characters.{AreBytesOf, GivesConstant, IsByteOf, figurative_byte};
 ghost use Rattle.cob_move_condition.specs.Compared.{text_order};
-ghost use Rattle.cob_move_condition.specs.Texts.{first_or_space, behind_first};
+ghost use Rattle.cob_move_condition.specs.Texts.{BeginsBy, first_or_space, behind_first};
 
 use cob_copybook_tree::Figurative;
 use cob_cp037::{QUOTE, SPACE, ZERO, encode_char};
@@ -98,9 +98,7 @@ fn byte_of(character: u8) -> u8
 
 /// The byte of the first character of a literal and the characters behind it; a space and nothing where there is none.
 fn next_character(literal: &[u8]) -> (u8, &[u8])
-    ensures coded { (bytes : List ℕ) → AreBytesOf result.1.now bytes → (coded : List ℕ)
-        × AreBytesOf literal.now coded
-        × (first_or_space coded ≡ result.0) × (behind_first coded ≡ bytes) }
+    ensures coded { BeginsBy literal.now result.0 result.1.now }
     ensures behind { result.1.now ≡ behind_first literal.now }
 {
     match literal.split_first() {

@@ -1,4 +1,4 @@
-use Rattle.std.proofs.Common.{◌≡◌, ◌∙◌, ℕ, List, false, ap, sym, subst}
+use Rattle.std.proofs.Common.{◌∙◌, ℕ, List, false, ap, sym, subst}
 use Rattle.std.specs.Ordering.{ordering_reverse}
 use Rattle.cob_move_condition.specs.Compared.{GivesBeside}
 use Rattle.cob_move_condition.proofs.TextLemmas.{text_reversed}

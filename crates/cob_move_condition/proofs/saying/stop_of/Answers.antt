@@ -1,4 +1,3 @@
-use Rattle.std.proofs.Common.{◌≡◌, true}
 use Rattle.cob_copybook_entry.specs.Described.{plain_value}
 use Rattle.cob_move_condition.proofs.OperandLemmas.{never_without}
 use Rattle.cob_move_condition.proofs.saying.stop_of.Goals as goal

@@ -1,4 +1,4 @@
-use Rattle.std.proofs.Common.{◌≡◌, ◌+◌, ◌<◌, ℕ, length, refl, arith, rules}
+use Rattle.std.proofs.Common.{◌+◌, ◌<◌, length, refl, arith}
 use Rattle.std.specs.declared.cmp.Ordering.TheVariants.{Less, Greater}
 use Rattle.cob_move_condition.proofs.NumberLemmas.{cmp_greater, cmp_less}
 use Rattle.cob_move_condition.proofs.TextLemmas.{literal_decides, literal_done, literal_step}
