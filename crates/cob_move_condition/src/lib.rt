@@ -11,8 +11,9 @@
 //! - [`is_in_class`] tells whether what an entry gives is numeric, or of letters and spaces (`IsInClass` of specs/Classes.antt).
 //! - [`says`] tells what a [`Condition`] says of what its operands give (`Says` of specs/Says.antt): it is looked at from left to right, and no further than it
 //!   takes to decide. Bytes that represent no value where a number is compared stop it, and are never taken for a condition that doesn't hold.
-//! - What operands give is handed in by [`Operands`]: two storages between moves do it, or a record as it came. A law says that a condition then says one
-//!   thing ([`one_saying`]).
+//! - What operands give is handed in by [`Operands`]: two storages between moves do it, or a record as it came. What they keep from one entry to the
+//!   next, as counts that were read, becomes what it may by their own words (`goes`, `halts`). A law says that a condition then says one thing
+//!   ([`one_saying`]).
 //!
 //! Nothing here takes memory.
 //!

@@ -37,6 +37,12 @@ pub trait Operands {
     // What is kept is right.
     ghost keeps: { Self → Self.Room → Type 0 };
 
+    // What is kept may become this while entries give what they hold, as by so many reads of counts.
+    ghost goes: { Self → Self.Room → Self.Room → Type 0 };
+
+    // What is kept may become this up to a stop.
+    ghost halts: { Self → Self.Room → Self.Room → Type 0 };
+
     /// What the entry with this number gives.
     ///
     /// # Errors
@@ -50,7 +56,9 @@ pub trait Operands {
         ensures kind { IfOk result (λ s. kind_of_sent (sent s) ≡ Entry (kind self.now number)) }
         ensures stops { IfErr result
             (λ stop. gives self.now (entry self.now number) (Err stop)) }
-        ensures room { keeps self.now room.new };
+        ensures room { keeps self.now room.new }
+        ensures went { IfOk result (λ _. goes self.now room.old room.new) }
+        ensures halted { IfErr result (λ _. halts self.now room.old room.new) };
 
     /// The stop of the entry with this number, whose bytes represent no value.
     fn lack(&self, number: usize, room: &mut Self::Room) -> Self::Stop
@@ -58,8 +66,18 @@ pub trait Operands {
         requires gives { (s : Sends) × gives self.now (entry self.now number) (Ok s) }
         requires room { keeps self.now room.old }
         ensures lacks { lacks self.now (entry self.now number) result }
-        ensures room { keeps self.now room.new };
+        ensures room { keeps self.now room.new }
+        ensures halted { halts self.now room.old room.new };
 
     // A constant gives itself.
     ghost constants: { (operands : Self) (c : PlainValue) → gives operands (Literal c) (Ok (given.Literal c)) };
+
+    // What is kept may stay.
+    ghost stays: { (operands : Self) (a : Self.Room) → goes operands a a };
+
+    // What becomes of it in two steps may become of it.
+    ghost joins: { (operands : Self) (a b c : Self.Room) → goes operands a b → goes operands b c → goes operands a c };
+
+    // The same up to a stop.
+    ghost ends: { (operands : Self) (a b c : Self.Room) → goes operands a b → halts operands b c → halts operands a c };
 }

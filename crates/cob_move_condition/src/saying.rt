@@ -38,6 +38,8 @@ fn give<'a, O: Operands>(
         (λ stop. O.gives operands.now (sender_compared (O.entry operands.now) operand.now)
         (Err stop)) }
     ensures room { O.keeps operands.now room.new }
+    ensures went { IfOk result (λ _. O.goes operands.now room.old room.new) }
+    ensures halted { IfErr result (λ _. O.halts operands.now room.old room.new) }
 {
     match operand {
         Comparand::Entry(number) => operands.give(*number, room),
@@ -72,6 +74,8 @@ fn stop_of<O: Operands>(
         (O.lacks operands.now (sender_compared (O.entry operands.now) operand.now)) }
     ensures always { IfOk result (λ _. ⊥) }
     ensures room { O.keeps operands.now room.new }
+    ensures went { IfOk result (λ _. O.goes operands.now room.old room.new) }
+    ensures halted { IfErr result (λ _. O.halts operands.now room.old room.new) }
 {
     match operand {
         Comparand::Entry(number) => Err(operands.lack(*number, room)),
@@ -98,6 +102,8 @@ fn relation_said<O: Operands>(
         (sender_compared (O.entry operands.now) first.now) relation
         (sender_compared (O.entry operands.now) second.now) result }
     ensures room { O.keeps operands.now room.new }
+    ensures went { IfOk result (λ _. O.goes operands.now room.old room.new) }
+    ensures halted { IfErr result (λ _. O.halts operands.now room.old room.new) }
 {
     let one = give(first, operands, room)?;
     let other = give(second, operands, room)?;
@@ -123,6 +129,8 @@ fn class_said<O: Operands>(
     requires room { O.keeps operands.now room.old }
     ensures says { SaysClass (O.gives operands.now) (O.entry operands.now number) class result }
     ensures room { O.keeps operands.now room.new }
+    ensures went { IfOk result (λ _. O.goes operands.now room.old room.new) }
+    ensures halted { IfErr result (λ _. O.halts operands.now room.old room.new) }
 {
     let given = operands.give(number, room)?;
     Ok(is_in_class(class, &given))
@@ -143,6 +151,8 @@ pub fn says<O: Operands>(
     ensures says { Says (O.gives operands.now) (O.lacks operands.now)
         (condition_of (O.entry operands.now) condition.now) result }
     ensures room { O.keeps operands.now room.new }
+    ensures went { IfOk result (λ _. O.goes operands.now room.old room.new) }
+    ensures halted { IfErr result (λ _. O.halts operands.now room.old room.new) }
 {
     match condition {
         Condition::Always => Ok(true),
