@@ -1,0 +1,6 @@
+pub mod CutLemmas
+pub mod TogetherLemmas
+pub mod ExchangeLemmas
+pub mod OperandLemmas
+pub mod PartLemmas
+pub mod ExpansionLemmas

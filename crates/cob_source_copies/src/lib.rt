@@ -1,0 +1,22 @@
+//! COPY statements of a source text, carried out (ANSI X3.23-1985, Source Text Manipulation; IBM Enterprise COBOL for z/OS, Language Reference,
+//! "COPY statement").
+#![tactic(auto)]
+
+mod copying;
+mod exchange;
+mod expansion;
+mod fault;
+mod fragment;
+mod laws;
+mod library;
+mod name;
+mod operand;
+mod statement;
+mod writing;
+
+pub use exchange::Exchange;
+pub use fault::{CopyFault, CopyRule};
+pub use fragment::Fragment;
+pub use laws::{cut_and_together, expanded_breaks_no_rule, nothing_to_expand, one_expansion};
+pub use library::{Library, LibraryText};
+pub use name::TextName;
