@@ -26,12 +26,12 @@ so_first texts ws out e = record { parts = []; begin = refl; may_copy = tt; room
 
 pub so_stays : (texts : List CopiedText) (ws rest more : List Lexeme) (room : ℕ) (out next : List Lexeme) (w : Lexeme) → SoFar texts ws rest room out → rest ≡ w ∷ more → is_copy w ≡ false → next ≡ out ++ w ∷ []
     → SoFar texts ws more room next
-so_stays texts ws rest more room out next w so e no is =
+so_stays texts ws rest more room out next w so e other is =
     let nothing : length (flat_map (put_by_copy texts) (so.parts ++ Stays w ∷ [])) ≡ length (flat_map (put_by_copy texts) so.parts) =
     ap length (one_put (put_by_copy texts) so.parts (Stays w) ∙ append-nil (flat_map (put_by_copy texts) so.parts)) in
     record {
       parts = so.parts ++ Stays w ∷ [];
-      begin = join_parts so.parts (Stays w ∷ []) ws rest more so.begin (no, more, e, refl);
+      begin = join_parts so.parts (Stays w ∷ []) ws rest more so.begin (more, other, e, refl);
       may_copy = all_both (MayCopy texts) so.parts (Stays w ∷ []) so.may_copy (tt, tt);
       room_is = ap (λ (n : ℕ). room + n) nothing ∙ so.room_is;
       out_is = is ∙ ap (λ (t : List Lexeme). t ++ w ∷ []) so.out_is ∙ sym (one_put (part_put texts) so.parts (Stays w));
@@ -39,13 +39,13 @@ so_stays texts ws rest more room out next w so e no is =
 
 pub so_copies : (texts : List CopiedText) (ws rest behind more : List Lexeme) (room left : ℕ) (out next : List Lexeme) (w : Lexeme) → SoFar texts ws rest room out → rest ≡ w ∷ behind → is_copy w ≡ true
     → IsCarriedOut texts behind more room left out next → SoFar texts ws more left next
-so_copies texts ws rest behind more room left out next w so e yes (c, front, put) =
+so_copies texts ws rest behind more room left out next w so e is (c, front, put) =
     let own = copied c (text_named texts c.named) in
     let sum : length (flat_map (put_by_copy texts) (so.parts ++ Copies c ∷ [])) ≡ length (flat_map (put_by_copy texts) so.parts) + length own =
     ap length (one_put (put_by_copy texts) so.parts (Copies c)) ∙ length-append (flat_map (put_by_copy texts) so.parts) own in
     record {
       parts = so.parts ++ Copies c ∷ [];
-      begin = join_parts so.parts (Copies c ∷ []) ws rest more so.begin (w, behind, more, yes, e, front, refl);
+      begin = join_parts so.parts (Copies c ∷ []) ws rest more so.begin (w, behind, more, is, e, front, refl);
       may_copy = all_both (MayCopy texts) so.parts (Copies c ∷ []) so.may_copy (put.may, tt);
       room_is = let was = so.room_is in let fewer = put.left_is in omega (arith, sum, was, fewer);
       out_is = put.put ∙ ap (λ (t : List Lexeme). t ++ own) so.out_is ∙ sym (one_put (part_put texts) so.parts (Copies c));
@@ -63,32 +63,32 @@ so_ends texts ws rest room out so e = record {
 -- ---- refusals
 
 pub reached : (texts : List CopiedText) (ws rest behind : List Lexeme) (room : ℕ) (out : List Lexeme) (w : Lexeme) → SoFar texts ws rest room out → rest ≡ w ∷ behind → is_copy w ≡ true → ReachesCopy ws w.line
-reached texts ws rest behind room out w so e yes = record {
+reached texts ws rest behind room out w so e is = record {
   parts = so.parts;
   copy = w;
   behind = behind;
   begin = subst (λ (t : List Lexeme). BeginWithParts so.parts ws t) e so.begin;
-  is = yes;
+  is = is;
   on_line = refl;
 }
 
 pub refused : (r : CopyRule) (texts : List CopiedText) (ws rest behind : List Lexeme) (room : ℕ) (out : List Lexeme) (w : Lexeme) (line : ℕ) → SoFar texts ws rest room out → rest ≡ w ∷ behind → is_copy w ≡ true
     → IsCarryRefusal r texts behind room → (r ≡ rule.Memory → line ≡ 0) → ((r ≡ rule.Memory → ⊥) → line ≡ w.line) → IsCopyRefusal r line texts ws
-refused rule.Memory texts ws rest behind room out w line so e yes why zero on = zero refl
-refused rule.Statement texts ws rest behind room out w line so e yes why zero on =
+refused rule.Memory texts ws rest behind room out w line so e copies why zero on = zero refl
+refused rule.Statement texts ws rest behind room out w line so e copies why zero on =
     let same : line ≡ w.line = on (λ h. absurd cc) in
-    subst (λ (n : ℕ). IsCopyRefusal rule.Statement n texts ws) (sym same) (reached texts ws rest behind room out w so e yes, why)
-refused rule.Unknown texts ws rest behind room out w line so e yes (front, is, why) zero on =
+    subst (λ (n : ℕ). IsCopyRefusal rule.Statement n texts ws) (sym same) (reached texts ws rest behind room out w so e copies, why)
+refused rule.Unknown texts ws rest behind room out w line so e copies (front, is, why) zero on =
     let same : line ≡ w.line = on (λ h. absurd cc) in
-    subst (λ (n : ℕ). IsCopyRefusal rule.Unknown n texts ws) (sym same) (reached texts ws rest behind room out w so e yes, front, is, why)
-refused rule.Nested texts ws rest behind room out w line so e yes (front, is, why) zero on =
+    subst (λ (n : ℕ). IsCopyRefusal rule.Unknown n texts ws) (sym same) (reached texts ws rest behind room out w so e copies, front, is, why)
+refused rule.Nested texts ws rest behind room out w line so e copies (front, is, why) zero on =
     let same : line ≡ w.line = on (λ h. absurd cc) in
-    subst (λ (n : ℕ). IsCopyRefusal rule.Nested n texts ws) (sym same) (reached texts ws rest behind room out w so e yes, front, is, why)
-refused rule.TooMany texts ws rest behind room out w line so e yes (front, is, why) zero on =
+    subst (λ (n : ℕ). IsCopyRefusal rule.Nested n texts ws) (sym same) (reached texts ws rest behind room out w so e copies, front, is, why)
+refused rule.TooMany texts ws rest behind room out w line so e copies (front, is, why) zero on =
     let same : line ≡ w.line = on (λ h. absurd cc) in
     let was = so.room_is in
     let many : PutsTooMany texts so.parts front.copy = omega (arith, was, why) in
-    subst (λ (n : ℕ). IsCopyRefusal rule.TooMany n texts ws) (sym same) (reached texts ws rest behind room out w so e yes, front, is, many)
+    subst (λ (n : ℕ). IsCopyRefusal rule.TooMany n texts ws) (sym same) (reached texts ws rest behind room out w so e copies, front, is, many)
 
 -- ---- laws
 
@@ -156,13 +156,16 @@ pub expanded_breaks_no_rule : ExpandedBreaksNoRule
 expanded_breaks_no_rule texts ws done r line x why = breaks_none texts ws done r line x why
 
 -- words without COPY
+none_first : (w : Lexeme) (ws : List Lexeme) → has_copy (w ∷ ws) ≡ false → (is_copy w ≡ false) × (has_copy ws ≡ false)
+none_first w ws e = by (is_copy w) refl
+  where
+    by : (b : Bool) → is_copy w ≡ b → (is_copy w ≡ false) × (has_copy ws ≡ false)
+    by true is = absurd (let never : has_copy (w ∷ ws) ≡ true = rw is refl in let both : true ≡ false = sym never ∙ e in cc)
+    by false is = (is, let same : has_copy (w ∷ ws) ≡ has_copy ws = rw is refl in sym same ∙ e)
+
 stay : (ws : List Lexeme) → has_copy ws ≡ false → BeginWithParts (all_stay ws) ws []
 stay [] e = refl
-stay (w ∷ ws) e = by (is_copy w) refl
-  where
-    by : (b : Bool) → is_copy w ≡ b → BeginWithParts (all_stay (w ∷ ws)) (w ∷ ws) []
-    by true is = absurd (let never : has_copy (w ∷ ws) ≡ true = rw is refl in let both : true ≡ false = sym never ∙ e in cc)
-    by false is = (is, ws, refl, stay ws (let same : has_copy (w ∷ ws) ≡ has_copy ws = rw is refl in sym same ∙ e))
+stay (w ∷ ws) e = let none = none_first w ws e in (ws, none.0, refl, stay ws none.1)
 
 may_stay : (texts : List CopiedText) (ws : List Lexeme) → AllByRecursion (MayCopy texts) (all_stay ws)
 may_stay texts [] = tt

@@ -10,8 +10,8 @@ use Rattle.cob_source_copies.specs.Texts.{BeginWithParts, Copies, Stays, TextPar
 -- parts behind parts
 pub join_parts : (ps qs : List TextPart) (ws rest more : List Lexeme) → BeginWithParts ps ws rest → BeginWithParts qs rest more → BeginWithParts (ps ++ qs) ws more
 join_parts [] qs ws rest more e b = subst (λ (t : List Lexeme). BeginWithParts qs t more) (sym e) b
-join_parts (Stays w ∷ ps) qs ws rest more (no, others, e, a) b = (no, others, e, join_parts ps qs others rest more a b)
-join_parts (Copies c ∷ ps) qs ws rest more (copy, behind, others, yes, e, f, a) b = (copy, behind, others, yes, e, f, join_parts ps qs others rest more a b)
+join_parts (Stays w ∷ ps) qs ws rest more (others, other, e, a) b = (others, other, e, join_parts ps qs others rest more a b)
+join_parts (Copies c ∷ ps) qs ws rest more (copy, behind, others, is, e, f, a) b = (copy, behind, others, is, e, f, join_parts ps qs others rest more a b)
 
 -- parts that go on with others to the end
 pub record GoOnWith (ps qs : List TextPart) (rest : List Lexeme) : Type 0 where
@@ -20,28 +20,28 @@ pub record GoOnWith (ps qs : List TextPart) (rest : List Lexeme) : Type 0 where
   pub begin : BeginWithParts others rest []
 
 clash : {A : Type 0} (copy w : Lexeme) → is_copy w ≡ false → copy ≡ w → is_copy copy ≡ true → A
-clash copy w no e yes = absurd (let never : true ≡ false = sym yes ∙ ap is_copy e ∙ no in cc)
+clash copy w other e is = absurd (let never : true ≡ false = sym is ∙ ap is_copy e ∙ other in cc)
 
 same_front : (behind other : List Lexeme) (a b : CopyFront) → behind ≡ other → copy_front behind ≡ Some a → copy_front other ≡ Some b → a ≡ b
 same_front behind other a b e f g = let both : Some a ≡ Some b = sym f ∙ ap copy_front e ∙ g in cc
 
 pub cut_parts : (ps qs : List TextPart) (ws rest : List Lexeme) → BeginWithParts ps ws rest → BeginWithParts qs ws [] → GoOnWith ps qs rest
 cut_parts [] qs ws rest e b = record { others = qs; are = refl; begin = subst (λ (t : List Lexeme). BeginWithParts qs t []) e b }
-cut_parts (Stays w ∷ ps) [] ws rest (no, more, e, a) b = absurd (let never : w ∷ more ≡ [] = sym e ∙ b in cc)
-cut_parts (Copies c ∷ ps) [] ws rest (copy, behind, more, yes, e, f, a) b = absurd (let never : copy ∷ behind ≡ [] = sym e ∙ b in cc)
-cut_parts (Stays w ∷ ps) (Copies d ∷ qs) ws rest (no, more, e, a) (copy, behind, others, yes, g, f, b) =
+cut_parts (Stays w ∷ ps) [] ws rest (more, other, e, a) b = absurd (let never : w ∷ more ≡ [] = sym e ∙ b in cc)
+cut_parts (Copies c ∷ ps) [] ws rest (copy, behind, more, is, e, f, a) b = absurd (let never : copy ∷ behind ≡ [] = sym e ∙ b in cc)
+cut_parts (Stays w ∷ ps) (Copies d ∷ qs) ws rest (more, other, e, a) (copy, behind, others, is, g, f, b) =
     let both : copy ∷ behind ≡ w ∷ more = sym g ∙ e in
-    let same : copy ≡ w = cc in clash copy w no same yes
-cut_parts (Copies c ∷ ps) (Stays w ∷ qs) ws rest (copy, behind, others, yes, g, f, b) (no, more, e, a) =
+    let same : copy ≡ w = cc in clash copy w other same is
+cut_parts (Copies c ∷ ps) (Stays w ∷ qs) ws rest (copy, behind, others, is, g, f, b) (more, other, e, a) =
     let both : copy ∷ behind ≡ w ∷ more = sym g ∙ e in
-    let same : copy ≡ w = cc in clash copy w no same yes
-cut_parts (Stays w ∷ ps) (Stays v ∷ qs) ws rest (no, more, e, a) (not, others, g, b) =
+    let same : copy ≡ w = cc in clash copy w other same is
+cut_parts (Stays w ∷ ps) (Stays v ∷ qs) ws rest (more, other, e, a) (others, unlike, g, b) =
     let both : v ∷ others ≡ w ∷ more = sym g ∙ e in
     let first : v ≡ w = cc in
     let rest_is : others ≡ more = cc in
     let k = cut_parts ps qs more rest a (subst (λ (t : List Lexeme). BeginWithParts qs t []) rest_is b) in
     record { others = k.others; are = ap (λ (t : Lexeme). Stays t ∷ qs) first ∙ ap (λ (t : List TextPart). Stays w ∷ t) k.are; begin = k.begin }
-cut_parts (Copies c ∷ ps) (Copies d ∷ qs) ws rest (copy, behind, more, yes, e, f, a) (word, after, others, is, g, h, b) =
+cut_parts (Copies c ∷ ps) (Copies d ∷ qs) ws rest (copy, behind, more, is, e, f, a) (word, after, others, same_is, g, h, b) =
     let both : word ∷ after ≡ copy ∷ behind = sym g ∙ e in
     let same : after ≡ behind = cc in
     let one = same_front after behind (record { copy = d; behind = others }) (record { copy = c; behind = more }) same h f in
@@ -52,8 +52,8 @@ cut_parts (Copies c ∷ ps) (Copies d ∷ qs) ws rest (copy, behind, more, yes, 
 
 none_left : (ps : List TextPart) → BeginWithParts ps [] [] → ps ≡ []
 none_left [] b = refl
-none_left (Stays w ∷ ps) (no, more, e, a) = absurd cc
-none_left (Copies c ∷ ps) (copy, behind, more, yes, e, f, a) = absurd cc
+none_left (Stays w ∷ ps) (more, other, e, a) = absurd cc
+none_left (Copies c ∷ ps) (copy, behind, more, is, e, f, a) = absurd cc
 
 -- words have their parts in one way
 pub one_parts : (ps qs : List TextPart) (ws : List Lexeme) → BeginWithParts ps ws [] → BeginWithParts qs ws [] → ps ≡ qs
@@ -70,9 +70,9 @@ pub record StatesFirst (ps : List TextPart) (behind : List Lexeme) : Type 0 wher
   pub front : copy_front behind ≡ Some (record { copy = copy; behind = more })
 
 pub states_first : (ps : List TextPart) (word : Lexeme) (behind : List Lexeme) → is_copy word ≡ true → BeginWithParts ps (word ∷ behind) [] → StatesFirst ps behind
-states_first [] word behind yes b = absurd (let never : word ∷ behind ≡ [] = b in cc)
-states_first (Stays w ∷ ps) word behind yes (no, more, e, a) = let same : word ≡ w = cc in clash word w no same yes
-states_first (Copies c ∷ ps) word behind yes (copy, after, more, is, e, f, a) =
+states_first [] word behind is b = absurd (let never : word ∷ behind ≡ [] = b in cc)
+states_first (Stays w ∷ ps) word behind is (more, other, e, a) = let same : word ≡ w = cc in clash word w other same is
+states_first (Copies c ∷ ps) word behind is (copy, after, more, also, e, f, a) =
     let same : behind ≡ after = cc in
     record { copy = c; more = more; others = ps; are = refl; front = ap copy_front same ∙ f }
 

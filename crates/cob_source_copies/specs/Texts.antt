@@ -41,7 +41,7 @@ pub data TextPart : Type 0 where
 -- Words begin with these parts, before others: each word COPY begins a statement, and each other word stays.
 abbrev pub BeginWithParts : List TextPart → List Lexeme → List Lexeme → Type 0
 BeginWithParts [] ws rest = ws ≡ rest
-BeginWithParts (Stays w ∷ ps) ws rest = (is_copy w ≡ false) × ((more : List Lexeme) × (ws ≡ w ∷ more) × BeginWithParts ps more rest)
+BeginWithParts (Stays w ∷ ps) ws rest = (more : List Lexeme) × (is_copy w ≡ false) × (ws ≡ w ∷ more) × BeginWithParts ps more rest
 BeginWithParts (Copies c ∷ ps) ws rest = (copy : Lexeme) × (behind more : List Lexeme)
     × (is_copy copy ≡ true) × (ws ≡ copy ∷ behind) × (copy_front behind ≡ Some (record { copy = c; behind = more })) × BeginWithParts ps more rest
 

@@ -7,7 +7,7 @@ ghost use Rattle.cob_source_copies.specs.Exchanges.{are_same, begin_with, exchan
 
 use crate::copying::push_copies;
 use crate::fragment::{Fragment, fragments};
-use crate::writing::together;
+use crate::writing::push_together;
 use cob_source::{Token, TokenKind};
 use std::alloc::{AllocError, Global};
 
@@ -203,25 +203,24 @@ fn exchanged(
     Ok(out)
 }
 
-/// Words with each x replaced. From the left the first exchange that fits is made, and what is put isn't looked at again.
+/// Puts words with each x replaced behind those so far. From the left the first exchange that fits is made, and what is put isn't looked at again.
 ///
 /// # Errors
 ///
 /// Where no memory is left.
-pub(crate) fn replaced(
+pub(crate) fn push_replaced(
     alloc: Global,
     exchanges: &[Exchange],
     words: &[Token],
-) -> Result<Vec<Token>, AllocError>
-    ensures { IfOk result (λ v. lexemes v.items
-        ≡ replaced (map replacing exchanges.now) (lexemes words.now)) }
+    out: &mut Vec<Token>,
+) -> Result<(), AllocError>
+    ensures { OnOk result (lexemes out.new.items ≡ lexemes out.old.items
+        ++ replaced (map replacing exchanges.now) (lexemes words.now)) }
 {
     if exchanges.is_empty() {
-        let mut out = Vec::new(alloc);
-        push_copies(alloc, words, &mut out)?;
-        return Ok(out);
+        return push_copies(alloc, words, out);
     }
     let cut = fragments(alloc, words)?;
     let put = exchanged(alloc, exchanges, cut.as_slice())?;
-    together(alloc, put.as_slice())
+    push_together(alloc, put.as_slice(), out)
 }

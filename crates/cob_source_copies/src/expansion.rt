@@ -1,6 +1,6 @@
 //! Words with their COPY statements carried out.
 
-ghost use Rattle.std.specs.Prelude.{◌≡◌, ◌≤◌, ◌++◌, List, map, length, IfOk, IfErr, OnOk};
+ghost use Rattle.std.specs.Prelude.{◌≡◌, ◌≤◌, List, map, length, IfOk, IfErr};
 ghost use Rattle.cob_source.specs.Tokens.{Lexeme, lexemes};
 ghost use Rattle.cob_source_copies.specs.declared.fault.CopyRule.TheVariants.{Memory};
 ghost use Rattle.cob_source_copies.specs.Statements.{written_copy};
@@ -9,28 +9,14 @@ ghost use Rattle.cob_source_copies.specs.Refusals.{IsCopyRefusal};
 ghost use Rattle.cob_source_copies.specs.Carrying.{IsCarriedOut, IsCarryRefusal, IsPut, IsPutRefusal, IsTextOf, IsTextRefusal};
 
 use crate::copying::copy_of;
-use crate::exchange::replaced;
+use crate::exchange::push_replaced;
 use crate::fault::{CopyFault, CopyRule};
 use crate::laws::{expanded_breaks_no_rule, one_expansion};
 use crate::library::{Library, LibraryText};
 use crate::statement::{Statement, copy_front, is_copy};
 use cob_limits::MAX_COPIED_WORDS;
 use cob_source::Token;
-use std::alloc::{AllocError, Global};
-
-/// Puts words behind those so far.
-///
-/// # Errors
-///
-/// Where no memory is left.
-fn push_all(words: Vec<Token>, out: &mut Vec<Token>) -> Result<(), AllocError>
-    ensures { OnOk result (lexemes out.new.items ≡ lexemes out.old.items ++ lexemes words.entry.items) }
-{
-    for word in words {
-        out.push(word)?;
-    }
-    Ok(())
-}
+use std::alloc::Global;
 
 impl Library {
     /// The text that a statement copies.
@@ -71,13 +57,18 @@ impl Library {
             (written_copy statement.now) room) }
     {
         let text = self.text_of(statement)?;
-        let words = replaced(alloc, statement.exchanges.as_slice(), text.words.as_slice())?;
-        if words.len() > room {
+        let before = out.len();
+        push_replaced(
+            alloc,
+            statement.exchanges.as_slice(),
+            text.words.as_slice(),
+            out,
+        )?;
+        let put = out.len() - before;
+        if put > room {
             return Err(CopyRule::TooMany);
         }
-        let left = room - words.len();
-        push_all(words, out)?;
-        Ok(left)
+        Ok(room - put)
     }
 
     /// Carries out the COPY statement that goes on with these words behind its word COPY, and answers how many more words may be copied and what is behind its

@@ -188,9 +188,9 @@ fn read_inside(
 ) -> Result<Option<Vec<Token>>, AllocError>
     ensures given { OnOk result (map written_operand operands.new.items
         ≡ map written_operand operands.old.items
-        ++ operands_at (Some (lexemes begun.entry.items)) (lexeme token.now)) }
+        ++ operands_at (Some (lexemes begun.items)) (lexeme token.now)) }
     ensures begun { IfOk result (λ o. open_words o
-        ≡ open_at (Some (lexemes begun.entry.items)) (lexeme token.now)) }
+        ≡ open_at (Some (lexemes begun.items)) (lexeme token.now)) }
 {
     let mut words = begun;
     match closed_by(token) {
@@ -229,9 +229,9 @@ fn read_word(
 ) -> Result<Option<Vec<Token>>, AllocError>
     ensures given { OnOk result (map written_operand operands.new.items
         ≡ map written_operand operands.old.items
-        ++ operands_at (open_words begun.entry) (lexeme token.now)) }
+        ++ operands_at (open_words begun) (lexeme token.now)) }
     ensures begun { IfOk result (λ o. open_words o
-        ≡ open_at (open_words begun.entry) (lexeme token.now)) }
+        ≡ open_at (open_words begun) (lexeme token.now)) }
 {
     match begun {
         Some(words) => read_inside(alloc, words, token, operands),

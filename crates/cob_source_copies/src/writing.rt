@@ -1,6 +1,6 @@
 //! Text words written together.
 
-ghost use Rattle.std.specs.Prelude.{◌≡◌, ◌++◌, map, IfOk, OnOk};
+ghost use Rattle.std.specs.Prelude.{◌≡◌, ◌++◌, map, OnOk};
 ghost use Rattle.cob_source.specs.Tokens.{lexeme, lexemes};
 ghost use Rattle.cob_source_copies.specs.TextWords.{goes_on, is_wordlike, text_word, together, word_if_any};
 
@@ -33,7 +33,7 @@ fn goes_on(word: &Token, next: &Fragment) -> bool
 ///
 /// Where no memory is left.
 fn push_if_any(word: Token, out: &mut Vec<Token>) -> Result<(), AllocError>
-    ensures { OnOk result (lexemes out.new.items ≡ lexemes out.old.items ++ word_if_any (lexeme word.entry)) }
+    ensures { OnOk result (lexemes out.new.items ≡ lexemes out.old.items ++ word_if_any (lexeme word)) }
 {
     if is_wordlike(word.kind) && word.text.is_empty() {
         return Ok(());
@@ -42,17 +42,21 @@ fn push_if_any(word: Token, out: &mut Vec<Token>) -> Result<(), AllocError>
     Ok(())
 }
 
-/// The words that text words are when they are written as they stand.
+/// Puts the words that text words are when they are written as they stand behind those so far.
 ///
 /// # Errors
 ///
 /// Where no memory is left.
-pub(crate) fn together(alloc: Global, fragments: &[Fragment]) -> Result<Vec<Token>, AllocError>
-    ensures { IfOk result (λ v. lexemes v.items ≡ together (map text_word fragments.now)) }
+pub(crate) fn push_together(
+    alloc: Global,
+    fragments: &[Fragment],
+    out: &mut Vec<Token>,
+) -> Result<(), AllocError>
+    ensures { OnOk result (lexemes out.new.items
+        ≡ lexemes out.old.items ++ together (map text_word fragments.now)) }
 {
-    let mut out = Vec::new(alloc);
     let Some((first, more)) = fragments.split_first() else {
-        return Ok(out);
+        return Ok(());
     };
     let mut word = copy_of(alloc, &first.token)?;
     let mut rest = more;
@@ -61,10 +65,9 @@ pub(crate) fn together(alloc: Global, fragments: &[Fragment]) -> Result<Vec<Toke
             word.text.extend_from_slice(next.token.text.as_slice())?;
         } else {
             let new = copy_of(alloc, &next.token)?;
-            push_if_any(mem::replace(&mut word, new), &mut out)?;
+            push_if_any(mem::replace(&mut word, new), out)?;
         }
         rest = behind;
     }
-    push_if_any(word, &mut out)?;
-    Ok(out)
+    push_if_any(word, out)
 }
