@@ -11,7 +11,7 @@ use Rattle.cob_source_copies.specs.Texts.{AreExpanded, BeginWithParts, CopiedTex
 use Rattle.cob_source_copies.specs.Refusals.{BreaksCopyRule, IsCopyRefusal, PutsTooMany, ReachesCopy, ReachesStatement, ReplacesInNested}
 use Rattle.cob_source_copies.specs.Carrying.{IsCarriedOut, IsCarryRefusal, IsPut, IsPutRefusal}
 use Rattle.cob_source_copies.specs.Laws.{ExpandedBreaksNoRule, NothingToExpand, OneExpansion}
-use Rattle.cob_source_copies.proofs.PartLemmas.{StatesFirst, all_both, all_stay, cut_parts, join_parts, one_of_all, one_parts, one_put, put_least, states_first}
+use Rattle.cob_source_copies.proofs.PartLemmas.{StatesFirst, all_both, cut_parts, join_parts, one_of_all, one_parts, one_put, put_least, states_first}
 
 -- what is carried out so far: parts before the rest, what they come to, and how many more words may be put
 pub record SoFar (texts : List CopiedText) (ws rest : List Lexeme) (room : ℕ) (out : List Lexeme) : Type 0 where
@@ -74,6 +74,7 @@ reached texts ws rest behind room out w so e is = record {
 
 pub refused : (r : CopyRule) (texts : List CopiedText) (ws rest behind : List Lexeme) (room : ℕ) (out : List Lexeme) (w : Lexeme) (line : ℕ) → SoFar texts ws rest room out → rest ≡ w ∷ behind → is_copy w ≡ true
     → IsCarryRefusal r texts behind room → (r ≡ rule.Memory → line ≡ 0) → ((r ≡ rule.Memory → ⊥) → line ≡ w.line) → IsCopyRefusal r line texts ws
+unfolding reached
 refused rule.Memory texts ws rest behind room out w line so e copies why zero on = zero refl
 refused rule.Statement texts ws rest behind room out w line so e copies why zero on =
     let same : line ≡ w.line = on (λ h. absurd cc) in
@@ -154,6 +155,11 @@ breaks_none texts ws done rule.TooMany line x (at, front, is, many) =
 
 pub expanded_breaks_no_rule : ExpandedBreaksNoRule
 expanded_breaks_no_rule texts ws done r line x why = breaks_none texts ws done r line x why
+
+-- each word stays
+abbrev all_stay : List Lexeme → List TextPart
+all_stay [] = []
+all_stay (w ∷ ws) = Stays w ∷ all_stay ws
 
 -- words without COPY
 none_first : (w : Lexeme) (ws : List Lexeme) → has_copy (w ∷ ws) ≡ false → (is_copy w ≡ false) × (has_copy ws ≡ false)

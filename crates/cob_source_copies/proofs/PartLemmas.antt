@@ -96,10 +96,3 @@ put_least f ps qs q =
     let two = length-append (flat_map f ps) (f q ++ flat_map f qs) in
     let three = length-append (f q) (flat_map f qs) in
     omega (arith, parts, two, three)
-
--- ---- words without COPY
-
--- each word stays
-pub all_stay : List Lexeme → List TextPart
-all_stay [] = []
-all_stay (w ∷ ws) = Stays w ∷ all_stay ws

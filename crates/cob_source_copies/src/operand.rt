@@ -2,7 +2,7 @@
 
 ghost use Rattle.std.specs.Prelude.{◌≡◌, ◌≤◌, ◌++◌, None, map, length, IfOk, IfSome, OnOk, option_map};
 ghost use Rattle.cob_source.specs.Tokens.{lexeme, lexemes};
-ghost use Rattle.cob_source_copies.specs.Statements.{before_closing, behind_opening, of_word, open_at, operands_at, operands_in, period_at, word_of_text, words_before_closing, written_operand};
+ghost use Rattle.cob_source_copies.specs.Statements.{before_closing, behind_opening, ends_statement, of_word, open_at, operands_at, operands_in, period_at, word_of_text, words_before_closing, written_operand};
 ghost use Rattle.cob_source_copies.specs.Reading.{open_words, operands_seen};
 
 use crate::copying::copy_of;

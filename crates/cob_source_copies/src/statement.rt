@@ -1,6 +1,6 @@
 //! COPY statements.
 
-ghost use Rattle.std.specs.Prelude.{◌≡◌, ◌≤◌, None, map, length, bytes_eq, IfOk, IfSome, option_map};
+ghost use Rattle.std.specs.Prelude.{◌≡◌, ◌≤◌, ◌&&◌, None, map, length, bytes_eq, IfOk, IfSome, option_map};
 ghost use Rattle.cob_source.specs.Tokens.{lexeme, lexemes};
 ghost use Rattle.cob_source_copies.specs.TextWords.{is_wordlike, text_word, text_words};
 ghost use Rattle.cob_source_copies.specs.Exchanges.{Replacing, replacing};
