@@ -4,3 +4,4 @@ pub mod ExchangeLemmas
 pub mod OperandLemmas
 pub mod PartLemmas
 pub mod ExpansionLemmas
+pub mod LibraryLemmas

@@ -7,6 +7,7 @@ use Rattle.cob_source_copies.specs.declared.fault.CopyRule.TheVariants as rule
 use Rattle.cob_source_copies.specs.TextWords.{text_words, together}
 use Rattle.cob_source_copies.specs.Texts.{AreExpanded, CopiedText, has_copy}
 use Rattle.cob_source_copies.specs.Refusals.{IsCopyRefusal}
+use Rattle.cob_source_copies.specs.Libraries.{MakeLibrary, NamedText}
 
 -- law: words come to one list of words at most
 abbrev pub OneExpansion : Type 0
@@ -23,3 +24,7 @@ ExpandedBreaksNoRule = (texts : List CopiedText) (ws done : List Lexeme) (r : Co
 -- law: words cut into text words and written together again are the same words
 abbrev pub CutAndTogether : Type 0
 CutAndTogether = (ws : List Lexeme) → AllByRecursion (λ w. 0 < length w.text) ws → together (text_words ws) ≡ ws
+
+-- law: texts make one library at most
+abbrev pub OneLibrary : Type 0
+OneLibrary = (ts : List NamedText) (before a b : List CopiedText) → MakeLibrary ts before a → MakeLibrary ts before b → a ≡ b

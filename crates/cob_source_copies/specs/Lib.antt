@@ -5,4 +5,5 @@ pub mod Reading
 pub mod Texts
 pub mod Refusals
 pub mod Carrying
+pub mod Libraries
 pub mod Laws

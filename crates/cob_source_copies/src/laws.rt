@@ -1,6 +1,8 @@
 //! Laws of COPY, as contracts of functions that do nothing. A function that calls one may rest its own proof on it.
 
-ghost use Rattle.cob_source_copies.specs.Laws.{CutAndTogether, ExpandedBreaksNoRule, NothingToExpand, OneExpansion};
+ghost use Rattle.cob_source_copies.specs.Laws.{CutAndTogether, ExpandedBreaksNoRule, NothingToExpand, OneExpansion, OneLibrary};
+
+use cob_source::words_are_one;
 
 /// Words come to one list of words at most.
 pub fn one_expansion()
@@ -21,3 +23,11 @@ pub fn expanded_breaks_no_rule()
 pub fn cut_and_together()
     ensures { CutAndTogether }
 {}
+
+/// Texts make one library at most.
+pub fn one_library()
+    ensures { OneLibrary }
+{
+    words_are_one();
+    one_expansion();
+}

@@ -2,6 +2,7 @@
 //! "COPY statement").
 #![tactic(auto)]
 
+mod adding;
 mod copying;
 mod exchange;
 mod expansion;
@@ -12,11 +13,16 @@ mod library;
 mod name;
 mod operand;
 mod statement;
+mod wanted;
 mod writing;
 
+pub use adding::counted_on;
 pub use exchange::Exchange;
 pub use fault::{CopyFault, CopyRule};
 pub use fragment::Fragment;
-pub use laws::{cut_and_together, expanded_breaks_no_rule, nothing_to_expand, one_expansion};
+pub use laws::{
+    cut_and_together, expanded_breaks_no_rule, nothing_to_expand, one_expansion, one_library,
+};
 pub use library::{Library, LibraryText};
 pub use name::TextName;
+pub use wanted::names_wanted;

@@ -1,0 +1,31 @@
+-- Texts put into a library, one after another.
+use Rattle.std.specs.Prelude.{◌≡◌, ℕ, ◌+◌, ◌*◌, List, [], ◌∷◌, ◌++◌, length, map}
+use Rattle.cob_limits.specs.Limits.{longest_text}
+use Rattle.cob_source.specs.Tokens.{Lexeme}
+use Rattle.cob_source.specs.Words.{AreWordsOf}
+use Rattle.cob_source_copies.specs.Statements.{WrittenCopy, WrittenName}
+use Rattle.cob_source_copies.specs.Texts.{AreExpanded, CopiedText, Copies, Stays, TextPart, has_copy}
+
+-- A text with these words is put behind others, by which its own COPY statements are carried out.
+abbrev pub IsAdded : WrittenName → List Lexeme → List CopiedText → List CopiedText → Type 0
+IsAdded named ws old new = (done : List Lexeme) × AreExpanded old ws done × (new ≡ old ++ record { named = named; words = done; holds_copy = has_copy ws } ∷ [])
+
+-- a word so many lines further on
+abbrev pub on_line : ℕ → Lexeme → Lexeme
+on_line lines w = record { kind = w.kind; text = w.text; line = lines + w.line; column = w.column }
+
+-- a text with its name, as it stands in a folder
+pub record NamedText : Type 0 where
+  pub named : WrittenName
+  pub text : List ℕ
+
+-- Texts make this library, put in one after another behind these: the lines of each are counted on, so that a line's number says its text.
+abbrev pub MakeLibrary : List NamedText → List CopiedText → List CopiedText → Type 0
+MakeLibrary [] before library = before ≡ library
+MakeLibrary (t ∷ ts) before library = (ws : List Lexeme) × (more : List CopiedText)
+    × AreWordsOf t.text ws × IsAdded t.named (map (on_line ((length before + 1) * longest_text)) ws) before more × MakeLibrary ts more library
+
+-- the names of the texts that a part of words copies
+abbrev pub names_in_part : TextPart → List WrittenName
+names_in_part (Stays w) = []
+names_in_part (Copies c) = c.named ∷ []
