@@ -1,5 +1,5 @@
 -- REPLACING: text words put for others.
-use Rattle.std.specs.Prelude.{ℕ, zero, suc, ◌-◌, Bool, true, false, ◌&&◌, bytes_eq, if◌then◌else◌, List, [], ◌∷◌, ◌++◌, length, map, Option, Some, None}
+use Rattle.std.specs.Prelude.{ℕ, zero, suc, ◌-◌, Bool, true, false, ◌&&◌, nat_lt, bytes_eq, if◌then◌else◌, List, [], ◌∷◌, ◌++◌, length, map, Option, Some, None}
 use Rattle.cob_source.specs.declared.token.TokenKind.{TokenKind}
 use Rattle.cob_source.specs.declared.token.TokenKind.TheVariants as kind
 use Rattle.cob_source.specs.Tokens.{Lexeme}
@@ -14,6 +14,10 @@ pub record Replacing : Type 0 where
 -- x BY y without where it lies in memory
 abbrev pub replacing : Exchange → Replacing
 replacing e = record { from = map text_word e.from.items; to = map text_word e.to.items }
+
+-- x BY y of words, where x has a text word
+abbrev pub replacing_by : List Lexeme → List Lexeme → Option Replacing
+replacing_by x y = if nat_lt 0 (length (text_words x)) then Some (record { from = text_words x; to = text_words y }) else None
 
 -- the two are of one kind
 abbrev pub is_one_kind : TokenKind → TokenKind → Bool

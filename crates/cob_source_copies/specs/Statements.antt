@@ -7,8 +7,8 @@ use Rattle.cob_source_copies.specs.declared.operand.CopyOperand.{CopyOperand}
 use Rattle.cob_source_copies.specs.declared.operand.CopyOperand.TheVariants as operand
 use Rattle.cob_source_copies.specs.declared.name.TextName.{TextName}
 use Rattle.cob_source_copies.specs.declared.statement.Statement.{Statement}
-use Rattle.cob_source_copies.specs.TextWords.{TextWord, text_words, is_wordlike}
-use Rattle.cob_source_copies.specs.Exchanges.{Replacing, replacing}
+use Rattle.cob_source_copies.specs.TextWords.{is_wordlike}
+use Rattle.cob_source_copies.specs.Exchanges.{Replacing, replacing, replacing_by}
 
 -- what stands behind == in front of a text
 abbrev pub behind_opening : List ℕ → Option (List ℕ)
@@ -171,8 +171,7 @@ behind_suppress (o ∷ os) = if is_keyword (codes "SUPPRESS") o then os else o �
 
 -- x BY y; x has a text word
 abbrev pub replacing_of : WrittenOperand → WrittenOperand → WrittenOperand → Option Replacing
-replacing_of x by y =
-    if is_keyword (codes "BY") by && nat_lt 0 (length (text_words (words_in x))) then Some (record { from = text_words (words_in x); to = text_words (words_in y) }) else None
+replacing_of x by y = if is_keyword (codes "BY") by then replacing_by (words_in x) (words_in y) else None
 
 -- one x BY y before others, if both are there
 abbrev pub with_replacing : Option Replacing → Option (List Replacing) → Option (List Replacing)

@@ -18,7 +18,7 @@ use cob_source::Token;
 use std::alloc::{AllocError, Global};
 
 /// Whether the word COPY stands among words.
-fn has_copy(words: &[Token]) -> bool
+pub fn has_copy(words: &[Token]) -> bool
     ensures { result ≡ has_copy (lexemes words.now) }
 {
     let mut rest = words;

@@ -3,7 +3,7 @@
 ghost use Rattle.std.specs.Prelude.{◌≡◌, ◌++◌, ◌∷◌, [], map, drop, IfOk, OnOk, option_map};
 ghost use Rattle.cob_source.specs.Tokens.{lexemes};
 ghost use Rattle.cob_source_copies.specs.TextWords.{text_word};
-ghost use Rattle.cob_source_copies.specs.Exchanges.{are_same, begin_with, exchanged, first_fitting, in_place_of, is_one_kind, part_of_x, put_by, put_for, replaced, replacing};
+ghost use Rattle.cob_source_copies.specs.Exchanges.{are_same, begin_with, exchanged, first_fitting, in_place_of, is_one_kind, part_of_x, put_by, put_for, replaced, replacing, replacing_by};
 
 use crate::copying::push_copies;
 use crate::fragment::{Fragment, fragments};
@@ -223,4 +223,42 @@ pub(crate) fn push_replaced(
     let cut = fragments(alloc, words)?;
     let put = exchanged(alloc, exchanges, cut.as_slice())?;
     push_together(alloc, put.as_slice(), out)
+}
+
+/// Words with each x replaced, as COPY of a text with these words would put them. From the left the first exchange that fits is made, and what is put isn't
+/// looked at again.
+///
+/// # Errors
+///
+/// Where no memory is left.
+pub fn replaced(
+    alloc: Global,
+    exchanges: &[Exchange],
+    words: &[Token],
+) -> Result<Vec<Token>, AllocError>
+    ensures { IfOk result (λ v. lexemes v.items
+        ≡ replaced (map replacing exchanges.now) (lexemes words.now)) }
+{
+    let mut out = Vec::new(alloc);
+    push_replaced(alloc, exchanges, words, &mut out)?;
+    Ok(out)
+}
+
+impl Exchange {
+    /// The exchange of these words, if x has a text word.
+    ///
+    /// # Errors
+    ///
+    /// Where no memory is left.
+    pub fn of(alloc: Global, x: &[Token], y: &[Token]) -> Result<Option<Exchange>, AllocError>
+        ensures { IfOk result (λ r. option_map replacing r
+            ≡ replacing_by (lexemes x.now) (lexemes y.now)) }
+    {
+        let from = fragments(alloc, x)?;
+        if from.is_empty() {
+            return Ok(None);
+        }
+        let to = fragments(alloc, y)?;
+        Ok(Some(Exchange { from, to }))
+    }
 }

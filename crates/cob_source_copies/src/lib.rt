@@ -16,8 +16,8 @@ mod statement;
 mod wanted;
 mod writing;
 
-pub use adding::counted_on;
-pub use exchange::Exchange;
+pub use adding::{counted_on, has_copy};
+pub use exchange::{Exchange, replaced};
 pub use fault::{CopyFault, CopyRule};
 pub use fragment::Fragment;
 pub use laws::{
