@@ -1,5 +1,5 @@
 -- What holds of COPY whatever the words and the texts are.
-use Rattle.std.specs.Prelude.{◌≡◌, ℕ, ◌<◌, false, List, [], length}
+use Rattle.std.specs.Prelude.{◌≡◌, ℕ, ◌<◌, false, List, length}
 use Rattle.std.specs.List.{AllByRecursion}
 use Rattle.cob_source.specs.Tokens.{Lexeme}
 use Rattle.cob_source_copies.specs.declared.fault.CopyRule.{CopyRule}
@@ -7,7 +7,7 @@ use Rattle.cob_source_copies.specs.declared.fault.CopyRule.TheVariants as rule
 use Rattle.cob_source_copies.specs.TextWords.{text_words, together}
 use Rattle.cob_source_copies.specs.Texts.{AreExpanded, CopiedText, has_copy}
 use Rattle.cob_source_copies.specs.Refusals.{IsCopyRefusal}
-use Rattle.cob_source_copies.specs.Libraries.{MakeLibrary, NamedText}
+use Rattle.cob_source_copies.specs.Libraries.{IsLineOf, MakeLibrary, NamedText}
 
 -- law: words come to one list of words at most
 abbrev pub OneExpansion : Type 0
@@ -28,3 +28,7 @@ CutAndTogether = (ws : List Lexeme) → AllByRecursion (λ w. 0 < length w.text)
 -- law: texts make one library at most
 abbrev pub OneLibrary : Type 0
 OneLibrary = (ts : List NamedText) (before a b : List CopiedText) → MakeLibrary ts before a → MakeLibrary ts before b → a ≡ b
+
+-- law: the number of a line says its text and its number there
+abbrev pub OneLine : Type 0
+OneLine = (number a b m n : ℕ) → IsLineOf number a m → IsLineOf number b n → (a ≡ b) × (m ≡ n)

@@ -1,5 +1,5 @@
 -- Texts put into a library, one after another.
-use Rattle.std.specs.Prelude.{◌≡◌, ℕ, ◌+◌, ◌*◌, List, [], ◌∷◌, ◌++◌, length, map}
+use Rattle.std.specs.Prelude.{◌≡◌, ℕ, ◌+◌, ◌*◌, ◌≤◌, List, [], ◌∷◌, ◌++◌, length, map}
 use Rattle.cob_limits.specs.Limits.{longest_text}
 use Rattle.cob_source.specs.Tokens.{Lexeme}
 use Rattle.cob_source.specs.Words.{AreWordsOf}
@@ -29,3 +29,7 @@ MakeLibrary (t ∷ ts) before library = (ws : List Lexeme) × (more : List Copie
 abbrev pub names_in_part : TextPart → List WrittenName
 names_in_part (Stays w) = []
 names_in_part (Copies c) = c.named ∷ []
+
+-- a line by its number: of the text with this number, where 0 is the text that copies and 1 and so on are those of its library, and its number in that text
+abbrev pub IsLineOf : ℕ → ℕ → ℕ → Type 0
+IsLineOf number text line = (number ≡ text * longest_text + line) × (1 ≤ line) × (line ≤ longest_text)

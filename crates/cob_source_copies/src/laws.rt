@@ -1,6 +1,6 @@
 //! Laws of COPY, as contracts of functions that do nothing. A function that calls one may rest its own proof on it.
 
-ghost use Rattle.cob_source_copies.specs.Laws.{CutAndTogether, ExpandedBreaksNoRule, NothingToExpand, OneExpansion, OneLibrary};
+ghost use Rattle.cob_source_copies.specs.Laws.{CutAndTogether, ExpandedBreaksNoRule, NothingToExpand, OneExpansion, OneLibrary, OneLine};
 
 use cob_source::words_are_one;
 
@@ -31,3 +31,8 @@ pub fn one_library()
     words_are_one();
     one_expansion();
 }
+
+/// The number of a line says its text and its number there.
+pub fn one_line()
+    ensures { OneLine }
+{}

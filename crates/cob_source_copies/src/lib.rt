@@ -10,6 +10,7 @@ mod fault;
 mod fragment;
 mod laws;
 mod library;
+mod line;
 mod name;
 mod operand;
 mod statement;
@@ -22,7 +23,9 @@ pub use fault::{CopyFault, CopyRule};
 pub use fragment::Fragment;
 pub use laws::{
     cut_and_together, expanded_breaks_no_rule, nothing_to_expand, one_expansion, one_library,
+    one_line,
 };
 pub use library::{Library, LibraryText};
+pub use line::{TextLine, line_numbered};
 pub use name::TextName;
 pub use wanted::names_wanted;
