@@ -1,5 +1,5 @@
 -- Text words put for others.
-use Rattle.std.proofs.Common.{◌≡◌, ℕ, zero, suc, ◌-◌, ◌<◌, Bool, true, false, if◌then◌else◌, List, [], ◌∷◌, ◌++◌, length, map, drop, refl, sym, ap, ◌∙◌, append_assoc, arith, Option, Some, None}
+use Rattle.std.proofs.Common.{◌≡◌, ℕ, zero, suc, List, [], ◌∷◌, ◌++◌, drop, refl, sym, ap, ◌∙◌, append_assoc}
 use Rattle.cob_source_copies.specs.TextWords.{TextWord}
 use Rattle.cob_source_copies.specs.Exchanges.{Replacing, exchanged, first_fitting, part_of_x, put_by}
 

@@ -1,6 +1,6 @@
 -- Words carried out one after another.
-use Rattle.std.proofs.Common.{◌≡◌, ◌⊎◌, inl, inr, ℕ, ◌+◌, ◌<◌, ◌≤◌, Bool, true, false, ◌||◌, List, [], ◌∷◌, ◌++◌, length, refl, sym, ap, subst, ◌∙◌, append-nil, arith, Option, Some, None}
-use Rattle.std.specs.List.{AllByRecursion, flat_map, list_any}
+use Rattle.std.proofs.Common.{◌≡◌, inl, inr, ℕ, ◌+◌, ◌≤◌, Bool, true, false, List, [], ◌∷◌, ◌++◌, length, refl, sym, ap, subst, ◌∙◌, append-nil, arith, Option, Some, None}
+use Rattle.std.specs.List.{AllByRecursion, flat_map}
 use Rattle.std.proofs.lemmas.List.{length-append}
 use Rattle.cob_limits.specs.Limits.{most_copied_words}
 use Rattle.cob_source.specs.Tokens.{Lexeme}
@@ -8,10 +8,10 @@ use Rattle.cob_source_copies.specs.declared.fault.CopyRule.{CopyRule}
 use Rattle.cob_source_copies.specs.declared.fault.CopyRule.TheVariants as rule
 use Rattle.cob_source_copies.specs.Statements.{CopyFront, WrittenCopy, copy_front, is_copy}
 use Rattle.cob_source_copies.specs.Texts.{AreExpanded, BeginWithParts, CopiedText, Copies, MayCopy, MayCopyText, Stays, TextPart, copied, has_copy, part_put, put_by_copy, text_named}
-use Rattle.cob_source_copies.specs.Refusals.{BreaksCopyRule, IsCopyRefusal, PutsTooMany, ReachesCopy, ReachesStatement, ReplacesInNested}
-use Rattle.cob_source_copies.specs.Carrying.{IsCarriedOut, IsCarryRefusal, IsPut, IsPutRefusal}
+use Rattle.cob_source_copies.specs.Refusals.{IsCopyRefusal, PutsTooMany, ReachesCopy, ReplacesInNested}
+use Rattle.cob_source_copies.specs.Carrying.{IsCarriedOut, IsCarryRefusal}
 use Rattle.cob_source_copies.specs.Laws.{ExpandedBreaksNoRule, NothingToExpand, OneExpansion}
-use Rattle.cob_source_copies.proofs.PartLemmas.{StatesFirst, all_both, cut_parts, join_parts, one_of_all, one_parts, one_put, put_least, states_first}
+use Rattle.cob_source_copies.proofs.PartLemmas.{all_both, cut_parts, join_parts, one_of_all, one_parts, one_put, put_least, states_first}
 
 -- what is carried out so far: parts before the rest, what they come to, and how many more words may be put
 pub record SoFar (texts : List CopiedText) (ws rest : List Lexeme) (room : ℕ) (out : List Lexeme) : Type 0 where

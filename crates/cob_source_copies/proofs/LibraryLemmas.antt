@@ -1,12 +1,12 @@
 -- Texts put into a library, and the names that words copy.
-use Rattle.std.proofs.Common.{◌≡◌, ℕ, ◌+◌, ◌*◌, true, false, List, [], ◌∷◌, ◌++◌, length, map, refl, sym, ap, subst, ◌∙◌, append-nil, Option, Some, None}
+use Rattle.std.proofs.Common.{◌≡◌, ◌+◌, ◌*◌, true, false, List, [], ◌∷◌, ◌++◌, length, map, refl, sym, ap, subst, ◌∙◌, append-nil, Some, None}
 use Rattle.std.specs.List.{flat_map}
 use Rattle.cob_limits.specs.Limits.{longest_text}
 use Rattle.cob_source.specs.Tokens.{Lexeme}
-use Rattle.cob_source.specs.Words.{AreWordsOf, WordsAreOne}
+use Rattle.cob_source.specs.Words.{WordsAreOne}
 use Rattle.cob_source_copies.specs.Statements.{WrittenCopy, WrittenName, copy_front, is_copy}
 use Rattle.cob_source_copies.specs.Texts.{AreExpanded, BeginWithParts, CopiedText, Copies, Stays, TextPart, has_copy}
-use Rattle.cob_source_copies.specs.Libraries.{IsAdded, MakeLibrary, NamedText, names_in_part, on_line}
+use Rattle.cob_source_copies.specs.Libraries.{IsAdded, MakeLibrary, names_in_part, on_line}
 use Rattle.cob_source_copies.specs.Laws.{OneExpansion, OneLibrary}
 use Rattle.cob_source_copies.proofs.PartLemmas.{cut_parts, join_parts, one_parts, one_put, states_first}
 

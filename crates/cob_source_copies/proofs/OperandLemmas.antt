@@ -1,5 +1,5 @@
 -- The operands of a statement.
-use Rattle.std.proofs.Common.{◌≡◌, ℕ, Bool, true, false, if◌then◌else◌, List, [], ◌∷◌, ◌++◌, refl, sym, ap, ◌∙◌, append_assoc, append-nil, Option, Some, None, option_map}
+use Rattle.std.proofs.Common.{◌≡◌, true, false, List, [], ◌∷◌, ◌++◌, refl, sym, ap, ◌∙◌, append_assoc, append-nil, Option, Some, None, option_map}
 use Rattle.cob_source.specs.Tokens.{Lexeme}
 use Rattle.cob_source_copies.specs.Exchanges.{Replacing}
 use Rattle.cob_source_copies.specs.Statements.{Operands, WrittenOperand, ends_statement, open_at, operands_at, operands_before, operands_in, replacing_of, replacings_in, with_replacing}

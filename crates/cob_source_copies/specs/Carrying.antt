@@ -1,5 +1,5 @@
 -- One COPY statement carried out, as the reader of words sees it.
-use Rattle.std.specs.Prelude.{◌≡◌, ℕ, ◌+◌, ◌<◌, List, [], ◌∷◌, ◌++◌, length, Option, Some, None}
+use Rattle.std.specs.Prelude.{◌≡◌, ℕ, ◌+◌, ◌<◌, List, ◌++◌, length, Some, None}
 use Rattle.cob_source.specs.Tokens.{Lexeme}
 use Rattle.cob_source_copies.specs.declared.fault.CopyRule.{CopyRule}
 use Rattle.cob_source_copies.specs.declared.fault.CopyRule.TheVariants as rule

@@ -3,7 +3,7 @@ use Rattle.std.specs.Prelude.{◌≡◌, ℕ, ◌+◌, ◌*◌, ◌≤◌, List,
 use Rattle.cob_limits.specs.Limits.{longest_text}
 use Rattle.cob_source.specs.Tokens.{Lexeme}
 use Rattle.cob_source.specs.Words.{AreWordsOf}
-use Rattle.cob_source_copies.specs.Statements.{WrittenCopy, WrittenName}
+use Rattle.cob_source_copies.specs.Statements.{WrittenName}
 use Rattle.cob_source_copies.specs.Texts.{AreExpanded, CopiedText, Copies, Stays, TextPart, has_copy}
 
 -- A text with these words is put behind others, by which its own COPY statements are carried out.

@@ -1,6 +1,6 @@
 -- Which rules of COPY words break.
-use Rattle.std.specs.Prelude.{◌≡◌, ◌≢◌, ℕ, ◌+◌, ◌<◌, Bool, true, List, [], ◌∷◌, ◌++◌, length, Option, Some, None}
-use Rattle.std.specs.List.{AllByRecursion, flat_map}
+use Rattle.std.specs.Prelude.{◌≡◌, ◌≢◌, ℕ, ◌+◌, ◌<◌, true, List, [], ◌∷◌, length, Some, None}
+use Rattle.std.specs.List.{flat_map}
 use Rattle.cob_limits.specs.Limits.{most_copied_words}
 use Rattle.cob_source.specs.Tokens.{Lexeme}
 use Rattle.cob_source_copies.specs.declared.fault.CopyRule.{CopyRule}

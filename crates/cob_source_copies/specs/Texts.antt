@@ -1,11 +1,11 @@
 -- What a text's words come to where its COPY statements are carried out.
-use Rattle.std.specs.Prelude.{◌≡◌, ◌⊎◌, ℕ, ◌+◌, ◌≤◌, Bool, true, false, ◌&&◌, ◌||◌, if◌then◌else◌, bytes_eq, List, [], ◌∷◌, ◌++◌, length, map, Option, Some, None}
+use Rattle.std.specs.Prelude.{◌≡◌, ◌⊎◌, ℕ, ◌≤◌, Bool, true, false, ◌&&◌, if◌then◌else◌, bytes_eq, List, [], ◌∷◌, length, Option, Some, None}
 use Rattle.std.specs.List.{AllByRecursion, flat_map, list_any}
 use Rattle.cob_limits.specs.Limits.{most_copied_words}
 use Rattle.cob_source.specs.Tokens.{Lexeme, lexemes}
 use Rattle.cob_source_copies.specs.declared.library.LibraryText.{LibraryText}
-use Rattle.cob_source_copies.specs.Exchanges.{Replacing, replaced}
-use Rattle.cob_source_copies.specs.Statements.{CopyFront, WrittenCopy, WrittenName, copy_front, is_copy, written_name}
+use Rattle.cob_source_copies.specs.Exchanges.{replaced}
+use Rattle.cob_source_copies.specs.Statements.{WrittenCopy, WrittenName, copy_front, is_copy, written_name}
 
 -- a text that may be copied: its name, its words, and whether a COPY statement stood in it
 pub record CopiedText : Type 0 where

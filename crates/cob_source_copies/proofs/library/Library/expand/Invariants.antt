@@ -1,4 +1,4 @@
-use Rattle.std.proofs.Common.{◌≡◌, map, length}
+use Rattle.std.proofs.Common.{map, length}
 use Rattle.cob_source.specs.Tokens.{lexemes}
 use Rattle.cob_source_copies.specs.Texts.{copied_text}
 use Rattle.cob_source_copies.proofs.ExpansionLemmas.{SoFar}
