@@ -30,6 +30,8 @@ mod copying;
 mod exchange;
 mod expansion;
 mod fault;
+mod fetch_fault;
+mod fetching;
 mod fragment;
 mod laws;
 mod library;
@@ -43,6 +45,8 @@ mod writing;
 pub use adding::{counted_on, has_copy};
 pub use exchange::{Exchange, replaced};
 pub use fault::{CopyFault, CopyRule};
+pub use fetch_fault::{FetchFault, ShelfFault};
+pub use fetching::{Shelf, fetch};
 pub use fragment::Fragment;
 pub use laws::{
     cut_and_together, expanded_breaks_no_rule, nothing_to_expand, one_expansion, one_library,
