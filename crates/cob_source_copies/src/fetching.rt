@@ -143,7 +143,8 @@ fn fetch_text<S: Shelf>(
     let words = words_on(alloc, shelf, &named)?;
     let inner = with_opened(alloc, opened, &named)?;
     fetch_wanted(alloc, shelf, inner.as_slice(), words.as_slice(), library)?;
-    put_text(alloc, named, words.as_slice(), library)
+    put_text(alloc, named, words.as_slice(), library)?;
+    Ok(())
 }
 
 /// Fetches the texts that words copy, each with those that it copies itself.
