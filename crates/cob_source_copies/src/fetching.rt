@@ -142,8 +142,10 @@ fn fetch_text<S: Shelf>(
     }
     let words = words_on(alloc, shelf, &named)?;
     let inner = with_opened(alloc, opened, &named)?;
-    fetch_wanted(alloc, shelf, inner.as_slice(), words.as_slice(), library)?;
-    put_text(alloc, named, words.as_slice(), library)?;
+    let within = inner.as_slice();
+    let read = words.as_slice();
+    fetch_wanted(alloc, shelf, within, read, library)?;
+    put_text(alloc, named, read, library)?;
     Ok(())
 }
 
