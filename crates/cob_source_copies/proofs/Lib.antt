@@ -5,5 +5,4 @@ pub mod OperandLemmas
 pub mod PartLemmas
 pub mod ExpansionLemmas
 pub mod LibraryLemmas
-pub mod Rows
 pub mod FetchLemmas
