@@ -5,3 +5,4 @@ pub mod OperandLemmas
 pub mod PartLemmas
 pub mod ExpansionLemmas
 pub mod LibraryLemmas
+pub mod FetchLemmas

@@ -1,10 +1,10 @@
 -- Texts put into a library, one after another.
-use Rattle.std.specs.Prelude.{◌≡◌, ℕ, ◌+◌, ◌*◌, ◌≤◌, List, [], ◌∷◌, ◌++◌, length, map}
+use Rattle.std.specs.Prelude.{◌≡◌, ℕ, ◌+◌, ◌*◌, ◌≤◌, List, [], ◌∷◌, ◌++◌, length, map, Some}
 use Rattle.cob_limits.specs.Limits.{longest_text}
 use Rattle.cob_source.specs.Tokens.{Lexeme}
 use Rattle.cob_source.specs.Words.{AreWordsOf}
 use Rattle.cob_source_copies.specs.Statements.{WrittenName}
-use Rattle.cob_source_copies.specs.Texts.{AreExpanded, CopiedText, Copies, Stays, TextPart, has_copy}
+use Rattle.cob_source_copies.specs.Texts.{AreExpanded, CopiedText, Copies, Stays, TextPart, has_copy, text_named}
 
 -- A text with these words is put behind others, by which its own COPY statements are carried out.
 abbrev pub IsAdded : WrittenName → List Lexeme → List CopiedText → List CopiedText → Type 0
@@ -24,6 +24,14 @@ abbrev pub MakeLibrary : List NamedText → List CopiedText → List CopiedText 
 MakeLibrary [] before library = before ≡ library
 MakeLibrary (t ∷ ts) before library = (ws : List Lexeme) × (more : List CopiedText)
     × AreWordsOf t.text ws × IsAdded t.named (map (on_line ((length before + 1) * longest_text)) ws) before more × MakeLibrary ts more library
+
+-- texts are put in one after another
+abbrev pub Grows : List CopiedText → List CopiedText → Type 0
+Grows before after = (ts : List NamedText) × MakeLibrary ts before after
+
+-- a text of this name is there
+abbrev pub IsKnown : List CopiedText → WrittenName → Type 0
+IsKnown texts n = (t : CopiedText) × (text_named texts n ≡ Some t)
 
 -- the names of the texts that a part of words copies
 abbrev pub names_in_part : TextPart → List WrittenName

@@ -7,13 +7,15 @@
 //!
 //! A [`Library`] holds the texts that may be copied. [`Library::add`] puts one in, and carries its own COPY statements out by those before it. So each text is
 //! read once, and a text that would copy itself has no place. [`names_wanted`] says which texts words copy. [`Library::expand`] carries the statements of
-//! words out. [`replaced`] replaces in words that are handed over by themselves. The lines of a text in a library are counted on behind those of the texts
+//! words out. [`fetch`] makes the library of words: it asks a [`Shelf`] for each text once, at most eight one within another and none within itself. [`replaced`]
+//! replaces in words that are handed over by themselves. The lines of a text in a library are counted on behind those of the texts
 //! before it ([`counted_on`]), and [`line_numbered`] finds text and line again.
 //!
 //! What is promised of [`Library::expand`]: what is answered is what the words come to (clause `found`); words that come to others are carried out, but for
 //! want of memory (`only`); and a refusal names a rule that is broken, on the line that breaks it (`fault`). Words come to one list of words at most
 //! (`one_expansion`), and such that do break no rule (`expanded_breaks_no_rule`). Words without COPY come to themselves (`nothing_to_expand`). Words cut into
-//! text words and written together again are the same (`cut_and_together`). Texts make one library at most (`one_library`).
+//! text words and written together again are the same (`cut_and_together`). Texts make one library at most (`one_library`). What [`fetch`] answers is the
+//! library of some texts (`made`), and each text that the words copy is there (`known`); which texts a shelf has, no clause says, nor why one is refused.
 //!
 //! The definitions stand in `specs/`: `TextWords` cuts words into what REPLACING compares, and writes them together again; `Exchanges` is REPLACING;
 //! `Statements` says which words are a COPY statement; `Texts` what words come to; `Refusals` which rules they break; `Libraries` how texts are put in, and
@@ -22,7 +24,7 @@
 //!
 //! # Where it is proved
 //!
-//! The clauses `found`, `only`, `fault` of `Library::expand`, those of `Library::add`, `replaced` and `names_wanted`; the laws of `cob_source_copies`.
+//! The clauses `found`, `only`, `fault` of `Library::expand`, those of `Library::add`, `replaced`, `names_wanted` and `fetch`; the laws of `cob_source_copies`.
 #![tactic(auto)]
 
 mod adding;
@@ -30,6 +32,8 @@ mod copying;
 mod exchange;
 mod expansion;
 mod fault;
+mod fetch_fault;
+mod fetching;
 mod fragment;
 mod laws;
 mod library;
@@ -43,6 +47,8 @@ mod writing;
 pub use adding::{counted_on, has_copy};
 pub use exchange::{Exchange, replaced};
 pub use fault::{CopyFault, CopyRule};
+pub use fetch_fault::{FetchFault, ShelfFault};
+pub use fetching::{Shelf, fetch};
 pub use fragment::Fragment;
 pub use laws::{
     cut_and_together, expanded_breaks_no_rule, nothing_to_expand, one_expansion, one_library,

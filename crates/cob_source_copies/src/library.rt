@@ -1,8 +1,9 @@
 //! Texts that may be copied.
 
-ghost use Rattle.std.specs.Prelude.{◌≡◌, ◌&&◌, map, bytes_eq, option_map};
+ghost use Rattle.std.specs.Prelude.{◌≡◌, IsTrue, map, option_map};
 ghost use Rattle.cob_source_copies.specs.Statements.{written_name};
 ghost use Rattle.cob_source_copies.specs.Texts.{copied_text, is_one_library, is_one_name, text_named};
+ghost use Rattle.cob_source_copies.specs.Libraries.{IsKnown};
 
 use crate::name::TextName;
 use cob_source::Token;
@@ -34,7 +35,7 @@ fn is_one_library(a: &Option<Vec<u8>>, b: &Option<Vec<u8>>) -> bool
 }
 
 /// Whether two names name one text.
-fn is_one_name(a: &TextName, b: &TextName) -> bool
+pub(crate) fn is_one_name(a: &TextName, b: &TextName) -> bool
     ensures { result ≡ is_one_name (written_name a.now) (written_name b.now) }
 {
     a.name.as_slice() == b.name.as_slice() && is_one_library(&a.library, &b.library)
@@ -54,5 +55,15 @@ impl Library {
             rest = more;
         }
         None
+    }
+
+    /// Whether a text of this name is there.
+    pub fn has_text(&self, named: &TextName) -> bool
+        ensures { IsTrue result → IsKnown (map copied_text self.now.texts.items) (written_name named.now) }
+    {
+        match self.text_named(named) {
+            Some(_) => true,
+            None => false,
+        }
     }
 }
