@@ -1,12 +1,12 @@
 -- Texts fetched one after another.
-use Rattle.std.proofs.Common.{◌≡◌, ℕ, ◌+◌, ◌*◌, Bool, true, false, ◌&&◌, if◌then◌else◌, bytes_eq, List, [], ◌∷◌, ◌++◌, length, map, refl, sym, ap, subst, ◌∙◌, Option, Some, None}
+use Rattle.std.proofs.Common.{◌≡◌, ℕ, ◌+◌, ◌*◌, Bool, true, false, if◌then◌else◌, bytes_eq, List, [], ◌∷◌, ◌++◌, length, map, refl, sym, subst, Option, Some, None}
 use Rattle.std.specs.List.{AllByRecursion}
 use Rattle.std.proofs.lemmas.Slice.Eq.{bytes_eq-Decides}
 use Rattle.cob_limits.specs.Limits.{longest_text}
 use Rattle.cob_source.specs.Tokens.{Lexeme}
 use Rattle.cob_source.specs.Words.{AreWordsOf}
 use Rattle.cob_source_copies.specs.Statements.{WrittenName}
-use Rattle.cob_source_copies.specs.Texts.{AreExpanded, CopiedText, has_copy, is_one_library, is_one_name, text_named}
+use Rattle.cob_source_copies.specs.Texts.{CopiedText, has_copy, is_one_library, is_one_name, text_named}
 use Rattle.cob_source_copies.specs.Libraries.{Grows, IsAdded, IsKnown, MakeLibrary, NamedText, on_line}
 
 joined : (ts us : List NamedText) (a b c : List CopiedText) → MakeLibrary ts a b → MakeLibrary us b c → MakeLibrary (ts ++ us) a c
