@@ -1,0 +1,3 @@
+pub mod ToldLemmas
+pub mod AddLemmas
+pub mod SharedLemmas

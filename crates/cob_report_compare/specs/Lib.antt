@@ -1,0 +1,5 @@
+pub mod Chosen
+pub mod Equal
+pub mod Differences
+pub mod Shared
+pub mod Laws

@@ -1,0 +1,35 @@
+//! Two records of one layout, compared by the values of their items: whether they are equal by value, and which elements differ.
+//!
+//! - [`compared_items`] are the items of a record that are compared: its named elementary items that stand in no redefinition and in no entry that is
+//!   ignored, and all that count a table.
+//! - [`compare_records`] compares two records of one layout. It looks at their bytes first, and at items only where these are not the same. It takes no
+//!   memory.
+//!
+//! What is promised of [`compare_records`] (its clause `is`, by `IsComparison` of specs/Differences.antt):
+//!
+//! - it answers that two records are equal exactly where they are equal by value: each entry occurs as often in both, and each element of each item that is
+//!   compared holds one value in both (`EqualByValue` of specs/Equal.antt);
+//! - one value are the same bytes, and of a number also bytes that represent the same number, whatever their sign codes; minus zero is zero. Bytes that
+//!   represent no number are one value with the same bytes alone (`SameValue`);
+//! - else it hands out the elements that differ, each that both records have and that does not hold one value, in the order of the entries, the last
+//!   subscript the fastest: the first [`MOST_TOLD`] of them, and how many there are (`AreDifferences`).
+//!
+//! That records with the same bytes are equal by value is the law [`same_bytes_are_equal`].
+//!
+//! # Where it is proved
+//!
+//! The clause `is` of `compare_records`; the clause `items` of `compared_items`; the law `same_bytes_are_equal`.
+#![tactic(auto)]
+
+mod chosen;
+mod differences;
+mod elements;
+mod laws;
+mod records;
+mod values;
+
+pub use chosen::compared_items;
+pub use differences::{Difference, FirstDifferences, MOST_TOLD};
+pub use elements::ComparedRecord;
+pub use laws::same_bytes_are_equal;
+pub use records::{Comparison, compare_records};
