@@ -1,12 +1,16 @@
 -- Differences that come behind those so far.
-use Rattle.std.proofs.Common.{◌≡◌, ◌⊎◌, ℕ, zero, suc, ◌+◌, ◌^◌, ◌-◌, ◌<◌, ◌≤◌, min, List, [], ◌∷◌, ◌++◌, length, map, take, refl, sym, ap, subst, ◌∙◌, append_assoc, append-nil, arith}
+use Rattle.std.proofs.Common.{◌≡◌, ℕ, suc, ◌+◌, ◌<◌, ◌≤◌, ◌==◌, min, Bool, true, false, List, [], ◌∷◌, ◌++◌, length, map, take, refl, sym, ap, subst, ◌∙◌, append_assoc, append-nil, arith, inl}
 use Rattle.std.proofs.lemmas.List.{length-append, length-map, length-take, map-append, take-append-le, take_all}
+use Rattle.std.proofs.lemmas.Bool.Decides.{nat_tests}
+use Rattle.cob_layout.specs.declared.fields.Place.{Place}
+use Rattle.cob_layout.specs.Fields.{field_of}
 use Rattle.cob_layout.specs.Ways.{spot_at}
 use Rattle.cob_records.specs.Device.{greatest_count}
-use Rattle.cob_report_show.specs.Elements.{NamedItem, Printed}
+use Rattle.cob_report_show.specs.Elements.{ElementStandsAt, NamedItem, Printed}
 use Rattle.cob_report_compare.specs.declared.differences.Difference.{Difference}
 use Rattle.cob_report_compare.specs.declared.differences.FirstDifferences.{FirstDifferences}
 use Rattle.cob_report_compare.specs.Differences.{Adds, AreElementsTold, AreFirstOf, AreItemsTold, AreToldInTurn, IsElementTold, PlainDifference, most_told, plain_difference, shared_times}
+use Rattle.cob_report_compare.specs.Equal.{SameValue}
 use Rattle.cob_report_compare.proofs.ToldLemmas.{inner_told}
 
 -- ---- one more
@@ -134,3 +138,29 @@ pub fresh_adds : (l r : Printed) (x : NamedItem) (tables now : List ℕ) (a b : 
 fresh_adds l r x tables now a b of none adds =
     subst (λ (ts : List ℕ). Adds (AreElementsTold l r x (shared_times l r ts) []) a b) of
     (subst (λ (ss : List ℕ). Adds (AreElementsTold l r x (shared_times l r tables) ss) a b) none adds)
+
+-- ---- one element
+
+-- one that holds one value adds nothing
+pub same_adds : (l r : Printed) (x : NamedItem) (subscripts : List ℕ) (left right : Place) (here there : List ℕ) (a : FirstDifferences)
+    → ElementStandsAt l x subscripts left → ElementStandsAt r x subscripts right → here ≡ field_of left l.bytes → there ≡ field_of right r.bytes → SameValue x.item here there
+    → Adds (IsElementTold l r x subscripts) a a
+same_adds l r x subscripts left right here there a left_at right_at one other same =
+    adds_none (IsElementTold l r x subscripts) a (inl (
+      record {
+        left = left;
+        right = right;
+        left_at = left_at;
+        right_at = right_at;
+        same = subst (λ (bs : List ℕ). SameValue x.item bs (field_of right r.bytes)) one (subst (λ (bs : List ℕ). SameValue x.item here bs) other same);
+      },
+      refl,
+    ))
+
+-- ---- a vector with room
+
+pub is_not_full : (b : Bool) (n : ℕ) → b ≡ (n == most_told) → n ≤ most_told → b ≡ false → n < most_told
+is_not_full b n is most none = grind (arith, nat_tests)
+
+pub is_full : (b : Bool) (n : ℕ) → b ≡ (n == most_told) → b ≡ true → n ≡ most_told
+is_full b n is full = grind (arith, nat_tests)

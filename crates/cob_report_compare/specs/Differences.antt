@@ -1,5 +1,5 @@
 -- The elements in which two records of one layout differ.
-use Rattle.std.specs.Prelude.{◌≡◌, ℕ, zero, suc, ⊥, min, ◌⊎◌, List, [], ◌∷◌, ◌++◌, length, map, take}
+use Rattle.std.specs.Prelude.{◌≡◌, ℕ, zero, suc, min, ◌⊎◌, List, [], ◌∷◌, ◌++◌, length, map, take}
 use Rattle.cob_layout.specs.declared.fields.Place.{Place}
 use Rattle.cob_layout.specs.Fields.{field_of}
 use Rattle.cob_layout.specs.Ways.{spot_at}

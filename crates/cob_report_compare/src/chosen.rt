@@ -67,8 +67,8 @@ fn push_compared(
 ) -> Result<(), AllocError>
     requires { AreNested (length over.now) (tree_of entry.now) }
     ensures { IfOk result (λ _. map named_item items.new.items
-        ≡ map named_item items.old.items ++ compared_among choice.ignored.now
-        (counts_of_tables choice.tables.now) exempt over.now (tree_of entry.now)) }
+        ≡ map named_item items.old.items ++ compared_among choice.entry.ignored.now
+        (counts_of_tables choice.entry.tables.now) exempt over.now (tree_of entry.now)) }
 {
     let exempt = exempt || is_exempt(choice.ignored, entry);
     let within = with_own(over, entry);

@@ -1,6 +1,6 @@
 //! Elements that differ, of which the first are told.
 
-ghost use Rattle.std.specs.Prelude.{◌≡◌, ⊥, List, ◌∷◌, [], IsTrue, IsFalse};
+ghost use Rattle.std.specs.Prelude.{◌≡◌, List, ◌∷◌, [], IsTrue, IsFalse};
 ghost use Rattle.cob_report_compare.specs.Differences.{Adds, AreFirstOf, PlainDifference, plain_difference};
 
 use arrayvec::ArrayVec;

@@ -1,6 +1,6 @@
 //! Two records of one layout.
 
-ghost use Rattle.std.specs.Prelude.{◌≡◌, ⊥, length, map, IsTrue, IsFalse};
+ghost use Rattle.std.specs.Prelude.{◌≡◌, length, map, IsTrue, IsFalse};
 ghost use Rattle.cob_report_show.specs.Elements.{named_item};
 ghost use Rattle.cob_report_show.specs.Records.{HoldsRecord};
 ghost use Rattle.cob_report_compare.specs.Chosen.{AreCompared};
@@ -26,8 +26,9 @@ pub enum Comparison {
 
 /// Whether each entry occurs as often in one record as in the other.
 fn occur_alike(left: ComparedRecord, right: ComparedRecord) -> bool
-    ensures yes { IsTrue result → OccurAlike (printed_of left) (printed_of right) }
-    ensures no { IsFalse result → OccurAlike (printed_of left) (printed_of right) → ⊥ }
+    ensures yes { IsTrue result → OccurAlike (printed_of left.entry) (printed_of right.entry) }
+    ensures no { IsFalse result
+        → OccurAlike (printed_of left.entry) (printed_of right.entry) → ⊥ }
 {
     let entries = left.places.spots().len().max(right.places.spots().len());
     for number in 0..entries {

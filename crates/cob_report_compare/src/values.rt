@@ -1,6 +1,6 @@
 //! Whether an item holds one value in two records.
 
-ghost use Rattle.std.specs.Prelude.{◌≡◌, length, ⊥, IsTrue, IsFalse};
+ghost use Rattle.std.specs.Prelude.{◌≡◌, length, IsTrue, IsFalse};
 ghost use Rattle.cob_copybook_tree.specs.Items.{IsNumberItem};
 ghost use Rattle.cob_copybook_tree.specs.Lengths.{item_size};
 ghost use Rattle.cob_report_compare.specs.Equal.{AreOneNumber, SameValue};

@@ -45,6 +45,7 @@ returns-clause-added n c =
     let x = named_item c.args.item.now in
     let inner = c.in-Some.inner.now in
     let outer = c.args.reference.now.subscripts.items in
-    table_adds l r x c.args.tables.now inner outer c.in-Some.table.now c.min-times.result c.args.told.now c.loop-earlier.told c.in-Some.ensures.cases.0 ?
+    table_adds l r x c.args.tables.now inner outer c.in-Some.table.now c.min-times.result c.args.told.now c.loop-earlier.told c.in-Some.ensures.cases.0
+    (rw (c.times_in.ensures, c.times_in-2.ensures) at c.min-times.ensures)
     (all_turns (inner_told l r x (shared_times l r inner) outer) c.loop-earlier.earlier c.min-times.result c.args.told.now c.loop-earlier.told c.loop-earlier.invariant.so_far
     (omega (arith, c.loop-earlier-test.false, c.loop-earlier.auto.earlier-end)))

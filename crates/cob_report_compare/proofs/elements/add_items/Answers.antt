@@ -21,7 +21,8 @@ loop-item-preserved c =
           (fresh_adds l r x c.as_slice.result.now c.new.result.items c.loop-item.told c.add_elements.new.told c.as_slice.ensures.value c.new.ensures c.add_elements.ensures.added);
     }
 
-pub returns-clause-added : goal.returns-clause-added
-returns-clause-added c =
-    all_items (printed_of c.args.left) (printed_of c.args.right) (map named_item c.args.items.now) (map named_item (drop c.loop-item.item-index c.args.items.now))
-    c.args.told.now c.loop-item.told c.loop-item.invariant.so_far (no_items_left c.args.items.now c.loop-item.item-index c.loop-item-test.false)
+pub returns : goal.returns
+returns c = record {
+  added = all_items (printed_of c.args.left) (printed_of c.args.right) (map named_item c.args.items.now) (map named_item (drop c.loop-item.item-index c.args.items.now))
+      c.args.told.now c.loop-item.told c.loop-item.invariant.so_far (no_items_left c.args.items.now c.loop-item.item-index c.loop-item-test.false);
+}
