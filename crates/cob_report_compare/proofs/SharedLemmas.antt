@@ -1,5 +1,5 @@
 -- The elements that two records of one layout both have stand in either, and records with the same bytes are equal by value.
-use Rattle.std.proofs.Common.{◌≡◌, ℕ, ◌≤◌, ◌||◌, not, Bool, true, false, min, List, [], ◌∷◌, ◌++◌, length, map, Option, Some, None, refl, sym, ap, subst, ◌∙◌, append-nil, arith, inl, Ok, Err, Result}
+use Rattle.std.proofs.Common.{◌≡◌, ℕ, ◌||◌, not, Bool, true, false, List, [], ◌∷◌, ◌++◌, length, Some, refl, sym, ap, subst, ◌∙◌, append-nil, arith, inl, Ok, Err, Result}
 use Rattle.std.specs.Prelude.{option_map, if◌then◌else◌}
 use Rattle.std.specs.List.{AllByRecursion}
 use Rattle.cob_copybook_tree.specs.Forests.{Forest, NoEntries, AnEntry}
@@ -23,7 +23,7 @@ use Rattle.cob_report_show.specs.Records.{HoldsRecord}
 use Rattle.cob_report_show.proofs.ElementLemmas.{all_append, all_become, items_stand}
 use Rattle.cob_report_compare.specs.Chosen.{AreCompared, compared_among, compared_own, counts_of_tables, is_exempt, is_one_of}
 use Rattle.cob_report_compare.specs.Differences.{shared_times}
-use Rattle.cob_report_compare.specs.Equal.{EqualByValue, IsComplete, IsSameElement, IsSameItem}
+use Rattle.cob_report_compare.specs.Equal.{EqualByValue, IsComplete, IsSameItem}
 use Rattle.cob_report_compare.specs.Shared.{AllShared, ItemsShared}
 
 -- ---- what holds of all named items holds of those that are compared

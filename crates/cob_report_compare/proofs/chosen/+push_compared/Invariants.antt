@@ -1,5 +1,5 @@
-use Rattle.std.proofs.Common.{◌≡◌, ◌++◌, ◌||◌, length, map}
-use Rattle.cob_copybook_tree.specs.Nodes.{node, tree_of}
+use Rattle.std.proofs.Common.{◌≡◌, ◌++◌, length, map}
+use Rattle.cob_copybook_tree.specs.Nodes.{tree_of}
 use Rattle.cob_layout_places.proofs.ForestLemmas.{left}
 use Rattle.cob_layout.specs.Sound.{AreNested}
 use Rattle.cob_report_show.specs.Elements.{named_item}

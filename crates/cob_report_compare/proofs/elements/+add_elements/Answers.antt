@@ -1,11 +1,11 @@
 -- Where no table is left the element itself is told; else the elements of the first one follow in turn.
-use Rattle.std.proofs.Common.{rules, arith, suc}
+use Rattle.std.proofs.Common.{rules, arith}
 use Rattle.cob_report_show.specs.Elements.{named_item}
 use Rattle.cob_report_show.proofs.TurnLemmas.{popped}
 use Rattle.cob_report_compare.specs.Equal.{printed_of}
 use Rattle.cob_report_compare.specs.Differences.{shared_times}
 use Rattle.cob_report_compare.proofs.ToldLemmas.{inner_told}
-use Rattle.cob_report_compare.proofs.AddLemmas.{all_turns, alone_adds, one_turn, table_adds, under_next}
+use Rattle.cob_report_compare.proofs.AddLemmas.{all_turns, one_turn, table_adds, under_next}
 use Rattle.cob_report_compare.proofs.SharedLemmas.{alone_shared}
 use Rattle.cob_report_compare.proofs.elements.+add_elements.Goals as goal
 

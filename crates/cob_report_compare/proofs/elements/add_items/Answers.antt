@@ -1,4 +1,4 @@
-use Rattle.std.proofs.Common.{rules, [], ◌+◌, drop, map, subst}
+use Rattle.std.proofs.Common.{◌+◌, drop, map, subst}
 use Rattle.cob_report_show.specs.Elements.{named_item}
 use Rattle.cob_report_show.proofs.TurnLemmas.{items_left, no_items_left}
 use Rattle.cob_report_compare.specs.Equal.{printed_of}
