@@ -1,3 +1,5 @@
 pub mod ToldLemmas
 pub mod AddLemmas
 pub mod SharedLemmas
+pub mod CameLemmas
+pub mod PairLemmas

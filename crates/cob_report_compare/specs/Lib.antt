@@ -3,3 +3,5 @@ pub mod Equal
 pub mod Differences
 pub mod Shared
 pub mod Laws
+pub mod Files
+pub mod InOrder

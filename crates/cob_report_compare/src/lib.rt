@@ -22,14 +22,20 @@
 #![tactic(auto)]
 
 mod chosen;
+mod counted;
 mod differences;
 mod elements;
+mod files;
+mod in_order;
 mod laws;
 mod records;
 mod values;
 
 pub use chosen::compared_items;
+pub use counted::PairCounts;
 pub use differences::{Difference, FirstDifferences, MOST_TOLD};
 pub use elements::ComparedRecord;
+pub use files::{CompareStop, FileSide};
+pub use in_order::ComparedFiles;
 pub use laws::same_bytes_are_equal;
 pub use records::{Comparison, compare_records};
