@@ -1,14 +1,14 @@
 -- Pairs of records that were compared so far, one more, and the end.
-use Rattle.std.proofs.Common.{◌≡◌, ℕ, ◌+◌, Bool, cond, List, [], ◌∷◌, ◌++◌, length, take, refl, sym, subst, append_assoc, append-nil, arith, inl, inr, None, Some, Option, Ok, Err, Result}
-use Rattle.std.specs.List.{AllByRecursion, count_by, sum_by}
+use Rattle.std.proofs.Common.{◌≡◌, ℕ, ◌+◌, Bool, false, ◌&&◌, not, cond, List, [], ◌∷◌, ◌++◌, length, take, refl, sym, subst, ap, ◌∙◌, append_assoc, append-nil, arith, inl, inr, None, Some, Option, Ok, Err, Result}
+use Rattle.std.specs.Prelude.{IfErr}
+use Rattle.std.specs.List.{count_by}
 use Rattle.std.proofs.lemmas.List.{length-append, map-append}
 use Rattle.std.proofs.lemmas.List.Sums.{sum_by-append}
-use Rattle.cob_copybook_tree.specs.Forests.{Forest}
-use Rattle.cob_copybook_tree.specs.Nodes.{Resolved}
 use Rattle.cob_layout.specs.Standing.{Standing}
 use Rattle.cob_layout.specs.Storage.{greatest_length}
-use Rattle.cob_records.specs.Device.{Told}
+use Rattle.cob_records.specs.Device.{Told, counted}
 use Rattle.cob_records.specs.Frame.{IsRecord}
+use Rattle.cob_convert_stream.specs.declared.fault.Cause.{Cause}
 use Rattle.cob_convert_stream.specs.declared.fault.Reason.{Reason}
 use Rattle.cob_report_show.specs.Runs.{IsLegible, ReadsNext, most_shown}
 use Rattle.cob_report_compare.specs.declared.counted.PairCounts.{PairCounts}
@@ -18,7 +18,7 @@ use Rattle.cob_report_compare.specs.declared.files.FileSide.TheVariants.{Left, R
 use Rattle.cob_report_compare.specs.declared.records.Comparison.{Comparison}
 use Rattle.cob_report_compare.specs.declared.records.Comparison.TheVariants.{Same, Equal, Differ}
 use Rattle.cob_report_compare.specs.Differences.{IsComparison}
-use Rattle.cob_report_compare.specs.Files.{AreAlone, CameBefore, CameSoFar, CountsAlone, IsFileEnd, IsFileStop, IsWholeRecord, limit}
+use Rattle.cob_report_compare.specs.Files.{AreAlone, CameBefore, CameSoFar, CountsAlone, IsFileEnd, IsFileStop, IsWholeRecord, is_stopped_for, is_stopped_on, limit, on_left}
 use Rattle.cob_report_compare.specs.InOrder.{ArePairCounts, ArePairs, ComparesInOrder, FilePair, IsPair, StopsOn, does_differ, is_equal, is_same, lefts, rights, with_comparison, with_left_alone, with_right_alone}
 use Rattle.cob_report_compare.proofs.CameLemmas.{came_end, came_here, came_limit, came_more, came_none, came_stop}
 
@@ -281,3 +281,28 @@ pairs_limit files n number left_opened right_opened counts l0 l1 r0 r1 so_far mo
     inl (refl, came_here files.right_form (rights so_far.pairs) right_opened r0 r1 so_far.right),
   );
 }
+
+-- ---- reads that failed
+
+by_left : (f : Cause → Bool) (counts : PairCounts) (alone : Result ℕ CompareStop) → IfErr alone (λ (stop : CompareStop). stop.side ≡ Left)
+    → is_stopped_on Left f (with_left_alone counts alone) ≡ is_stopped_for f alone
+by_left f counts (Ok n) side = refl
+by_left f counts (Err stop) side = ap (λ (s : FileSide). on_left s && f stop.reason.cause) side
+
+none_by_right : (f : Cause → Bool) (counts : PairCounts) (alone : Result ℕ CompareStop) → IfErr alone (λ (stop : CompareStop). stop.side ≡ Left)
+    → is_stopped_on Right f (with_left_alone counts alone) ≡ false
+none_by_right f counts (Ok n) side = refl
+none_by_right f counts (Err stop) side = ap (λ (s : FileSide). not (on_left s) && f stop.reason.cause) side
+
+-- behind the end of the right file a read failed on the left where the count of what is left says so
+pub left_reads_are : (f : Cause → Bool) (counts : PairCounts) (alone : Result ℕ CompareStop) (answer : Result PairCounts CompareStop) (a b c d : ℕ) → answer ≡ with_left_alone counts alone
+    → IfErr alone (λ (stop : CompareStop). stop.side ≡ Left) → b ≡ a → c ≡ b → d ≡ counted (is_stopped_for f alone) c → d ≡ counted (is_stopped_on Left f answer) a
+left_reads_are f counts alone answer a b c d is side same read failed =
+    failed ∙ ap (λ (n : ℕ). counted (is_stopped_for f alone) n) (read ∙ same)
+    ∙ ap (λ (t : Bool). counted t a) (sym (ap (is_stopped_on Left f) is ∙ by_left f counts alone side))
+
+-- and none failed on the right
+pub right_reads_are : (f : Cause → Bool) (counts : PairCounts) (alone : Result ℕ CompareStop) (answer : Result PairCounts CompareStop) (a b c : ℕ) → answer ≡ with_left_alone counts alone
+    → IfErr alone (λ (stop : CompareStop). stop.side ≡ Left) → b ≡ a → c ≡ b → c ≡ counted (is_stopped_on Right f answer) a
+right_reads_are f counts alone answer a b c is side same read =
+    read ∙ same ∙ ap (λ (t : Bool). counted t a) (sym (ap (is_stopped_on Right f) is ∙ none_by_right f counts alone side))

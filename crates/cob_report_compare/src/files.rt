@@ -1,6 +1,6 @@
 //! The records of one of two files.
 
-ghost use Rattle.std.specs.Prelude.{◌≡◌, ◌≤◌, ◌+◌, length, IfOk};
+ghost use Rattle.std.specs.Prelude.{◌≡◌, ◌≤◌, ◌+◌, length, IfErr, IfOk};
 ghost use Rattle.cob_convert_stream.specs.Reasons.{is_read_cause};
 ghost use Rattle.cob_copybook_tree.specs.Lengths.{greatest_number, sum_of};
 ghost use Rattle.cob_layout.specs.Standing.{IsRoomFor};
@@ -61,6 +61,7 @@ pub(crate) fn count_alone<R: Source>(
     requires few { first ≤ most_shown }
     ensures alone { AreAlone side form layout.now first opened
         (R.coming source.old) (R.coming source.new) result }
+    ensures side { IfErr result (λ stop. stop.side ≡ side) }
     ensures few { IfOk result (λ n. first + n ≤ most_shown) }
     ensures reads { R.failures source.new ≡ counted
         (is_stopped_for is_read_cause result) (R.failures source.old) }
