@@ -3,3 +3,4 @@ pub mod AddLemmas
 pub mod SharedLemmas
 pub mod CameLemmas
 pub mod PairLemmas
+pub mod RunLemmas

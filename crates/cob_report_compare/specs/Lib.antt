@@ -5,3 +5,4 @@ pub mod Shared
 pub mod Laws
 pub mod Files
 pub mod InOrder
+pub mod Runs

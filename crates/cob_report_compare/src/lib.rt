@@ -29,6 +29,7 @@ mod files;
 mod in_order;
 mod laws;
 mod records;
+mod runs;
 mod values;
 
 pub use chosen::compared_items;
@@ -36,6 +37,6 @@ pub use counted::PairCounts;
 pub use differences::{Difference, FirstDifferences, MOST_TOLD};
 pub use elements::ComparedRecord;
 pub use files::{CompareStop, FileSide};
-pub use in_order::ComparedFiles;
 pub use laws::same_bytes_are_equal;
 pub use records::{Comparison, compare_records};
+pub use runs::{CompareFault, compare_files};
