@@ -1,8 +1,7 @@
 -- Answers of a comparison of two files.
-use Rattle.std.proofs.Common.{◌≡◌, ℕ, Bool, false, List, Option, refl, sym, subst, ◌∙◌, ap, Ok, Err, Result}
+use Rattle.std.proofs.Common.{◌≡◌, ℕ, Bool, List, Option, refl, sym, subst, ◌∙◌, ap, Ok, Err, Result}
 use Rattle.cob_records.specs.Device.{counted}
 use Rattle.cob_convert_stream.specs.declared.fault.Cause.{Cause}
-use Rattle.cob_report_show.specs.Elements.{NamedItem}
 use Rattle.cob_report_compare.specs.declared.counted.PairCounts.{PairCounts}
 use Rattle.cob_report_compare.specs.declared.files.CompareStop.{CompareStop}
 use Rattle.cob_report_compare.specs.declared.files.FileSide.{FileSide}
@@ -25,6 +24,12 @@ pub as_fault : (files like : FilePair) (l0 l1 r0 r1 : Option (List ℕ)) (answer
 as_fault files like l0 l1 r0 r1 (Ok counts) same compares = subst (λ (f : FilePair). ComparesInOrder f l0 l1 r0 r1 (Ok counts)) same compares
 as_fault files like l0 l1 r0 r1 (Err stop) same compares = subst (λ (f : FilePair). ComparesInOrder f l0 l1 r0 r1 (Err stop)) same compares
 
-pub stops_as : (side : FileSide) (f : Cause → Bool) (answer : Result PairCounts CompareStop) → is_stopped_on side f answer ≡ is_stopped_at side f (fault_of answer)
+stops_as : (side : FileSide) (f : Cause → Bool) (answer : Result PairCounts CompareStop) → is_stopped_on side f answer ≡ is_stopped_at side f (fault_of answer)
 stops_as side f (Ok counts) = refl
 stops_as side f (Err stop) = refl
+
+-- and a read failed where the stop says so
+pub reads_as : (side : FileSide) (f : Cause → Bool) (answer : Result PairCounts CompareStop) (fault : Result PairCounts CompareFault) (before after : ℕ) → fault ≡ fault_of answer
+    → after ≡ counted (is_stopped_on side f answer) before → after ≡ counted (is_stopped_at side f fault) before
+reads_as side f answer fault before after is reads =
+    reads ∙ ap (λ (b : Bool). counted b before) (stops_as side f answer ∙ sym (ap (λ (a : Result PairCounts CompareFault). is_stopped_at side f a) is))
