@@ -1,5 +1,5 @@
 -- The records of one file that came so far, one more, and the end.
-use Rattle.std.proofs.Common.{◌≡◌, ℕ, ◌+◌, ◌≤◌, List, [], ◌∷◌, ◌++◌, length, take, refl, sym, subst, ◌∙◌, ap, append_assoc, append-nil, arith, inl, inr, None, Some, Option, Ok, Err, Result}
+use Rattle.std.proofs.Common.{◌≡◌, ℕ, ◌+◌, List, [], ◌∷◌, ◌++◌, length, take, refl, sym, subst, ◌∙◌, append_assoc, append-nil, arith, inl, inr, None, Some, Option, Ok, Err}
 use Rattle.std.specs.List.{AllByRecursion}
 use Rattle.std.proofs.lemmas.List.{length-append}
 use Rattle.cob_copybook_tree.specs.Forests.{Forest}
@@ -14,9 +14,8 @@ use Rattle.cob_records.specs.Frame.{IsRecord}
 use Rattle.cob_convert_stream.specs.declared.fault.Reason.{Reason}
 use Rattle.cob_report_show.specs.Runs.{IsLegible, ReadsNext, most_shown}
 use Rattle.cob_report_show.proofs.ElementLemmas.{all_append}
-use Rattle.cob_report_compare.specs.declared.files.CompareStop.{CompareStop}
 use Rattle.cob_report_compare.specs.declared.files.FileSide.{FileSide}
-use Rattle.cob_report_compare.specs.Files.{AreAlone, CameBefore, CameSoFar, CountsAlone, IsFileEnd, IsFileStop, IsNotRead, IsWholeRecord, limit}
+use Rattle.cob_report_compare.specs.Files.{AreAlone, CameBefore, CameSoFar, IsFileEnd, IsFileStop, IsNotRead, IsWholeRecord, limit}
 
 -- ---- one reading behind another
 

@@ -6,7 +6,7 @@ use Rattle.cob_report_compare.specs.declared.counted.PairCounts.{PairCounts}
 use Rattle.cob_report_compare.specs.declared.files.CompareStop.{CompareStop}
 use Rattle.cob_report_compare.specs.declared.files.FileSide.{FileSide}
 use Rattle.cob_report_compare.specs.declared.runs.CompareFault.{CompareFault}
-use Rattle.cob_report_compare.specs.declared.runs.CompareFault.TheVariants.{Memory, Stop}
+use Rattle.cob_report_compare.specs.declared.runs.CompareFault.TheVariants.{Memory}
 use Rattle.cob_report_compare.specs.Files.{is_stopped_on}
 use Rattle.cob_report_compare.specs.InOrder.{ComparesInOrder, FilePair}
 use Rattle.cob_report_compare.specs.Runs.{ComparesFiles, fault_of, is_stopped_at}
