@@ -31,6 +31,7 @@ mod counters;
 mod entries;
 mod groups;
 mod judge;
+mod links;
 mod names;
 mod naming;
 mod partners;

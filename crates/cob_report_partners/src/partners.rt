@@ -1,10 +1,12 @@
 //! Which entry of the input record an item of the output record receives.
 
-ghost use Rattle.std.specs.Prelude.{◌≡◌, IfOk};
+ghost use Rattle.std.specs.Prelude.{◌≡◌, ◌<◌, length, IfOk};
 ghost use Rattle.cob_copybook_names.specs.Listed.{texts};
 ghost use Rattle.cob_move_names.specs.Pairs.{same_names};
-ghost use Rattle.cob_report_partners.specs.Entries.{draft_entry, listed_bearer};
+ghost use Rattle.cob_copybook_names.specs.Naming.{Bearer};
+ghost use Rattle.cob_report_partners.specs.Entries.{DraftEntry, draft_entry, listed_bearer};
 ghost use Rattle.cob_report_partners.specs.Groups.{below_record};
+ghost use Rattle.cob_report_partners.specs.Linked.{IsLastSought, MayBeSought, listed_names};
 ghost use Rattle.cob_report_partners.specs.Partners.{IsOnly, Shared, TellsSought, are_alike, candidates_for, candidates_within, fitting, input_bearers, is_beneath, is_input, is_item_beneath, is_namesake, is_this_one, items_beneath, those_sought};
 
 use crate::entries::{DraftBearer, DraftEntry};
@@ -127,6 +129,35 @@ fn is_sought(
     }
 }
 
+/// The last place of the input record at which an entry may be sought.
+fn last_sought(
+    sought: &Sought<'_>,
+    records: &BothRecords<'_>,
+    to: &DraftBearer<'_>,
+) -> Option<usize>
+    ensures { IsLastSought sought.now records.now (listed_bearer to.now)
+        (length records.now.inputs.items) result }
+{
+    match (sought, to.name) {
+        (Sought::Beneath(_), _) => records.inputs().len().checked_sub(1),
+        (_, Some(name)) => records.input_links().last_named(name),
+        (_, None) => None,
+    }
+}
+
+/// The last place before this one at which an entry may be sought.
+fn sought_before(sought: &Sought<'_>, records: &BothRecords<'_>, place: usize) -> Option<usize>
+    requires there { place < length records.now.inputs.items }
+    ensures { (to : Bearer DraftEntry)
+        → MayBeSought sought.now (listed_names records.now.inputs.items) to place
+        → IsLastSought sought.now records.now to place result }
+{
+    match sought {
+        Sought::Beneath(_) => place.checked_sub(1),
+        _ => records.input_links().named_before(place),
+    }
+}
+
 /// The only entry of the input record that is sought.
 fn only_sought<'s, 'a>(
     sought: &Sought<'_>,
@@ -137,13 +168,16 @@ fn only_sought<'s, 'a>(
         (input_bearers records.now)) }
 {
     let mut found = None;
-    for (place, from) in records.inputs().iter().enumerate() {
+    let mut next = last_sought(sought, records, to);
+    while let Some(place) = next {
+        let from = &records.inputs()[place];
         if is_sought(sought, to, from, records.shared_above(place)) {
             if found.is_some() {
                 return Partner::Several;
             }
             found = Some(from);
         }
+        next = sought_before(sought, records, place);
     }
     match found {
         Some(from) => Partner::One(from),
