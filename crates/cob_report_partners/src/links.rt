@@ -68,12 +68,10 @@ impl<'a> NameLinks<'a> {
 
     /// The place of the last entry before the one at this place that has the same name.
     pub(crate) fn named_before(&self, place: usize) -> Option<usize>
+        requires there { place < length self.now.earlier.items }
         ensures { (names : List (Option (List ℕ))) (name : List ℕ) → AreLinks names self.now
-            → place < length names → BearsAt names name place → IsLast names name place result }
+            → BearsAt names name place → IsLast names name place result }
     {
-        match self.earlier.get(place) {
-            Some(before) => *before,
-            None => None,
-        }
+        self.earlier[place]
     }
 }

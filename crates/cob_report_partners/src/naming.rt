@@ -98,7 +98,13 @@ pub fn qualifiers_needed(records: &BothRecords<'_>, name: &[u8], above: &[&[u8]]
 {
     let none = NameSpread { most: 0, next: 0 };
     let inputs = spread_over(none, name, above, records.inputs(), records.input_links());
-    let all = spread_over(inputs, name, above, records.outputs(), records.output_links());
+    let all = spread_over(
+        inputs,
+        name,
+        above,
+        records.outputs(),
+        records.output_links(),
+    );
     if all.next < all.most {
         return Some(all.next);
     }

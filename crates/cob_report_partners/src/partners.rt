@@ -1,13 +1,11 @@
 //! Which entry of the input record an item of the output record receives.
 
-ghost use Rattle.std.specs.Prelude.{◌≡◌, ◌<◌, length, IfOk};
+ghost use Rattle.std.specs.Prelude.{◌≡◌, IfOk};
 ghost use Rattle.cob_copybook_names.specs.Listed.{texts};
 ghost use Rattle.cob_move_names.specs.Pairs.{same_names};
-ghost use Rattle.cob_copybook_names.specs.Naming.{Bearer};
-ghost use Rattle.cob_report_partners.specs.Entries.{DraftEntry, draft_entry, listed_bearer};
+ghost use Rattle.cob_report_partners.specs.Entries.{draft_entry, listed_bearer};
 ghost use Rattle.cob_report_partners.specs.Groups.{below_record};
-ghost use Rattle.cob_report_partners.specs.Linked.{IsLastSought, MayBeSought, listed_names};
-ghost use Rattle.cob_report_partners.specs.Partners.{IsOnly, Shared, TellsSought, are_alike, candidates_for, candidates_within, fitting, input_bearers, is_beneath, is_input, is_item_beneath, is_namesake, is_this_one, items_beneath, those_sought};
+ghost use Rattle.cob_report_partners.specs.Partners.{FindsFurther, IsOnly, Shared, TellsSought, are_alike, candidates_for, candidates_within, fitting, input_bearers, is_beneath, is_input, is_item_beneath, is_namesake, is_this_one, items_beneath, those_sought};
 
 use crate::entries::{DraftBearer, DraftEntry};
 use crate::groups::{is_below, names_there};
@@ -17,7 +15,7 @@ use cob_copybook_tree::Kind;
 use cob_move_data::Side;
 use std::alloc::{AllocError, Global};
 
-/// Which entries of the input record are sought for an item of the output record.
+/// Which entries of the input record are sought for an item of the output record, of those that have its name.
 #[derive(Clone, Copy)]
 enum Sought<'t> {
     /// Those whose qualifiers are the same.
@@ -26,8 +24,6 @@ enum Sought<'t> {
     Shared(&'t [&'t [u8]]),
     /// Those in redefinitions of this entry.
     Within(&'t DraftEntry<'t>),
-    /// Items beneath this entry.
-    Beneath(&'t DraftEntry<'t>),
 }
 
 /// What there is of the input record for an item of the output record.
@@ -39,6 +35,18 @@ pub enum Partner<'s, 'a> {
     One(&'s DraftBearer<'a>),
     /// More than one.
     Several,
+}
+
+impl<'s, 'a> Partner<'s, 'a> {
+    /// What there is with a further entry, wherever it stands among the others.
+    fn with(self, from: &'s DraftBearer<'a>) -> Partner<'s, 'a>
+        ensures { FindsFurther self.entry result (listed_bearer from.now) }
+    {
+        match self {
+            Partner::Missing => Partner::One(from),
+            Partner::One(_) | Partner::Several => Partner::Several,
+        }
+    }
 }
 
 /// Whether an entry is of the input record.
@@ -125,36 +133,6 @@ fn is_sought(
         Sought::Within(sender) => {
             is_within(sender, &from.entry) && share_name(to.name, from.name)
         }
-        Sought::Beneath(group) => is_item_beneath(group, to, from),
-    }
-}
-
-/// The last place of the input record at which an entry may be sought.
-fn last_sought(
-    sought: &Sought<'_>,
-    records: &BothRecords<'_>,
-    to: &DraftBearer<'_>,
-) -> Option<usize>
-    ensures { IsLastSought sought.now records.now (listed_bearer to.now)
-        (length records.now.inputs.items) result }
-{
-    match (sought, to.name) {
-        (Sought::Beneath(_), _) => records.inputs().len().checked_sub(1),
-        (_, Some(name)) => records.input_links().last_named(name),
-        (_, None) => None,
-    }
-}
-
-/// The last place before this one at which an entry may be sought.
-fn sought_before(sought: &Sought<'_>, records: &BothRecords<'_>, place: usize) -> Option<usize>
-    requires there { place < length records.now.inputs.items }
-    ensures { (to : Bearer DraftEntry)
-        → MayBeSought sought.now (listed_names records.now.inputs.items) to place
-        → IsLastSought sought.now records.now to place result }
-{
-    match sought {
-        Sought::Beneath(_) => place.checked_sub(1),
-        _ => records.input_links().named_before(place),
     }
 }
 
@@ -167,22 +145,20 @@ fn only_sought<'s, 'a>(
     ensures { IsOnly result (those_sought sought.now records.now (listed_bearer to.now)
         (input_bearers records.now)) }
 {
-    let mut found = None;
-    let mut next = last_sought(sought, records, to);
+    let Some(name) = to.name else {
+        return Partner::Missing;
+    };
+    let (inputs, links) = (records.inputs(), records.input_links());
+    let mut found = Partner::Missing;
+    let mut next = links.last_named(name);
     while let Some(place) = next {
-        let from = &records.inputs()[place];
+        let from = &inputs[place];
         if is_sought(sought, to, from, records.shared_above(place)) {
-            if found.is_some() {
-                return Partner::Several;
-            }
-            found = Some(from);
+            found = found.with(from);
         }
-        next = sought_before(sought, records, place);
+        next = links.named_before(place);
     }
-    match found {
-        Some(from) => Partner::One(from),
-        None => Partner::Missing,
-    }
+    found
 }
 
 /// The only entry of the input record that has the qualifiers of an item as far as they are there.
@@ -251,5 +227,11 @@ pub fn only_item_beneath<'s, 'a>(
     ensures { IsOnly result (items_beneath records.now (draft_entry group.now)
         (listed_bearer to.now)) }
 {
-    only_sought(&Sought::Beneath(group), records, to)
+    let mut found = Partner::Missing;
+    for from in records.inputs() {
+        if is_item_beneath(group, to, from) {
+            found = found.with(from);
+        }
+    }
+    found
 }

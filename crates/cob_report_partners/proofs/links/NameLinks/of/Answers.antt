@@ -1,4 +1,4 @@
-use Rattle.std.proofs.Common.{◌≡◌, ℕ, get_or, ap, map, length, sym, subst, ◌∙◌, arith, length-append}
+use Rattle.std.proofs.Common.{◌≡◌, ℕ, length, sym, subst, ◌∙◌, arith, length-append}
 use Rattle.cob_copybook_names.specs.Links.{IsLast, AreLinked, noted_for}
 use Rattle.cob_copybook_names.proofs.Links.{linked_more, latest_more}
 use Rattle.cob_report_partners.specs.Entries.{listed_bearer}
@@ -11,8 +11,8 @@ loop-place-preserved c =
     let bs = c.args.entries.now in
     let names = listed_names bs in
     let place = c.loop-place.place in
-    let item = c.bearer-item.result in
-    let here = name_at bs place item (omega arith) c.bearer-item.is in
+    let item = c.index-entries-place.result in
+    let here = name_at bs place item (omega arith) c.index-entries-place.is in
     record {
       sized = rw (c.in_ok-push.ensures.items, length-append) (omega (arith, c.loop-place.invariant.sized));
       linked = rw c.in_ok-push.ensures.items (linked_more names c.loop-place.earlier.items place c.in_ok-before.before c.loop-place.invariant.sized c.loop-place.invariant.linked
