@@ -1,5 +1,5 @@
 //! The version.
 
-// What `--version` prints after the program's name: its version, the commit whose text it is made of, and the toolchain that proved and built it.
+// What `--version` prints after the program's name: its version, the commit whose text it is made of, and the toolchain of the release.
 pub(crate) const VERSION: &str =
-    "1.0.0\ncommit cfc0abe29a79af4fbfc17a9913f67e98877d5a3d\nrattle-kit-13f logic dac8208d650f15bf";
+    "1.0.0\ncommit 325123fd660bdb44abee6410eb6f2bd8096f770e\nrattle-kit-13b logic dac8208d650f15bf";
