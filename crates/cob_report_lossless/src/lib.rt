@@ -27,6 +27,6 @@ mod storage;
 mod words;
 
 pub use lacks::{Lack, lack_of};
-pub use lines::{line_at, lines_of};
+pub use lines::{line_at, lines_of, paragraph_lines, paragraphs_have_lines};
 pub use reasons::{LinedMoves, LossPosition, LossReason, ToldLoss, named_in, told_loss};
 pub use singles::{LinedSingle, singles_of};
