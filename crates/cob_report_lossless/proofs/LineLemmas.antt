@@ -170,13 +170,12 @@ spelled_lines : (runs : List (List Lexeme)) (ss : List WrittenStatement) → Are
 spelled_lines [] ss e = ([], refl)
 spelled_lines (ws ∷ runs) ss (own, rest, is, others, e) =
     let (more, are) = spelled_lines runs rest others in
-    (map line_of own ++ more, map line_of own, more, record { statements = own; spelled = is; lines_are = refl }, are, refl)
+    (map line_of own ++ more, (map line_of own, more, record { statements = own; spelled = is; lines_are = refl }, are, refl))
 
 -- those of a paragraph are its lines
 pub has_lines : (text : List ℕ) → SaysMoves text → (lines : List ℕ) × AreLinesOf text lines
 has_lines text (input, output, ms, p) =
-    let (lines, are) = spelled_lines (words_by_turn [] p.passage) p.statements p.spelled in
-    (
+    let (lines, are) = spelled_lines (words_by_turn [] p.passage) p.statements p.spelled in (
       lines,
       record {
         words = p.words;
