@@ -157,7 +157,7 @@ def ci(anew, names):
 
 
 def main(words):
-    """Does what `rt` does with these words, and `ci NAME ..` also with an earlier one."""
-    if words[:1] == ["ci"] and not TAKES_NAMES:
+    """Does what `rt` does with these words, and `ci NAME ..` too where it is an earlier one."""
+    if words[:1] == ["ci"]:
         return ci(True, [it for it in words[1:] if it != "--anew"])
     return rt.main(words)
