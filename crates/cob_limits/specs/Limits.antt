@@ -68,3 +68,15 @@ most_counter_digits = 9
 -- A block of records of varying length has at most 32,760 bytes.
 abbrev pub longest_block : ℕ
 longest_block = 32_760
+
+-- A text takes in at most 1,000 texts by COPY, each counted once.
+abbrev pub most_copied_texts : ℕ
+most_copied_texts = 1_000
+
+-- The COPY statements of a text put at most 200,000 words into it.
+abbrev pub most_copied_words : ℕ
+most_copied_words = 200_000
+
+-- At most 8 texts are copied one within another.
+abbrev pub deepest_copy : ℕ
+deepest_copy = 8

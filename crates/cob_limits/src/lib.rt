@@ -10,6 +10,7 @@
 
 ghost use Rattle.std.specs.Prelude.{◌≡◌};
 ghost use Rattle.cob_limits.specs.Limits.{
+  deepest_copy,
   greatest_scale,
   least_scale,
   longest_block,
@@ -21,6 +22,8 @@ ghost use Rattle.cob_limits.specs.Limits.{
   longest_record,
   longest_text,
   most_binary_digits,
+  most_copied_texts,
+  most_copied_words,
   most_counter_digits,
   most_digits,
   most_dimensions,
@@ -85,6 +88,15 @@ pub const MAX_COUNTER_DIGITS: usize = 9;
 /// The most bytes of a block of records.
 pub const MAX_BLOCK: u16 = 32_760;
 
+/// The most texts that a text takes in by COPY, each counted once.
+pub const MAX_COPIED_TEXTS: usize = 1_000;
+
+/// The most words that the COPY statements of a text put into it.
+pub const MAX_COPIED_WORDS: usize = 200_000;
+
+/// The most texts that are copied one within another.
+pub const MAX_COPY_DEPTH: usize = 8;
+
 /// Each constant is its limit.
 pub fn constants_are_the_limits()
     ensures text { MAX_TEXT_BYTES ≡ longest_text }
@@ -105,4 +117,7 @@ pub fn constants_are_the_limits()
     ensures open { MAX_OPEN ≡ most_open }
     ensures counter { MAX_COUNTER_DIGITS ≡ most_counter_digits }
     ensures block { MAX_BLOCK ≡ longest_block }
+    ensures copied_texts { MAX_COPIED_TEXTS ≡ most_copied_texts }
+    ensures copied_words { MAX_COPIED_WORDS ≡ most_copied_words }
+    ensures copy_depth { MAX_COPY_DEPTH ≡ deepest_copy }
 {}

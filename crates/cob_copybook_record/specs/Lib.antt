@@ -1,0 +1,3 @@
+pub mod OneRecord
+pub mod Refusals
+pub mod Laws

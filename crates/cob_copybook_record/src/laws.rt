@@ -1,0 +1,13 @@
+//! Laws of records in one text, as contracts of functions that do nothing.
+
+ghost use Rattle.cob_copybook_record.specs.Laws.{FoundIsNotRefused, SoleWordsStay};
+
+/// Words in which no second record, level 66 or level 77 begins stay as they are.
+pub fn sole_words_stay()
+    ensures { SoleWordsStay }
+{}
+
+/// A text that has a record of a name is not refused.
+pub fn found_is_not_refused()
+    ensures { FoundIsNotRefused }
+{}

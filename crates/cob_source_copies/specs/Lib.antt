@@ -1,0 +1,9 @@
+pub mod TextWords
+pub mod Exchanges
+pub mod Statements
+pub mod Reading
+pub mod Texts
+pub mod Refusals
+pub mod Carrying
+pub mod Libraries
+pub mod Laws
