@@ -19,7 +19,9 @@
 //! - [`counter_name`] answers a name for the counter of a loop that no entry of both records has (`IsCounterName` of specs/Counters.antt), and the law
 //!   [`counters_are_apart`] says that counters of two letters differ.
 //!
-//! The names that the groups of two records share are found once, by a table of names, and the qualifiers of a name by one pass over the entries.
+//! The names that the groups of two records share are found once, by a table of names. Partners and qualifiers are looked for among the entries of one name:
+//! another table has the last entry of each name, and links lead from an entry to the one before it that has the same name (`AreLinks` of
+//! specs/Linked.antt). So the time is that of the entries that have the name, and not of all entries.
 //!
 //! # Where it is proved
 //!
@@ -31,6 +33,7 @@ mod counters;
 mod entries;
 mod groups;
 mod judge;
+mod links;
 mod names;
 mod naming;
 mod partners;
