@@ -111,7 +111,7 @@ listed_next xs i x lt is = rw add-one (at_next xs i x lt is)
 pub borne : (name : List ℕ) (own : Option (List ℕ)) → own ≡ Some name → has_name name own ≡ true
 borne name own is = ap (has_name name) is ∙ (bytes_eq-Decides name name).1 refl
 
-not_borne : (name : List ℕ) (own : Option (List ℕ)) → (own ≡ Some name → ⊥) → has_name name own ≡ false
+pub not_borne : (name : List ℕ) (own : Option (List ℕ)) → (own ≡ Some name → ⊥) → has_name name own ≡ false
 not_borne name None ne = refl
 not_borne name (Some own) ne = differs own name (λ e. ne (ap (λ (n : List ℕ). Some n) e))
 

@@ -3,7 +3,9 @@
 ghost use Rattle.std.specs.Prelude.{◌≡◌, ◌≢◌, ◌<◌, ℕ, List, Option, Some, length, IfOk, OnOk};
 ghost use Rattle.cob_copybook_names.specs.Links.{BearsAt, IsLast, noted_for};
 ghost use Rattle.cob_copybook_names.specs.Listed.{name_text};
-ghost use Rattle.cob_report_partners.specs.Linked.{AreLinks, listed_names};
+ghost use Rattle.cob_copybook_names.specs.declared.bearer.Bearer.{Bearer as Listed};
+ghost use Rattle.cob_report_partners.specs.Linked.{AreLinks, is_listed, listed_names};
+ghost use Rattle.cob_report_partners.specs.declared.entries.DraftEntry.{DraftEntry as ListedEntry};
 
 use crate::entries::DraftBearer;
 use indexmap::IndexMap;
@@ -64,6 +66,14 @@ impl<'a> NameLinks<'a> {
             → IsLast names name.now (length names) result }
     {
         self.last.get(name).copied()
+    }
+
+    /// Whether an entry has this name.
+    pub(crate) fn has(&self, name: &[u8]) -> bool
+        ensures { (entries : List (Listed ListedEntry)) → AreLinks (listed_names entries) self.now
+            → result ≡ is_listed name.now entries }
+    {
+        self.last_named(name).is_some()
     }
 
     /// The place of the last entry before the one at this place that has the same name.

@@ -5,7 +5,7 @@ ghost use Rattle.cob_copybook_names.specs.Listed.{texts};
 ghost use Rattle.cob_move_data.specs.declared.operands.Side.TheVariants.{In, Out};
 ghost use Rattle.cob_report_partners.specs.Entries.{listed_bearer, record_entries};
 ghost use Rattle.cob_report_partners.specs.Groups.{AreGroups, listed_shared, noted_above, shared_above};
-ghost use Rattle.cob_report_partners.specs.Linked.{AreLinks, listed_names};
+ghost use Rattle.cob_report_partners.specs.Linked.{AreLinks, is_listed, listed_names};
 
 use crate::entries::{DraftBearer, entries_of};
 use crate::groups::{GroupNames, names_there};
@@ -109,6 +109,13 @@ impl<'a> BothRecords<'a> {
         ensures { result.now ≡ self.now.outputs.items }
     {
         self.outputs.as_slice()
+    }
+
+    /// Whether an entry of the input record has this name.
+    pub fn has_input(&self, name: &[u8]) -> bool
+        ensures { result ≡ is_listed name.now self.now.inputs.items }
+    {
+        self.input_links.has(name)
     }
 
     /// The links between the entries of the input record.
