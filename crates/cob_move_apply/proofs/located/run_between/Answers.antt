@@ -1,4 +1,5 @@
-use Rattle.std.proofs.Common.{ℕ, Ok, refl}
+use Rattle.std.proofs.Common.{◌≡◌, ℕ, Ok, refl, rules}
+use Rattle.cob_codec.specs.declared.reading.Reading.TheVariants as reading
 use Rattle.cob_move_data.specs.Moves.{operand_in}
 use Rattle.cob_move_data.specs.declared.operands.Side.TheVariants.{In}
 use Rattle.cob_move_apply.specs.Applied.{done}
@@ -66,8 +67,9 @@ returns-in-Ok-run_pictured-clause-moved c = λ yes.
     let from = (operand_in r.input one.sent).kind in
     let to = (operand_in r.output one.receiver).kind in
     let carries = carries_as c.args.plan.now.prepared c.args.plan.now.pictured from to one.step (Pictured c.in-Pictured.step) c.in-Pictured.is c.requires.ready.carries in
+    let read : c.args.layouts.now.reading ≡ reading.Pictured = search rules in
     made_by_picture r c.args.layouts.now.reading c.args.plan.now.pictured one c.in-Pictured.step c.args.places.now c.args.input.now c.args.output.now
-    (done c.run_pictured.new.output) c.in-Pictured-reading.is c.requires.stand carries c.in-Ok-run_pictured.ensures.made
+    (done c.run_pictured.new.output) read c.requires.stand carries c.in-Ok-run_pictured.ensures.made
 
 pub returns-in-Ok-run_pictured-clause-spends : goal.returns-in-Ok-run_pictured-clause-spends
 returns-in-Ok-run_pictured-clause-spends c = λ yes before spent.
@@ -76,5 +78,6 @@ returns-in-Ok-run_pictured-clause-spends c = λ yes before spent.
     let from = (operand_in r.input one.sent).kind in
     let to = (operand_in r.output one.receiver).kind in
     let carries = carries_as c.args.plan.now.prepared c.args.plan.now.pictured from to one.step (Pictured c.in-Pictured.step) c.in-Pictured.is c.requires.ready.carries in
+    let read : c.args.layouts.now.reading ≡ reading.Pictured = search rules in
     pictured_spends {A = ℕ} r c.args.layouts.now.reading c.args.plan.now.pictured one c.in-Pictured.step c.args.places.now c.args.input.now c.args.output.now
-    (Ok 0) c.run_pictured.new.output before _ _ c.in-Pictured-reading.is c.requires.stand carries c.in-Ok-run_pictured.ensures.made spent c.in-Ok-run_pictured.ensures.spends
+    (Ok 0) c.run_pictured.new.output before _ _ read c.requires.stand carries c.in-Ok-run_pictured.ensures.made spent c.in-Ok-run_pictured.ensures.spends
