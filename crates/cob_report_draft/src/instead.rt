@@ -48,7 +48,7 @@ fn has_items(outputs: &[DraftBearer<'_>], group: &DraftBearer<'_>) -> bool {
 
 /// Why an item of the output record has no partner.
 fn missing_words(records: &Records<'_>, to: &DraftBearer<'_>) -> &'static str {
-    if has_namesake(&records.both, to) {
+    if has_namesake(records.both.inputs(), to) {
         "no entry of its name is its partner"
     } else {
         "no entry has its name"

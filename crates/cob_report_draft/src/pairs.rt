@@ -110,10 +110,23 @@ pub(crate) fn is_own_group(bearer: &DraftBearer<'_>) -> bool {
     bearer.entry.own && bearer.name.is_some() && !bearer.above.is_empty() && !is_item(bearer)
 }
 
-/// Whether an entry of the input record has the name of another entry.
-pub(crate) fn has_namesake(records: &BothRecords<'_>, to: &DraftBearer<'_>) -> bool {
-    match to.name {
-        Some(name) => records.has_input(name),
+/// Whether an entry has this name.
+fn has_name(bearer: &DraftBearer<'_>, name: &[u8]) -> bool {
+    match bearer.name {
+        Some(own) => own == name,
         None => false,
     }
+}
+
+/// Whether one of these entries has the name of another entry.
+pub(crate) fn has_namesake(entries: &[DraftBearer<'_>], to: &DraftBearer<'_>) -> bool {
+    let Some(name) = to.name else {
+        return false;
+    };
+    for entry in entries {
+        if has_name(entry, name) {
+            return true;
+        }
+    }
+    false
 }

@@ -2,4 +2,3 @@ pub mod NamingLemmas
 pub mod RecordLemmas
 pub mod SoughtLemmas
 pub mod CounterLemmas
-pub mod LinkLemmas

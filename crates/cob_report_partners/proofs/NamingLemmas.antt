@@ -1,18 +1,14 @@
 -- How many entries a name names with each number of qualifiers.
-use Rattle.std.proofs.Common.{◌≡◌, ℕ, zero, suc, ◌+◌, ◌<◌, ◌≤◌, ◌⊎◌, inl, inr, Bool, true, false, ◌&&◌, List, [], ◌∷◌, ◌++◌, length, map, take, drop, get_or, refl, sym, ap, subst, ◌∙◌, arith, length-append, add-one, Option, Some, None, slice_get}
+use Rattle.std.proofs.Common.{◌≡◌, ℕ, zero, suc, ◌+◌, ◌<◌, ◌≤◌, ◌⊎◌, inl, inr, Bool, true, false, ◌&&◌, List, [], ◌∷◌, ◌++◌, length, map, take, get_or, refl, sym, ap, subst, ◌∙◌, arith, length-append, add-one}
 use Rattle.std.specs.Prelude.{bytes_eq, cond, if◌then◌else◌}
 use Rattle.std.specs.Bool.{Decides}
 use Rattle.std.proofs.lemmas.List.Elements.{filter-append}
-use Rattle.std.proofs.lemmas.Slice.Eq.{bytes_eq-Decides}
 use Rattle.cob_copybook_names.specs.declared.bearer.Bearer.{Bearer as Listed}
-use Rattle.cob_copybook_names.specs.Links.{IsLast, entries_up_to}
-use Rattle.cob_copybook_names.specs.Naming.{Bearer, has_name, is_named, named, own_names, qualifies}
-use Rattle.cob_copybook_names.proofs.Links.{differs}
+use Rattle.cob_copybook_names.specs.Naming.{Bearer, has_name, is_named, named, qualifies}
 use Rattle.cob_report_partners.specs.Entries.{DraftEntry, listed_bearer}
 use Rattle.cob_report_partners.specs.Naming.{IsNeeded, IsSpread, NamesOne, Spreads, reach}
 use Rattle.cob_report_partners.specs.declared.entries.DraftEntry.{DraftEntry as ListedEntry}
 use Rattle.cob_report_partners.specs.declared.naming.NameSpread.{NameSpread}
-use Rattle.cob_report_partners.proofs.LinkLemmas.{AsksFor, none_left, one_more}
 
 reach_step : (t : Bool) (k n m : ℕ) (x y : Bool) → Decides x (k ≤ n) → Decides y (suc k ≤ m) → Decides (if t then x else y) (suc k ≤ (if t then n + 1 else m))
 reach_step true k n m x y (is, only) other = (λ h. omega (arith, is h), λ h. only (omega (arith, h)))
@@ -27,8 +23,9 @@ reaches (suc k) (q ∷ qs) (a ∷ above) le =
     reach_step (bytes_eq q a) k (reach qs above) (reach (q ∷ qs) above) (qualifies (take k qs) above) (qualifies (take (suc k) (q ∷ qs)) above)
     (reaches k qs above (omega (arith, le))) (reaches (suc k) (q ∷ qs) above le)
 
-counted_both : (name : List ℕ) (qs : List (List ℕ)) (xs ys : List (Bearer DraftEntry)) → length (named name qs (xs ++ ys)) ≡ length (named name qs xs) + length (named name qs ys)
-counted_both name qs xs ys = ap length (filter-append (λ b. is_named name qs b) xs ys) ∙ length-append (named name qs xs) (named name qs ys)
+count_behind : (name : List ℕ) (qs : List (List ℕ)) (bs : List (Bearer DraftEntry)) (b : Bearer DraftEntry)
+    → length (named name qs (bs ++ b ∷ [])) ≡ length (named name qs bs) + length (named name qs (b ∷ []))
+count_behind name qs bs b = ap length (filter-append (λ x. is_named name qs x) bs (b ∷ [])) ∙ length-append (named name qs bs) (named name qs (b ∷ []))
 
 count_one : (name : List ℕ) (qs : List (List ℕ)) (b : Bearer DraftEntry) (t : Bool) → is_named name qs b ≡ t → length (named name qs (b ∷ [])) ≡ cond t 1 0
 count_one name qs b true e = rw e refl
@@ -37,10 +34,13 @@ count_one name qs b false e = rw e refl
 both : (x y t : Bool) → x ≡ true → y ≡ t → (x && y) ≡ t
 both x y t is e = rw is e
 
+never : (x y : Bool) → x ≡ false → (x && y) ≡ false
+never x y is = rw is refl
+
 -- as many are named with a further entry, and one more where that is named
 counted : (name : List ℕ) (qs : List (List ℕ)) (bs : List (Bearer DraftEntry)) (b : Bearer DraftEntry) (t : Bool) → is_named name qs b ≡ t
     → length (named name qs (bs ++ b ∷ [])) ≡ length (named name qs bs) + cond t 1 0
-counted name qs bs b t e = counted_both name qs bs (b ∷ []) ∙ ap (λ n. length (named name qs bs) + n) (count_one name qs b t e)
+counted name qs bs b t e = count_behind name qs bs b ∙ ap (λ n. length (named name qs bs) + n) (count_one name qs b t e)
 
 not_true : (x : Bool) → (x ≡ true → ⊥) → x ≡ false
 not_true true h = absurd (h refl)
@@ -64,6 +64,15 @@ spread_further s t r name qs b front has is within more same bounded before =
             | inr h ↦ subst (IsSpread t k) (sym (counted name (take k qs) front b false (both _ _ false has (not_true _ (λ e. let far = test.0 e in absurd (omega (arith, far, is, h))))) ∙ omega arith))
                 (same k _ h (before.each k le))
           ];
+    }
+
+-- one that does not bear it
+pub spread_apart : (s : NameSpread) (name : List ℕ) (qs : List (List ℕ)) (b : Bearer DraftEntry) (front : List (Bearer DraftEntry)) → has_name name b.name ≡ false
+    → Spreads s name qs front → Spreads s name qs (front ++ b ∷ [])
+spread_apart s name qs b front has before =
+    record {
+      most = before.most;
+      each = λ k le. subst (IsSpread s k) (sym (counted name (take k qs) front b false (never _ _ has) ∙ omega arith)) (before.each k le);
     }
 
 -- no entry
@@ -104,40 +113,3 @@ at_next (y ∷ xs) (suc i) x lt is = ap (λ (t : List (Bearer DraftEntry)). list
 -- the first entries of a list, and one more
 pub listed_next : (xs : List (Listed ListedEntry)) (i : ℕ) (x : Listed ListedEntry) → i < length xs → x ≡ get_or xs i x → map listed_bearer (take (i + 1) xs) ≡ map listed_bearer (take i xs) ++ listed_bearer x ∷ []
 listed_next xs i x lt is = rw add-one (at_next xs i x lt is)
-
--- ---- entries of a name, from the last one to the one before it
-
--- one that has the name bears it
-pub borne : (name : List ℕ) (own : Option (List ℕ)) → own ≡ Some name → has_name name own ≡ true
-borne name own is = ap (has_name name) is ∙ (bytes_eq-Decides name name).1 refl
-
-pub not_borne : (name : List ℕ) (own : Option (List ℕ)) → (own ≡ Some name → ⊥) → has_name name own ≡ false
-not_borne name None ne = refl
-not_borne name (Some own) ne = differs own name (λ e. ne (ap (λ (n : List ℕ). Some n) e))
-
-named_so : (name : List ℕ) (qs : List (List ℕ)) → AsksFor name (λ b. is_named name qs b)
-named_so name qs = λ b ne. ap (λ (t : Bool). t && qualifies qs b.above) (not_borne name b.name ne)
-
--- a spread of some entries is one of others, of which as many are named
-spreads_as : (s : NameSpread) (name : List ℕ) (above : List (List ℕ)) (xs ys : List (Bearer DraftEntry)) → ((qs : List (List ℕ)) → length (named name qs xs) ≡ length (named name qs ys))
-    → Spreads s name above xs → Spreads s name above ys
-spreads_as s name above xs ys same so = record { most = so.most; each = λ k le. subst (λ (n : ℕ). IsSpread s k n) (same (take k above)) (so.each k le) }
-
--- behind the last entry of the name none is named
-pub spread_from : (s : NameSpread) (name : List ℕ) (above : List (List ℕ)) (front all : List (Bearer DraftEntry)) (n : ℕ) (place : Option ℕ) → n ≡ length all → IsLast (own_names all) name n place
-    → Spreads s name above front → Spreads s name above (front ++ drop (entries_up_to place) all)
-spread_from s name above front all n place long last so =
-    spreads_as s name above front (front ++ drop (entries_up_to place) all) (λ qs.
-    let none = ap length (none_left name (λ b. is_named name qs b) all n place long (named_so name qs) last) in
-    omega (arith, counted_both name qs front (drop (entries_up_to place) all), none)) so
-
--- from one entry of the name to the one before it, that one alone is named
-pub spread_to : (s : NameSpread) (name : List ℕ) (above : List (List ℕ)) (front all : List (Bearer DraftEntry)) (place next : Option ℕ) (p : ℕ) (b : Bearer DraftEntry)
-    → place ≡ Some p → slice_get all p ≡ Some b → IsLast (own_names all) name p next
-    → Spreads s name above ((front ++ drop (entries_up_to place) all) ++ b ∷ []) → Spreads s name above (front ++ drop (entries_up_to next) all)
-spread_to s name above front all place next p b here there last so =
-    let rest = drop (entries_up_to place) all in
-    spreads_as s name above ((front ++ rest) ++ b ∷ []) (front ++ drop (entries_up_to next) all) (λ qs.
-    let from = ap length (one_more name (λ x. is_named name qs x) all place next p b here there (named_so name qs) last) in
-    let one : length (named name qs (b ∷ rest)) ≡ length (named name qs (b ∷ [])) + length (named name qs rest) = counted_both name qs (b ∷ []) rest in
-    omega (arith, from, one, counted_both name qs (front ++ rest) (b ∷ []), counted_both name qs front rest, counted_both name qs front (drop (entries_up_to next) all))) so

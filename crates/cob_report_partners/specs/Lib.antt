@@ -4,4 +4,3 @@ pub mod Partners
 pub mod Verdicts
 pub mod Naming
 pub mod Counters
-pub mod Linked

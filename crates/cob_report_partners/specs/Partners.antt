@@ -1,5 +1,7 @@
 -- Which entry of the input record an item of the output record receives.
 use Rattle.std.specs.Prelude.{◌≡◌, ℕ, ◌<◌, Bool, true, false, ◌==◌, ◌&&◌, bytes_eq, nat_le, nat_lt, not, is_some, List, [], ◌∷◌, ◌++◌, length, map, filter, Option, Some, None}
+use Rattle.std.specs.Borrow.{Bor}
+use Rattle.cob_copybook_names.specs.declared.bearer.Bearer.{Bearer as Listed}
 use Rattle.cob_copybook_names.specs.Listed.{texts}
 use Rattle.cob_copybook_names.specs.Naming.{Bearer}
 use Rattle.cob_copybook_tree.specs.declared.node.Kind.{Kind}
@@ -10,6 +12,7 @@ use Rattle.cob_move_names.specs.Pairs.{same_names}
 use Rattle.cob_picture.specs.Positions.{shows_number}
 use Rattle.cob_report_partners.specs.Entries.{DraftEntry, draft_entry, listed_bearer}
 use Rattle.cob_report_partners.specs.Groups.{below_record, is_below, names_there, shared_above}
+use Rattle.cob_report_partners.specs.declared.entries.DraftEntry.{DraftEntry as ListedEntry}
 use Rattle.cob_report_partners.specs.declared.partners.Partner.{Partner}
 use Rattle.cob_report_partners.specs.declared.partners.Partner.TheVariants as partner
 use Rattle.cob_report_partners.specs.declared.partners.Sought.{Sought}
@@ -115,15 +118,17 @@ IsOnly partner.Missing bs = bs ≡ []
 IsOnly (partner.One b) bs = bs ≡ listed_bearer b.now ∷ []
 IsOnly partner.Several bs = 1 < length bs
 
--- what there was became this with a further entry, wherever it stands among the others
-abbrev pub FindsFurther : (before now : Partner) → Bearer DraftEntry → Type 0
-FindsFurther before now b = (front behind : List (Bearer DraftEntry)) → IsOnly before (front ++ behind) → IsOnly now (front ++ b ∷ behind)
+-- an entry that was found, as a list
+abbrev pub found_bearer : Option (Bor (Listed ListedEntry)) → List (Bearer DraftEntry)
+found_bearer None = []
+found_bearer (Some b) = listed_bearer b.now ∷ []
 
 -- the entry of the input record is sought
 abbrev pub is_sought : Sought → BothRecords → Bearer DraftEntry → Bearer DraftEntry → Bool
 is_sought sought.Whole r to b = may_be_partner Whole r to b
 is_sought (sought.Shared names) r to b = is_namesake to b && same_names (texts names.now) (names_there (output_bearers r) (below_record b.above))
 is_sought (sought.Within sender) r to b = redefines_sender (draft_entry sender.now) to b
+is_sought (sought.Beneath group) r to b = is_item_beneath (draft_entry group.now) to b
 
 -- the answer says of an entry of the input record that it is sought, with the names of groups above it that groups of the output record have
 abbrev pub TellsSought : Sought → (to from : Bearer DraftEntry) → List (List ℕ) → Bool → Type 0

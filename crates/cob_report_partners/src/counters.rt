@@ -1,12 +1,16 @@
 //! Names for the counters of loops.
 
+ghost use Rattle.std.specs.List.{list_any};
 ghost use Rattle.std.specs.Prelude.{◌≡◌, ◌≢◌, ◌+◌, ◌*◌, ℕ, List, IfNone, IfOk, IfSome};
 ghost use Rattle.cob_limits.specs.Limits.{most_entries};
-ghost use Rattle.cob_copybook_names.specs.Naming.{Bearer};
+ghost use Rattle.cob_copybook_names.specs.Listed.{name_text};
+ghost use Rattle.cob_copybook_names.specs.Naming.{Bearer, has_name};
 ghost use Rattle.cob_report_partners.specs.Counters.{AreCountersTaken, IsCounterName, counter_text, is_taken};
 ghost use Rattle.cob_report_partners.specs.Entries.{DraftEntry};
 ghost use Rattle.cob_report_partners.specs.Partners.{all_bearers};
 
+use crate::entries::DraftBearer;
+use crate::names::has_name;
 use crate::records::BothRecords;
 use cob_limits::MAX_ENTRIES;
 use itoa::Buffer;
@@ -28,14 +32,21 @@ fn counter_text(alloc: Global, letter: u8, number: usize) -> Result<Vec<u8>, All
     Ok(name)
 }
 
+/// Whether one of these entries has the name.
+fn is_taken_among(entries: &[DraftBearer<'_>], name: &[u8]) -> bool
+    ensures { result ≡ list_any (λ e. has_name name.now (name_text e.name)) entries.now }
+{
+    entries.iter().any(|entry| has_name(name, entry.name))
+}
+
 /// Whether an entry of the two records has the name.
 fn is_taken(records: &BothRecords<'_>, name: &[u8]) -> bool
     ensures { result ≡ is_taken (all_bearers records.now) name.now }
 {
-    if records.input_links().has(name) {
+    if is_taken_among(records.inputs(), name) {
         return true;
     }
-    records.output_links().has(name)
+    is_taken_among(records.outputs(), name)
 }
 
 /// The name of a counter with this letter that no entry of two records has: the letter alone, or the least number from 1 on behind it. It is `None` where

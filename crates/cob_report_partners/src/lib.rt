@@ -16,25 +16,21 @@
 //!   described as what it gets (`MayStand` and `Objects` of specs/Verdicts.antt);
 //! - [`qualifiers_needed`] answers the least number of qualifiers with which a name names one entry of both records alone (`IsNeeded` of
 //!   specs/Naming.antt);
-//! - [`BothRecords::has_input`] answers whether an entry of the input record has a name (`is_listed` of specs/Linked.antt);
 //! - [`counter_name`] answers a name for the counter of a loop that no entry of both records has (`IsCounterName` of specs/Counters.antt), and the law
 //!   [`counters_are_apart`] says that counters of two letters differ.
 //!
-//! The names that the groups of two records share are found once, by a table of names. Partners and qualifiers are looked for among the entries of one name:
-//! another table has the last entry of each name, and links lead from an entry to the one before it that has the same name (`AreLinks` of
-//! specs/Linked.antt). So the time is that of the entries that have the name, and not of all entries.
+//! The names that the groups of two records share are found once, by a table of names, and the qualifiers of a name by one pass over the entries.
 //!
 //! # Where it is proved
 //!
-//! The clauses of `entries_of`, `partner_of`, `partner_within`, `only_item_beneath`, `objection_to`, `qualifiers_needed`, `BothRecords::has_input` and
-//! `counter_name`; the law `counters_are_apart`.
+//! The clauses of `entries_of`, `partner_of`, `partner_within`, `only_item_beneath`, `objection_to`, `qualifiers_needed` and `counter_name`; the law
+//! `counters_are_apart`.
 #![tactic(auto)]
 
 mod counters;
 mod entries;
 mod groups;
 mod judge;
-mod links;
 mod names;
 mod naming;
 mod partners;

@@ -2,6 +2,7 @@
 
 ghost use Rattle.std.specs.Prelude.{◌≡◌, bytes_eq};
 ghost use Rattle.cob_copybook_names.specs.Listed.{name_text, texts};
+ghost use Rattle.cob_copybook_names.specs.Naming.{has_name};
 ghost use Rattle.cob_move_names.specs.Pairs.{same_names};
 ghost use Rattle.cob_report_partners.specs.Groups.{below_record};
 ghost use Rattle.cob_report_partners.specs.Partners.{share_name};
@@ -20,6 +21,16 @@ pub(crate) fn share_name(one: Option<&[u8]>, other: Option<&[u8]>) -> bool
     match (one, other) {
         (Some(one), Some(other)) => is_same(one, other),
         _ => false,
+    }
+}
+
+/// Whether an entry bears a name.
+pub(crate) fn has_name(name: &[u8], own: Option<&[u8]>) -> bool
+    ensures { result ≡ has_name name.now (name_text own.entry) }
+{
+    match own {
+        Some(own) => is_same(own, name),
+        None => false,
     }
 }
 

@@ -1,15 +1,13 @@
 //! The qualifiers that an entry needs to be named.
 
-ghost use Rattle.std.specs.Prelude.{◌≡◌, ℕ, ◌<◌, ◌≤◌, ◌+◌, length, map, IfNone, IfSome};
+ghost use Rattle.std.specs.Prelude.{◌≡◌, ℕ, ◌<◌, ◌≤◌, ◌+◌, [], ◌∷◌, length, map, IfNone, IfSome};
 ghost use Rattle.cob_copybook_names.specs.Listed.{texts};
 ghost use Rattle.cob_report_partners.specs.Entries.{listed_bearer};
-ghost use Rattle.cob_report_partners.specs.Linked.{AreLinks, listed_names};
 ghost use Rattle.cob_report_partners.specs.Naming.{IsNeeded, IsSpread, NamesOne, SpreadsOn, SpreadsOnNamed, reach};
 ghost use Rattle.cob_report_partners.specs.Partners.{all_bearers};
 
 use crate::entries::DraftBearer;
-use crate::links::NameLinks;
-use crate::names::is_same;
+use crate::names::{has_name, is_same};
 use crate::records::BothRecords;
 
 /// How many entries a name with its qualifiers names: none from `most` of them on, one alone from `next` on, and more than one with fewer.
@@ -67,24 +65,35 @@ fn spread_with(before: NameSpread, qualifiers: &[&[u8]], above: &[&[u8]]) -> Nam
     before.with(reach(qualifiers, above))
 }
 
-/// With further entries, which are linked so.
+/// With a further entry.
+fn spread_by(
+    before: NameSpread,
+    name: &[u8],
+    qualifiers: &[&[u8]],
+    bearer: &DraftBearer<'_>,
+) -> NameSpread
+    ensures { SpreadsOn before result name.now (texts qualifiers.now)
+        (listed_bearer bearer.now ∷ []) }
+{
+    if has_name(name, bearer.name) {
+        return spread_with(before, qualifiers, bearer.above.as_slice());
+    }
+    before
+}
+
+/// With further entries.
 fn spread_over(
     before: NameSpread,
     name: &[u8],
     qualifiers: &[&[u8]],
     entries: &[DraftBearer<'_>],
-    links: &NameLinks<'_>,
 ) -> NameSpread
-    requires linked { AreLinks (listed_names entries.now) links.now }
     ensures { SpreadsOn before result name.now (texts qualifiers.now)
         (map listed_bearer entries.now) }
 {
     let mut spread = before;
-    let mut next = links.last_named(name);
-    while let Some(place) = next {
-        let bearer = &entries[place];
-        spread = spread_with(spread, qualifiers, bearer.above.as_slice());
-        next = links.named_before(place);
+    for entry in entries {
+        spread = spread_by(spread, name, qualifiers, entry);
     }
     spread
 }
@@ -97,14 +106,8 @@ pub fn qualifiers_needed(records: &BothRecords<'_>, name: &[u8], above: &[&[u8]]
         → NamesOne name.now (texts above.now) k (all_bearers records.now) → ⊥) }
 {
     let none = NameSpread { most: 0, next: 0 };
-    let inputs = spread_over(none, name, above, records.inputs(), records.input_links());
-    let all = spread_over(
-        inputs,
-        name,
-        above,
-        records.outputs(),
-        records.output_links(),
-    );
+    let inputs = spread_over(none, name, above, records.inputs());
+    let all = spread_over(inputs, name, above, records.outputs());
     if all.next < all.most {
         return Some(all.next);
     }

@@ -5,7 +5,7 @@ ghost use Rattle.cob_copybook_names.specs.Listed.{texts};
 ghost use Rattle.cob_move_names.specs.Pairs.{same_names};
 ghost use Rattle.cob_report_partners.specs.Entries.{draft_entry, listed_bearer};
 ghost use Rattle.cob_report_partners.specs.Groups.{below_record};
-ghost use Rattle.cob_report_partners.specs.Partners.{FindsFurther, IsOnly, Shared, TellsSought, are_alike, candidates_for, candidates_within, fitting, input_bearers, is_beneath, is_input, is_item_beneath, is_namesake, is_this_one, items_beneath, those_sought};
+ghost use Rattle.cob_report_partners.specs.Partners.{IsOnly, Shared, TellsSought, are_alike, candidates_for, candidates_within, fitting, input_bearers, is_beneath, is_input, is_item_beneath, is_namesake, is_this_one, items_beneath, those_sought};
 
 use crate::entries::{DraftBearer, DraftEntry};
 use crate::groups::{is_below, names_there};
@@ -15,7 +15,7 @@ use cob_copybook_tree::Kind;
 use cob_move_data::Side;
 use std::alloc::{AllocError, Global};
 
-/// Which entries of the input record are sought for an item of the output record, of those that have its name.
+/// Which entries of the input record are sought for an item of the output record.
 #[derive(Clone, Copy)]
 enum Sought<'t> {
     /// Those whose qualifiers are the same.
@@ -24,6 +24,8 @@ enum Sought<'t> {
     Shared(&'t [&'t [u8]]),
     /// Those in redefinitions of this entry.
     Within(&'t DraftEntry<'t>),
+    /// Items beneath this entry.
+    Beneath(&'t DraftEntry<'t>),
 }
 
 /// What there is of the input record for an item of the output record.
@@ -35,18 +37,6 @@ pub enum Partner<'s, 'a> {
     One(&'s DraftBearer<'a>),
     /// More than one.
     Several,
-}
-
-impl<'s, 'a> Partner<'s, 'a> {
-    /// What there is with a further entry, wherever it stands among the others.
-    fn with(self, from: &'s DraftBearer<'a>) -> Partner<'s, 'a>
-        ensures { FindsFurther self.entry result (listed_bearer from.now) }
-    {
-        match self {
-            Partner::Missing => Partner::One(from),
-            Partner::One(_) | Partner::Several => Partner::Several,
-        }
-    }
 }
 
 /// Whether an entry is of the input record.
@@ -133,6 +123,7 @@ fn is_sought(
         Sought::Within(sender) => {
             is_within(sender, &from.entry) && share_name(to.name, from.name)
         }
+        Sought::Beneath(group) => is_item_beneath(group, to, from),
     }
 }
 
@@ -145,20 +136,19 @@ fn only_sought<'s, 'a>(
     ensures { IsOnly result (those_sought sought.now records.now (listed_bearer to.now)
         (input_bearers records.now)) }
 {
-    let Some(name) = to.name else {
-        return Partner::Missing;
-    };
-    let (inputs, links) = (records.inputs(), records.input_links());
-    let mut found = Partner::Missing;
-    let mut next = links.last_named(name);
-    while let Some(place) = next {
-        let from = &inputs[place];
+    let mut found = None;
+    for (place, from) in records.inputs().iter().enumerate() {
         if is_sought(sought, to, from, records.shared_above(place)) {
-            found = found.with(from);
+            if found.is_some() {
+                return Partner::Several;
+            }
+            found = Some(from);
         }
-        next = links.named_before(place);
     }
-    found
+    match found {
+        Some(from) => Partner::One(from),
+        None => Partner::Missing,
+    }
 }
 
 /// The only entry of the input record that has the qualifiers of an item as far as they are there.
@@ -227,11 +217,5 @@ pub fn only_item_beneath<'s, 'a>(
     ensures { IsOnly result (items_beneath records.now (draft_entry group.now)
         (listed_bearer to.now)) }
 {
-    let mut found = Partner::Missing;
-    for from in records.inputs() {
-        if is_item_beneath(group, to, from) {
-            found = found.with(from);
-        }
-    }
-    found
+    only_sought(&Sought::Beneath(group), records, to)
 }

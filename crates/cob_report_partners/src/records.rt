@@ -5,11 +5,9 @@ ghost use Rattle.cob_copybook_names.specs.Listed.{texts};
 ghost use Rattle.cob_move_data.specs.declared.operands.Side.TheVariants.{In, Out};
 ghost use Rattle.cob_report_partners.specs.Entries.{listed_bearer, record_entries};
 ghost use Rattle.cob_report_partners.specs.Groups.{AreGroups, listed_shared, noted_above, shared_above};
-ghost use Rattle.cob_report_partners.specs.Linked.{AreLinks, is_listed, listed_names};
 
 use crate::entries::{DraftBearer, entries_of};
 use crate::groups::{GroupNames, names_there};
-use crate::links::NameLinks;
 use crate::names::below_record;
 use cob_layout::Layout;
 use cob_move_data::Side;
@@ -20,16 +18,12 @@ use std::alloc::{AllocError, Global};
 pub struct BothRecords<'a> {
     inputs: Vec<DraftBearer<'a>>,
     outputs: Vec<DraftBearer<'a>>,
-    input_links: NameLinks<'a>,
-    output_links: NameLinks<'a>,
     /// The names of the groups below the input record.
     pub(crate) groups: GroupNames<'a>,
     /// For each entry of the input record those names of the groups above it, its record left out, that groups of the output record have.
     shared: Vec<Vec<&'a [u8]>>,
 
     ghost sized: { length shared.items ≡ length inputs.items },
-    ghost input_linked: { AreLinks (listed_names inputs.items) input_links },
-    ghost output_linked: { AreLinks (listed_names outputs.items) output_links },
     ghost grouped: { AreGroups (map listed_bearer inputs.items) groups },
     ghost sharing: { map (λ names. texts names.items) shared.items ≡ map (shared_above (map listed_bearer outputs.items)) (map listed_bearer inputs.items) },
 }
@@ -82,16 +76,12 @@ impl<'a> BothRecords<'a> {
     {
         let inputs = listed(alloc, Side::In, input)?;
         let outputs = listed(alloc, Side::Out, output)?;
-        let input_links = NameLinks::of(alloc, inputs.as_slice())?;
-        let output_links = NameLinks::of(alloc, outputs.as_slice())?;
         let groups = GroupNames::of(alloc, inputs.as_slice())?;
         let output_groups = GroupNames::of(alloc, outputs.as_slice())?;
         let shared = shared_names(alloc, &output_groups, inputs.as_slice())?;
         Ok(BothRecords {
             inputs,
             outputs,
-            input_links,
-            output_links,
             groups,
             shared,
         })
@@ -109,27 +99,6 @@ impl<'a> BothRecords<'a> {
         ensures { result.now ≡ self.now.outputs.items }
     {
         self.outputs.as_slice()
-    }
-
-    /// Whether an entry of the input record has this name.
-    pub fn has_input(&self, name: &[u8]) -> bool
-        ensures { result ≡ is_listed name.now self.now.inputs.items }
-    {
-        self.input_links.has(name)
-    }
-
-    /// The links between the entries of the input record.
-    pub(crate) fn input_links(&self) -> &NameLinks<'a>
-        ensures { result.now ≡ self.now.input_links }
-    {
-        &self.input_links
-    }
-
-    /// The links between the entries of the output record.
-    pub(crate) fn output_links(&self) -> &NameLinks<'a>
-        ensures { result.now ≡ self.now.output_links }
-    {
-        &self.output_links
     }
 
     /// Of the names of the groups above the entry of the input record at this place, its record left out, those that groups of the output record have.

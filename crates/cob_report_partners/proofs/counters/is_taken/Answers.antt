@@ -1,22 +1,16 @@
-use Rattle.std.proofs.Common.{◌≡◌, sym, subst, ◌∙◌}
-use Rattle.cob_report_partners.proofs.CounterLemmas.{taken_first, taken_rest}
+use Rattle.std.proofs.Common.{sym, ap, ◌∙◌}
+use Rattle.cob_report_partners.proofs.CounterLemmas.{is_listed, taken_first, taken_rest}
 use Rattle.cob_report_partners.proofs.counters.is_taken.Goals as goal
-use Rattle.cob_report_partners.proofs.counters.is_taken.Goals.{After-has}
-use Rattle.cob_report_partners.specs.Linked.{AreLinks, is_listed, listed_names}
 
--- what the links of the input record tell
-of_input : (c : After-has) → c.has.result ≡ is_listed c.args.name.now c.args.records.now.inputs.items
-of_input c =
+pub returns-then-is_taken_among : goal.returns-then-is_taken_among
+returns-then-is_taken_among c =
     let r = c.args.records.now in
-    c.has.ensures r.inputs.items (subst (AreLinks (listed_names r.inputs.items)) (sym c.input_links.ensures) r.input_linked)
-
-pub returns-then-has : goal.returns-then-has
-returns-then-has c =
-    let r = c.args.records.now in
-    sym (taken_first c.args.name.now r.inputs.items r.outputs.items (sym (of_input (goal.at.returns-then-has c).After-has) ∙ c.if-has.true))
+    let name = c.args.name.now in
+    sym (taken_first name r.inputs.items r.outputs.items (ap (is_listed name) (sym c.inputs.ensures) ∙ sym c.is_taken_among.ensures ∙ c.if-is_taken_among.true))
 
 pub returns : goal.returns
 returns c =
     let r = c.args.records.now in
-    c.has-2.ensures r.outputs.items (subst (AreLinks (listed_names r.outputs.items)) (sym c.output_links.ensures) r.output_linked)
-    ∙ sym (taken_rest c.args.name.now r.inputs.items r.outputs.items (sym (of_input (goal.at.returns c).After-has) ∙ c.if-has.false))
+    let name = c.args.name.now in
+    c.is_taken_among-2.ensures ∙ ap (is_listed name) c.outputs.ensures
+    ∙ sym (taken_rest name r.inputs.items r.outputs.items (ap (is_listed name) (sym c.inputs.ensures) ∙ sym c.is_taken_among.ensures ∙ c.if-is_taken_among.false))
