@@ -11,3 +11,12 @@ pub mod PieceLemmas
 pub mod PassageLemmas
 pub mod PlainLemmas
 pub mod LoopLemmas
+mod FlowLemmas
+mod DeedsLemmas
+mod MadeLemmas
+mod CloseLemmas
+mod ReadingLemmas
+mod TurnsLemmas
+mod TestedLemmas
+mod BodyLemmas
+mod JoinedLemmas

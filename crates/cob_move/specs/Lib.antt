@@ -8,3 +8,7 @@ pub mod MeaningLaws
 pub mod Among
 pub mod Pieces
 pub mod Loops
+pub mod Joined
+pub mod Deeds
+pub mod DeedsRead
+pub mod DeedsLaws

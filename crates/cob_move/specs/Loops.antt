@@ -51,6 +51,7 @@ pub record AddsRun (e : Entries) (words : List Lexeme) (old new : List Statement
   pub own : List StatementMoves
   pub spelled : Several IsEndedStatement statements words
   pub meant : AreMeaningsAmong e statements own
+  pub many : length own ≡ length statements
   pub added : new ≡ old ++ own
 
 -- runs spell statements, and these mean the moves

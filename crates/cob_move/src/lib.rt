@@ -45,10 +45,15 @@
 //! The clauses `found`, `only`, `fault` of `all_meant` and of `Paragraph::read`, those of `Paragraph::with_reading`; its laws.
 #![tactic(auto)]
 
+mod body;
 mod corresponding;
+mod deeds;
+mod deeds_laws;
 mod entries;
 mod laws;
+mod linking;
 mod loops;
+mod made;
 mod meaning;
 mod meaning_laws;
 mod paragraph;
@@ -65,6 +70,7 @@ pub use cob_move_data::{Side, StatementMoves};
 pub use cob_move_initial::{initial, one_initial};
 pub use cob_move_names::pairs;
 pub use cob_move_statements::{MoveFault, MoveRule};
+pub use deeds_laws::{deeds_break_no_rule, joined_is_both, one_deeds};
 pub use laws::{one_paragraph, paragraph_breaks_no_rule, plain_paragraph};
 pub use meaning::all_meant;
 pub use meaning_laws::{

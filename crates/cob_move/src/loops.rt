@@ -38,7 +38,7 @@ pub(crate) fn body_of(words: &[Token]) -> &[Token]
 }
 
 /// A fault of loops on this line.
-fn fault_of(rule: MoveRule, line: u32) -> MoveFault
+pub(crate) fn fault_of(rule: MoveRule, line: u32) -> MoveFault
     ensures { (result.rule ≡ rule) × (result.line ≡ line) }
 {
     MoveFault { rule, line }
@@ -143,7 +143,7 @@ fn check_passage(body: &[Token]) -> Result<(), MoveFault>
 /// # Errors
 ///
 /// `Grammar`, `TooMany`, `Counter`; `Memory`.
-fn judge(alloc: Global, names: &Names<'_>, body: &[Token]) -> Result<(), MoveFault>
+pub(crate) fn judge(alloc: Global, names: &Names<'_>, body: &[Token]) -> Result<(), MoveFault>
     ensures found { OnOk result (HasJudged (entries_named names.now) (lexemes body.now)) }
     ensures fault { IfErr result (λ f. IsPassageRefusal f.rule f.line (entries_named names.now)
         (lexemes body.now)) }
@@ -159,7 +159,7 @@ fn judge(alloc: Global, names: &Names<'_>, body: &[Token]) -> Result<(), MoveFau
 /// # Errors
 ///
 /// The rule that the words or one of their statements break, with its line; `Memory`.
-fn add_words(
+pub(crate) fn add_words(
     alloc: Global,
     entries: &Entries<'_, '_>,
     pairs: &mut Correspondences<'_>,
