@@ -15,7 +15,8 @@ use Rattle.cob_move_data.specs.declared.operands.StatementMoves.TheVariants.{Sin
 use Rattle.cob_layout_places.specs.declared.reference.Ref.{Ref}
 use Rattle.cob_move_data.specs.Moves.{AreMoves, IsMove, IsOperand, IsSender, Move, Records, entry_below, move, numbered_move, numbered_move_by, operand_in, sender, sender_by, statement_moves}
 use Rattle.cob_move_apply.specs.Planned.{AreMore, IsPartIn, IsStatementAt, meant}
-use Rattle.cob_move_apply.specs.Steps.{pair_at}
+use Rattle.cob_move_apply.specs.Steps.{Gains, pair_at}
+use Rattle.cob_move_apply.specs.declared.step.Plan.{Plan}
 use Rattle.cob_move_apply.specs.declared.step.Step.{Step}
 use Rattle.cob_move_apply.specs.declared.planning.StatementPart.{StatementPart}
 use Rattle.cob_move_apply.proofs.ListLemmas.{next}
@@ -96,6 +97,13 @@ pub more_in_pair : (x : Reading) (r : Records) (g : PairMoves) (i : ℕ) (pair :
     → AreMore r (numbered_move_by x r g (pair_at g i) ∷ []) a b
 more_in_pair x r g i pair from to rs a b lt is from_is to_is received h =
     subst (λ (m : Move). AreMore r (m ∷ []) a b) (same_pair x r g i pair from to rs lt is from_is to_is received) h
+
+-- so is what a plan gained by it
+pub gains_in_pair : (x : Reading) (r : Records) (given : List StatementMoves) (g : PairMoves) (i : ℕ) (pair : NumberedPair) (from to : Ref) (rs : List Ref) (a b : Plan) → i < length g.pairs.items → pair ≡ get_or g.pairs.items i pair
+    → from ≡ entry_below g.from pair.from → to ≡ entry_below g.to pair.to → rs ≡ to ∷ [] → Gains x r given (move_with x r (code_sender.Entry g.side from) rs ∷ []) a b
+    → Gains x r given (numbered_move_by x r g (pair_at g i) ∷ []) a b
+gains_in_pair x r given g i pair from to rs a b lt is from_is to_is received h =
+    subst (λ (m : Move). Gains x r given (m ∷ []) a b) (same_pair x r g i pair from to rs lt is from_is to_is received) h
 
 -- ---- one receiver
 

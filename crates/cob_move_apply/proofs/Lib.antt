@@ -13,6 +13,8 @@ pub mod CopyLemmas
 pub mod PlainLemmas
 pub mod JoinLemmas
 pub mod PlanLemmas
+pub mod MarkLemmas
+pub mod ReadsLemmas
 pub mod InLemmas
 pub mod PartLemmas
 pub mod PreparedLemmas

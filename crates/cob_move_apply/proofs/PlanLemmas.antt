@@ -11,13 +11,13 @@ use Rattle.cob_move_data.specs.declared.operands.Side.TheVariants.{In, Out}
 use Rattle.cob_move_data.specs.declared.operands.StatementMoves.{StatementMoves}
 use Rattle.cob_move_data.specs.Moves.{Move, Records, Sender, moves_by, numbered_move_by, operand_in, record_of, statement_moves_by}
 use Rattle.cob_move_apply.specs.Placed.{IsPlaced, IsPlacedMove}
-use Rattle.cob_move_apply.specs.Steps.{AreMovesCut, AreSteps, BeginsWith, CarriesLocated, Gains, GainsCut, IsMoveOfPart, IsOfConstant, IsPicturedMove, IsLocatedMove, IsReadyAnywhere, IsReadyConstant, IsStep, StandFor, Support, WritesFor, alone, constant_move, copied_move, pair_at, singles, support_of}
+use Rattle.cob_move_apply.specs.Steps.{AreMovesCut, AreSteps, BeginsWith, CarriesLocated, Gains, GainsCut, Grows, IsLonger, IsMoveOfPart, IsOfConstant, IsPicturedMove, IsLocatedMove, IsReadyAnywhere, IsReadyConstant, IsStep, StandFor, Support, WritesFor, alone, constant_move, copied_move, pair_at, singles, support_of}
 use Rattle.cob_copybook_tree.specs.declared.node.Kind.{Kind}
 use Rattle.cob_copybook_entry.specs.Described.{PlainValue}
 use Rattle.cob_move_steps.specs.Copies.{IsConstantStep}
 use Rattle.cob_move_steps.specs.Pictured.{KeepsPictured}
 use Rattle.cob_move_steps.specs.declared.constant_step.ConstantStep.{ConstantStep}
-use Rattle.cob_move_steps.proofs.PoolLemmas.{Grows as IsLonger, as_before, kept_at, put_at}
+use Rattle.cob_move_steps.proofs.PoolLemmas.{as_before, kept_at, put_at}
 use Rattle.cob_move_steps.specs.Pool.{IsStepAt, KeepsSteps}
 use Rattle.cob_move_steps.specs.declared.pictured.PicturedSteps.{PicturedSteps}
 use Rattle.cob_move_steps.specs.declared.pool.MoveStep.TheVariants as move_step
@@ -37,7 +37,7 @@ use Rattle.cob_move_apply.specs.declared.step.Step.TheVariants as step
 use Rattle.cob_move_apply.specs.Joined.{steps_in}
 use Rattle.cob_move_apply.specs.Planned.{AreMore, counted_steps}
 use Rattle.cob_move_apply.proofs.CutLemmas.{cut_both}
-use Rattle.cob_move_apply.proofs.JoinLemmas.{all_told, more_as, more_both}
+use Rattle.cob_move_apply.proofs.JoinLemmas.{all_told, more_as, more_both, more_none}
 
 -- ---- more bases
 
@@ -61,16 +61,32 @@ part_still x r given bases more p m is = record {
   placed = begins_still r m (drop p.base bases) (drop p.base (bases ++ more)) more (drop_behind p.base bases more is.within) is.placed;
 }
 
--- what steps rest on became more
-pub record Grows (a b : Support) : Type 0 where
-  pub more : List Basis
-  pub bases : b.bases ≡ a.bases ++ more
-  pub prepared : KeepsSteps a.prepared b.prepared
-  pub pictured : KeepsPictured a.pictured b.pictured
-  pub constants : IsLonger ConstantStep a.constants b.constants
-  pub located : IsLonger LocatedMove a.located b.located
-  pub located_constants : IsLonger LocatedConstant a.located_constants b.located_constants
-  pub within : IsLonger LocatedMove a.within b.within
+longer_both : (T : Type 0) (a b c : List T) → IsLonger T a b → IsLonger T b c → IsLonger T a c
+longer_both T a b c (own, first) (more, then) = (own ++ more, then ∙ ap (λ (xs : List T). xs ++ more) first ∙ append_assoc a own more)
+
+pub grows_same : (on : Support) → Grows on on
+grows_same on = record {
+  more = [];
+  bases = sym (append-nil on.bases);
+  prepared = λ k t h. h;
+  pictured = λ k t h. h;
+  constants = as_before ConstantStep on.constants;
+  located = as_before LocatedMove on.located;
+  located_constants = as_before LocatedConstant on.located_constants;
+  within = as_before LocatedMove on.within;
+}
+
+pub grows_both : (a b c : Support) → Grows a b → Grows b c → Grows a c
+grows_both a b c first then = record {
+  more = first.more ++ then.more;
+  bases = then.bases ∙ ap (λ (bs : List Basis). bs ++ then.more) first.bases ∙ append_assoc a.bases first.more then.more;
+  prepared = λ k t h. then.prepared k t (first.prepared k t h);
+  pictured = λ k t h. then.pictured k t (first.pictured k t h);
+  constants = longer_both ConstantStep a.constants b.constants c.constants first.constants then.constants;
+  located = longer_both LocatedMove a.located b.located c.located first.located then.located;
+  located_constants = longer_both LocatedConstant a.located_constants b.located_constants c.located_constants first.located_constants then.located_constants;
+  within = longer_both LocatedMove a.within b.within c.within first.within then.within;
+}
 
 -- what is meant of a step is more
 step_as : (T : Type 0) (holds also : T → Type 0) (steps : List T) (n : ℕ) → ((s : T) → holds s → also s) → IsStepAt T holds steps n → IsStepAt T also steps n
@@ -139,7 +155,7 @@ step_still x r given a b (step.WithinNumber p) own more ((k, is, fixed), before)
 step_still x r given a b (step.WithinEdited p) own more ((k, is, fixed), before) = ((k, more.prepared k (move_step.Edited p.number) is, fixed), before)
 step_still x r given a b (step.LocatedWithin number) own more is = located_still Out x r a b number own a.within b.within more more.within is
 
-steps_still : (x : Reading) (r : Records) (given : List StatementMoves) (a b : Support) (ss : List Step) (parts : List Move) → Grows a b
+pub steps_still : (x : Reading) (r : Records) (given : List StatementMoves) (a b : Support) (ss : List Step) (parts : List Move) → Grows a b
     → AreSteps x r given a ss parts → AreSteps x r given b ss parts
 steps_still x r given a b [] parts more h = h
 steps_still x r given a b (s ∷ ss) parts more (own, rest, cut, is, others) =
@@ -180,61 +196,62 @@ by_itself x r given on old mid new s parts next same is are step =
     subst (λ (ss : List Step). AreSteps x r given on ss (parts ++ next)) (sym is)
     (step_behind x r given on mid s parts next (subst (λ (ss : List Step). AreSteps x r given on ss parts) same are) step)
 
+-- what these rest on became more, and there are steps for these moves behind those before
+abbrev pub Gained : Reading → Records → List StatementMoves → (a b : Support) → (old new : List Step) → List Move → Type 0
+Gained x r given a b old new own = Grows a b × ((parts : List Move) → AreSteps x r given a old parts → AreSteps x r given b new (parts ++ own))
+
 -- a step behind steps, where what these rest on became more
-pub by_more : (x : Reading) (r : Records) (given : List StatementMoves) (a b : Support) (old new : List Step) (s : Step) (parts own : List Move)
-    → Grows a b → new ≡ old ++ s ∷ [] → IsStep x r given b s own → AreSteps x r given a old parts → AreSteps x r given b new (parts ++ own)
-by_more x r given a b old new s parts own more is one are =
-    subst (λ (ss : List Step). AreSteps x r given b ss (parts ++ own)) (sym is)
-    (step_behind x r given b old s parts own (steps_still x r given a b old parts more are) one)
+pub by_more : (x : Reading) (r : Records) (given : List StatementMoves) (a b : Support) (old new : List Step) (s : Step) (own : List Move)
+    → Grows a b → new ≡ old ++ s ∷ [] → IsStep x r given b s own → Gained x r given a b old new own
+by_more x r given a b old new s own more is one = (
+  more,
+  λ parts are. subst (λ (ss : List Step). AreSteps x r given b ss (parts ++ own)) (sym is)
+      (step_behind x r given b old s parts own (steps_still x r given a b old parts more are) one),
+)
 
 -- a part behind steps, whose bases are put behind the bases
-pub by_part : (x : Reading) (r : Records) (given : List StatementMoves) (prepared : MoveSteps) (pictured : PicturedSteps) (constants : List ConstantStep) (located : List LocatedMove) (located_constants : List LocatedConstant) (within : List LocatedMove) (old_bases new_bases own : List Basis) (old new : List Step) (p : Part) (m : Move) (parts : List Move)
+pub by_part : (x : Reading) (r : Records) (given : List StatementMoves) (prepared : MoveSteps) (pictured : PicturedSteps) (constants : List ConstantStep) (located : List LocatedMove) (located_constants : List LocatedConstant) (within : List LocatedMove) (old_bases new_bases own : List Basis) (old new : List Step) (p : Part) (m : Move)
     → new_bases ≡ old_bases ++ own → new ≡ old ++ step.Part p ∷ [] → IsMoveOfPart x r given (old_bases ++ own) p m
-    → AreSteps x r given (record { bases = old_bases; prepared = prepared; pictured = pictured; constants = constants; located = located; located_constants = located_constants; within = within }) old parts
-    → AreSteps x r given (record { bases = new_bases; prepared = prepared; pictured = pictured; constants = constants; located = located; located_constants = located_constants; within = within }) new (parts ++ m ∷ [])
-by_part x r given prepared pictured constants located located_constants within old_bases new_bases own old new p m parts grown is part are =
-    by_more x r given (record { bases = old_bases; prepared = prepared; pictured = pictured; constants = constants; located = located; located_constants = located_constants; within = within }) (record { bases = new_bases; prepared = prepared; pictured = pictured; constants = constants; located = located; located_constants = located_constants; within = within }) old new (step.Part p) parts (m ∷ [])
-    (record { more = own; bases = grown; prepared = λ k t h. h; pictured = λ k t h. h; constants = as_before ConstantStep constants; located = as_before LocatedMove located; located_constants = as_before LocatedConstant located_constants; within = as_before LocatedMove within }) is (m, refl, subst (λ (bs : List Basis). IsMoveOfPart x r given bs p m) (sym grown) part) are
+    → Gained x r given (record { bases = old_bases; prepared = prepared; pictured = pictured; constants = constants; located = located; located_constants = located_constants; within = within }) (record { bases = new_bases; prepared = prepared; pictured = pictured; constants = constants; located = located; located_constants = located_constants; within = within }) old new (m ∷ [])
+by_part x r given prepared pictured constants located located_constants within old_bases new_bases own old new p m grown is part =
+    by_more x r given (record { bases = old_bases; prepared = prepared; pictured = pictured; constants = constants; located = located; located_constants = located_constants; within = within }) (record { bases = new_bases; prepared = prepared; pictured = pictured; constants = constants; located = located; located_constants = located_constants; within = within }) old new (step.Part p) (m ∷ [])
+    (record { more = own; bases = grown; prepared = λ k t h. h; pictured = λ k t h. h; constants = as_before ConstantStep constants; located = as_before LocatedMove located; located_constants = as_before LocatedConstant located_constants; within = as_before LocatedMove within }) is (m, refl, subst (λ (bs : List Basis). IsMoveOfPart x r given bs p m) (sym grown) part)
 
 -- the same, where the part was made ready for senders that are read as their pictures say
 pub by_pictured : (x : Reading) (r : Records) (given : List StatementMoves) (prepared : MoveSteps) (pictured : PicturedSteps) (constants : List ConstantStep) (located : List LocatedMove) (located_constants : List LocatedConstant) (within : List LocatedMove) (old_bases new_bases own : List Basis) (old new : List Step) (q : PicturedMove) (p : Part) (m : Move)
-    (parts : List Move) → new_bases ≡ old_bases ++ own → new ≡ old ++ step.Pictured q p ∷ [] → IsMoveOfPart x r given (old_bases ++ own) p m → (x ≡ Pictured → IsPicturedMove r pictured q (m ∷ []))
-    → AreSteps x r given (record { bases = old_bases; prepared = prepared; pictured = pictured; constants = constants; located = located; located_constants = located_constants; within = within }) old parts
-    → AreSteps x r given (record { bases = new_bases; prepared = prepared; pictured = pictured; constants = constants; located = located; located_constants = located_constants; within = within }) new (parts ++ m ∷ [])
-by_pictured x r given prepared pictured constants located located_constants within old_bases new_bases own old new q p m parts grown is part so are =
-    by_more x r given (record { bases = old_bases; prepared = prepared; pictured = pictured; constants = constants; located = located; located_constants = located_constants; within = within }) (record { bases = new_bases; prepared = prepared; pictured = pictured; constants = constants; located = located; located_constants = located_constants; within = within }) old new (step.Pictured q p) parts (m ∷ [])
+    → new_bases ≡ old_bases ++ own → new ≡ old ++ step.Pictured q p ∷ [] → IsMoveOfPart x r given (old_bases ++ own) p m → (x ≡ Pictured → IsPicturedMove r pictured q (m ∷ []))
+    → Gained x r given (record { bases = old_bases; prepared = prepared; pictured = pictured; constants = constants; located = located; located_constants = located_constants; within = within }) (record { bases = new_bases; prepared = prepared; pictured = pictured; constants = constants; located = located; located_constants = located_constants; within = within }) old new (m ∷ [])
+by_pictured x r given prepared pictured constants located located_constants within old_bases new_bases own old new q p m grown is part so =
+    by_more x r given (record { bases = old_bases; prepared = prepared; pictured = pictured; constants = constants; located = located; located_constants = located_constants; within = within }) (record { bases = new_bases; prepared = prepared; pictured = pictured; constants = constants; located = located; located_constants = located_constants; within = within }) old new (step.Pictured q p) (m ∷ [])
     (record { more = own; bases = grown; prepared = λ k t h. h; pictured = λ k t h. h; constants = as_before ConstantStep constants; located = as_before LocatedMove located; located_constants = as_before LocatedConstant located_constants; within = as_before LocatedMove within }) is
-    (m, refl, (subst (λ (bs : List Basis). IsMoveOfPart x r given bs p m) (sym grown) part, so)) are
+    (m, refl, (subst (λ (bs : List Basis). IsMoveOfPart x r given bs p m) (sym grown) part, so))
 
 -- the move of a constant that was made ready behind steps
 pub by_constant : (x : Reading) (r : Records) (given : List StatementMoves) (bases : List Basis) (prepared : MoveSteps) (pictured : PicturedSteps) (located : List LocatedMove) (located_constants : List LocatedConstant) (within : List LocatedMove) (before now : List ConstantStep) (written : ConstantStep) (old new : List Step)
-    (c : ConstantMove) (constant : PlainValue) (to : Kind) (parts own : List Move) → now ≡ before ++ written ∷ [] → c.number ≡ length before → IsConstantStep constant to c.to.length written → IsFixedConstant r c.to constant to own
-    → new ≡ old ++ step.Constant c ∷ [] → AreSteps x r given (record { bases = bases; prepared = prepared; pictured = pictured; constants = before; located = located; located_constants = located_constants; within = within }) old parts
-    → AreSteps x r given (record { bases = bases; prepared = prepared; pictured = pictured; constants = now; located = located; located_constants = located_constants; within = within }) new (parts ++ own)
-by_constant x r given bases prepared pictured located located_constants within before now written old new c constant to parts own grown here writes fixed is are =
-    by_more x r given (record { bases = bases; prepared = prepared; pictured = pictured; constants = before; located = located; located_constants = located_constants; within = within }) (record { bases = bases; prepared = prepared; pictured = pictured; constants = now; located = located; located_constants = located_constants; within = within }) old new (step.Constant c) parts own
+    (c : ConstantMove) (constant : PlainValue) (to : Kind) (own : List Move) → now ≡ before ++ written ∷ [] → c.number ≡ length before → IsConstantStep constant to c.to.length written → IsFixedConstant r c.to constant to own
+    → new ≡ old ++ step.Constant c ∷ [] → Gained x r given (record { bases = bases; prepared = prepared; pictured = pictured; constants = before; located = located; located_constants = located_constants; within = within }) (record { bases = bases; prepared = prepared; pictured = pictured; constants = now; located = located; located_constants = located_constants; within = within }) old new (own)
+by_constant x r given bases prepared pictured located located_constants within before now written old new c constant to own grown here writes fixed is =
+    by_more x r given (record { bases = bases; prepared = prepared; pictured = pictured; constants = before; located = located; located_constants = located_constants; within = within }) (record { bases = bases; prepared = prepared; pictured = pictured; constants = now; located = located; located_constants = located_constants; within = within }) old new (step.Constant c) own
     (record { more = []; bases = sym (append-nil bases); prepared = λ k t h. h; pictured = λ k t h. h; constants = (written ∷ [], grown); located = as_before LocatedMove located; located_constants = as_before LocatedConstant located_constants; within = as_before LocatedMove within }) is
-    (constant, to, put_at ConstantStep (λ step. IsConstantStep constant to c.to.length step) before now written c.number grown here writes, fixed) are
+    (constant, to, put_at ConstantStep (λ step. IsConstantStep constant to c.to.length step) before now written c.number grown here writes, fixed)
 
 -- a move that was made ready wherever its items stand behind steps
 pub by_located : (x : Reading) (r : Records) (given : List StatementMoves) (bases : List Basis) (prepared : MoveSteps) (pictured : PicturedSteps) (constants : List ConstantStep) (located_constants : List LocatedConstant) (within before now : List LocatedMove) (one : LocatedMove) (old new : List Step)
-    (number : ℕ) (parts own : List Move) → now ≡ before ++ one ∷ [] → number ≡ length before → IsReadyAnywhere In r prepared pictured one → own ≡ copied_move In x r one.sent one.receiver ∷ []
-    → new ≡ old ++ step.Located number ∷ [] → AreSteps x r given (record { bases = bases; prepared = prepared; pictured = pictured; constants = constants; located = before; located_constants = located_constants; within = within }) old parts
-    → AreSteps x r given (record { bases = bases; prepared = prepared; pictured = pictured; constants = constants; located = now; located_constants = located_constants; within = within }) new (parts ++ own)
-by_located x r given bases prepared pictured constants located_constants within before now one old new number parts own grown here ready same is are =
-    by_more x r given (record { bases = bases; prepared = prepared; pictured = pictured; constants = constants; located = before; located_constants = located_constants; within = within }) (record { bases = bases; prepared = prepared; pictured = pictured; constants = constants; located = now; located_constants = located_constants; within = within }) old new (step.Located number) parts own
+    (number : ℕ) (own : List Move) → now ≡ before ++ one ∷ [] → number ≡ length before → IsReadyAnywhere In r prepared pictured one → own ≡ copied_move In x r one.sent one.receiver ∷ []
+    → new ≡ old ++ step.Located number ∷ [] → Gained x r given (record { bases = bases; prepared = prepared; pictured = pictured; constants = constants; located = before; located_constants = located_constants; within = within }) (record { bases = bases; prepared = prepared; pictured = pictured; constants = constants; located = now; located_constants = located_constants; within = within }) old new (own)
+by_located x r given bases prepared pictured constants located_constants within before now one old new number own grown here ready same is =
+    by_more x r given (record { bases = bases; prepared = prepared; pictured = pictured; constants = constants; located = before; located_constants = located_constants; within = within }) (record { bases = bases; prepared = prepared; pictured = pictured; constants = constants; located = now; located_constants = located_constants; within = within }) old new (step.Located number) own
     (record { more = []; bases = sym (append-nil bases); prepared = λ k t h. h; pictured = λ k t h. h; constants = as_before ConstantStep constants; located = (one ∷ [], grown); located_constants = as_before LocatedConstant located_constants; within = as_before LocatedMove within }) is
-    (put_at LocatedMove (λ p. IsReadyAnywhere In r prepared pictured p × (own ≡ copied_move In x r p.sent p.receiver ∷ [])) before now one number grown here (ready, same)) are
+    (put_at LocatedMove (λ p. IsReadyAnywhere In r prepared pictured p × (own ≡ copied_move In x r p.sent p.receiver ∷ [])) before now one number grown here (ready, same))
 
 -- the same of one within the output record
 pub by_located_within : (x : Reading) (r : Records) (given : List StatementMoves) (bases : List Basis) (prepared : MoveSteps) (pictured : PicturedSteps) (constants : List ConstantStep) (located : List LocatedMove) (located_constants : List LocatedConstant)
-    (before now : List LocatedMove) (one : LocatedMove) (old new : List Step) (number : ℕ) (parts own : List Move) → now ≡ before ++ one ∷ [] → number ≡ length before → IsReadyAnywhere Out r prepared pictured one
+    (before now : List LocatedMove) (one : LocatedMove) (old new : List Step) (number : ℕ) (own : List Move) → now ≡ before ++ one ∷ [] → number ≡ length before → IsReadyAnywhere Out r prepared pictured one
     → own ≡ copied_move Out x r one.sent one.receiver ∷ [] → new ≡ old ++ step.LocatedWithin number ∷ []
-    → AreSteps x r given (record { bases = bases; prepared = prepared; pictured = pictured; constants = constants; located = located; located_constants = located_constants; within = before }) old parts
-    → AreSteps x r given (record { bases = bases; prepared = prepared; pictured = pictured; constants = constants; located = located; located_constants = located_constants; within = now }) new (parts ++ own)
-by_located_within x r given bases prepared pictured constants located located_constants before now one old new number parts own grown here ready same is are =
+    → Gained x r given (record { bases = bases; prepared = prepared; pictured = pictured; constants = constants; located = located; located_constants = located_constants; within = before }) (record { bases = bases; prepared = prepared; pictured = pictured; constants = constants; located = located; located_constants = located_constants; within = now }) old new (own)
+by_located_within x r given bases prepared pictured constants located located_constants before now one old new number own grown here ready same is =
     by_more x r given (record { bases = bases; prepared = prepared; pictured = pictured; constants = constants; located = located; located_constants = located_constants; within = before })
-    (record { bases = bases; prepared = prepared; pictured = pictured; constants = constants; located = located; located_constants = located_constants; within = now }) old new (step.LocatedWithin number) parts own
+    (record { bases = bases; prepared = prepared; pictured = pictured; constants = constants; located = located; located_constants = located_constants; within = now }) old new (step.LocatedWithin number) own
     (record {
       more = [];
       bases = sym (append-nil bases);
@@ -245,19 +262,18 @@ by_located_within x r given bases prepared pictured constants located located_co
       located_constants = as_before LocatedConstant located_constants;
       within = (one ∷ [], grown);
     }) is
-    (put_at LocatedMove (λ p. IsReadyAnywhere Out r prepared pictured p × (own ≡ copied_move Out x r p.sent p.receiver ∷ [])) before now one number grown here (ready, same)) are
+    (put_at LocatedMove (λ p. IsReadyAnywhere Out r prepared pictured p × (own ≡ copied_move Out x r p.sent p.receiver ∷ [])) before now one number grown here (ready, same))
 
 -- the move of a constant that was made ready wherever its receiver stands behind steps
 pub by_located_constant : (x : Reading) (r : Records) (given : List StatementMoves) (bases : List Basis) (prepared : MoveSteps) (pictured : PicturedSteps) (located within : List LocatedMove) (few many : List ConstantStep) (written : ConstantStep)
-    (before now : List LocatedConstant) (one : LocatedConstant) (constant : PlainValue) (old new : List Step) (number : ℕ) (parts own : List Move) → many ≡ few ++ written ∷ [] → one.number ≡ length few → now ≡ before ++ one ∷ [] → number ≡ length before
+    (before now : List LocatedConstant) (one : LocatedConstant) (constant : PlainValue) (old new : List Step) (number : ℕ) (own : List Move) → many ≡ few ++ written ∷ [] → one.number ≡ length few → now ≡ before ++ one ∷ [] → number ≡ length before
     → IsPlaced r.output true (operand_in r.output one.receiver) one.to → WritesFor constant (operand_in r.output one.receiver).kind written → own ≡ constant_move r constant one.receiver ∷ []
-    → new ≡ old ++ step.LocatedConstant number ∷ [] → AreSteps x r given (record { bases = bases; prepared = prepared; pictured = pictured; constants = few; located = located; located_constants = before; within = within }) old parts
-    → AreSteps x r given (record { bases = bases; prepared = prepared; pictured = pictured; constants = many; located = located; located_constants = now; within = within }) new (parts ++ own)
-by_located_constant x r given bases prepared pictured located within few many written before now one constant old new number parts own longer there grown here placed writes same is are =
-    by_more x r given (record { bases = bases; prepared = prepared; pictured = pictured; constants = few; located = located; located_constants = before; within = within }) (record { bases = bases; prepared = prepared; pictured = pictured; constants = many; located = located; located_constants = now; within = within }) old new (step.LocatedConstant number) parts own
+    → new ≡ old ++ step.LocatedConstant number ∷ [] → Gained x r given (record { bases = bases; prepared = prepared; pictured = pictured; constants = few; located = located; located_constants = before; within = within }) (record { bases = bases; prepared = prepared; pictured = pictured; constants = many; located = located; located_constants = now; within = within }) old new (own)
+by_located_constant x r given bases prepared pictured located within few many written before now one constant old new number own longer there grown here placed writes same is =
+    by_more x r given (record { bases = bases; prepared = prepared; pictured = pictured; constants = few; located = located; located_constants = before; within = within }) (record { bases = bases; prepared = prepared; pictured = pictured; constants = many; located = located; located_constants = now; within = within }) old new (step.LocatedConstant number) own
     (record { more = []; bases = sym (append-nil bases); prepared = λ k t h. h; pictured = λ k t h. h; constants = (written ∷ [], longer); located = as_before LocatedMove located; located_constants = (one ∷ [], grown); within = as_before LocatedMove within }) is
     (put_at LocatedConstant (IsOfConstant r many own) before now one number grown here
-    (constant, record { receives = placed; writes = put_at ConstantStep (WritesFor constant (operand_in r.output one.receiver).kind) few many written one.number longer there writes }, same)) are
+    (constant, record { receives = placed; writes = put_at ConstantStep (WritesFor constant (operand_in r.output one.receiver).kind) few many written one.number longer there writes }, same))
 
 -- the bases that were put behind others begin there
 pub begin_there : (r : Records) (m : Move) (old own : List Basis) (n : ℕ) → n ≡ length old → IsPlacedMove r m own → BeginsWith r m (drop n (old ++ own))
@@ -267,11 +283,13 @@ begin_there r m old own n is placed =
 -- ---- plans
 
 pub gains_none : (x : Reading) (r : Records) (given : List StatementMoves) (p : Plan) → Gains x r given [] p p
-gains_none x r given p parts are = subst (λ (ps : List Move). AreSteps x r given (support_of p) p.steps.items ps) (sym (append-nil parts)) are
+gains_none x r given p = (grows_same (support_of p), λ parts are. subst (λ (ps : List Move). AreSteps x r given (support_of p) p.steps.items ps) (sym (append-nil parts)) are)
 
 pub gains_both : (x : Reading) (r : Records) (given : List StatementMoves) (ms ns : List Move) (a b c : Plan) → Gains x r given ms a b → Gains x r given ns b c → Gains x r given (ms ++ ns) a c
-gains_both x r given ms ns a b c f g parts are =
-    subst (λ (ps : List Move). AreSteps x r given (support_of c) c.steps.items ps) (append_assoc parts ms ns) (g (parts ++ ms) (f parts are))
+gains_both x r given ms ns a b c f g = (
+  grows_both (support_of a) (support_of b) (support_of c) f.0 g.0,
+  λ parts are. subst (λ (ps : List Move). AreSteps x r given (support_of c) c.steps.items ps) (append_assoc parts ms ns) (g.1 (parts ++ ms) (f.1 parts are)),
+)
 
 pub gains_as : (x : Reading) (r : Records) (given : List StatementMoves) (ms ns : List Move) (a b : Plan) → ms ≡ ns → Gains x r given ms a b → Gains x r given ns a b
 gains_as x r given ms ns a b is f = subst (λ (xs : List Move). Gains x r given xs a b) is f
@@ -280,17 +298,29 @@ gains_as x r given ms ns a b is f = subst (λ (xs : List Move). Gains x r given 
 pub gains_more : (x : Reading) (r : Records) (given : List StatementMoves) (ms : List Move) (a b c : Plan) → b.steps.items ≡ a.steps.items → b.bases.items ≡ a.bases.items → KeepsSteps a.prepared b.prepared
     → KeepsPictured a.pictured b.pictured → b.constants.items ≡ a.constants.items → b.located.items ≡ a.located.items → b.located_constants.items ≡ a.located_constants.items
     → b.within.items ≡ a.within.items → Gains x r given ms b c → Gains x r given ms a c
-gains_more x r given ms a b c same bases kept pictured constants located located_constants within g parts are =
-    g parts (subst (λ (ss : List Step). AreSteps x r given (support_of b) ss parts) (sym same)
-    (steps_still x r given (support_of a) (support_of b) a.steps.items parts (record { more = []; bases = bases ∙ sym (append-nil a.bases.items); prepared = kept; pictured = pictured; constants = ([], constants ∙ sym (append-nil a.constants.items)); located = ([], located ∙ sym (append-nil a.located.items)); located_constants = ([], located_constants ∙ sym (append-nil a.located_constants.items)); within = ([], within ∙ sym (append-nil a.within.items)) }) are))
+gains_more x r given ms a b c same bases kept pictured constants located located_constants within g =
+    let more : Grows (support_of a) (support_of b) = record {
+      more = [];
+      bases = bases ∙ sym (append-nil a.bases.items);
+      prepared = kept;
+      pictured = pictured;
+      constants = ([], constants ∙ sym (append-nil a.constants.items));
+      located = ([], located ∙ sym (append-nil a.located.items));
+      located_constants = ([], located_constants ∙ sym (append-nil a.located_constants.items));
+      within = ([], within ∙ sym (append-nil a.within.items));
+    } in (
+      grows_both (support_of a) (support_of b) (support_of c) more g.0,
+      λ parts are. g.1 parts (subst (λ (ss : List Step). AreSteps x r given (support_of b) ss parts) (sym same)
+          (steps_still x r given (support_of a) (support_of b) a.steps.items parts more are)),
+    )
 
 -- a single move that was made ready behind steps
-pub by_prepared : (x : Reading) (r : Records) (given : List StatementMoves) (bases : List Basis) (pictured : PicturedSteps) (constants : List ConstantStep) (located : List LocatedMove) (located_constants : List LocatedConstant) (within : List LocatedMove) (before now : MoveSteps) (old new : List Step) (s : Step) (parts own : List Move)
+pub by_prepared : (x : Reading) (r : Records) (given : List StatementMoves) (bases : List Basis) (pictured : PicturedSteps) (constants : List ConstantStep) (located : List LocatedMove) (located_constants : List LocatedConstant) (within : List LocatedMove) (before now : MoveSteps) (old new : List Step) (s : Step) (own : List Move)
     → KeepsSteps before now → new ≡ old ++ s ∷ [] → IsStep x r given (record { bases = bases; prepared = now; pictured = pictured; constants = constants; located = located; located_constants = located_constants; within = within }) s own
-    → AreSteps x r given (record { bases = bases; prepared = before; pictured = pictured; constants = constants; located = located; located_constants = located_constants; within = within }) old parts → AreSteps x r given (record { bases = bases; prepared = now; pictured = pictured; constants = constants; located = located; located_constants = located_constants; within = within }) new (parts ++ own)
-by_prepared x r given bases pictured constants located located_constants within before now old new s parts own kept is made are =
-    by_more x r given (record { bases = bases; prepared = before; pictured = pictured; constants = constants; located = located; located_constants = located_constants; within = within }) (record { bases = bases; prepared = now; pictured = pictured; constants = constants; located = located; located_constants = located_constants; within = within }) old new s parts own
-    (record { more = []; bases = sym (append-nil bases); prepared = kept; pictured = λ k t h. h; constants = as_before ConstantStep constants; located = as_before LocatedMove located; located_constants = as_before LocatedConstant located_constants; within = as_before LocatedMove within }) is made are
+    → Gained x r given (record { bases = bases; prepared = before; pictured = pictured; constants = constants; located = located; located_constants = located_constants; within = within }) (record { bases = bases; prepared = now; pictured = pictured; constants = constants; located = located; located_constants = located_constants; within = within }) old new (own)
+by_prepared x r given bases pictured constants located located_constants within before now old new s own kept is made =
+    by_more x r given (record { bases = bases; prepared = before; pictured = pictured; constants = constants; located = located; located_constants = located_constants; within = within }) (record { bases = bases; prepared = now; pictured = pictured; constants = constants; located = located; located_constants = located_constants; within = within }) old new s own
+    (record { more = []; bases = sym (append-nil bases); prepared = kept; pictured = λ k t h. h; constants = as_before ConstantStep constants; located = as_before LocatedMove located; located_constants = as_before LocatedConstant located_constants; within = as_before LocatedMove within }) is made
 
 singles_next : (s : Sender) (os : List Operand) (i : ℕ) (o : Operand) → i < length os → o ≡ get_or os i o → singles s (take i os) ++ alone s o ∷ [] ≡ singles s (take (i + 1) os)
 singles_next s os i o lt is =
@@ -329,13 +359,13 @@ pair_all x r given g i a b past f =
 
 -- ---- statements
 
-moves_append : (x : Reading) (r : Records) (ss ts : List StatementMoves) → moves_by x r (ss ++ ts) ≡ moves_by x r ss ++ moves_by x r ts
+pub moves_append : (x : Reading) (r : Records) (ss ts : List StatementMoves) → moves_by x r (ss ++ ts) ≡ moves_by x r ss ++ moves_by x r ts
 moves_append x r [] ts = refl
 moves_append x r (s ∷ ss) ts =
     ap (λ (ms : List Move). statement_moves_by x r s ++ ms) (moves_append x r ss ts) ∙ sym (append_assoc (statement_moves_by x r s) (moves_by x r ss) (moves_by x r ts))
 
 -- the moves before a statement, and then its own
-statement_next : (x : Reading) (r : Records) (ss : List StatementMoves) (i : ℕ) (s : StatementMoves) → i < length ss → s ≡ get_or ss i s
+pub statement_next : (x : Reading) (r : Records) (ss : List StatementMoves) (i : ℕ) (s : StatementMoves) → i < length ss → s ≡ get_or ss i s
     → moves_by x r (take i ss) ++ statement_moves_by x r s ≡ moves_by x r (take (i + 1) ss)
 statement_next x r ss i s lt is =
     ap (λ (ms : List Move). moves_by x r (take i ss) ++ ms) (sym (append-nil (statement_moves_by x r s)))
@@ -354,12 +384,15 @@ some_statement (s ∷ ss) (suc n) lt = some_statement ss n (omega (arith, lt))
 pub stand_more : (x : Reading) (r : Records) (ss : List StatementMoves) (i : ℕ) (s : StatementMoves) (b c : Plan) → i < length ss → s ≡ get_or ss i s
     → StandFor x r ss b.steps.items (support_of b) (moves_by x r (take i ss)) → GainsCut x r ss (statement_moves_by x r s) b c → StandFor x r ss c.steps.items (support_of c) (moves_by x r (take (i + 1) ss))
 stand_more x r ss i s b c lt is (parts, are, cut) (own, more, g) =
-    (parts ++ own, g parts are, subst (λ (ms : List Move). AreMovesCut r ms (parts ++ own)) (statement_next x r ss i s lt is) (cut_both r (moves_by x r (take i ss)) (statement_moves_by x r s) parts own cut more))
+    (parts ++ own, g.1 parts are, subst (λ (ms : List Move). AreMovesCut r ms (parts ++ own)) (statement_next x r ss i s lt is) (cut_both r (moves_by x r (take i ss)) (statement_moves_by x r s) parts own cut more))
 
 pub stand_all : (x : Reading) (r : Records) (ss : List StatementMoves) (i : ℕ) (steps : List Step) (on : Support) → length ss ≤ i → StandFor x r ss steps on (moves_by x r (take i ss)) → StandFor x r ss steps on (moves_by x r ss)
 stand_all x r ss i steps on past h = subst (λ (ts : List StatementMoves). StandFor x r ss steps on (moves_by x r ts)) (take_all i ss past) h
 
 -- ---- how many steps they make
+
+pub none_yet : (r : Records) (steps : List Step) → steps ≡ [] → AreMore r [] [] steps
+none_yet r steps none = subst (λ (ss : List Step). AreMore r [] [] ss) (sym none) (more_none r [])
 
 pub more_statement : (x : Reading) (r : Records) (ss : List StatementMoves) (i : ℕ) (s : StatementMoves) (a b c : List Step) → i < length ss → s ≡ get_or ss i s
     → AreMore r (moves_by x r (take i ss)) a b → AreMore r (statement_moves_by x r s) b c → AreMore r (moves_by x r (take (i + 1) ss)) a c

@@ -1,6 +1,6 @@
 -- What the reads of moves are as these are carried out.
-use Rattle.std.proofs.Common.{◌≡◌, ℕ, ◌+◌, ◌*◌, ◌<◌, ◌≤◌, Bool, true, false, List, [], ◌∷◌, ◌++◌, ◌-◌, length, get_or, take, drop, map, refl, sym, ap, subst, ◌∙◌, arith, inr, Ok, Err, Result, Option, Some, None}
-use Rattle.std.proofs.lemmas.List.{drop_more, get_or_read}
+use Rattle.std.proofs.Common.{◌≡◌, ℕ, ◌+◌, ◌*◌, ◌<◌, ◌≤◌, Bool, true, false, List, [], ◌∷◌, ◌++◌, ◌-◌, length, get_or, take, drop, map, refl, sym, ap, subst, ◌∙◌, append_assoc, append-nil, arith, inr, Ok, Err, Result, Option, Some, None}
+use Rattle.std.proofs.lemmas.List.{drop_all, drop_more, get_or_read}
 use Rattle.std.proofs.Math.Nat.{mul-add, mul_comm}
 use Rattle.cob_codec.specs.declared.reading.Reading.{Reading}
 use Rattle.cob_codec.specs.declared.reading.Reading.TheVariants.{Pictured}
@@ -19,7 +19,7 @@ use Rattle.cob_move_data.specs.declared.operands.StatementMoves.{StatementMoves}
 use Rattle.cob_move_data.specs.declared.operands.StatementMoves.TheVariants.{Single, Pairs}
 use Rattle.cob_layout_places.specs.declared.reference.Ref.{Ref}
 use Rattle.cob_layout_places.specs.Counts.{tables_of}
-use Rattle.cob_move_data.specs.Moves.{Entry, Move, Records, Sender, entry_below, moves_by, numbered_move_by, operand_in, record_of, sender_by}
+use Rattle.cob_move_data.specs.Moves.{Entry, Move, Records, Sender, entry_below, numbered_move_by, operand_in, record_of, sender_by}
 use Rattle.cob_move_steps.specs.Pool.{IsMoveStep, MoveKinds}
 use Rattle.cob_move_steps.specs.declared.pictured.PicturedStep.{PicturedStep}
 use Rattle.cob_move_steps.specs.declared.pictured.PicturedSteps.{PicturedSteps}
@@ -46,6 +46,7 @@ use Rattle.cob_move_apply.specs.declared.step.Step.{Step}
 use Rattle.cob_move_apply.specs.declared.step.Step.TheVariants as step
 use Rattle.cob_move_apply.specs.declared.stop.Stop.{Stop}
 use Rattle.cob_move_apply.specs.declared.survey.Survey.{Survey}
+use Rattle.cob_move_apply.proofs.CutLemmas.{cut_both, cut_selves}
 use Rattle.cob_move_apply.proofs.LocatedLemmas.{characters_at, characters_there, the_located}
 use Rattle.cob_move_apply.proofs.MetLemmas.{MetFrom, cut_met, met_all, met_more, met_one, met_stops, met_there, none_met, past_moves}
 use Rattle.cob_move_apply.proofs.OneLemmas.{stop_of}
@@ -267,39 +268,39 @@ located_step_spends side x r steps pictured located number own one input before 
 
 -- ---- steps in order
 
-pub spent_steps_first : OneOfNeeded → (x : Reading) (r : Records) (given : List StatementMoves) (steps : List Step) (on : Support) (input before : List ℕ) (s : Survey)
-    → StandFor x r given steps on (moves_by x r given) → s.reads ≡ 0 → SpentSteps x r given steps on 0 input before before s
-spent_steps_first law x r given steps on input before s (parts, are, cut) none = (
+pub spent_steps_first : OneOfNeeded → (x : Reading) (r : Records) (given : List StatementMoves) (ms : List Move) (steps : List Step) (on : Support) (input before : List ℕ) (s : Survey)
+    → StandFor x r given steps on ms → SpentSteps x r given ms steps on 0 input before before s s
+spent_steps_first law x r given ms steps on input before s (parts, are, cut) = (
   parts,
   0,
   are,
-  λ n h. subst (λ (k : ℕ). HaveMet r (moves_by x r given) input before k) (sym (plain n)) (cut_met law r (moves_by x r given) parts input before n cut h),
-  omega (arith, none),
+  λ behind n h. subst (λ (k : ℕ). HaveMet r (ms ++ behind) input before k) (sym (plain n)) (cut_met law r (ms ++ behind) (parts ++ behind) input before n (cut_both r ms behind parts behind cut (cut_selves r behind)) h),
+  spent_none r.output s,
 )
 
 -- the step at a place, with the moves that it stands for
-record NextSpent (x : Reading) (r : Records) (given : List StatementMoves) (steps : List Step) (on : Support) (i : ℕ) (t : Step) (input before now : List ℕ) (s : Survey) : Type 0 where
+record NextSpent (x : Reading) (r : Records) (given : List StatementMoves) (ms : List Move) (steps : List Step) (on : Support) (i : ℕ) (t : Step) (input before now : List ℕ) (first s : Survey) : Type 0 where
   own : List Move
   more : List Move
   met : ℕ
   is : IsStep x r given on t own
   others : AreSteps x r given on (drop (i + 1) steps) more
-  so : (n : ℕ) → HaveMet r (own ++ more) input now n → HaveMet r (moves_by x r given) input before (met + n)
-  most : s.reads ≤ kept_of r.output s + allowed r.output met
+  so : (behind : List Move) (n : ℕ) → HaveMet r (own ++ (more ++ behind)) input now n → HaveMet r (ms ++ behind) input before (met + n)
+  spent : IsSpent r.output met first s
 
-pub spent_still : (x : Reading) (r : Records) (given : List StatementMoves) (steps : List Step) (on : Support) (i : ℕ) (input before now same : List ℕ) (old new : Survey) → same ≡ now → IsSpent r.output 0 old new
-    → SpentSteps x r given steps on i input before now old → SpentSteps x r given steps on i input before same new
-spent_still x r given steps on i input before now same old new is spent (rest, met, are, so, most) = (
+pub spent_still : (x : Reading) (r : Records) (given : List StatementMoves) (ms : List Move) (steps : List Step) (on : Support) (i : ℕ) (input before now same : List ℕ) (first old new : Survey) → same ≡ now → IsSpent r.output 0 old new
+    → SpentSteps x r given ms steps on i input before now first old → SpentSteps x r given ms steps on i input before same first new
+spent_still x r given ms steps on i input before now same first old new is then (rest, met, are, so, spent) = (
   rest,
   met,
   are,
-  subst (λ (bytes : List ℕ). (n : ℕ) → HaveMet r rest input bytes n → HaveMet r (moves_by x r given) input before (met + n)) (sym is) so,
-  omega (arith, most, spent.most, allowed_none r.output),
+  subst (λ (bytes : List ℕ). (behind : List Move) (n : ℕ) → HaveMet r (rest ++ behind) input bytes n → HaveMet r (ms ++ behind) input before (met + n)) (sym is) so,
+  record { most = omega (arith, spent.most, then.most, allowed_none r.output) },
 )
 
-next_spent : (x : Reading) (r : Records) (given : List StatementMoves) (steps : List Step) (on : Support) (i : ℕ) (t d : Step) (input before now : List ℕ) (s : Survey) → i < length steps → get_or steps i d ≡ t
-    → SpentSteps x r given steps on i input before now s → NextSpent x r given steps on i t input before now s
-next_spent x r given steps on i t d input before now s lt is (rest, met, are, so, most) =
+next_spent : (x : Reading) (r : Records) (given : List StatementMoves) (ms : List Move) (steps : List Step) (on : Support) (i : ℕ) (t d : Step) (input before now : List ℕ) (first s : Survey) → i < length steps → get_or steps i d ≡ t
+    → SpentSteps x r given ms steps on i input before now first s → NextSpent x r given ms steps on i t input before now first s
+next_spent x r given ms steps on i t d input before now first s lt is (rest, met, are, so, spent) =
     let here : drop i steps ≡ t ∷ drop (i + 1) steps = drop_more steps i d lt ∙ ap (λ (u : Step). u ∷ drop (i + 1) steps) is in
     let (own, more, cut, one, others) = subst (λ (ss : List Step). AreSteps x r given on ss rest) here are in record {
       own = own;
@@ -307,48 +308,63 @@ next_spent x r given steps on i t d input before now s lt is (rest, met, are, so
       met = met;
       is = one;
       others = others;
-      so = λ n h. so n (subst (λ (ps : List Move). HaveMet r ps input now n) (sym cut) h);
-      most = most;
+      so = λ behind n h. so behind n (subst (λ (ps : List Move). HaveMet r ps input now n) (sym (append_assoc own more behind) ∙ ap (λ (ps : List Move). ps ++ behind) (sym cut)) h);
+      spent = spent;
     }
 
-more_spent : (x : Reading) (r : Records) (given : List StatementMoves) (steps : List Step) (on : Support) (i : ℕ) (t : Step) (input before now after : List ℕ) (met : ℕ) (old new : Survey)
-    → (n : NextSpent x r given steps on i t input before now old) → ((ms : List Move) (rest : ℕ) → HaveMet r ms input after rest → HaveMet r (n.own ++ ms) input now (met + rest)) → IsSpent r.output met old new
-    → SpentSteps x r given steps on (i + 1) input before after new
-more_spent x r given steps on i t input before now after met old new n behind spent = (
+more_spent : (x : Reading) (r : Records) (given : List StatementMoves) (ms : List Move) (steps : List Step) (on : Support) (i : ℕ) (t : Step) (input before now after : List ℕ) (met : ℕ) (first old new : Survey)
+    → (n : NextSpent x r given ms steps on i t input before now first old) → ((qs : List Move) (rest : ℕ) → HaveMet r qs input after rest → HaveMet r (n.own ++ qs) input now (met + rest)) → IsSpent r.output met old new
+    → SpentSteps x r given ms steps on (i + 1) input before after first new
+more_spent x r given ms steps on i t input before now after met first old new n behind spent = (
   n.more,
   n.met + met,
   n.others,
-  λ k h. subst (λ (m : ℕ). HaveMet r (moves_by x r given) input before m) (sum n.met met k) (n.so (met + k) (behind n.more k h)),
-  omega (arith, n.most, spent.most, allowed_both r.output n.met met),
+  λ qs k h. subst (λ (m : ℕ). HaveMet r (ms ++ qs) input before m) (sum n.met met k) (n.so qs (met + k) (behind (n.more ++ qs) k h)),
+  spent_both r.output n.met met first old new n.spent spent,
 )
   where
     sum : (a b c : ℕ) → a + (b + c) ≡ a + b + c
     sum a b c = omega arith
 
-pub spent_steps_next : (x : Reading) (r : Records) (given : List StatementMoves) (steps : List Step) (on : Support) (i : ℕ) (t d : Step) (input before now after : List ℕ) (old new : Survey) → i < length steps
-    → get_or steps i d ≡ t → SpentSteps x r given steps on i input before now old → ((own : List Move) → IsStep x r given on t own → (met : ℕ) × ((ms : List Move) (rest : ℕ) → HaveMet r ms input after rest → HaveMet r (own ++ ms) input now (met + rest)) × IsSpent r.output met old new)
-    → SpentSteps x r given steps on (i + 1) input before after new
-spent_steps_next x r given steps on i t d input before now after old new lt is so made =
-    let n = next_spent x r given steps on i t d input before now old lt is so in
+pub spent_steps_next : (x : Reading) (r : Records) (given : List StatementMoves) (ms : List Move) (steps : List Step) (on : Support) (i : ℕ) (t d : Step) (input before now after : List ℕ) (first old new : Survey) → i < length steps
+    → get_or steps i d ≡ t → SpentSteps x r given ms steps on i input before now first old → ((own : List Move) → IsStep x r given on t own → HaveSpent r own input now after old new)
+    → SpentSteps x r given ms steps on (i + 1) input before after first new
+spent_steps_next x r given ms steps on i t d input before now after first old new lt is so made =
+    let n = next_spent x r given ms steps on i t d input before now first old lt is so in
     let (met, behind, spent) = made n.own n.is in
-    more_spent x r given steps on i t input before now after met old new n behind spent
+    more_spent x r given ms steps on i t input before now after met first old new n behind spent
+
+pub spent_steps_stop : (x : Reading) (r : Records) (given : List StatementMoves) (ms : List Move) (steps : List Step) (on : Support) (i : ℕ) (t d : Step) (input before now : List ℕ) (first old new : Survey) → i < length steps
+    → get_or steps i d ≡ t → SpentSteps x r given ms steps on i input before now first old → ((own : List Move) → IsStep x r given on t own → (met : ℕ) × ((qs : List Move) → HaveMet r (own ++ qs) input now met) × IsSpentAtStop r.output met old new)
+    → (met : ℕ) × ((qs : List Move) → HaveMet r (ms ++ qs) input before met) × IsSpentAtStop r.output met first new
+spent_steps_stop x r given ms steps on i t d input before now first old new lt is so made =
+    let n = next_spent x r given ms steps on i t d input before now first old lt is so in
+    let (met, behind, spent) = made n.own n.is in
+    (n.met + met, λ qs. n.so qs met (behind (n.more ++ qs)), spent_stop r.output n.met met first old new n.spent spent)
+
+pub spent_steps_all : (x : Reading) (r : Records) (given : List StatementMoves) (ms : List Move) (steps : List Step) (on : Support) (i : ℕ) (input before now : List ℕ) (first s : Survey) → length steps ≤ i
+    → SpentSteps x r given ms steps on i input before now first s → HaveSpent r ms input before now first s
+spent_steps_all x r given ms steps on i input before now first s past (rest, met, are, so, spent) =
+    let none : rest ≡ [] = subst (λ (ss : List Step). AreSteps x r given on ss rest) (drop_all i steps past) are in
+    (met, λ qs n h. so qs n (subst (λ (ps : List Move). HaveMet r (ps ++ qs) input now n) (sym none) h), spent)
+
+-- ---- a bound
 
 bounded : (t : ℕ) (met : ℕ) → t + met * t ≡ t * (1 + met)
 bounded t met = omega (arith, mul_comm t met, mul-add t 1 met)
 
-pub spent_steps_stop : (x : Reading) (r : Records) (given : List StatementMoves) (steps : List Step) (on : Support) (i : ℕ) (t d : Step) (input before now : List ℕ) (old new : Survey) → i < length steps
-    → get_or steps i d ≡ t → SpentSteps x r given steps on i input before now old → ((own : List Move) → IsStep x r given on t own → (met : ℕ) × ((ms : List Move) → HaveMet r (own ++ ms) input now met) × IsSpentAtStop r.output met old new)
-    → IsBounded r (moves_by x r given) input before new
-spent_steps_stop x r given steps on i t d input before now old new lt is so made =
-    let n = next_spent x r given steps on i t d input before now old lt is so in
-    let (met, behind, spent) = made n.own n.is in
-    (n.met + met, n.so met (behind n.more), omega (arith, n.most, spent.most, allowed_both r.output n.met met, bounded (length (tables_of r.output)) (n.met + met)))
+-- moves behind which there are none
+alone_met : (r : Records) (ms : List Move) (input before : List ℕ) (n : ℕ) → HaveMet r (ms ++ []) input before n → HaveMet r ms input before n
+alone_met r ms input before n h = subst (λ (ps : List Move). HaveMet r ps input before n) (append-nil ms) h
 
-pub spent_steps_all : (x : Reading) (r : Records) (given : List StatementMoves) (steps : List Step) (on : Support) (i : ℕ) (input before now : List ℕ) (s : Survey) → length steps ≤ i
-    → SpentSteps x r given steps on i input before now s → IsBounded r (moves_by x r given) input before s
-spent_steps_all x r given steps on i input before now s past (rest, met, are, so, most) =
+-- where nothing was read before, and nothing was kept, the reads are within their bound
+pub bounded_reads : {A : Type 0} (r : Records) (ms : List Move) (input before : List ℕ) (result : Result A Stop) (after : List ℕ) (first s : Survey) → first.reads ≡ 0 → kept_of r.output first ≡ 0
+    → MovesSpend r ms input before result after first s → IsBounded r ms input before s
+bounded_reads r ms input before (Ok a) after first s none unkept (met, behind, spent) =
     let sum : met + 0 ≡ met = omega arith in
-    (met, subst (λ (n : ℕ). HaveMet r (moves_by x r given) input before n) sum (so 0 (none_met r rest input now)), omega (arith, most, most_kept r.output s, bounded (length (tables_of r.output)) met))
+    (met, alone_met r ms input before met (subst (λ (n : ℕ). HaveMet r (ms ++ []) input before n) sum (behind [] 0 (none_met r [] input after))), omega (arith, none, unkept, spent.most, most_kept r.output s, bounded (length (tables_of r.output)) met))
+bounded_reads r ms input before (Err stop) after first s none unkept (met, behind, spent) =
+    (met, alone_met r ms input before met (behind []), omega (arith, none, unkept, spent.most, bounded (length (tables_of r.output)) met))
 
 -- ---- parts
 

@@ -20,7 +20,7 @@ at_most_one : (k : Option ℕ) → one_if k ≤ 1
 at_most_one None = omega arith
 at_most_one (Some v) = omega arith
 
-kept_below : (xs : List Table) (ks : List (Option ℕ)) → kept_in xs ks ≤ length xs
+pub kept_below : (xs : List Table) (ks : List (Option ℕ)) → kept_in xs ks ≤ length xs
 kept_below [] ks = omega arith
 kept_below (x ∷ xs) ks = omega (arith, at_most_one (first_kept ks), kept_below xs (others_kept ks))
 

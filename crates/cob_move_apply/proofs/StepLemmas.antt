@@ -9,7 +9,7 @@ use Rattle.cob_layout.specs.Laws.{OneOfNeeded}
 use Rattle.cob_layout.specs.Storage.{greatest_length, IsStorage}
 use Rattle.cob_move_data.specs.declared.operands.Side.{Side}
 use Rattle.cob_move_data.specs.declared.operands.StatementMoves.{StatementMoves}
-use Rattle.cob_move_data.specs.Moves.{Move, Records, moves_by}
+use Rattle.cob_move_data.specs.Moves.{Move, Records}
 use Rattle.cob_move_apply.specs.Applied.{Applied, Ending, IsMoved, OneEnding, done, stopped, storage_of}
 use Rattle.cob_move_apply.specs.InPlace.{AppliedInPlace}
 use Rattle.cob_move_apply.specs.Made.{IsMadeConstant, IsMadeReady}
@@ -32,25 +32,25 @@ use Rattle.cob_move_apply.proofs.CopyLemmas.{survey_left}
 use Rattle.cob_move_apply.proofs.CutLemmas.{cut_moves}
 use Rattle.cob_move_apply.proofs.InPlaceLemmas.{applied_of, in_place_both, in_place_stopped, step_in_place}
 
-pub left_all : OneOfNeeded → (x : Reading) (r : Records) (given : List StatementMoves) (steps : List Step) (on : Support) (input before : List ℕ) → length before ≡ greatest_length r.output
-    → StandFor x r given steps on (moves_by x r given) → Left x r given steps on 0 input before before
-left_all law x r given steps on input before long (parts, are, cut) = (parts, are, λ end h. cut_moves law r (moves_by x r given) parts input before end long cut h)
+pub left_all : OneOfNeeded → (x : Reading) (r : Records) (given : List StatementMoves) (ms : List Move) (steps : List Step) (on : Support) (input before : List ℕ) → length before ≡ greatest_length r.output
+    → StandFor x r given steps on ms → Left x r given ms steps on 0 input before before
+left_all law x r given ms steps on input before long (parts, are, cut) = (parts, are, λ end h. cut_moves law r ms parts input before end long cut h)
 
-pub left_same : (x : Reading) (r : Records) (given : List StatementMoves) (steps : List Step) (on : Support) (i : ℕ) (input before now same : List ℕ) → same ≡ now
-    → Left x r given steps on i input before now → Left x r given steps on i input before same
-left_same x r given steps on i input before now same is left = subst (λ (bytes : List ℕ). Left x r given steps on i input before bytes) (sym is) left
+pub left_same : (x : Reading) (r : Records) (given : List StatementMoves) (ms : List Move) (steps : List Step) (on : Support) (i : ℕ) (input before now same : List ℕ) → same ≡ now
+    → Left x r given ms steps on i input before now → Left x r given ms steps on i input before same
+left_same x r given ms steps on i input before now same is left = subst (λ (bytes : List ℕ). Left x r given ms steps on i input before bytes) (sym is) left
 
 -- the step at a place, with the moves that it stands for
-pub record Next (x : Reading) (r : Records) (given : List StatementMoves) (steps : List Step) (on : Support) (i : ℕ) (s : Step) (input before now : List ℕ) : Type 0 where
+pub record Next (x : Reading) (r : Records) (given : List StatementMoves) (ms : List Move) (steps : List Step) (on : Support) (i : ℕ) (s : Step) (input before now : List ℕ) : Type 0 where
   pub own : List Move
   pub more : List Move
   pub is : IsStep x r given on s own
   pub others : AreSteps x r given on (drop (i + 1) steps) more
-  pub so : (end : Ending) → AppliedInPlace r (own ++ more) input now end → Applied r (moves_by x r given) input before end
+  pub so : (end : Ending) → AppliedInPlace r (own ++ more) input now end → Applied r ms input before end
 
-pub next_step : (x : Reading) (r : Records) (given : List StatementMoves) (steps : List Step) (on : Support) (i : ℕ) (s d : Step) (input before now : List ℕ) → i < length steps → get_or steps i d ≡ s
-    → Left x r given steps on i input before now → Next x r given steps on i s input before now
-next_step x r given steps on i s d input before now lt is (rest, are, so) =
+pub next_step : (x : Reading) (r : Records) (given : List StatementMoves) (ms : List Move) (steps : List Step) (on : Support) (i : ℕ) (s d : Step) (input before now : List ℕ) → i < length steps → get_or steps i d ≡ s
+    → Left x r given ms steps on i input before now → Next x r given ms steps on i s input before now
+next_step x r given ms steps on i s d input before now lt is (rest, are, so) =
     let here : drop i steps ≡ s ∷ drop (i + 1) steps = drop_more steps i d lt ∙ ap (λ (t : Step). t ∷ drop (i + 1) steps) is in
     let (own, more, cut, one, others) = subst (λ (ss : List Step). AreSteps x r given on ss rest) here are in record {
       own = own;
@@ -62,19 +62,19 @@ next_step x r given steps on i s d input before now lt is (rest, are, so) =
 
 -- ---- a step carried out
 
-pub left_made : OneEnding → (x : Reading) (r : Records) (given : List StatementMoves) (steps : List Step) (on : Support) (i : ℕ) (s : Step) (input before now after : List ℕ) → IsStorage r.input input
-    → length now ≡ greatest_length r.output → length after ≡ length now → Next x r given steps on i s input before now
-    → ((own : List Move) → IsStep x r given on s own → Applied r own input now (done after)) → Left x r given steps on (i + 1) input before after
-left_made law x r given steps on i s input before now after is long size n made = (
+pub left_made : OneEnding → (x : Reading) (r : Records) (given : List StatementMoves) (ms : List Move) (steps : List Step) (on : Support) (i : ℕ) (s : Step) (input before now after : List ℕ) → IsStorage r.input input
+    → length now ≡ greatest_length r.output → length after ≡ length now → Next x r given ms steps on i s input before now
+    → ((own : List Move) → IsStep x r given on s own → Applied r own input now (done after)) → Left x r given ms steps on (i + 1) input before after
+left_made law x r given ms steps on i s input before now after is long size n made = (
   n.more,
   n.others,
   λ end h. n.so end (in_place_both r n.own n.more input now after end (step_in_place law x r given on s n.own input now (done after) is long size n.is (made n.own n.is)) h),
 )
 
-pub stopped_made : OneEnding → (x : Reading) (r : Records) (given : List StatementMoves) (steps : List Step) (on : Support) (i : ℕ) (s : Step) (input before now after : List ℕ) (stop : Stop) → IsStorage r.input input
-    → length now ≡ greatest_length r.output → length after ≡ length now → Next x r given steps on i s input before now
-    → ((own : List Move) → IsStep x r given on s own → Applied r own input now (stopped stop after)) → Applied r (moves_by x r given) input before (stopped stop after)
-stopped_made law x r given steps on i s input before now after stop is long size n made =
+pub stopped_made : OneEnding → (x : Reading) (r : Records) (given : List StatementMoves) (ms : List Move) (steps : List Step) (on : Support) (i : ℕ) (s : Step) (input before now after : List ℕ) (stop : Stop) → IsStorage r.input input
+    → length now ≡ greatest_length r.output → length after ≡ length now → Next x r given ms steps on i s input before now
+    → ((own : List Move) → IsStep x r given on s own → Applied r own input now (stopped stop after)) → Applied r ms input before (stopped stop after)
+stopped_made law x r given ms steps on i s input before now after stop is long size n made =
     n.so (stopped stop after) (in_place_stopped r n.own n.more input now after stop (step_in_place law x r given on s n.own input now (stopped stop after) is long size n.is (made n.own n.is)))
 
 -- ---- a part
@@ -162,8 +162,8 @@ space_copy x r given on c own input now after w is size written copied space =
 
 -- ---- all are done
 
-pub left_none : (x : Reading) (r : Records) (given : List StatementMoves) (steps : List Step) (on : Support) (i : ℕ) (input before now : List ℕ) → length steps ≤ i
-    → Left x r given steps on i input before now → Applied r (moves_by x r given) input before (done now)
-left_none x r given steps on i input before now past (rest, are, so) =
+pub left_none : (x : Reading) (r : Records) (given : List StatementMoves) (ms : List Move) (steps : List Step) (on : Support) (i : ℕ) (input before now : List ℕ) → length steps ≤ i
+    → Left x r given ms steps on i input before now → Applied r ms input before (done now)
+left_none x r given ms steps on i input before now past (rest, are, so) =
     let none : rest ≡ [] = subst (λ (ss : List Step). AreSteps x r given on ss rest) (drop_all i steps past) are in
     so (done now) (subst (λ (ps : List Move). AppliedInPlace r ps input now (done now)) (sym none) refl)

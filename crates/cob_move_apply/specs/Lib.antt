@@ -19,3 +19,6 @@ pub mod Met
 pub mod Spent
 pub mod Going
 pub mod Promised
+pub mod Marked
+pub mod Reads
+pub mod Entries

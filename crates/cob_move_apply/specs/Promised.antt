@@ -10,7 +10,7 @@ use Rattle.cob_move_data.specs.declared.operands.StatementMoves.{StatementMoves}
 use Rattle.cob_move_data.specs.Moves.{Entry, Move, Sender, moves_by, numbered_move_by, operand_in, record_of, sender_by}
 use Rattle.cob_move_steps.specs.declared.pool.MoveStep.{MoveStep}
 use Rattle.cob_move_apply.specs.Applied.{Applied, Ending, IsMoved}
-use Rattle.cob_move_apply.specs.Going.{IsBounded, Left, SpentSteps}
+use Rattle.cob_move_apply.specs.Going.{Left, SpentSteps}
 use Rattle.cob_move_apply.specs.Seen.{entry_sent, operand_of, receivers_in}
 use Rattle.cob_move_apply.specs.Spent.{HaveSpent, IsSpent, MovesSpend}
 use Rattle.cob_move_apply.specs.Steps.{IsLocatedConstant, IsLocatedMove, IsMoveOfPart, IsPicturedPart, IsPreparedMove, IsStep, StandFor, WritesAnywhere, constant_move, copied_move, support_of}
@@ -162,30 +162,34 @@ StepHasSpent plan step l input before after old new =
 
 -- ---- what is left of steps
 
--- these are what is left of the steps for some statements, whatever the storage was before
+-- some steps of a plan stand for these moves
+abbrev pub StepsMean : List StatementMoves → Plan → List Step → Layouts → List Move → Type 0
+StepsMean given plan steps l ms = StandFor l.reading (records l) given steps (support_of plan) ms
+
+-- these are what is left of the steps for some moves, whatever the storage was before
 abbrev pub AreLeft : Plan → List Step → Layouts → (input now : List ℕ) → Type 0
-AreLeft plan steps l input now =
-    (given : List StatementMoves) × (before : List ℕ) × Left l.reading (records l) given steps (support_of plan) 0 input before now
+AreLeft plan steps l input now = (given : List StatementMoves) × (ms : List Move) × (before : List ℕ)
+    × Left l.reading (records l) given ms steps (support_of plan) 0 input before now
 
 -- where some steps were left, the rest of them is
 abbrev pub LeavesRest : Plan → (steps rest : List Step) → Layouts → (input old new : List ℕ) → Type 0
-LeavesRest plan steps rest l input old new = (given : List StatementMoves) (before : List ℕ)
-    → Left l.reading (records l) given steps (support_of plan) 0 input before old
-    → Left l.reading (records l) given rest (support_of plan) 0 input before new
+LeavesRest plan steps rest l input old new = (given : List StatementMoves) (ms : List Move) (before : List ℕ)
+    → Left l.reading (records l) given ms steps (support_of plan) 0 input before old
+    → Left l.reading (records l) given ms rest (support_of plan) 0 input before new
 
 -- where these are the reads before some steps that were left, these are those before the rest of them
 abbrev pub RestSpends : Plan → (steps rest : List Step) → Layouts → (input old new : List ℕ) → (read reads : Workspace) → Type 0
-RestSpends plan steps rest l input old new read reads = (given : List StatementMoves) (before : List ℕ)
-    → SpentSteps l.reading (records l) given steps (support_of plan) 0 input before old read.output
-    → SpentSteps l.reading (records l) given rest (support_of plan) 0 input before new reads.output
+RestSpends plan steps rest l input old new read reads = (given : List StatementMoves) (ms : List Move) (before : List ℕ) (first : Survey)
+    → SpentSteps l.reading (records l) given ms steps (support_of plan) 0 input before old first read.output
+    → SpentSteps l.reading (records l) given ms rest (support_of plan) 0 input before new first reads.output
 
--- where these steps of statements were left, all moves end so
+-- for whichever moves these steps of statements were left, they end so
 abbrev pub StepsEnd : List StatementMoves → Plan → List Step → Layouts → (input now : List ℕ) → Ending → Type 0
-StepsEnd given plan steps l input now end = (before : List ℕ)
-    → Left l.reading (records l) given steps (support_of plan) 0 input before now → Applied (records l) (all_moves l given) input before end
+StepsEnd given plan steps l input now end = (ms : List Move) (before : List ℕ)
+    → Left l.reading (records l) given ms steps (support_of plan) 0 input before now → Applied (records l) ms input before end
 
--- where these are the reads before them, those of all moves are within their bound
-abbrev pub StepsAreBounded : List StatementMoves → Plan → List Step → Layouts → (input now : List ℕ) → (read reads : Workspace) → Type 0
-StepsAreBounded given plan steps l input now read reads = (before : List ℕ)
-    → SpentSteps l.reading (records l) given steps (support_of plan) 0 input before now read.output
-    → IsBounded (records l) (all_moves l given) input before reads.output
+-- where these are the reads before them, those of the moves are these
+abbrev pub StepsSpend : {A : Type 0} → List StatementMoves → Plan → List Step → Layouts → (input now : List ℕ) → Result A Stop → List ℕ → (read reads : Workspace) → Type 0
+StepsSpend given plan steps l input now result after read reads = (ms : List Move) (before : List ℕ) (first : Survey)
+    → SpentSteps l.reading (records l) given ms steps (support_of plan) 0 input before now first read.output
+    → MovesSpend (records l) ms input before result after first reads.output

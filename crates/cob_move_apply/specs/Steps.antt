@@ -18,9 +18,9 @@ use Rattle.cob_move_apply.specs.Cut.{LeaveSender}
 use Rattle.cob_move_apply.specs.Placed.{IsPlaced, IsPlacedMove}
 use Rattle.cob_move_apply.specs.Written.{AreCopied, IsFixedConstant, IsFixedMove}
 use Rattle.cob_move_receive.specs.Sent.{Occupies}
-use Rattle.cob_move_steps.specs.Pictured.{IsPicturedStep}
+use Rattle.cob_move_steps.specs.Pictured.{IsPicturedStep, KeepsPictured}
 use Rattle.cob_move_steps.specs.Copies.{IsConstantStep, gives_bytes, stands_right}
-use Rattle.cob_move_steps.specs.Pool.{IsMoveStep, IsStepAt, MoveKinds}
+use Rattle.cob_move_steps.specs.Pool.{IsMoveStep, IsStepAt, KeepsSteps, MoveKinds}
 use Rattle.cob_move_steps.specs.declared.constant_step.ConstantStep.{ConstantStep}
 use Rattle.cob_move_steps.specs.declared.pictured.PicturedStep.{PicturedStep}
 use Rattle.cob_move_steps.specs.declared.pictured.PicturedSteps.{PicturedSteps}
@@ -267,11 +267,27 @@ AreMovesCut r (m ∷ ms) parts = (own rest : List Move) × (parts ≡ own ++ res
 abbrev pub StandFor : Reading → Records → List StatementMoves → List Step → Support → List Move → Type 0
 StandFor reading r given steps on ms = (parts : List Move) × AreSteps reading r given on steps parts × AreMovesCut r ms parts
 
--- a plan became another, with steps for these moves behind those before
+-- a list became another, with more behind what it had
+abbrev pub IsLonger : (T : Type 0) → (before now : List T) → Type 0
+IsLonger T before now = (own : List T) × (now ≡ before ++ own)
+
+-- what steps rest on became more: all that was there is still there, under the same number
+pub record Grows (before now : Support) : Type 0 where
+  pub more : List Basis
+  pub bases : now.bases ≡ before.bases ++ more
+  pub prepared : KeepsSteps before.prepared now.prepared
+  pub pictured : KeepsPictured before.pictured now.pictured
+  pub constants : IsLonger ConstantStep before.constants now.constants
+  pub located : IsLonger LocatedMove before.located now.located
+  pub located_constants : IsLonger LocatedConstant before.located_constants now.located_constants
+  pub within : IsLonger LocatedMove before.within now.within
+
+-- a plan became another, with steps for these moves behind those before; what its steps rest on became more
 abbrev pub Gains : Reading → Records → List StatementMoves → List Move → (before now : Plan) → Type 0
 Gains reading r given own before now =
-    (parts : List Move) → AreSteps reading r given (support_of before) before.steps.items parts
-    → AreSteps reading r given (support_of now) now.steps.items (parts ++ own)
+    Grows (support_of before) (support_of now)
+    × ((parts : List Move) → AreSteps reading r given (support_of before) before.steps.items parts
+    → AreSteps reading r given (support_of now) now.steps.items (parts ++ own))
 
 -- a plan became another, with steps for what these moves are cut into behind those before
 abbrev pub GainsCut : Reading → Records → List StatementMoves → List Move → (before now : Plan) → Type 0

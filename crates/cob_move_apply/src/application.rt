@@ -8,7 +8,7 @@ ghost use Rattle.cob_move_data.specs.declared.operands.Side.TheVariants.{In};
 ghost use Rattle.cob_move_data.specs.Moves.{Move as Meant};
 ghost use Rattle.cob_move_apply.specs.Applied.{Applied, ending};
 ghost use Rattle.cob_move_apply.specs.Going.{Left, IsBounded};
-ghost use Rattle.cob_move_apply.specs.Promised.{AnyEnd, AnyMoveEnds, AnyMoveSpends, AnySpend, AreLeft, IsPlanOf, LeavesRest, PartMeans, PicturedMeans, PreparedMeans, RestSpends, StepMeans, StepsAreBounded, StepsEnd, all_moves};
+ghost use Rattle.cob_move_apply.specs.Promised.{AnyEnd, AnyMoveEnds, AnyMoveSpends, AnySpend, AreLeft, IsPlanOf, LeavesRest, PartMeans, PicturedMeans, PreparedMeans, RestSpends, StepMeans, StepsEnd, StepsMean, StepsSpend, all_moves};
 ghost use Rattle.cob_move_apply.specs.Steps.{support_of};
 ghost use Rattle.cob_move_apply.specs.Surveyed.{HasSpace, IsWorkspace, records};
 
@@ -437,16 +437,17 @@ fn apply_steps(
 ) -> Result<(), Stop>
     requires in_sound { IsSound layouts.now.input.now }
     requires out_sound { IsSound layouts.now.output.now }
-    requires steps { (before : List ℕ) × Left layouts.now.reading (records layouts.now) given.now
-        steps.now (support_of plan.now) 0 input.now before output.old }
+    requires steps { (ms : List Meant) × (before : List ℕ) × Left layouts.now.reading
+        (records layouts.now) given.now ms steps.now (support_of plan.now) 0 input.now before
+        output.old }
     requires input { IsStorage layouts.now.input.now input.now }
     requires output { length output.old ≡ greatest_length layouts.now.output.now }
     requires space { IsWorkspace (records layouts.now) input.now output.old space.old }
     ensures applied { StepsEnd given.now plan.now steps.now layouts.now input.now output.old
         (ending result output.new) }
     ensures space { IsWorkspace (records layouts.now) input.now output.new space.new }
-    ensures reads { StepsAreBounded given.now plan.now steps.now layouts.now input.now output.old
-        space.old space.new }
+    ensures spends { StepsSpend given.now plan.now steps.now layouts.now input.now output.old result
+        output.new space.old space.new }
 {
     one_ending();
     let mut rest = steps;
@@ -455,6 +456,42 @@ fn apply_steps(
         rest = run_ready(plan, behind, layouts, input, output, space);
     }
     Ok(())
+}
+
+/// Carries out some steps of the plan of moves, in order. What is kept of the counts of either record is that of its storage.
+///
+/// # Errors
+///
+/// The first thing missing. The storage is as the moves and receivers before left it then.
+#[inline(always)]
+pub(crate) fn apply_some(
+    given: &[StatementMoves],
+    plan: &Plan,
+    steps: &[Step],
+    layouts: &Layouts<'_>,
+    input: &[u8],
+    output: &mut [u8],
+    space: &mut Workspace,
+) -> Result<(), Stop>
+    requires in_sound { IsSound layouts.now.input.now }
+    requires out_sound { IsSound layouts.now.output.now }
+    requires steps { (ms : List Meant) × StepsMean given.now plan.now steps.now layouts.now ms }
+    requires input { IsStorage layouts.now.input.now input.now }
+    requires output { length output.old ≡ greatest_length layouts.now.output.now }
+    requires space { IsWorkspace (records layouts.now) input.now output.old space.old }
+    ensures applied { AnyEnd (StepsMean given.now plan.now steps.now) layouts.now input.now
+        output.old (ending result output.new) }
+    ensures space { IsWorkspace (records layouts.now) input.now output.new space.new }
+    ensures spends { AnySpend (StepsMean given.now plan.now steps.now) layouts.now input.now
+        output.old result output.new space.old space.new }
+{
+    // For `applied` and `spends`: a place has one outcome.
+    one_outcome_of_counts();
+    let rest = run_ready(plan, steps, layouts, input, output, space);
+    match rest {
+        [] => Ok(()),
+        _ => apply_steps(given, plan, rest, layouts, input, output, space),
+    }
 }
 
 /// Carries out the steps of the plan of moves, in order. What is kept of the input's counts is that of this input.
@@ -484,13 +521,7 @@ pub(crate) fn apply_in(
     ensures reads { IsBounded (records layouts.now) (all_moves layouts.now given.now) input.now
         output.old space.new.output }
 {
-    // For `applied` and `reads`: a place has one outcome.
-    one_outcome_of_counts();
     space.forget_output();
     let steps = plan.steps.as_slice();
-    let rest = run_ready(plan, steps, layouts, input, output, space);
-    match rest {
-        [] => Ok(()),
-        _ => apply_steps(given, plan, rest, layouts, input, output, space),
-    }
+    apply_some(given, plan, steps, layouts, input, output, space)
 }

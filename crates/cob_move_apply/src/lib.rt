@@ -12,6 +12,12 @@
 //!   then is, just before it is stored; there the bytes become what `Received` of cob_move_receive says, and all others stay. The first thing
 //!   missing stops the moves, and the storage is as the receivers before it left it: a count that an operand needs (`Count`), an element past
 //!   its table's count (`Subscript`), or a value where the receiver asks for one (`NoValue`). Moves end in one way ([`one_ending`]).
+//! - [`MarkedMoves::new`] makes moves ready that are parted by marks, one behind each of these numbers of statements (`ends`; `prepared`, by
+//!   `AreMarkedPrepared` of specs/Marked.antt), so that no copy is joined over a mark. [`MarkedMoves::apply_between`] carries out those from one mark to
+//!   another (`applied`), by counts that are kept before and behind (`kept_input`, `kept_output`), and says how many it read (`reads`, by `ReadsOfMoves` of
+//!   specs/Reads.antt).
+//! - [`PlacedEntry::new`] keeps an entry that is read between moves, and [`PlacedEntry::place`] finds where it stands as the storages then are (`located`),
+//!   or the first thing missing.
 //!
 //! The moves are carried out by steps that stand for them (`StandFor` of specs/Steps.antt), each chosen when they are made ready. Single moves that are
 //! plain copies, each beginning on both sides where the one before ends, are one copy (`AreCopied` of specs/Written.antt); a single move between two
@@ -39,9 +45,10 @@
 //! # Where it is proved
 //!
 //! The clauses `applied` and `reads` of `Moves::apply` (the latter bounds how many counts of the output record are read, by `HaveMet`), those of
-//! `Moves::with_reading`, `Moves::statements` and `Moves::reading`; the clauses of `Moves::apply_kept`, `Scratch::input_length`, `Scratch::output_length`
-//! and `Scratch::forget_input`: the same by counts that are kept from the length of the input on to that of the output (`keeps`, by `AreKeptOf`); which
-//! stop the fault of a place is (`stop_of`); the law `one_ending`.
+//! `Moves::with_reading`, `Moves::statements` and `Moves::reading`; the clauses of `Moves::apply_kept`, `Scratch::input_length`, `Scratch::output_length`,
+//! `Scratch::forget_output` and `Scratch::forget_input`: the same by counts that are kept from the length of the input on to that of the output (`keeps`, by
+//! `AreKeptOf`); the clauses of `MarkedMoves::new`, `with_reading`, `statements`, `reading`, `single_moves`, `steps` and `apply_between`, and of
+//! `PlacedEntry::new`, `side`, `entry` and `place`; which stop the fault of a place is (`stop_of`); the law `one_ending`.
 #![tactic(auto)]
 
 mod application;
@@ -52,9 +59,12 @@ mod laws;
 mod layouts;
 mod located;
 mod located_within;
+mod marked;
+mod marking;
 mod moves;
 mod pairs;
 mod pictured;
+mod placed;
 mod places;
 mod planning;
 mod preparation;
@@ -81,8 +91,10 @@ pub use cob_layout::{
 };
 pub use cob_move_data::{Move, NumberedPair, Operand, PairMoves, Sender, Side, StatementMoves};
 pub use laws::one_ending;
+pub use marked::MarkedMoves;
 pub use moves::Moves;
 pub use pairs::entry_below;
+pub use placed::PlacedEntry;
 pub use places::stop_of;
 pub use receivers::Given;
 pub use scratch::Scratch;

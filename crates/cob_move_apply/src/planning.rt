@@ -1,6 +1,6 @@
 //! Plans: the steps that stand for moves, made before a record comes. Plain copies that meet on both sides are one step.
 
-ghost use Rattle.std.specs.Prelude.{◌≡◌, ◌<◌, ◌+◌, length, map, true, IfNone, IfOk, IfSome, IsFalse, OnOk, IsTrue, Some};
+ghost use Rattle.std.specs.Prelude.{◌≡◌, ◌<◌, ◌+◌, [], length, map, true, IfNone, IfOk, IfSome, IsFalse, OnOk, IsTrue, Some};
 ghost use Rattle.cob_codec.specs.declared.reading.Reading.{Reading};
 ghost use Rattle.cob_move_data.specs.Moves.{
   AreMoves,
@@ -69,7 +69,11 @@ pub(crate) struct StatementPart<'a> {
 /// # Errors
 ///
 /// Where no memory is left.
-fn neither_varies(alloc: Global, input: &Layout, output: &Layout) -> Result<bool, AllocError>
+pub(crate) fn neither_varies(
+    alloc: Global,
+    input: &Layout,
+    output: &Layout,
+) -> Result<bool, AllocError>
     ensures { IfOk result
         (λ b. b ≡ neither_varies (record { input = input.now; output = output.now })) }
 {
@@ -603,7 +607,7 @@ fn push_pairs(
 /// # Errors
 ///
 /// Where no memory is left.
-fn push_statement(
+pub(crate) fn push_statement(
     given: &[StatementMoves],
     number: usize,
     both: &Between<'_>,
@@ -620,6 +624,22 @@ fn push_statement(
     match &given[number] {
         StatementMoves::Single(single) => push_move(given, number, single, both, plan),
         StatementMoves::Pairs(group) => push_pairs(given, number, group, both, plan),
+    }
+}
+
+/// A plan without a step.
+pub(crate) fn empty_plan(alloc: Global) -> Plan
+    ensures { result.steps.items ≡ [] }
+{
+    Plan {
+        steps: Vec::new(alloc),
+        bases: Vec::new(alloc),
+        prepared: MoveSteps::new(alloc),
+        pictured: PicturedSteps::new(alloc),
+        constants: Vec::new(alloc),
+        located: Vec::new(alloc),
+        located_constants: Vec::new(alloc),
+        within: Vec::new(alloc),
     }
 }
 
@@ -647,16 +667,8 @@ pub(crate) fn plan_of(
         is_fixed: neither_varies(alloc, input, output)?,
         alloc,
     };
-    let mut plan = Plan {
-        steps: Vec::with_capacity(alloc, given.len())?,
-        bases: Vec::new(alloc),
-        prepared: MoveSteps::new(alloc),
-        pictured: PicturedSteps::new(alloc),
-        constants: Vec::new(alloc),
-        located: Vec::new(alloc),
-        located_constants: Vec::new(alloc),
-        within: Vec::new(alloc),
-    };
+    let mut plan = empty_plan(alloc);
+    plan.steps.reserve(given.len())?;
     for number in 0..given.len() {
         push_statement(given, number, &both, &mut plan)?;
     }

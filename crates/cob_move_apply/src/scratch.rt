@@ -8,6 +8,7 @@ ghost use Rattle.cob_layout.specs.Counting.{CountsOf};
 ghost use Rattle.cob_layout.specs.Kept.{AreKeptOf};
 ghost use Rattle.cob_layout.specs.Standing.{room_for};
 ghost use Rattle.cob_layout_places.specs.Lengths.{times};
+ghost use Rattle.cob_move_apply.specs.Reads.{kept_among};
 ghost use Rattle.cob_move_apply.specs.Room.{room_of};
 
 use crate::workspace::Workspace;
@@ -64,6 +65,18 @@ impl Scratch {
         ensures output { self.new.kept_output ≡ self.old.kept_output }
     {
         self.space.input.forget();
+    }
+
+    /// Forgets what is kept of the counts of the output record, since another storage comes. No count item of it was read then.
+    pub fn forget_output(&mut self)
+        ensures keeps { (tree : Forest Resolved) (bytes : List ℕ)
+            → AreKeptOf tree bytes self.new.kept_output }
+        ensures unkept { (tree : Forest Resolved) → kept_among tree self.new.kept_output ≡ 0 }
+        ensures none { self.new.reads ≡ 0 }
+        ensures room { self.new.room ≡ self.old.room }
+        ensures input { self.new.kept_input ≡ self.old.kept_input }
+    {
+        self.space.output.forget();
     }
 
     /// How many bytes an input record of this layout has under the counts that its bytes give. What was kept of the input before is forgotten, and the

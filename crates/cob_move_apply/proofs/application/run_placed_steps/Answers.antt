@@ -15,20 +15,20 @@ run_step-requires-clause-step g c =
     let on : Support = support_of c.args.plan.now in
     let step : Step = c.in-Some.step.now in
     let steps : List Step = step ∷ c.in-Some.behind.now in
-    let (given, before, all) = c.requires.steps in
-    let left = subst (λ (ss : List Step). Left x r given ss on 0 c.args.input.now before c.loop-step.output) c.in-Some.ensures.cases.0 (c.loop-step.invariant.left given before all) in
-    let next = next_step x r given steps on 0 step step c.args.input.now before c.loop-step.output (omega arith) refl left in
+    let (given, ms, before, all) = c.requires.steps in
+    let left = subst (λ (ss : List Step). Left x r given ms ss on 0 c.args.input.now before c.loop-step.output) c.in-Some.ensures.cases.0 (c.loop-step.invariant.left given ms before all) in
+    let next = next_step x r given ms steps on 0 step step c.args.input.now before c.loop-step.output (omega arith) refl left in
     (given, next.own, next.is)
 
 pub returns-then-not-run_step-clause-left : goal.returns-then-not-run_step-clause-left
-returns-then-not-run_step-clause-left g c = λ given before all.
-    left_same c.args.layouts.now.reading (records c.args.layouts.now) given c.loop-step.rest.now (support_of c.args.plan.now) 0 c.args.input.now before c.loop-step.output c.run_step.new.output
-    (c.if-not-run_step.ensures.same refl).0 (c.loop-step.invariant.left given before all)
+returns-then-not-run_step-clause-left g c = λ given ms before all.
+    left_same c.args.layouts.now.reading (records c.args.layouts.now) given ms c.loop-step.rest.now (support_of c.args.plan.now) 0 c.args.input.now before c.loop-step.output c.run_step.new.output
+    (c.if-not-run_step.ensures.same refl).0 (c.loop-step.invariant.left given ms before all)
 
 pub returns-then-not-run_step-clause-spends : goal.returns-then-not-run_step-clause-spends
-returns-then-not-run_step-clause-spends g c = λ given before all.
-    spent_still c.args.layouts.now.reading (records c.args.layouts.now) given c.loop-step.rest.now (support_of c.args.plan.now) 0 c.args.input.now before c.loop-step.output c.run_step.new.output
-    c.loop-step.space.output c.run_step.new.space.output (c.if-not-run_step.ensures.same refl).0 (c.if-not-run_step.ensures.same refl).1 (c.loop-step.invariant.spends given before all)
+returns-then-not-run_step-clause-spends g c = λ given ms before first all.
+    spent_still c.args.layouts.now.reading (records c.args.layouts.now) given ms c.loop-step.rest.now (support_of c.args.plan.now) 0 c.args.input.now before c.loop-step.output c.run_step.new.output
+    first c.loop-step.space.output c.run_step.new.space.output (c.if-not-run_step.ensures.same refl).0 (c.if-not-run_step.ensures.same refl).1 (c.loop-step.invariant.spends given ms before first all)
 
 pub loop-step-preserved : goal.loop-step-preserved
 loop-step-preserved g c =
@@ -38,15 +38,15 @@ loop-step-preserved g c =
     let step : Step = c.in-Some.step.now in
     let steps : List Step = step ∷ c.in-Some.behind.now in
     record {
-      left = λ given before all.
-          let left = subst (λ (ss : List Step). Left x r given ss on 0 c.args.input.now before c.loop-step.output) c.in-Some.ensures.cases.0 (c.loop-step.invariant.left given before all) in
-          let next = next_step x r given steps on 0 step step c.args.input.now before c.loop-step.output (omega arith) refl left in
-          left_made c.one_ending.ensures x r given steps on 0 step c.args.input.now before c.loop-step.output c.run_step.new.output c.requires.input (c.loop-step.invariant.output ∙ c.requires.output) c.run_step.auto.output next (c.if-not-run_step.ensures.applied refl given);
+      left = λ given ms before all.
+          let left = subst (λ (ss : List Step). Left x r given ms ss on 0 c.args.input.now before c.loop-step.output) c.in-Some.ensures.cases.0 (c.loop-step.invariant.left given ms before all) in
+          let next = next_step x r given ms steps on 0 step step c.args.input.now before c.loop-step.output (omega arith) refl left in
+          left_made c.one_ending.ensures x r given ms steps on 0 step c.args.input.now before c.loop-step.output c.run_step.new.output c.requires.input (c.loop-step.invariant.output ∙ c.requires.output) c.run_step.auto.output next (c.if-not-run_step.ensures.applied refl given);
       output = c.run_step.auto.output ∙ c.loop-step.invariant.output;
       space = c.run_step.ensures.space;
-      spends = λ given before all.
-          let spent = subst (λ (ss : List Step). SpentSteps x r given ss on 0 c.args.input.now before c.loop-step.output c.loop-step.space.output) c.in-Some.ensures.cases.0 (c.loop-step.invariant.spends given before all) in
-          spent_steps_next x r given steps on 0 step step c.args.input.now before c.loop-step.output c.run_step.new.output
-          c.loop-step.space.output c.run_step.new.space.output (omega arith) refl spent (c.if-not-run_step.ensures.spends refl given);
+      spends = λ given ms before first all.
+          let spent = subst (λ (ss : List Step). SpentSteps x r given ms ss on 0 c.args.input.now before c.loop-step.output first c.loop-step.space.output) c.in-Some.ensures.cases.0 (c.loop-step.invariant.spends given ms before first all) in
+          spent_steps_next x r given ms steps on 0 step step c.args.input.now before c.loop-step.output c.run_step.new.output
+          first c.loop-step.space.output c.run_step.new.space.output (omega arith) refl spent (c.if-not-run_step.ensures.spends refl given);
       fewer = omega (arith, c.loop-step.invariant.fewer, ap length c.in-Some.ensures.cases.0);
     }

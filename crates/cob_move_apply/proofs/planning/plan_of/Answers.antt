@@ -1,9 +1,17 @@
-use Rattle.std.proofs.Common.{[], refl}
+use Rattle.std.proofs.Common.{◌≡◌, ◌∙◌, [], refl}
 use Rattle.cob_move_data.specs.Moves.{Records}
-use Rattle.cob_move_apply.proofs.PlanLemmas.{more_all, more_statement, some_statement, stand_all, stand_more}
+use Rattle.cob_move_apply.proofs.PlanLemmas.{more_all, more_statement, none_yet, some_statement, stand_all, stand_more, stand_none}
 use Rattle.cob_move_apply.proofs.StatementLemmas.{moves_at}
 use Rattle.cob_move_apply.specs.Steps.{support_of}
 use Rattle.cob_move_apply.proofs.planning.plan_of.Goals as goal
+
+pub loop-number-init : goal.loop-number-init
+loop-number-init c =
+    let r : Records = record { input = c.args.input.now; output = c.args.output.now } in
+    let none : c.reserve.new.self.items ≡ [] = c.reserve.ensures.items ∙ c.empty_plan-plan.ensures in record {
+      stand = λ x. stand_none x r c.args.given.now c.reserve.new.self.items (support_of c.empty_plan-plan.result) none;
+      more = λ x. none_yet r c.reserve.new.self.items none;
+    }
 
 pub push_statement-requires-clause-moves : goal.push_statement-requires-clause-moves
 push_statement-requires-clause-moves c = λ s there.

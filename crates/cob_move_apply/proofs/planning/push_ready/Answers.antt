@@ -2,6 +2,7 @@ use Rattle.std.proofs.Common.{[], ◌∷◌}
 use Rattle.std.proofs.lemmas.Result.{on_ok_weaker}
 use Rattle.cob_move_apply.specs.Planned.{meant, part_alone, records_between}
 use Rattle.cob_move_apply.specs.Steps.{support_of}
+use Rattle.cob_move_apply.proofs.PlanLemmas.{grows_same}
 use Rattle.cob_move_apply.proofs.planning.push_ready.Goals as goal
 
 pub push_copy-requires : goal.push_copy-requires
@@ -11,7 +12,10 @@ pub returns-in-Copy-clause-gains : goal.returns-in-Copy-clause-gains
 returns-in-Copy-clause-gains c =
     let (copied, short) = rw c.in-Copy.is at c.requires.ready in
     on_ok_weaker c.push_copy.result
-    (λ so x parts are. so x (records_between c.args.both.now) c.args.given.now (support_of c.args.plan.now) parts (meant x (records_between c.args.both.now) c.args.part.now ∷ []) are (copied x))
+    (λ so x. (
+      grows_same (support_of c.args.plan.now),
+      λ parts are. so x (records_between c.args.both.now) c.args.given.now (support_of c.args.plan.now) parts (meant x (records_between c.args.both.now) c.args.part.now ∷ []) are (copied x),
+    ))
     c.push_copy.ensures.steps
 
 pub returns-in-Prepared-clause-gains : goal.returns-in-Prepared-clause-gains

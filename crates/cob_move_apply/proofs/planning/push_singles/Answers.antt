@@ -6,7 +6,7 @@ use Rattle.cob_move_apply.specs.Planned.{AreMore, records_between}
 use Rattle.cob_move_apply.specs.Steps.{Gains, singles}
 use Rattle.cob_move_apply.proofs.InLemmas.{in_single, move_with}
 use Rattle.cob_move_apply.proofs.ListLemmas.{at, below, past}
-use Rattle.cob_move_apply.proofs.PlanLemmas.{more_single, more_singles, single_more}
+use Rattle.cob_move_apply.proofs.PlanLemmas.{more_single, more_singles, single_all, single_more}
 use Rattle.cob_move_apply.proofs.planning.push_singles.Goals as goal
 
 pub push_single-requires-clause-part : goal.push_single-requires-clause-part
@@ -35,3 +35,10 @@ returns-clause-more c = λ x.
     subst (λ (rs : List Ref). AreMore r (singles (sender_by x r c.args.one.now.sender) (map (operand_in c.args.both.now.output.now) rs)) c.args.plan.now.steps.items c.loop-first.plan.steps.items) c.as_slice-receivers.ensures.value
     (more_singles r (sender_by x r c.args.one.now.sender) (map (operand_in c.args.both.now.output.now) c.as_slice-receivers.result.now) c.loop-first.first c.args.plan.now.steps.items c.loop-first.plan.steps.items
     (past (operand_in c.args.both.now.output.now) c.as_slice-receivers.result.now c.loop-first.first c.loop-first-test.false) (c.loop-first.invariant.more x))
+
+pub returns-clause-gains : goal.returns-clause-gains
+returns-clause-gains c = λ x.
+    let r : Records = records_between c.args.both.now in
+    subst (λ (rs : List Ref). Gains x r c.args.given.now (singles (sender_by x r c.args.one.now.sender) (map (operand_in c.args.both.now.output.now) rs)) c.args.plan.now c.loop-first.plan) c.as_slice-receivers.ensures.value
+    (single_all x r c.args.given.now (sender_by x r c.args.one.now.sender) (map (operand_in c.args.both.now.output.now) c.as_slice-receivers.result.now) c.loop-first.first c.args.plan.now c.loop-first.plan
+    (past (operand_in c.args.both.now.output.now) c.as_slice-receivers.result.now c.loop-first.first c.loop-first-test.false) (c.loop-first.invariant.gains x))

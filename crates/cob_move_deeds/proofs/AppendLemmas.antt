@@ -1,0 +1,123 @@
+-- Flows behind flows.
+use Rattle.std.proofs.Common.{◌≡◌, ℕ, zero, suc, ◌+◌, ◌≤◌, List, [], ◌∷◌, ◌++◌, arith, drop, length, take, refl, sym, ap, subst, ◌∙◌, length-append, length-drop, Option, Some}
+use Rattle.std.specs.List.{AllByRecursion, slice_get}
+use Rattle.std.proofs.lemmas.List.{drop-append-le, length-take-le, take-append-le}
+use Rattle.cob_move_data.specs.Moves.{Records}
+use Rattle.cob_move_apply.specs.Marked.{moves_between_marks}
+use Rattle.cob_move_deeds.specs.declared.flow.Bound.{Bound}
+use Rattle.cob_move_deeds.specs.declared.flow.Flow.{Flow}
+use Rattle.cob_move_deeds.specs.declared.flow.Flow.TheVariants as flow
+use Rattle.cob_move_deeds.specs.Deeds.{Choice, Deeds, Moving, Nothing, both_deeds}
+use Rattle.cob_move_deeds.specs.Flows.{AreFlows, AreNestedFlows, FlowSupport, IsFlow, deeds_from, loop_done, unless_past}
+use Rattle.cob_move_deeds.specs.Tests.{Past, past_bound}
+use Rattle.cob_move_deeds.proofs.FlowLemmas.{all_behind}
+
+-- ---- how many are looked at changes nothing, where they are not more
+
+take_few : (n skip : ℕ) (fs : List Flow) → length fs ≤ n → skip ≤ length fs → length (take skip fs) ≤ n
+take_few n skip fs few within = omega (arith, few, within, length-take-le skip fs within)
+
+drop_few : (n skip : ℕ) (fs : List Flow) → length fs ≤ n → length (drop skip fs) ≤ n
+drop_few n skip fs few = omega (arith, few, length-drop skip fs)
+
+unless_same : (r : Records) (o : Option Bound) (number : ℕ) (d e f g : Deeds Past) → d ≡ f → e ≡ g → unless_past r o number d e ≡ unless_past r o number f g
+unless_same r o number d e f g p q = ap (λ (k : Deeds Past). unless_past r o number k e) p ∙ ap (λ (k : Deeds Past). unless_past r o number f k) q
+
+deeds_same : (r : Records) (on : FlowSupport) (n m : ℕ) (fs : List Flow) → AreNestedFlows n fs → length fs ≤ n → length fs ≤ m → deeds_from r on n fs ≡ deeds_from r on m fs
+deeds_same r on zero zero fs nested few le = refl
+deeds_same r on zero (suc m) [] nested few le = refl
+deeds_same r on zero (suc m) (f ∷ fs) nested few le = absurd (omega (arith, few))
+deeds_same r on (suc n) zero [] nested few le = refl
+deeds_same r on (suc n) zero (f ∷ fs) nested few le = absurd (omega (arith, le))
+deeds_same r on (suc n) (suc m) [] nested few le = refl
+deeds_same r on (suc n) (suc m) (flow.Moves number ∷ fs) nested few le =
+    ap (λ (d : Deeds Past). Moving (moves_between_marks r on.moves number (number + 1)) d) (deeds_same r on n m fs nested (omega (arith, few)) (omega (arith, le)))
+deeds_same r on (suc n) (suc m) (flow.Turns number ∷ fs) nested few le =
+    ap (λ (d : Deeds Past). both_deeds (loop_done r on (slice_get on.loops number)) d) (deeds_same r on n m fs nested (omega (arith, few)) (omega (arith, le)))
+deeds_same r on (suc n) (suc m) (flow.Until bound number skip ∷ fs) (within, inside, behind) few le =
+    unless_same r (slice_get on.bounds bound) number (deeds_from r on n (take skip fs)) (deeds_from r on n (drop skip fs)) (deeds_from r on m (take skip fs)) (deeds_from r on m (drop skip fs))
+    (deeds_same r on n m (take skip fs) inside (take_few n skip fs (omega (arith, few)) within) (take_few m skip fs (omega (arith, le)) within))
+    (deeds_same r on n m (drop skip fs) behind (drop_few n skip fs (omega (arith, few))) (drop_few m skip fs (omega (arith, le))))
+
+nested_same : (n m : ℕ) (fs : List Flow) → length fs ≤ n → length fs ≤ m → AreNestedFlows n fs → AreNestedFlows m fs
+nested_same n zero [] few le nested = refl
+nested_same n (suc m) [] few le nested = tt
+nested_same n zero (f ∷ fs) few le nested = absurd (omega (arith, le))
+nested_same zero (suc m) (f ∷ fs) few le nested = absurd (omega (arith, few))
+nested_same (suc n) (suc m) (flow.Moves number ∷ fs) few le nested = nested_same n m fs (omega (arith, few)) (omega (arith, le)) nested
+nested_same (suc n) (suc m) (flow.Turns number ∷ fs) few le nested = nested_same n m fs (omega (arith, few)) (omega (arith, le)) nested
+nested_same (suc n) (suc m) (flow.Until bound number skip ∷ fs) few le (within, inside, behind) = (
+  within,
+  nested_same n m (take skip fs) (take_few n skip fs (omega (arith, few)) within) (take_few m skip fs (omega (arith, le)) within) inside,
+  nested_same n m (drop skip fs) (drop_few n skip fs (omega (arith, few))) (drop_few m skip fs (omega (arith, le))) behind,
+)
+
+-- ---- one behind another
+
+both_again : (d e f : Deeds Past) → both_deeds d (both_deeds e f) ≡ both_deeds (both_deeds d e) f
+both_again Nothing e f = refl
+both_again (Moving ms more) e f = ap (λ (k : Deeds Past). Moving ms k) (both_again more e f)
+both_again (Choice t holding lacking more) e f = ap (λ (k : Deeds Past). Choice t holding lacking k) (both_again more e f)
+
+-- a test whose bound is there, and what stands behind all of it
+unless_both : (r : Records) (number : ℕ) (o : Option Bound) (b : Bound) (d e f g next : Deeds Past) → o ≡ Some b → d ≡ f → e ≡ both_deeds g next
+    → unless_past r o number d e ≡ both_deeds (unless_past r o number f g) next
+unless_both r number o b d e f g next at p q =
+    unless_same r o number d e f (both_deeds g next) p q
+    ∙ ap (λ (k : Option Bound). unless_past r k number f (both_deeds g next)) at
+    ∙ sym (ap (λ (k : Option Bound). both_deeds (unless_past r k number f g) next) at)
+
+deeds_both : (r : Records) (on : FlowSupport) (n k m : ℕ) (fs gs : List Flow) → AllByRecursion (IsFlow on) fs → AreNestedFlows n fs → AreNestedFlows m gs → length fs ≤ n → length gs ≤ m → length (fs ++ gs) ≤ k
+    → deeds_from r on k (fs ++ gs) ≡ both_deeds (deeds_from r on n fs) (deeds_from r on m gs)
+deeds_both r on zero k m [] gs each nested more few fewer le = sym (deeds_same r on m k gs more fewer le)
+deeds_both r on (suc n) k m [] gs each nested more few fewer le = sym (deeds_same r on m k gs more fewer le)
+deeds_both r on zero k m (f ∷ fs) gs each nested more few fewer le = absurd (omega (arith, few))
+deeds_both r on (suc n) zero m (f ∷ fs) gs each nested more few fewer le = absurd (omega (arith, le))
+deeds_both r on (suc n) (suc k) m (flow.Moves number ∷ fs) gs each nested more few fewer le =
+    ap (λ (d : Deeds Past). Moving (moves_between_marks r on.moves number (number + 1)) d) (deeds_both r on n k m fs gs each.1 nested more (omega (arith, few)) fewer (omega (arith, le)))
+deeds_both r on (suc n) (suc k) m (flow.Turns number ∷ fs) gs each nested more few fewer le =
+    ap (λ (d : Deeds Past). both_deeds (loop_done r on (slice_get on.loops number)) d) (deeds_both r on n k m fs gs each.1 nested more (omega (arith, few)) fewer (omega (arith, le)))
+    ∙ both_again (loop_done r on (slice_get on.loops number)) (deeds_from r on n fs) (deeds_from r on m gs)
+deeds_both r on (suc n) (suc k) m (flow.Until bound number skip ∷ fs) gs each (within, inside, behind) more few fewer le =
+    let (b, at) = each.0 in
+    let long : length fs ≤ k = omega (arith, le, length-append fs gs) in
+    unless_both r number (slice_get on.bounds bound) b (deeds_from r on k (take skip (fs ++ gs))) (deeds_from r on k (drop skip (fs ++ gs))) (deeds_from r on n (take skip fs)) (deeds_from r on n (drop skip fs)) (deeds_from r on m gs) at
+    (ap (λ (hs : List Flow). deeds_from r on k hs) (take-append-le skip fs gs within)
+    ∙ sym (deeds_same r on n k (take skip fs) inside (take_few n skip fs (omega (arith, few)) within) (take_few k skip fs long within)))
+    (ap (λ (hs : List Flow). deeds_from r on k hs) (drop-append-le skip fs gs within)
+    ∙ deeds_both r on n k m (drop skip fs) gs (all_behind (IsFlow on) skip fs each.1) behind more (drop_few n skip fs (omega (arith, few))) fewer
+    (omega (arith, le, length-append fs gs, length-append (drop skip fs) gs, length-drop skip fs)))
+
+nested_both : (n k m : ℕ) (fs gs : List Flow) → AreNestedFlows n fs → AreNestedFlows m gs → length fs ≤ n → length gs ≤ m → length (fs ++ gs) ≤ k → AreNestedFlows k (fs ++ gs)
+nested_both zero k m [] gs nested more few fewer le = nested_same m k gs fewer le more
+nested_both (suc n) k m [] gs nested more few fewer le = nested_same m k gs fewer le more
+nested_both zero k m (f ∷ fs) gs nested more few fewer le = absurd (omega (arith, few))
+nested_both (suc n) zero m (f ∷ fs) gs nested more few fewer le = absurd (omega (arith, le))
+nested_both (suc n) (suc k) m (flow.Moves number ∷ fs) gs nested more few fewer le = nested_both n k m fs gs nested more (omega (arith, few)) fewer (omega (arith, le))
+nested_both (suc n) (suc k) m (flow.Turns number ∷ fs) gs nested more few fewer le = nested_both n k m fs gs nested more (omega (arith, few)) fewer (omega (arith, le))
+nested_both (suc n) (suc k) m (flow.Until bound number skip ∷ fs) gs (within, inside, behind) more few fewer le =
+    let long : length fs ≤ k = omega (arith, le, length-append fs gs) in (
+      omega (arith, within, length-append fs gs),
+      subst (λ (hs : List Flow). AreNestedFlows k hs) (sym (take-append-le skip fs gs within))
+          (nested_same n k (take skip fs) (take_few n skip fs (omega (arith, few)) within) (take_few k skip fs long within) inside),
+      subst (λ (hs : List Flow). AreNestedFlows k hs) (sym (drop-append-le skip fs gs within))
+          (nested_both n k m (drop skip fs) gs behind more (drop_few n skip fs (omega (arith, few))) fewer
+          (omega (arith, le, length-append fs gs, length-append (drop skip fs) gs, length-drop skip fs))),
+    )
+
+-- what flows behind others come to
+pub flows_behind : (r : Records) (on : FlowSupport) (fs gs : List Flow) → AreFlows on fs → AreFlows on gs
+    → deeds_from r on (length (fs ++ gs)) (fs ++ gs) ≡ both_deeds (deeds_from r on (length fs) fs) (deeds_from r on (length gs) gs)
+flows_behind r on fs gs first then =
+    deeds_both r on (length fs) (length (fs ++ gs)) (length gs) fs gs first.each first.nested then.nested (omega arith) (omega arith) (omega arith)
+
+each_both : (on : FlowSupport) (fs gs : List Flow) → AllByRecursion (IsFlow on) fs → AllByRecursion (IsFlow on) gs → AllByRecursion (IsFlow on) (fs ++ gs)
+each_both on [] gs each more = more
+each_both on (f ∷ fs) gs each more = (each.0, each_both on fs gs each.1 more)
+
+-- and they may be carried out
+pub are_flows_behind : (on : FlowSupport) (fs gs : List Flow) → AreFlows on fs → AreFlows on gs → AreFlows on (fs ++ gs)
+are_flows_behind on fs gs first then = record {
+  each = each_both on fs gs first.each then.each;
+  nested = nested_both (length fs) (length (fs ++ gs)) (length gs) fs gs first.nested then.nested (omega arith) (omega arith) (omega arith);
+}

@@ -1,0 +1,239 @@
+//! Flows carried out, one behind another.
+
+ghost use Rattle.std.specs.Prelude.{◌≡◌, ◌<◌, ◌≤◌, ◌∷◌, ℕ, drop, length, IfErr, IfOk, OnErr, Some};
+ghost use Rattle.std.specs.List.{AllByRecursion, slice_get};
+ghost use Rattle.cob_layout.specs.Storage.{greatest_length, IsStorage};
+ghost use Rattle.cob_move_apply.specs.Applied.{Applied, ending};
+ghost use Rattle.cob_move_apply.specs.Marked.{moves_between_marks};
+ghost use Rattle.cob_move_apply.specs.Reads.{ReadsFor, ReadsOfMoves};
+ghost use Rattle.cob_move_loops.specs.Turns.{turns_between};
+ghost use Rattle.cob_move_deeds.specs.Carrying.{FlowSpends, FlowSpendsAtStop, HasKept, LeavesFlows, StopsFlows, carried_from, records_of_sides};
+ghost use Rattle.cob_move_deeds.specs.Deeds.{Carried};
+ghost use Rattle.cob_move_deeds.specs.Flows.{IsFlow, IsLoop, loop_done};
+ghost use Rattle.cob_move_deeds.specs.Met.{ReadsOfDeeds};
+ghost use Rattle.cob_move_deeds.specs.Prepared.{AreDeedsPrepared, flow_support};
+ghost use Rattle.cob_move_deeds.specs.declared.flow.Bound.{Bound};
+ghost use Rattle.cob_move_deeds.specs.Tests.{Judged, BoundSays, past_bound};
+
+use crate::bound::number_of;
+use crate::flow::{CountedLoop, Flow};
+use crate::ready::ReadyDeeds;
+use crate::sides::Sides;
+use cob_layout::one_outcome_of_counts;
+use cob_move_apply::{Scratch, Stop, one_ending};
+
+/// Those behind so many.
+fn behind(flows: &[Flow], count: usize) -> &[Flow]
+    ensures value { result.now ≡ drop count flows.now }
+    ensures fewer { length result.now ≤ length flows.now }
+{
+    let count = count.min(flows.len());
+    &flows[count..]
+}
+
+/// How many turns a loop has up to a number.
+fn turns_up_to(one: &CountedLoop, number: u32) -> usize
+    requires grows { 0 < one.now.by }
+    ensures { result ≡ turns_between one.now.from one.now.by number }
+{
+    if number < one.from {
+        return 0;
+    }
+    ((number - one.from) / one.by) as usize + 1
+}
+
+/// Carries out the moves from one mark to another.
+///
+/// # Errors
+///
+/// The first thing missing. The storage is as the moves and receivers before left it then.
+fn make_moves(
+    deeds: &ReadyDeeds,
+    from: usize,
+    to: usize,
+    sides: &Sides<'_>,
+    output: &mut [u8],
+    scratch: &mut Scratch,
+) -> Result<(), Stop>
+    requires prepared { AreDeedsPrepared (records_of_sides sides.now) deeds.now }
+    requires rises { from ≤ to }
+    requires within { to < length deeds.now.moves.marks.items }
+    requires input { IsStorage sides.now.input_layout.now sides.now.input.now }
+    requires output { length output.old ≡ greatest_length sides.now.output_layout.now }
+    requires kept { HasKept (records_of_sides sides.now) sides.now.input.now output.old
+        scratch.old }
+    ensures applied { Applied (records_of_sides sides.now)
+        (moves_between_marks (records_of_sides sides.now) deeds.now.moves from to) sides.now.input.now
+        output.old (ending result output.new) }
+    ensures kept { HasKept (records_of_sides sides.now) sides.now.input.now output.new
+        scratch.new }
+    ensures reads { ReadsOfMoves (records_of_sides sides.now)
+        (moves_between_marks (records_of_sides sides.now) deeds.now.moves from to) sides.now.input.now
+        output.old result scratch.old scratch.new }
+{
+    deeds.moves.apply_between(
+        from,
+        to,
+        sides.input_layout,
+        sides.output_layout,
+        sides.input,
+        output,
+        scratch,
+    )
+}
+
+/// What the bound with this number gives.
+///
+/// # Errors
+///
+/// What is missing for it.
+fn read_bound(
+    deeds: &ReadyDeeds,
+    number: usize,
+    sides: &Sides<'_>,
+    output: &[u8],
+    scratch: &mut Scratch,
+) -> Result<u32, Stop>
+    requires prepared { AreDeedsPrepared (records_of_sides sides.now) deeds.now }
+    requires within { number < length deeds.now.bounds.items }
+    requires kept { HasKept (records_of_sides sides.now) sides.now.input.now output.now
+        scratch.old }
+    ensures says { (b : Bound) → slice_get deeds.now.bounds.items number ≡ Some b
+        → BoundSays (records_of_sides sides.now) (past_bound (records_of_sides sides.now) b 0)
+        sides.now.input.now output.now result }
+    ensures kept { HasKept (records_of_sides sides.now) sides.now.input.now output.now
+        scratch.new }
+    ensures reads { ReadsFor sides.now.output_layout.now 0 result scratch.old scratch.new }
+{
+    let bound = &deeds.bounds[number];
+    number_of(bound, sides, output, scratch)
+}
+
+/// Carries out a loop whose bound stands in the input record: the moves of as many turns as that says.
+///
+/// # Errors
+///
+/// The first thing missing. The storage is as the moves and receivers before left it then.
+fn make_turns(
+    deeds: &ReadyDeeds,
+    one: &CountedLoop,
+    sides: &Sides<'_>,
+    output: &mut [u8],
+    scratch: &mut Scratch,
+) -> Result<(), Stop>
+    requires prepared { AreDeedsPrepared (records_of_sides sides.now) deeds.now }
+    requires counted { IsLoop (flow_support deeds.now) one.now }
+    requires input { IsStorage sides.now.input_layout.now sides.now.input.now }
+    requires output { length output.old ≡ greatest_length sides.now.output_layout.now }
+    requires kept { HasKept (records_of_sides sides.now) sides.now.input.now output.old
+        scratch.old }
+    ensures carried { Carried (Judged (records_of_sides sides.now)) (records_of_sides sides.now)
+        (loop_done (records_of_sides sides.now) (flow_support deeds.now) (Some one.now))
+        sides.now.input.now output.old (ending result output.new) }
+    ensures kept { HasKept (records_of_sides sides.now) sides.now.input.now output.new
+        scratch.new }
+    ensures reads { ReadsOfDeeds (records_of_sides sides.now)
+        (loop_done (records_of_sides sides.now) (flow_support deeds.now) (Some one.now))
+        sides.now.input.now output.old result scratch.old scratch.new }
+{
+    one_outcome_of_counts();
+    let number = read_bound(deeds, one.bound, sides, output, scratch)?;
+    let turns = turns_up_to(one, number);
+    make_moves(deeds, one.first, one.first + turns, sides, output, scratch)
+}
+
+/// Carries out the flow in front of these, and answers those that are left then.
+///
+/// # Errors
+///
+/// The first thing missing. The storage is as the moves before left it then.
+fn next<'a>(
+    deeds: &ReadyDeeds,
+    flow: &Flow,
+    more: &'a [Flow],
+    sides: &Sides<'_>,
+    output: &mut [u8],
+    scratch: &mut Scratch,
+) -> Result<&'a [Flow], Stop>
+    requires prepared { AreDeedsPrepared (records_of_sides sides.now) deeds.now }
+    requires flow { IsFlow (flow_support deeds.now) flow.now }
+    requires input { IsStorage sides.now.input_layout.now sides.now.input.now }
+    requires output { length output.old ≡ greatest_length sides.now.output_layout.now }
+    requires kept { HasKept (records_of_sides sides.now) sides.now.input.now output.old
+        scratch.old }
+    ensures leaves { IfOk result (λ left. LeavesFlows (records_of_sides sides.now)
+        (flow_support deeds.now) (flow.now ∷ more.now) left.now sides.now.input.now output.old
+        output.new) }
+    ensures stops { IfErr result (λ stop. StopsFlows (records_of_sides sides.now)
+        (flow_support deeds.now) (flow.now ∷ more.now) sides.now.input.now output.old stop
+        output.new) }
+    ensures rest { IfOk result (λ left. (count : ℕ) × (left.now ≡ drop count more.now)) }
+    ensures kept { HasKept (records_of_sides sides.now) sides.now.input.now output.new
+        scratch.new }
+    ensures spends { IfOk result (λ left. FlowSpends (records_of_sides sides.now)
+        (flow_support deeds.now) (flow.now ∷ more.now) left.now sides.now.input.now output.old
+        output.new scratch.old scratch.new) }
+    ensures spent { OnErr result (FlowSpendsAtStop (records_of_sides sides.now)
+        (flow_support deeds.now) (flow.now ∷ more.now) sides.now.input.now output.old scratch.old
+        scratch.new) }
+{
+    // For `spends`: what is done ends in one way.
+    one_outcome_of_counts();
+    one_ending();
+    match *flow {
+        Flow::Moves(number) => {
+            make_moves(deeds, number, number + 1, sides, output, scratch)?;
+            Ok(more)
+        }
+        Flow::Turns(number) => {
+            make_turns(deeds, &deeds.loops[number], sides, output, scratch)?;
+            Ok(more)
+        }
+        Flow::Until {
+            bound,
+            number,
+            skip,
+        } => {
+            let last = read_bound(deeds, bound, sides, output, scratch)?;
+            if last < number {
+                Ok(behind(more, skip))
+            } else {
+                Ok(more)
+            }
+        }
+    }
+}
+
+/// Carries out the flows of deeds in order.
+///
+/// # Errors
+///
+/// The first thing missing. The storage is as the moves before left it then.
+pub(crate) fn carry_out(
+    deeds: &ReadyDeeds,
+    sides: &Sides<'_>,
+    output: &mut [u8],
+    scratch: &mut Scratch,
+) -> Result<(), Stop>
+    requires prepared { AreDeedsPrepared (records_of_sides sides.now) deeds.now }
+    requires input { IsStorage sides.now.input_layout.now sides.now.input.now }
+    requires output { length output.old ≡ greatest_length sides.now.output_layout.now }
+    requires kept { HasKept (records_of_sides sides.now) sides.now.input.now output.old
+        scratch.old }
+    ensures carried { Carried (Judged (records_of_sides sides.now)) (records_of_sides sides.now)
+        (carried_from (records_of_sides sides.now) (flow_support deeds.now)
+        (length deeds.now.flows.items) deeds.now.flows.items) sides.now.input.now output.old
+        (ending result output.new) }
+    ensures kept { HasKept (records_of_sides sides.now) sides.now.input.now output.new
+        scratch.new }
+    ensures reads { ReadsOfDeeds (records_of_sides sides.now)
+        (carried_from (records_of_sides sides.now) (flow_support deeds.now)
+        (length deeds.now.flows.items) deeds.now.flows.items) sides.now.input.now output.old result
+        scratch.old scratch.new }
+{
+    let mut rest = deeds.flows.as_slice();
+    while let Some((flow, more)) = rest.split_first() {
+        rest = next(deeds, flow, more, sides, output, scratch)?;
+    }
+    Ok(())
+}
