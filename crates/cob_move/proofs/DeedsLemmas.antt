@@ -28,7 +28,7 @@ use Rattle.cob_move_statements.specs.Written.{WrittenReference, WrittenStatement
 use Rattle.cob_move.specs.Deeds.{AreDeeds, IsBoundOf, IsBoundRefusal, IsLoopOf, IsLoopRefused, IsRunMeant, IsTurnRefused, count_of_turns, deeds_of_turns}
 use Rattle.cob_move.specs.Meaning.{AreMeant}
 use Rattle.cob_move.specs.MeaningLaws.{MeantBreakNoRule, OneMeant}
-use Rattle.cob_move.specs.Paragraphs.{IsRunRefusal, RunIsRefused}
+use Rattle.cob_move.specs.Bodies.{IsRunRefusal, RunIsRefused}
 use Rattle.cob_move.proofs.PassageLemmas.{run_unbroken}
 
 -- ---- numbers of turns

@@ -13,10 +13,12 @@ pub mod PlainLemmas
 pub mod LoopLemmas
 mod FlowLemmas
 mod DeedsLemmas
+mod WholeLemmas
 mod MadeLemmas
 mod CloseLemmas
 mod ReadingLemmas
 mod TurnsLemmas
 mod TestedLemmas
+mod LiteralLemmas
 mod BodyLemmas
 mod JoinedLemmas

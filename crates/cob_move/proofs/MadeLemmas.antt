@@ -124,11 +124,11 @@ more_added r m s ss is on f =
     ∙ sym (parted_joined flows (open_deeds r (open_statements m)) (Moving (moves r own) Nothing) parted)
 
 -- words of MOVE statements are a statement at least, also in a turn
-some_in_turn : (ns : List Counted) (ws : List Lexeme) → IsRun ws → in_turn ns false 0 ws ≡ [] → ⊥
+pub some_in_turn : (ns : List Counted) (ws : List Lexeme) → IsRun ws → in_turn ns false 0 ws ≡ [] → ⊥
 some_in_turn ns [] run e = run
 some_in_turn ns (w ∷ ws) run e = absurd (omega (arith, ap length e))
 
-some_statements : (ss : List WrittenStatement) (ws : List Lexeme) → (ws ≡ [] → ⊥) → Several IsEndedStatement ss ws → 0 < length ss
+pub some_statements : (ss : List WrittenStatement) (ws : List Lexeme) → (ws ≡ [] → ⊥) → Several IsEndedStatement ss ws → 0 < length ss
 some_statements [] ws some e = absurd (some e)
 some_statements (s ∷ ss) ws some is = omega arith
 
@@ -142,6 +142,8 @@ moved_by e ns ws m ss (s ∷ own) is spelled meant many some = record {
   are = (moves (records_of e) (s ∷ own), record { statements = ss; spelled = spelled; meant = meant; many = refl }, refl);
   added = more_added (records_of e) m s own is;
   longer = omega (arith, many, length-append m.list (s ∷ own));
+  whole = moves_both (records_of e) m.list (s ∷ own) ∙ ap (λ (t : List Move). moves (records_of e) m.list ++ t) (sym (append-nil (moves (records_of e) (s ∷ own))));
+  straight = λ is. refl;
 }
 
 -- the same with these statements

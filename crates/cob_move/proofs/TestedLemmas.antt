@@ -9,15 +9,15 @@ use Rattle.cob_limits.specs.Limits.{longest_record, most_written_out}
 use Rattle.cob_source.specs.Tokens.{Lexeme}
 use Rattle.cob_copybook_tree.specs.declared.node.Item.{Item}
 use Rattle.cob_move_data.specs.declared.operands.StatementMoves.{StatementMoves}
-use Rattle.cob_move_data.specs.Moves.{Records, moves, operand_in, record_of}
+use Rattle.cob_move_data.specs.Moves.{Move, Records, moves, operand_in, record_of}
 use Rattle.cob_move_deeds.specs.declared.flow.Bound.{Bound}
 use Rattle.cob_move_deeds.specs.declared.flow.Flow.{Flow}
-use Rattle.cob_move_deeds.specs.Deeds.{Choice, Deeds, Moving, Nothing, both_deeds}
+use Rattle.cob_move_deeds.specs.Deeds.{Choice, Deeds, Moving, Nothing, both_deeds, moves_of_deeds}
 use Rattle.cob_move_deeds.specs.Flows.{AreFlows, FlowSupport}
 use Rattle.cob_move_deeds.specs.Tests.{IsBound, IsBoundItem, Past, past_bound, with_number}
 use Rattle.cob_move_deeds.specs.Turns.{turns_from}
 use Rattle.cob_move_loops.specs.Passages.{IsPassage, Passage, ToItem, WrittenBound, WrittenLoop}
-use Rattle.cob_move_loops.specs.Turns.{Counted, in_turn, turns_between}
+use Rattle.cob_move_loops.specs.Turns.{Counted, in_turn, turns as loop_turns, turns_between}
 use Rattle.cob_move_names.specs.Candidates.{Candidate}
 use Rattle.cob_move_statements.specs.declared.fault.MoveFault.{MoveFault}
 use Rattle.cob_move_statements.specs.declared.fault.MoveRule.{MoveRule}
@@ -37,6 +37,7 @@ use Rattle.cob_move.proofs.DeedsLemmas.{counted_same, either_side, mul_within, u
 use Rattle.cob_move.proofs.FlowLemmas.{before_parted, before_turns, both_assoc, both_flows, both_nothing, both_parted, flows_both, linked_deeds, linked_flows, parted_joined, turns_parted}
 use Rattle.cob_move.proofs.MadeLemmas.{front_back}
 use Rattle.cob_move.proofs.TurnsLemmas.{changed, changed_elsewhere, changed_there}
+use Rattle.cob_move.proofs.WholeLemmas.{moves_of_tested, tested_not_straight, turns_as, turns_one_more}
 
 -- ---- which numbers are kept
 
@@ -135,6 +136,7 @@ no_reads e ns l p m = record {
   are = λ i low less. absurd (omega (arith, low, less));
   flows = λ on f. tt;
   longer = omega arith;
+  whole = sym (append-nil (moves (records_of e) m.list));
 }
 
 pub reads_first : (e : Entries) (ns : List Counted) (l : WrittenLoop) (p : Passage) (behind : ℕ) (turns : List (List Flow)) (m : MadeLists) → behind ≡ l.from → turns ≡ [] → ReadsTurns e ns l p behind turns m m
@@ -156,6 +158,13 @@ read_each e ns l p behind f count d c is are i low less = elim (either_side i be
       (subst (λ (j : ℕ). PassageComesTo e (in_its_turn ns l j) p d c) (sym same) is))
 ]
 
+-- the moves of turns before a number, where another turn is read
+moves_changed : (f : ℕ → Deeds Past) (behind : ℕ) (d : Deeds Past) (by n i : ℕ) → ((k : ℕ) → k < n → (i + k * by ≡ behind) → ⊥)
+    → loop_turns (λ j. moves_of_deeds (f j)) by n i ≡ loop_turns (λ j. moves_of_deeds (changed f behind d j)) by n i
+moves_changed f behind d by n i other =
+    turns_as (λ j. moves_of_deeds (f j)) (λ j. moves_of_deeds (changed f behind d j)) by n i
+    (λ k less. ap (λ (t : Deeds Past). moves_of_deeds t) (sym (changed_elsewhere f behind d (i + k * by) (other k less))))
+
 -- the turn of a number that the counter doesn't take is not kept
 pub reads_passed : (e : Entries) (ns : List Counted) (l : WrittenLoop) (p : Passage) (behind next : ℕ) (turns : List (List Flow)) (old now after : MadeLists) → AreKept l.from l.by (length turns) behind next
     → ReadsTurns e ns l p behind turns old now → AddsMade e (λ d many. PassageComesTo e (in_its_turn ns l behind) p d many) now after → ReadsTurns e ns l p (behind + 1) turns old now
@@ -168,6 +177,8 @@ reads_passed e ns l p behind next turns old now after kept so a =
       flows = λ on f. turns_same (records_of e) on so.comes (changed so.comes behind a.deeds) l.by l.from turns (λ k less. sym (changed_elsewhere so.comes behind a.deeds (l.from + k * l.by) (other k less))) (so.flows on f);
       longer = so.longer ∙ ap (λ (n : ℕ). length old.list + n)
           (counted_same so.count (changed so.count behind a.many) l.by (length turns) l.from (λ k less. sym (changed_elsewhere so.count behind a.many (l.from + k * l.by) (other k less))));
+      whole = so.whole ∙ ap (λ (t : List Move). moves (records_of e) old.list ++ t)
+          (moves_changed so.comes behind a.deeds l.by (length turns) l.from (λ k less. other k less));
     }
 
 -- nothing is made but what has a mark behind it
@@ -225,6 +236,17 @@ reads_kept e ns l p behind next turns old now mid kept here none marked grown ma
           let more : count_of_turns count l.by (length (turns ++ (closed mid).flows ∷ [])) l.from ≡ count_of_turns count l.by (suc (length turns)) l.from =
           ap (λ (n : ℕ). count_of_turns count l.by n l.from) (long_more turns (closed mid).flows) in
           omega (arith, ap length (closed_list mid), a.longer, so.longer, counts, count_more count l.by (length turns) l.from, many, more);
+      whole =
+          let g = λ (i : ℕ). moves_of_deeds (f i) in
+          let last : moves_of_deeds a.deeds ≡ g (l.from + length turns * l.by) =
+          ap (λ (d : Deeds Past). moves_of_deeds d) (sym (changed_there so.comes behind a.deeds (l.from + length turns * l.by) at)) in
+          let size : length (turns ++ (closed mid).flows ∷ []) ≡ suc (length turns) = long_more turns (closed mid).flows in
+          ap (λ (ss : List StatementMoves). moves r ss) (closed_list mid) ∙ a.whole ∙ ap (λ (t : List Move). t ++ moves_of_deeds a.deeds) so.whole
+          ∙ append_assoc (moves r old.list) (loop_turns (λ i. moves_of_deeds (so.comes i)) l.by (length turns) l.from) (moves_of_deeds a.deeds)
+          ∙ ap (λ (t : List Move). moves r old.list ++ (t ++ moves_of_deeds a.deeds)) (moves_changed so.comes behind a.deeds l.by (length turns) l.from (λ k less. other k less))
+          ∙ ap (λ (t : List Move). moves r old.list ++ (loop_turns g l.by (length turns) l.from ++ t)) last
+          ∙ ap (λ (t : List Move). moves r old.list ++ t) (sym (turns_one_more g l.by (length turns) l.from))
+          ∙ ap (λ (n : ℕ). moves r old.list ++ loop_turns g l.by n l.from) (sym size);
     }
 
 -- ---- why a loop to an item isn't read
@@ -448,6 +470,9 @@ loop_added e ns l p n ws behind next turns b old now bound named kept first last
           ap (λ (ss : List StatementMoves). both_deeds (all_deeds r on new.flows) (open_deeds r ss)) so.marked ∙ both_nothing (all_deeds r on new.flows) ∙ k.come
           ∙ sym (turns_joined r old on (with_number t) so.reads.comes l.by (length turns) l.from k.parted);
       longer = omega (arith, so.reads.longer, ap length (closed_list old));
+      whole = so.reads.whole ∙ ap (λ (ss : List StatementMoves). moves r ss ++ loop_turns (λ i. moves_of_deeds (so.reads.comes i)) l.by (length turns) l.from) (closed_list old)
+          ∙ ap (λ (t : List Move). moves r old.list ++ t) (sym (moves_of_tested (with_number t) so.reads.comes l.by (length turns) l.from));
+      straight = λ is. absurd (tested_not_straight (with_number t) so.reads.comes l.by (length turns) l.from is);
     }
 
 -- a turn that breaks a rule comes to nothing

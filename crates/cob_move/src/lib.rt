@@ -71,7 +71,9 @@ pub use cob_move_initial::{initial, one_initial};
 pub use cob_move_names::pairs;
 pub use cob_move_statements::{MoveFault, MoveRule};
 pub use deeds_laws::{deeds_break_no_rule, joined_is_both, one_deeds};
-pub use laws::{one_paragraph, paragraph_breaks_no_rule, plain_paragraph};
+pub use laws::{
+    done_is_applied, literal_paragraph, one_paragraph, paragraph_breaks_no_rule, plain_paragraph,
+};
 pub use meaning::all_meant;
 pub use meaning_laws::{
     meanings_break_no_rule, meant_are_moves, meant_break_no_rule, one_meaning, one_meant,
