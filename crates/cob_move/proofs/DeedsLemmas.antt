@@ -155,7 +155,7 @@ deeds_one ended meant reference named all input output ns (ALoop l body more) d 
 
 -- ---- what comes to something is refused for want of memory alone
 
-run_refused : OneListOfEnded → MeantBreakNoRule → (f : MoveFault) (input output : Forest Resolved) (ws : List Lexeme) (ms : List Move) (c : ℕ)
+pub run_refused : OneListOfEnded → MeantBreakNoRule → (f : MoveFault) (input output : Forest Resolved) (ws : List Lexeme) (ms : List Move) (c : ℕ)
     → IsRunMeant input output ws ms c → RunIsRefused f (all_entries input output) input output ws → f.rule ≡ rule.Memory
 run_refused ended unbroken f input output ws ms c is (inl broken) = run_unbroken ended unbroken f f.rule f.line (all_entries input output) input output ws is.statements ms refl is.spelled broken
 run_refused ended unbroken f input output ws ms c is (inr (ss, spelled, broken)) =

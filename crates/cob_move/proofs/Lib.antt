@@ -19,6 +19,7 @@ mod CloseLemmas
 mod ReadingLemmas
 mod TurnsLemmas
 mod TestedLemmas
+mod FewLemmas
 mod LiteralLemmas
 mod BodyLemmas
 mod JoinedLemmas

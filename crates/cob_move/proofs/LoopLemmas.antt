@@ -255,3 +255,13 @@ loops_later {A} {B} f P xs i x lt is here all = subst (λ (ys : List A). AllByRe
 
 pub loops_end : {A B : Type 0} (f : A → B) (P : B → Type 0) (xs : List A) (i : ℕ) → length xs ≤ i → AllByRecursion P (map f (drop i xs))
 loops_end {A} {B} f P xs i past = subst (λ (ys : List A). AllByRecursion P (map f ys)) (sym (drop_all i xs past)) tt
+
+pub loops_here : {A B : Type 0} (f : A → B) (P : B → Type 0) (xs : List A) (i : ℕ) (x : A) → i < length xs → x ≡ get_or xs i x → AllByRecursion P (map f (drop i xs)) → P (f x)
+loops_here {A} {B} f P xs i x lt is all =
+    let first : AllByRecursion P (map f (x ∷ drop (i + 1) xs)) = subst (λ (ys : List A). AllByRecursion P (map f ys)) (next xs i x lt is) all in
+    first.0
+
+pub loops_after : {A B : Type 0} (f : A → B) (P : B → Type 0) (xs : List A) (i : ℕ) (x : A) → i < length xs → x ≡ get_or xs i x → AllByRecursion P (map f (drop i xs)) → AllByRecursion P (map f (drop (i + 1) xs))
+loops_after {A} {B} f P xs i x lt is all =
+    let first : AllByRecursion P (map f (x ∷ drop (i + 1) xs)) = subst (λ (ys : List A). AllByRecursion P (map f ys)) (next xs i x lt is) all in
+    first.1

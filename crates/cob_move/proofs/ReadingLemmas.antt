@@ -49,7 +49,7 @@ pause_added e m is ns p within = record {
 
 -- ---- what stands in front, and the others
 
-comes_joined : (e : Entries) (ns : List Counted) (f : PassageFront) (body others : Passage) (own d : Deeds Past) (count m : ℕ) → FrontComesTo e ns f body own count → PassageComesTo e ns others d m
+pub comes_joined : (e : Entries) (ns : List Counted) (f : PassageFront) (body others : Passage) (own d : Deeds Past) (count m : ℕ) → FrontComesTo e ns f body own count → PassageComesTo e ns others d m
     → PassageComesTo e ns (joined f body others) (joined_deeds own d) (count + m)
 comes_joined e ns (ARun ws) body others own d count m (ms, meant, e_is) is =
     (ms, d, count, m, meant, is, ap (λ (k : Deeds Past). joined_deeds k d) e_is, refl)
@@ -58,7 +58,7 @@ comes_joined e ns APause body others own d count m (e_is, none) is =
     (subst (λ (k : Deeds Past). PassageComesTo e ns others (joined_deeds k d) m) (sym e_is) is)
 comes_joined e ns (Looped l ws) body others own d count m (f, counted, loop) is = (f, counted, own, d, count, m, loop, is, refl, refl)
 
-refused_joined : (g : MoveFault) (e : Entries) (ns : List Counted) (f : PassageFront) (body others : Passage) → FrontIsRefused g e ns f body → IsRefusedIn g e ns (joined f body others)
+pub refused_joined : (g : MoveFault) (e : Entries) (ns : List Counted) (f : PassageFront) (body others : Passage) → FrontIsRefused g e ns f body → IsRefusedIn g e ns (joined f body others)
 refused_joined g e ns (ARun ws) body others refused = inl refused
 refused_joined g e ns APause body others refused = absurd refused
 refused_joined g e ns (Looped l ws) body others refused = inl refused

@@ -156,6 +156,10 @@ FrontHasBounds f = (p : Passage) × Within f p × BoundedFront f p
 
 -- ---- what readers add
 
+-- behind so many statements those that come first are few
+abbrev pub FewWith : (ℕ → Type 0) → ℕ → Type 0
+FewWith first before = (many : ℕ) → first many → before + many ≤ most_written_out
+
 -- Deeds that are meant so, with so many statements, stand behind what was made before, with as many statements. The statements' moves are those that may be
 -- carried out, in their order, and a mark came where there is a test.
 pub record AddsMade (e : Entries) (meant : Deeds Past → ℕ → Type 0) (old new : MadeLists) : Type 0 where
@@ -240,6 +244,18 @@ FirstInRun e ns own many = (ms : List Move) × IsRunMeant e.input.now e.output.n
 abbrev pub FirstInLoop : Entries → List Counted → WrittenLoop → Passage → ℕ → Type 0
 FirstInLoop e ns l p many =
     ComeFirstInLoop l l.bound (λ i c. (d : Deeds Past) × PassageComesTo e (ns ++ counter_at l i ∷ []) p d c) (λ i c. FirstIn e (ns ++ counter_at l i ∷ []) p c) many
+
+-- in so many turns of a loop to a number
+abbrev pub FirstInTurns : Entries → List Counted → WrittenLoop → Passage → ℕ → ℕ → Type 0
+FirstInTurns e ns l p done many = (k own : ℕ) × (count : ℕ → ℕ)
+    × (k < done) × ((j : ℕ) → j < k → (d : Deeds Past) × PassageComesTo e (ns ++ counter_at l (l.from + j * l.by) ∷ []) p d (count (l.from + j * l.by)))
+    × FirstIn e (ns ++ counter_at l (l.from + k * l.by) ∷ []) p own × (many ≡ count_of_turns count l.by k l.from + own)
+
+-- in the turns of a loop to an item whose numbers stand below one
+abbrev pub FirstBelow : Entries → List Counted → WrittenLoop → Passage → ℕ → ℕ → Type 0
+FirstBelow e ns l p behind many = (i own kept : ℕ) × (count : ℕ → ℕ)
+    × (l.from ≤ i) × (i < behind) × ((j : ℕ) → l.from ≤ j → j < i → (d : Deeds Past) × PassageComesTo e (ns ++ counter_at l j ∷ []) p d (count j))
+    × (i ≤ l.from + kept * l.by) × ((k : ℕ) → k < kept → l.from + k * l.by < i) × FirstIn e (ns ++ counter_at l i ∷ []) p own × (many ≡ count_of_turns count l.by kept l.from + own)
 
 -- in what stands in front
 abbrev pub FirstInFront : Entries → List Counted → PassageFront → Passage → ℕ → Type 0

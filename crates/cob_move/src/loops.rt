@@ -156,12 +156,10 @@ fn end_by_numbers(heads: &[Loop<'_>]) -> bool
     ensures { IsTrue result
         ↔ AllByRecursion (λ l. EndsByNumber l.bound) (written_loops heads.now) }
 {
-    let mut rest = heads;
-    while let Some((first, more)) = rest.split_first() {
-        if !ends_by_number(first) {
+    for head in heads {
+        if !ends_by_number(head) {
             return false;
         }
-        rest = more;
     }
     true
 }
