@@ -167,3 +167,18 @@ none_made false r m is = record {
 
 pub closed_made : (r : Records) (m : MadeLists) → IsMade r m → IsMade r (without_flows (closed m))
 closed_made r m is = none_made (nat_eq (length m.list) (last_marked 0 m.ends)) r m is
+
+-- ---- what closing makes
+
+pub closed_already : (m : MadeLists) → length m.list ≡ last_marked 0 m.ends → m ≡ closed m
+closed_already m e =
+    let yes : nat_eq (length m.list) (last_marked 0 m.ends) ≡ true = grind (arith, e) in
+    sym (ap (λ (b : Bool). closed_where b m) yes)
+
+pub closed_by : (m : MadeLists) (end number : ℕ) (ends : List ℕ) (flows : List Flow) → (length m.list ≡ last_marked 0 m.ends → ⊥) → end ≡ length m.list → number ≡ length m.ends → ends ≡ m.ends ++ end ∷ []
+    → flows ≡ m.flows ++ flow.Moves number ∷ [] → record { list = m.list; ends = ends; bounds = m.bounds; flows = flows } ≡ closed m
+closed_by m end number ends flows other at last marks more =
+    let none : nat_eq (length m.list) (last_marked 0 m.ends) ≡ false = grind (arith, other) in
+    let behind : ends ≡ m.ends ++ length m.list ∷ [] = marks ∙ ap (λ (n : ℕ). m.ends ++ n ∷ []) at in
+    let made : flows ≡ m.flows ++ flow.Moves (length m.ends) ∷ [] = more ∙ ap (λ (n : ℕ). m.flows ++ flow.Moves n ∷ []) last in
+    (λ i. record { list = m.list; ends = behind i; bounds = m.bounds; flows = made i }) ∙ sym (ap (λ (b : Bool). closed_where b m) none)

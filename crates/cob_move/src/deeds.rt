@@ -11,7 +11,7 @@ ghost use Rattle.cob_move_loops.specs.Turns.{in_turn};
 ghost use Rattle.cob_move_statements.specs.declared.fault.MoveRule.TheVariants.{Memory};
 ghost use Rattle.cob_source.specs.Tokens.{Lexeme, lexemes};
 ghost use Rattle.cob_move.specs.Between.{ArePairsOf};
-ghost use Rattle.cob_move.specs.DeedsRead.{AddsDeeds, AddsFront, AddsLoop, AddsMoved, AreKept, BoundNotRead, BoundRefused, BreaksInTurn, FrontHasBounds, FrontRefused, HasBounds, HasGrown, HasNoTurn, IsBoundRead, IsFrontRead, IsMade, IsNotBroken, LoopRefused, MovedRefused, ReadsTurns, TurnRefused, closed, flow_lists, in_its_turn, last_marked, linked_size, linked_turns, made_lists, open_statements, taken_back, without_flows};
+ghost use Rattle.cob_move.specs.DeedsRead.{AddsDeeds, AddsFront, AddsLoop, AddsMoved, AreKept, BoundNotRead, BoundRefused, BreaksInTurn, FrontHasBounds, FrontRefused, HasBounds, HasGrown, HasNoTurn, IsBoundRead, IsFrontRead, IsMade, IsNotBroken, LeavesFront, LoopRefused, MovedRefused, ReadsTurns, TurnRefused, closed, flow_lists, in_its_turn, last_marked, linked_size, linked_turns, made_lists, open_statements, taken_back, without_flows};
 ghost use Rattle.cob_move.specs.Entries.{AllMayBeNamed, records_of};
 ghost use Rattle.cob_move.specs.Loops.{AddsRun, RunRefused};
 ghost use Rattle.cob_move.specs.declared.made.NotRead.TheVariants as unread;
@@ -103,7 +103,8 @@ fn add_moves(
     ensures fault { IfErr result (λ n. MovedRefused n entries.now (counters turn.now)
         (lexemes words.now) (made_lists made.old)) }
     ensures made { OnOk result (IsMade (records_of entries.now) (made_lists made.new)) }
-    ensures grown { HasGrown (made_lists made.old) (made_lists made.new) }
+    ensures grown { OnOk result (HasGrown (made_lists made.old) (made_lists made.new)) }
+    ensures kept { IfErr result (λ n. LeavesFront n (made_lists made.old) (made_lists made.new)) }
     ensures pairs { ArePairsOf (records_of entries.now) pairs.new }
 {
     // What statements mean are moves between the records: both layouts are those of record descriptions.
@@ -205,7 +206,8 @@ fn add_turn(
         (in_its_turn (counters turn.now) (written_loop head.now) number) (lexemes body.now)
         (made_lists made.old)) }
     ensures made { OnOk result (IsMade (records_of entries.now) (made_lists made.new)) }
-    ensures grown { HasGrown (made_lists made.old) (made_lists made.new) }
+    ensures grown { OnOk result (HasGrown (made_lists made.old) (made_lists made.new)) }
+    ensures kept { IfErr result (λ n. LeavesFront n (made_lists made.old) (made_lists made.new)) }
     ensures pairs { ArePairsOf (records_of entries.now) pairs.new }
 {
     let counter = Counter {
@@ -248,7 +250,7 @@ fn try_turn(
         (made_lists made.old)) }
     ensures only { IfErr result IsNotBroken }
     ensures made { OnOk result (IsMade (records_of entries.now) (made_lists made.new)) }
-    ensures grown { HasGrown (made_lists made.old) (made_lists made.new) }
+    ensures grown { OnOk result (HasGrown (made_lists made.old) (made_lists made.new)) }
     ensures pairs { ArePairsOf (records_of entries.now) pairs.new }
 {
     let before = made.sizes();
@@ -258,7 +260,8 @@ fn try_turn(
             made.take_back(before);
             Ok(Some(fault))
         }
-        Err(why) => Err(why),
+        Err(NotRead::Memory) => Err(NotRead::Memory),
+        Err(NotRead::TooMany) => Err(NotRead::TooMany),
     }
 }
 
@@ -287,7 +290,8 @@ fn add_turns(
     ensures fault { IfErr result (λ n. LoopRefused n entries.now (counters turn.now)
         (written_loop head.now) (lexemes body.now) (made_lists made.old)) }
     ensures made { OnOk result (IsMade (records_of entries.now) (made_lists made.new)) }
-    ensures grown { HasGrown (made_lists made.old) (made_lists made.new) }
+    ensures grown { OnOk result (HasGrown (made_lists made.old) (made_lists made.new)) }
+    ensures kept { IfErr result (λ n. LeavesFront n (made_lists made.old) (made_lists made.new)) }
     ensures pairs { ArePairsOf (records_of entries.now) pairs.new }
 {
     // For a loop whose turns come to nothing: words are one passage at most.
@@ -342,7 +346,8 @@ fn try_turns(
     ensures fault { IfErr result (λ n. LoopRefused n entries.now (counters turn.now)
         (written_loop head.now) (lexemes body.now) (made_lists made.old)) }
     ensures made { OnOk result (IsMade (records_of entries.now) (made_lists made.new)) }
-    ensures grown { HasGrown (made_lists made.old) (made_lists made.new) }
+    ensures grown { OnOk result (HasGrown (made_lists made.old) (made_lists made.new)) }
+    ensures kept { IfErr result (λ n. LeavesFront n (made_lists made.old) (made_lists made.new)) }
     ensures pairs { ArePairsOf (records_of entries.now) pairs.new }
 {
     let mut next = head.from;
@@ -387,7 +392,8 @@ fn add_tested(
     ensures fault { IfErr result (λ n. LoopRefused n entries.now (counters turn.now)
         (written_loop head.now) (lexemes body.now) (made_lists made.old)) }
     ensures made { OnOk result (IsMade (records_of entries.now) (made_lists made.new)) }
-    ensures grown { HasGrown (made_lists made.old) (made_lists made.new) }
+    ensures grown { OnOk result (HasGrown (made_lists made.old) (made_lists made.new)) }
+    ensures kept { IfErr result (λ n. LeavesFront n (made_lists made.old) (made_lists made.new)) }
     ensures pairs { ArePairsOf (records_of entries.now) pairs.new }
 {
     // A turn that breaks a rule comes to nothing.
@@ -433,7 +439,8 @@ fn add_item(
     ensures fault { IfErr result (λ n. FrontRefused n entries.now (counters turn.now)
         (item_front item.now) (made_lists made.old)) }
     ensures made { OnOk result (IsMade (records_of entries.now) (made_lists made.new)) }
-    ensures grown { HasGrown (made_lists made.old) (made_lists made.new) }
+    ensures grown { OnOk result (HasGrown (made_lists made.old) (made_lists made.new)) }
+    ensures kept { IfErr result (λ n. LeavesFront n (made_lists made.old) (made_lists made.new)) }
     ensures pairs { ArePairsOf (records_of entries.now) pairs.new }
 {
     match item {
@@ -471,7 +478,8 @@ pub(crate) fn add_passage(
     ensures fault { IfErr result (λ n. TurnRefused n entries.now (counters turn.now)
         (lexemes words.now) (made_lists made.old)) }
     ensures made { OnOk result (IsMade (records_of entries.now) (made_lists made.new)) }
-    ensures grown { HasGrown (made_lists made.old) (made_lists made.new) }
+    ensures grown { OnOk result (HasGrown (made_lists made.old) (made_lists made.new)) }
+    ensures kept { IfErr result (λ n. LeavesFront n (made_lists made.old) (made_lists made.new)) }
     ensures pairs { ArePairsOf (records_of entries.now) pairs.new }
 {
     let mut rest = words;
