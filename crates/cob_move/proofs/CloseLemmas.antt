@@ -1,6 +1,6 @@
 -- A mark behind the statements that were made last.
-use Rattle.std.proofs.Common.{◌≡◌, inl, inr, ℕ, zero, suc, ◌+◌, ◌-◌, ◌<◌, ◌≤◌, Bool, true, false, List, [], ◌∷◌, ◌++◌, drop, get_or, length, map, nat_eq, take, refl, sym, ap, subst, ◌∙◌, append_assoc, append-nil, arith}
-use Rattle.std.specs.List.{AllByRecursion}
+use Rattle.std.proofs.Common.{◌≡◌, inl, inr, ℕ, zero, suc, ◌+◌, ◌-◌, ◌<◌, ◌≤◌, Bool, true, false, List, [], ◌∷◌, ◌++◌, drop, get_or, length, map, nat_eq, take, refl, sym, ap, subst, ◌∙◌, append_assoc, append-nil, arith, Option, Some, None}
+use Rattle.std.specs.List.{AllByRecursion, slice_get}
 use Rattle.std.proofs.lemmas.List.{drop-append-le, length-append, take-append-le}
 use Rattle.std.proofs.Math.Seq.{drop-length, take-length}
 use Rattle.cob_codec.specs.declared.reading.Reading.{Reading}
@@ -168,17 +168,18 @@ none_made false r m is = record {
 pub closed_made : (r : Records) (m : MadeLists) → IsMade r m → IsMade r (without_flows (closed m))
 closed_made r m is = none_made (nat_eq (length m.list) (last_marked 0 m.ends)) r m is
 
--- ---- what closing makes
+-- ---- the last mark
 
-pub closed_already : (m : MadeLists) → length m.list ≡ last_marked 0 m.ends → m ≡ closed m
-closed_already m e =
-    let yes : nat_eq (length m.list) (last_marked 0 m.ends) ≡ true = grind (arith, e) in
-    sym (ap (λ (b : Bool). closed_where b m) yes)
+abbrev number_or : Option ℕ → ℕ
+number_or (Some n) = n
+number_or None = 0
 
-pub closed_by : (m : MadeLists) (end number : ℕ) (ends : List ℕ) (flows : List Flow) → (length m.list ≡ last_marked 0 m.ends → ⊥) → end ≡ length m.list → number ≡ length m.ends → ends ≡ m.ends ++ end ∷ []
-    → flows ≡ m.flows ++ flow.Moves number ∷ [] → record { list = m.list; ends = ends; bounds = m.bounds; flows = flows } ≡ closed m
-closed_by m end number ends flows other at last marks more =
-    let none : nat_eq (length m.list) (last_marked 0 m.ends) ≡ false = grind (arith, other) in
-    let behind : ends ≡ m.ends ++ length m.list ∷ [] = marks ∙ ap (λ (n : ℕ). m.ends ++ n ∷ []) at in
-    let made : flows ≡ m.flows ++ flow.Moves (length m.ends) ∷ [] = more ∙ ap (λ (n : ℕ). m.flows ++ flow.Moves n ∷ []) last in
-    (λ i. record { list = m.list; ends = behind i; bounds = m.bounds; flows = made i }) ∙ sym (ap (λ (b : Bool). closed_where b m) none)
+-- the last of some numbers is what stands at the last place
+pub last_found : (before : ℕ) (ends : List ℕ) (end : ℕ) → Some end ≡ slice_get ends (length ends - 1) → end ≡ last_marked before ends
+last_found before [] end e = absurd (let never : Some end ≡ None = e in cc)
+last_found before (x ∷ []) end e =
+    let at : length (x ∷ []) - 1 ≡ zero = omega arith in
+    ap number_or (e ∙ ap (λ (n : ℕ). slice_get (x ∷ []) n) at)
+last_found before (x ∷ y ∷ ys) end e =
+    let at : length (x ∷ y ∷ ys) - 1 ≡ suc (length (y ∷ ys) - 1) = omega arith in
+    last_found x (y ∷ ys) end (e ∙ ap (λ (n : ℕ). slice_get (x ∷ y ∷ ys) n) at)

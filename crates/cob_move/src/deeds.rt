@@ -185,14 +185,14 @@ fn read_bound(
 ///
 /// A rule that the turn breaks, with its line; where it comes to too much; where no memory is left.
 #[cycle(adding)]
-fn add_turn(
+fn add_turn<'a>(
     alloc: Global,
     entries: &Entries<'_, '_>,
     pairs: &mut Correspondences<'_>,
-    head: &Loop<'_>,
+    head: &Loop<'a>,
     number: u32,
-    body: &[Token],
-    turn: &[Counter<'_>],
+    body: &'a [Token],
+    turn: &[Counter<'a>],
     made: &mut Made,
 ) -> Result<(), NotRead>
     requires named { AllMayBeNamed entries.now }
@@ -224,14 +224,14 @@ fn add_turn(
 ///
 /// Where it comes to too much; where no memory is left.
 #[cycle(adding)]
-fn try_turn(
+fn try_turn<'a>(
     alloc: Global,
     entries: &Entries<'_, '_>,
     pairs: &mut Correspondences<'_>,
-    head: &Loop<'_>,
+    head: &Loop<'a>,
     number: u32,
-    body: &[Token],
-    turn: &[Counter<'_>],
+    body: &'a [Token],
+    turn: &[Counter<'a>],
     made: &mut Made,
 ) -> Result<Option<MoveFault>, NotRead>
     requires named { AllMayBeNamed entries.now }
@@ -271,13 +271,13 @@ fn try_turn(
 ///
 /// A rule that a turn breaks, with its line; where they come to too much; where no memory is left.
 #[cycle(adding)]
-fn add_turns(
+fn add_turns<'a>(
     alloc: Global,
     entries: &Entries<'_, '_>,
     pairs: &mut Correspondences<'_>,
-    head: &Loop<'_>,
-    body: &[Token],
-    turn: &[Counter<'_>],
+    head: &Loop<'a>,
+    body: &'a [Token],
+    turn: &[Counter<'a>],
     made: &mut Made,
 ) -> Result<(), NotRead>
     requires named { AllMayBeNamed entries.now }
@@ -314,13 +314,13 @@ fn add_turns(
 ///
 /// The fault of the first turn; `Counter`, with the loop's line, where nothing bounds the loop; where they come to too much; where no memory is left.
 #[cycle(adding)]
-fn try_turns(
+fn try_turns<'a>(
     alloc: Global,
     entries: &Entries<'_, '_>,
     pairs: &mut Correspondences<'_>,
-    head: &Loop<'_>,
-    body: &[Token],
-    turn: &[Counter<'_>],
+    head: &Loop<'a>,
+    body: &'a [Token],
+    turn: &[Counter<'a>],
     made: &mut Made,
     turns: &mut Vec<Vec<Flow>>,
 ) -> Result<u32, NotRead>
@@ -372,14 +372,14 @@ fn try_turns(
 /// A rule that its bound breaks, with its line; the fault of the first turn; `Counter`, with its line, where nothing bounds it; where it comes to too much;
 /// where no memory is left.
 #[cycle(adding)]
-fn add_tested(
+fn add_tested<'a>(
     alloc: Global,
     entries: &Entries<'_, '_>,
     pairs: &mut Correspondences<'_>,
-    head: &Loop<'_>,
+    head: &Loop<'a>,
     words: &[Token],
-    body: &[Token],
-    turn: &[Counter<'_>],
+    body: &'a [Token],
+    turn: &[Counter<'a>],
     made: &mut Made,
 ) -> Result<(), NotRead>
     requires named { AllMayBeNamed entries.now }
@@ -421,12 +421,12 @@ fn add_tested(
 ///
 /// A rule that it breaks, with its line; where it comes to too much; where no memory is left.
 #[cycle(adding)]
-fn add_item(
+fn add_item<'a>(
     alloc: Global,
     entries: &Entries<'_, '_>,
     pairs: &mut Correspondences<'_>,
-    item: &PassageItem<'_>,
-    turn: &[Counter<'_>],
+    item: &PassageItem<'a>,
+    turn: &[Counter<'a>],
     made: &mut Made,
 ) -> Result<(), NotRead>
     requires named { AllMayBeNamed entries.now }
@@ -461,12 +461,12 @@ fn add_item(
 ///
 /// A rule that it breaks, with its line; where it comes to too much; where no memory is left.
 #[cycle(adding)]
-pub(crate) fn add_passage(
+pub(crate) fn add_passage<'a>(
     alloc: Global,
     entries: &Entries<'_, '_>,
     pairs: &mut Correspondences<'_>,
-    words: &[Token],
-    turn: &[Counter<'_>],
+    words: &'a [Token],
+    turn: &[Counter<'a>],
     made: &mut Made,
 ) -> Result<(), NotRead>
     requires named { AllMayBeNamed entries.now }
