@@ -23,7 +23,7 @@ use Rattle.cob_move.specs.declared.made.Sizes.{Sizes}
 use Rattle.cob_move.specs.declared.entries.Entries.{Entries}
 use Rattle.cob_move.specs.Deeds.{IsRunMeant}
 use Rattle.cob_move.specs.Among.{nameable}
-use Rattle.cob_move.specs.DeedsRead.{AddsMoved, AreParted, LoopRefused, MovedRefused, TurnRefused, HasGrown, IsFrontOf, IsMade, IsSizeOf, FirstInRun, MadeLists, all_deeds, last_marked, made_deeds, open_deeds, open_statements, taken_back}
+use Rattle.cob_move.specs.DeedsRead.{AddsMoved, AreParted, IsNotBroken, LeavesFront, LoopRefused, MovedRefused, TurnRefused, HasGrown, IsFrontOf, IsMade, IsSizeOf, FirstInRun, MadeLists, all_deeds, last_marked, made_deeds, open_deeds, open_statements, taken_back}
 use Rattle.cob_move.specs.Entries.{AllMayBeNamed, records_of}
 use Rattle.cob_move.specs.Joined.{joined_deeds}
 use Rattle.cob_move.specs.Loops.{AddsRun, RunRefused}
@@ -190,3 +190,23 @@ pub moves_refused : (n : NotRead) (f : MoveFault) (e : Entries) (ns : List Count
     → (f.rule ≡ rule.Memory) ⊎ (((f.rule ≡ rule.Memory) → ⊥) × RunRefused f e (in_turn ns false 0 ws)) → MovedRefused n e ns ws m
 moves_refused n f e ns ws m memory broken (inl is) = subst (λ (k : NotRead). MovedRefused k e ns ws m) (sym (memory is)) tt
 moves_refused n f e ns ws m memory broken (inr (other, refused)) = subst (λ (k : NotRead). MovedRefused k e ns ws m) (sym (broken other)) (other, refused)
+
+-- ---- what is left where words aren't read
+
+pub leaves_same : (n : NotRead) (m : MadeLists) → LeavesFront n m m
+leaves_same why.Memory m = tt
+leaves_same why.TooMany m = tt
+leaves_same (why.Broken f) m = grown_none m
+
+pub leaves_more : (n : NotRead) (a b c : MadeLists) → HasGrown a b → LeavesFront n b c → LeavesFront n a c
+leaves_more why.Memory a b c g left = tt
+leaves_more why.TooMany a b c g left = tt
+leaves_more (why.Broken f) a b c g left = grown_both a b c g left
+
+pub leaves_unbroken : (n : NotRead) (a b : MadeLists) → IsNotBroken n → LeavesFront n a b
+leaves_unbroken why.Memory a b only = tt
+leaves_unbroken why.TooMany a b only = tt
+leaves_unbroken (why.Broken f) a b only = absurd only
+
+pub leaves_memory : (n : NotRead) (a b : MadeLists) → n ≡ why.Memory → LeavesFront n a b
+leaves_memory n a b is = subst (λ (k : NotRead). LeavesFront k a b) (sym is) tt

@@ -28,7 +28,7 @@ use Rattle.cob_move.specs.declared.entries.Entries.{Entries}
 use Rattle.cob_move.specs.declared.entries.NamedEntry.{NamedEntry}
 use Rattle.cob_move.specs.Among.{nameable}
 use Rattle.cob_move.specs.Deeds.{AreDeeds, ComeFirstInLoop, IsLoopOf, IsLoopRefused, IsTurnRefused, count_of_turns}
-use Rattle.cob_move.specs.DeedsRead.{AddsDeeds, AddsLoop, AddsMade, AreKept, AreParted, AreTurns, BoundNotRead, BreaksInTurn, FirstIn, HasBounds, HasGrown, HasNoTurn, IsBoundRead, IsFrontOf, IsMade, IsNotBroken, IsRefusedIn, LoopComesTo, LoopRefused, MadeLists, PassageComesTo, ReadsTurns, TurnRefused, all_deeds, closed, closed_where, in_its_turn, last_marked, linked_turns, made_deeds, open_deeds, open_statements, without_flows}
+use Rattle.cob_move.specs.DeedsRead.{AddsDeeds, AddsLoop, AddsMade, AreKept, AreParted, AreTurns, BoundNotRead, BreaksInTurn, FirstIn, HasBounds, HasGrown, HasNoTurn, IsBoundRead, IsFrontOf, IsMade, IsNotBroken, IsRefusedIn, LeavesFront, LoopComesTo, LoopRefused, MadeLists, PassageComesTo, ReadsTurns, TurnRefused, all_deeds, closed, closed_where, in_its_turn, last_marked, linked_turns, made_deeds, open_deeds, open_statements, without_flows}
 use Rattle.cob_move.specs.Entries.{AllMayBeNamed, records_of}
 use Rattle.cob_move.specs.DeedsLaws.{DeedsBreakNoRule}
 use Rattle.cob_move.specs.Joined.{before_deeds, joined_deeds}
@@ -521,3 +521,15 @@ tested_made e ns l body n behind turns b old now new (p, is, bounded) so same =
 
 pub tested_grown : (old now new : MadeLists) (b : Bound) (linked : List Flow) → HasGrown (without_flows (closed old)) now → new ≡ with_loop old now b linked → HasGrown old new
 tested_grown old now new b linked g same = subst (λ (m : MadeLists). HasGrown old m) (sym same) (all_grown old now b linked g)
+
+-- where a turn of it breaks a rule, what was made before it stands in front
+pub loop_left : (n : NotRead) (old now : MadeLists) → LeavesFront n (without_flows (closed old)) now → LeavesFront n old (record { list = now.list; ends = now.ends; bounds = now.bounds; flows = (closed old).flows })
+loop_left why.Memory old now left = tt
+loop_left why.TooMany old now left = tt
+loop_left (why.Broken f) old now g =
+    let h = closed_grown old in record {
+      list = (h.list.0 ++ g.list.0, g.list.1 ∙ ap (λ (t : List StatementMoves). t ++ g.list.0) h.list.1 ∙ append_assoc old.list h.list.0 g.list.0);
+      ends = (h.ends.0 ++ g.ends.0, g.ends.1 ∙ ap (λ (t : List ℕ). t ++ g.ends.0) h.ends.1 ∙ append_assoc old.ends h.ends.0 g.ends.0);
+      bounds = (h.bounds.0 ++ g.bounds.0, g.bounds.1 ∙ ap (λ (t : List Bound). t ++ g.bounds.0) h.bounds.1 ∙ append_assoc old.bounds h.bounds.0 g.bounds.0);
+      flows = h.flows;
+    }

@@ -183,6 +183,12 @@ IsNotBroken why.Memory = Unit {0}
 IsNotBroken why.TooMany = Unit {0}
 IsNotBroken (why.Broken f) = ⊥
 
+-- where a rule is broken, what was there stands in front of what was made, so that this can be taken back
+abbrev pub LeavesFront : NotRead → (old new : MadeLists) → Type 0
+LeavesFront why.Memory old new = Unit {0}
+LeavesFront why.TooMany old new = Unit {0}
+LeavesFront (why.Broken f) old new = HasGrown old new
+
 -- the fault of words behind a heading that are not read: where they come to too much, on the line of the first loop
 abbrev pub TellsFault : NotRead → MoveFault → List Lexeme → Type 0
 TellsFault why.Memory f body = IsRefusedMemory f

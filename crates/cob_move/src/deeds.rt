@@ -11,7 +11,7 @@ ghost use Rattle.cob_move_loops.specs.Turns.{in_turn};
 ghost use Rattle.cob_move_statements.specs.declared.fault.MoveRule.TheVariants.{Memory};
 ghost use Rattle.cob_source.specs.Tokens.{Lexeme, lexemes};
 ghost use Rattle.cob_move.specs.Between.{ArePairsOf};
-ghost use Rattle.cob_move.specs.DeedsRead.{AddsDeeds, AddsFront, AddsLoop, AddsMoved, AreKept, BoundNotRead, BoundRefused, BreaksInTurn, FrontHasBounds, FrontRefused, HasBounds, HasGrown, HasNoTurn, IsBoundRead, IsFrontRead, IsMade, IsNotBroken, LoopRefused, MovedRefused, ReadsTurns, TurnRefused, closed, flow_lists, in_its_turn, last_marked, linked_size, linked_turns, made_lists, open_statements, taken_back, without_flows};
+ghost use Rattle.cob_move.specs.DeedsRead.{AddsDeeds, AddsFront, AddsLoop, AddsMoved, AreKept, BoundNotRead, BoundRefused, BreaksInTurn, FrontHasBounds, FrontRefused, HasBounds, HasGrown, HasNoTurn, IsBoundRead, IsFrontRead, IsMade, IsNotBroken, LeavesFront, LoopRefused, MovedRefused, ReadsTurns, TurnRefused, closed, flow_lists, in_its_turn, last_marked, linked_size, linked_turns, made_lists, open_statements, taken_back, without_flows};
 ghost use Rattle.cob_move.specs.Entries.{AllMayBeNamed, records_of};
 ghost use Rattle.cob_move.specs.Loops.{AddsRun, RunRefused};
 ghost use Rattle.cob_move.specs.declared.made.NotRead.TheVariants as unread;
@@ -103,7 +103,8 @@ fn add_moves(
     ensures fault { IfErr result (λ n. MovedRefused n entries.now (counters turn.now)
         (lexemes words.now) (made_lists made.old)) }
     ensures made { OnOk result (IsMade (records_of entries.now) (made_lists made.new)) }
-    ensures grown { HasGrown (made_lists made.old) (made_lists made.new) }
+    ensures grown { OnOk result (HasGrown (made_lists made.old) (made_lists made.new)) }
+    ensures kept { IfErr result (λ n. LeavesFront n (made_lists made.old) (made_lists made.new)) }
     ensures pairs { ArePairsOf (records_of entries.now) pairs.new }
 {
     // What statements mean are moves between the records: both layouts are those of record descriptions.
@@ -184,14 +185,14 @@ fn read_bound(
 ///
 /// A rule that the turn breaks, with its line; where it comes to too much; where no memory is left.
 #[cycle(adding)]
-fn add_turn(
+fn add_turn<'a>(
     alloc: Global,
     entries: &Entries<'_, '_>,
     pairs: &mut Correspondences<'_>,
-    head: &Loop<'_>,
+    head: &Loop<'a>,
     number: u32,
-    body: &[Token],
-    turn: &[Counter<'_>],
+    body: &'a [Token],
+    turn: &[Counter<'a>],
     made: &mut Made,
 ) -> Result<(), NotRead>
     requires named { AllMayBeNamed entries.now }
@@ -205,7 +206,8 @@ fn add_turn(
         (in_its_turn (counters turn.now) (written_loop head.now) number) (lexemes body.now)
         (made_lists made.old)) }
     ensures made { OnOk result (IsMade (records_of entries.now) (made_lists made.new)) }
-    ensures grown { HasGrown (made_lists made.old) (made_lists made.new) }
+    ensures grown { OnOk result (HasGrown (made_lists made.old) (made_lists made.new)) }
+    ensures kept { IfErr result (λ n. LeavesFront n (made_lists made.old) (made_lists made.new)) }
     ensures pairs { ArePairsOf (records_of entries.now) pairs.new }
 {
     let counter = Counter {
@@ -222,14 +224,14 @@ fn add_turn(
 ///
 /// Where it comes to too much; where no memory is left.
 #[cycle(adding)]
-fn try_turn(
+fn try_turn<'a>(
     alloc: Global,
     entries: &Entries<'_, '_>,
     pairs: &mut Correspondences<'_>,
-    head: &Loop<'_>,
+    head: &Loop<'a>,
     number: u32,
-    body: &[Token],
-    turn: &[Counter<'_>],
+    body: &'a [Token],
+    turn: &[Counter<'a>],
     made: &mut Made,
 ) -> Result<Option<MoveFault>, NotRead>
     requires named { AllMayBeNamed entries.now }
@@ -248,7 +250,7 @@ fn try_turn(
         (made_lists made.old)) }
     ensures only { IfErr result IsNotBroken }
     ensures made { OnOk result (IsMade (records_of entries.now) (made_lists made.new)) }
-    ensures grown { HasGrown (made_lists made.old) (made_lists made.new) }
+    ensures grown { OnOk result (HasGrown (made_lists made.old) (made_lists made.new)) }
     ensures pairs { ArePairsOf (records_of entries.now) pairs.new }
 {
     let before = made.sizes();
@@ -258,7 +260,8 @@ fn try_turn(
             made.take_back(before);
             Ok(Some(fault))
         }
-        Err(why) => Err(why),
+        Err(NotRead::Memory) => Err(NotRead::Memory),
+        Err(NotRead::TooMany) => Err(NotRead::TooMany),
     }
 }
 
@@ -268,13 +271,13 @@ fn try_turn(
 ///
 /// A rule that a turn breaks, with its line; where they come to too much; where no memory is left.
 #[cycle(adding)]
-fn add_turns(
+fn add_turns<'a>(
     alloc: Global,
     entries: &Entries<'_, '_>,
     pairs: &mut Correspondences<'_>,
-    head: &Loop<'_>,
-    body: &[Token],
-    turn: &[Counter<'_>],
+    head: &Loop<'a>,
+    body: &'a [Token],
+    turn: &[Counter<'a>],
     made: &mut Made,
 ) -> Result<(), NotRead>
     requires named { AllMayBeNamed entries.now }
@@ -287,7 +290,8 @@ fn add_turns(
     ensures fault { IfErr result (λ n. LoopRefused n entries.now (counters turn.now)
         (written_loop head.now) (lexemes body.now) (made_lists made.old)) }
     ensures made { OnOk result (IsMade (records_of entries.now) (made_lists made.new)) }
-    ensures grown { HasGrown (made_lists made.old) (made_lists made.new) }
+    ensures grown { OnOk result (HasGrown (made_lists made.old) (made_lists made.new)) }
+    ensures kept { IfErr result (λ n. LeavesFront n (made_lists made.old) (made_lists made.new)) }
     ensures pairs { ArePairsOf (records_of entries.now) pairs.new }
 {
     // For a loop whose turns come to nothing: words are one passage at most.
@@ -310,13 +314,13 @@ fn add_turns(
 ///
 /// The fault of the first turn; `Counter`, with the loop's line, where nothing bounds the loop; where they come to too much; where no memory is left.
 #[cycle(adding)]
-fn try_turns(
+fn try_turns<'a>(
     alloc: Global,
     entries: &Entries<'_, '_>,
     pairs: &mut Correspondences<'_>,
-    head: &Loop<'_>,
-    body: &[Token],
-    turn: &[Counter<'_>],
+    head: &Loop<'a>,
+    body: &'a [Token],
+    turn: &[Counter<'a>],
     made: &mut Made,
     turns: &mut Vec<Vec<Flow>>,
 ) -> Result<u32, NotRead>
@@ -342,7 +346,8 @@ fn try_turns(
     ensures fault { IfErr result (λ n. LoopRefused n entries.now (counters turn.now)
         (written_loop head.now) (lexemes body.now) (made_lists made.old)) }
     ensures made { OnOk result (IsMade (records_of entries.now) (made_lists made.new)) }
-    ensures grown { HasGrown (made_lists made.old) (made_lists made.new) }
+    ensures grown { OnOk result (HasGrown (made_lists made.old) (made_lists made.new)) }
+    ensures kept { IfErr result (λ n. LeavesFront n (made_lists made.old) (made_lists made.new)) }
     ensures pairs { ArePairsOf (records_of entries.now) pairs.new }
 {
     let mut next = head.from;
@@ -367,14 +372,14 @@ fn try_turns(
 /// A rule that its bound breaks, with its line; the fault of the first turn; `Counter`, with its line, where nothing bounds it; where it comes to too much;
 /// where no memory is left.
 #[cycle(adding)]
-fn add_tested(
+fn add_tested<'a>(
     alloc: Global,
     entries: &Entries<'_, '_>,
     pairs: &mut Correspondences<'_>,
-    head: &Loop<'_>,
+    head: &Loop<'a>,
     words: &[Token],
-    body: &[Token],
-    turn: &[Counter<'_>],
+    body: &'a [Token],
+    turn: &[Counter<'a>],
     made: &mut Made,
 ) -> Result<(), NotRead>
     requires named { AllMayBeNamed entries.now }
@@ -387,7 +392,8 @@ fn add_tested(
     ensures fault { IfErr result (λ n. LoopRefused n entries.now (counters turn.now)
         (written_loop head.now) (lexemes body.now) (made_lists made.old)) }
     ensures made { OnOk result (IsMade (records_of entries.now) (made_lists made.new)) }
-    ensures grown { HasGrown (made_lists made.old) (made_lists made.new) }
+    ensures grown { OnOk result (HasGrown (made_lists made.old) (made_lists made.new)) }
+    ensures kept { IfErr result (λ n. LeavesFront n (made_lists made.old) (made_lists made.new)) }
     ensures pairs { ArePairsOf (records_of entries.now) pairs.new }
 {
     // A turn that breaks a rule comes to nothing.
@@ -415,12 +421,12 @@ fn add_tested(
 ///
 /// A rule that it breaks, with its line; where it comes to too much; where no memory is left.
 #[cycle(adding)]
-fn add_item(
+fn add_item<'a>(
     alloc: Global,
     entries: &Entries<'_, '_>,
     pairs: &mut Correspondences<'_>,
-    item: &PassageItem<'_>,
-    turn: &[Counter<'_>],
+    item: &PassageItem<'a>,
+    turn: &[Counter<'a>],
     made: &mut Made,
 ) -> Result<(), NotRead>
     requires named { AllMayBeNamed entries.now }
@@ -433,7 +439,8 @@ fn add_item(
     ensures fault { IfErr result (λ n. FrontRefused n entries.now (counters turn.now)
         (item_front item.now) (made_lists made.old)) }
     ensures made { OnOk result (IsMade (records_of entries.now) (made_lists made.new)) }
-    ensures grown { HasGrown (made_lists made.old) (made_lists made.new) }
+    ensures grown { OnOk result (HasGrown (made_lists made.old) (made_lists made.new)) }
+    ensures kept { IfErr result (λ n. LeavesFront n (made_lists made.old) (made_lists made.new)) }
     ensures pairs { ArePairsOf (records_of entries.now) pairs.new }
 {
     match item {
@@ -454,12 +461,12 @@ fn add_item(
 ///
 /// A rule that it breaks, with its line; where it comes to too much; where no memory is left.
 #[cycle(adding)]
-pub(crate) fn add_passage(
+pub(crate) fn add_passage<'a>(
     alloc: Global,
     entries: &Entries<'_, '_>,
     pairs: &mut Correspondences<'_>,
-    words: &[Token],
-    turn: &[Counter<'_>],
+    words: &'a [Token],
+    turn: &[Counter<'a>],
     made: &mut Made,
 ) -> Result<(), NotRead>
     requires named { AllMayBeNamed entries.now }
@@ -471,7 +478,8 @@ pub(crate) fn add_passage(
     ensures fault { IfErr result (λ n. TurnRefused n entries.now (counters turn.now)
         (lexemes words.now) (made_lists made.old)) }
     ensures made { OnOk result (IsMade (records_of entries.now) (made_lists made.new)) }
-    ensures grown { HasGrown (made_lists made.old) (made_lists made.new) }
+    ensures grown { OnOk result (HasGrown (made_lists made.old) (made_lists made.new)) }
+    ensures kept { IfErr result (λ n. LeavesFront n (made_lists made.old) (made_lists made.new)) }
     ensures pairs { ArePairsOf (records_of entries.now) pairs.new }
 {
     let mut rest = words;

@@ -199,6 +199,7 @@ pub(crate) fn add_words(
     ensures added { OnOk result (AddsRun entries.now (lexemes words.now) list.old.items
         list.new.items) }
     ensures fault { IfErr result (λ f. RunRefused f entries.now (lexemes words.now)) }
+    ensures same { IfErr result (λ _. list.new.items ≡ list.old.items) }
     ensures pairs { ArePairsOf (records_of entries.now) pairs.new }
 {
     let statements = ended_statements(alloc, words)?;
