@@ -26,7 +26,6 @@ use Rattle.cob_move.specs.declared.made.NotRead.{NotRead}
 use Rattle.cob_move.specs.declared.made.NotRead.TheVariants as why
 use Rattle.cob_move.specs.declared.entries.Entries.{Entries}
 use Rattle.cob_move.specs.Among.{nameable}
-use Rattle.cob_move.specs.Deeds.{IsFewRead}
 use Rattle.cob_move.specs.DeedsRead.{AddsDeeds, DeedsRefused, HasItemLoop, IsFrontOf, IsMade, MadeLists, IsReadied, SaysDeeds, TellsFault, TurnRefused, all_deeds, closed, closed_where, last_marked, made_deeds, nothing_made, open_deeds}
 use Rattle.cob_move.specs.Entries.{records_of}
 use Rattle.cob_move.specs.Loops.{HasJudged}
@@ -137,11 +136,11 @@ list_ready r list m d same is =
     made_ready r (list_made list) d (open_deeds r list) (subst (λ (k : MadeLists). IsReadied r k d) same is) (λ on f. refl) (moves_of_open r list) (λ s. refl)
 
 -- words behind a heading come to what was made of them
-pub tested_ready : (e : Entries) (body : List Lexeme) (m : MadeLists) (d : ReadyDeeds) (h : HasJudged (nameable e) body) → AreBounded h.passage → IsFewRead (nameable e) e.input.now e.output.now h.passage
+pub tested_ready : (e : Entries) (body : List Lexeme) (m : MadeLists) (d : ReadyDeeds) (h : HasJudged (nameable e) body) → AreBounded h.passage
     → AddsDeeds e [] body nothing_made m → IsReadied (records_of e) m d → SaysDeeds e body (deeds_of (records_of e) d) × AreReady (records_of e) d
-tested_ready e body m d h bounded few adds is =
+tested_ready e body m d h bounded adds is =
     let a = adds h.passage h.says in
     let k = made_ready (records_of e) m d a.deeds is a.added a.whole a.straight in (
-      subst (λ (t : Deeds Past). SaysDeeds e body t) (sym k.0) (record { judged = h; bounded = bounded; many = a.many; comes = a.are; few = λ none. few }),
+      subst (λ (t : Deeds Past). SaysDeeds e body t) (sym k.0) (record { judged = h; bounded = bounded; many = a.many; comes = a.are; few = λ none many first. a.few (omega arith) many first }),
       k.1,
     )

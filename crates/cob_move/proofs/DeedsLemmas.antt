@@ -162,7 +162,7 @@ run_refused ended unbroken f input output ws ms c is (inr (ss, spelled, broken))
     let same : is.statements ≡ ss = ended ws is.statements ss is.spelled spelled in
     ap (λ (g : MoveFault). g.rule) (unbroken (all_entries input output) input output ss ms f (subst (λ (t : List WrittenStatement). AreMeant input output t ms) same is.meant) broken)
 
-bound_refused : OneReference → OneNamed → NamedBreakNoRule → (r : MoveRule) (all : List Candidate) (ws : List Lexeme) (t : Past) → IsBoundOf all ws t → IsBoundRefusal r all ws → ⊥
+pub bound_refused : OneReference → OneNamed → NamedBreakNoRule → (r : MoveRule) (all : List Candidate) (ws : List Lexeme) (t : Past) → IsBoundOf all ws t → IsBoundRefusal r all ws → ⊥
 bound_refused reference named none rule.Grammar all ws t is refused = refused is.reference is.spelled
 bound_refused reference named none rule.Unknown all ws t is (w, spelled, broken) =
     none all w t.side t.bound rule.Unknown (subst (λ (v : WrittenReference). NamesOperand all v t.side t.bound) (reference ws is.reference w is.spelled spelled) is.named) broken

@@ -13,13 +13,13 @@ pub mod PlainLemmas
 pub mod LoopLemmas
 mod FlowLemmas
 mod DeedsLemmas
+mod FewLemmas
 mod WholeLemmas
 mod MadeLemmas
 mod CloseLemmas
 mod ReadingLemmas
 mod TurnsLemmas
 mod TestedLemmas
-mod FewLemmas
 mod LiteralLemmas
 mod BodyLemmas
 mod JoinedLemmas

@@ -15,6 +15,8 @@ use Rattle.cob_move_loops.specs.Passages.{IsRun, WrittenLoop}
 use Rattle.cob_move_loops.specs.Turns.{Counted, in_turn}
 use Rattle.cob_move_statements.specs.declared.fault.MoveFault.{MoveFault}
 use Rattle.cob_move_statements.specs.declared.fault.MoveRule.TheVariants as rule
+use Rattle.cob_limits.specs.Limits.{most_written_out}
+use Rattle.cob_move_statements.specs.Laws.{OneListOfEnded}
 use Rattle.cob_move_statements.specs.Statements.{IsEndedStatement, Several}
 use Rattle.cob_move_statements.specs.Written.{WrittenStatement}
 use Rattle.cob_move.specs.declared.made.NotRead.{NotRead}
@@ -28,7 +30,8 @@ use Rattle.cob_move.specs.Entries.{AllMayBeNamed, records_of}
 use Rattle.cob_move.specs.Joined.{joined_deeds}
 use Rattle.cob_move.specs.Loops.{AddsRun, RunRefused}
 use Rattle.cob_move.specs.Meaning.{AreMeant}
-use Rattle.cob_move.specs.MeaningLaws.{MeantAreMoves}
+use Rattle.cob_move.specs.MeaningLaws.{MeantAreMoves, MeantBreakNoRule}
+use Rattle.cob_move.proofs.FewLemmas.{run_few, run_none_few}
 use Rattle.cob_move.proofs.FlowLemmas.{parted_joined}
 use Rattle.cob_move.proofs.MeaningLemmas.{meant_here}
 use Rattle.cob_move.proofs.SomeLemmas.{all_append}
@@ -134,9 +137,9 @@ some_statements (s ∷ ss) ws some is = omega arith
 
 moved_by : (e : Entries) (ns : List Counted) (ws : List Lexeme) (m : MadeLists) (ss : List WrittenStatement) (own : List StatementMoves) → IsMade (records_of e) m
     → Several IsEndedStatement ss (in_turn ns false 0 ws) → AreMeant e.input.now e.output.now ss (moves (records_of e) own)
-    → length own ≡ length ss → 0 < length own → AddsMoved e ns ws m (with_more m own)
-moved_by e ns ws m ss [] is spelled meant many some = absurd (omega (arith, some))
-moved_by e ns ws m ss (s ∷ own) is spelled meant many some = record {
+    → length own ≡ length ss → 0 < length own → OneListOfEnded → length (m.list ++ own) ≤ most_written_out → AddsMoved e ns ws m (with_more m own)
+moved_by e ns ws m ss [] is spelled meant many some one fits = absurd (omega (arith, some))
+moved_by e ns ws m ss (s ∷ own) is spelled meant many some one fits = record {
   deeds = Moving (moves (records_of e) (s ∷ own)) Nothing;
   many = length ss;
   are = (moves (records_of e) (s ∷ own), record { statements = ss; spelled = spelled; meant = meant; many = refl }, refl);
@@ -144,18 +147,20 @@ moved_by e ns ws m ss (s ∷ own) is spelled meant many some = record {
   longer = omega (arith, many, length-append m.list (s ∷ own));
   whole = moves_both (records_of e) m.list (s ∷ own) ∙ ap (λ (t : List Move). moves (records_of e) m.list ++ t) (sym (append-nil (moves (records_of e) (s ∷ own))));
   straight = λ is. refl;
+  fits = λ le. fits;
+  few = run_few one e ns ws (length m.list) ss spelled (omega (arith, fits, many, length-append m.list (s ∷ own)));
 }
 
 -- the same with these statements
 abbrev pub with_list : MadeLists → List StatementMoves → MadeLists
 with_list m xs = record { list = xs; ends = m.ends; bounds = m.bounds; flows = m.flows }
 
-pub adds_moved : (e : Entries) (ns : List Counted) (ws : List Lexeme) (m : MadeLists) (new : List StatementMoves) → AllMayBeNamed e → IsMade (records_of e) m → IsRun ws
+pub adds_moved : OneListOfEnded → (e : Entries) (ns : List Counted) (ws : List Lexeme) (m : MadeLists) (new : List StatementMoves) → AllMayBeNamed e → IsMade (records_of e) m → IsRun ws → length new ≤ most_written_out
     → AddsRun e (in_turn ns false 0 ws) m.list new → AddsMoved e ns ws m (with_list m new)
-adds_moved e ns ws m new named is run a =
+adds_moved one e ns ws m new named is run fits a =
     let some : 0 < length a.statements = some_statements a.statements (in_turn ns false 0 ws) (some_in_turn ns ws run) a.spelled in
     subst (λ (xs : List StatementMoves). AddsMoved e ns ws m (with_list m xs)) (sym a.added)
-    (moved_by e ns ws m a.statements a.own is a.spelled (meant_here (nameable e) (records_of e) a.statements a.own named a.meant) a.many (omega (arith, a.many, some)))
+    (moved_by e ns ws m a.statements a.own is a.spelled (meant_here (nameable e) (records_of e) a.statements a.own named a.meant) a.many (omega (arith, a.many, some)) one (subst (λ (xs : List StatementMoves). length xs ≤ most_written_out) a.added fits))
 
 pub moved_made : (e : Entries) (ws : List Lexeme) (m : MadeLists) (new : List StatementMoves) → AllMayBeNamed e → MeantAreMoves → IsRecordDescription e.input.now → IsRecordDescription e.output.now → IsMade (records_of e) m
     → AddsRun e ws m.list new → IsMade (records_of e) (with_list m new)
@@ -186,10 +191,11 @@ memory_loop n e ns l body m is = subst (λ (k : NotRead). LoopRefused k e ns l b
 
 -- ---- words of MOVE statements that aren't read
 
-pub moves_refused : (n : NotRead) (f : MoveFault) (e : Entries) (ns : List Counted) (ws : List Lexeme) (m : MadeLists) → ((f.rule ≡ rule.Memory) → n ≡ why.Memory) → (((f.rule ≡ rule.Memory) → ⊥) → n ≡ why.Broken f)
-    → (f.rule ≡ rule.Memory) ⊎ (((f.rule ≡ rule.Memory) → ⊥) × RunRefused f e (in_turn ns false 0 ws)) → MovedRefused n e ns ws m
-moves_refused n f e ns ws m memory broken (inl is) = subst (λ (k : NotRead). MovedRefused k e ns ws m) (sym (memory is)) tt
-moves_refused n f e ns ws m memory broken (inr (other, refused)) = subst (λ (k : NotRead). MovedRefused k e ns ws m) (sym (broken other)) (other, refused)
+pub moves_refused : OneListOfEnded → MeantBreakNoRule → (n : NotRead) (f : MoveFault) (e : Entries) (ns : List Counted) (ws : List Lexeme) (m : MadeLists) → AllMayBeNamed e → ((f.rule ≡ rule.Memory) → n ≡ why.Memory)
+    → (((f.rule ≡ rule.Memory) → ⊥) → n ≡ why.Broken f) → (f.rule ≡ rule.Memory) ⊎ (((f.rule ≡ rule.Memory) → ⊥) × RunRefused f e (in_turn ns false 0 ws)) → MovedRefused n e ns ws m
+moves_refused one unbroken n f e ns ws m named memory broken (inl is) = subst (λ (k : NotRead). MovedRefused k e ns ws m) (sym (memory is)) tt
+moves_refused one unbroken n f e ns ws m named memory broken (inr (other, refused)) =
+    subst (λ (k : NotRead). MovedRefused k e ns ws m) (sym (broken other)) (other, refused, run_none_few one unbroken f e ns ws (length m.list) named other refused)
 
 -- ---- what is left where words aren't read
 

@@ -18,7 +18,9 @@ use Rattle.cob_move.specs.declared.made.NotRead.TheVariants as why
 use Rattle.cob_move.specs.declared.entries.Entries.{Entries}
 use Rattle.cob_move.specs.Deeds.{AreDeeds}
 use Rattle.cob_move.specs.DeedsRead.{AddsDeeds, AddsFront, AddsMade, AreParted, FirstIn, FirstInFront, FrontComesTo, FrontHasBounds, FrontIsRefused, FrontRefused, HasBounds, HasGrown, IsFrontOf, IsFrontRead, IsMade, IsRefusedIn, MadeLists, PassageComesTo, RefusedMade, TurnRefused, all_deeds, made_deeds, open_deeds, open_statements}
-use Rattle.cob_move.specs.Entries.{records_of}
+use Rattle.cob_move.specs.DeedsLaws.{DeedsBreakNoRule, OneDeeds}
+use Rattle.cob_move.specs.Entries.{AllMayBeNamed, records_of}
+use Rattle.cob_move.proofs.FewLemmas.{LeftFew, comes_joined, left_few_end, left_few_first, left_few_more, left_few_refused, refused_joined}
 use Rattle.cob_move.specs.Joined.{joined_deeds}
 use Rattle.cob_move.proofs.FlowLemmas.{joined_assoc, parted_joined}
 use Rattle.cob_move.proofs.MadeLemmas.{front_back}
@@ -45,23 +47,11 @@ pause_added e m is ns p within = record {
   longer = omega arith;
   whole = sym (append-nil (moves (records_of e) m.list));
   straight = λ is. refl;
+  fits = λ le. le;
+  few = λ le many first. absurd first;
 }
 
 -- ---- what stands in front, and the others
-
-pub comes_joined : (e : Entries) (ns : List Counted) (f : PassageFront) (body others : Passage) (own d : Deeds Past) (count m : ℕ) → FrontComesTo e ns f body own count → PassageComesTo e ns others d m
-    → PassageComesTo e ns (joined f body others) (joined_deeds own d) (count + m)
-comes_joined e ns (ARun ws) body others own d count m (ms, meant, e_is) is =
-    (ms, d, count, m, meant, is, ap (λ (k : Deeds Past). joined_deeds k d) e_is, refl)
-comes_joined e ns APause body others own d count m (e_is, none) is =
-    subst (λ (n : ℕ). PassageComesTo e ns others (joined_deeds own d) n) (omega (arith, none))
-    (subst (λ (k : Deeds Past). PassageComesTo e ns others (joined_deeds k d) m) (sym e_is) is)
-comes_joined e ns (Looped l ws) body others own d count m (f, counted, loop) is = (f, counted, own, d, count, m, loop, is, refl, refl)
-
-pub refused_joined : (g : MoveFault) (e : Entries) (ns : List Counted) (f : PassageFront) (body others : Passage) → FrontIsRefused g e ns f body → IsRefusedIn g e ns (joined f body others)
-refused_joined g e ns (ARun ws) body others refused = inl refused
-refused_joined g e ns APause body others refused = absurd refused
-refused_joined g e ns (Looped l ws) body others refused = inl refused
 
 refused_behind : (g : MoveFault) (e : Entries) (ns : List Counted) (f : PassageFront) (body others : Passage) → IsRefusedIn g e ns others → IsRefusedIn g e ns (joined f body others)
 refused_behind g e ns (ARun ws) body others refused = inr refused
@@ -96,16 +86,17 @@ pub record LeftToMake (e : Entries) (ns : List Counted) (p q : Passage) (old now
       × (IsStraight k → IsStraight d × (now.ends ≡ old.ends))
   pub refused : (f : MoveFault) → IsRefusedIn f e ns q → IsRefusedIn f e ns p
   pub first : (m : ℕ) → FirstIn e ns q m → (n : ℕ) × FirstIn e ns p n × (length now.list + m ≡ length old.list + n)
+  pub few : LeftFew e ns p q (length old.list) (length now.list)
 
 abbrev pub LeftOfDeeds : Entries → List Counted → (words rest : List Lexeme) → (old now : MadeLists) → Type 0
 LeftOfDeeds e ns words rest old now = (p : Passage) → IsPassage p words → (q : Passage) × IsPassage q rest × LeftToMake e ns p q old now
 
 pub deeds_first : (e : Entries) (ns : List Counted) (words : List Lexeme) (m : MadeLists) → LeftOfDeeds e ns words words m m
-deeds_first e ns words m p is = (p, is, record { comes = λ d n k. (d, n, k, λ on f. refl, refl, refl, λ is. (is, refl)); refused = λ f k. k; first = λ n k. (n, k, refl) })
+deeds_first e ns words m p is = (p, is, record { comes = λ d n k. (d, n, k, λ on f. refl, refl, refl, λ is. (is, refl)); refused = λ f k. k; first = λ n k. (n, k, refl); few = left_few_first e ns p (length m.list) })
 
-more_left : (e : Entries) (ns : List Counted) (p q : Passage) (f : PassageFront) (body others : Passage) (old now after : MadeLists) → q ≡ joined f body others → LeftToMake e ns p q old now → HasGrown now after
-    → AddsMade e (λ d many. FrontComesTo e ns f body d many) now after → LeftToMake e ns p others old after
-more_left e ns p q f body others old now after same left grown a = record {
+more_left : OneDeeds → (e : Entries) (ns : List Counted) (p q : Passage) (f : PassageFront) (body others : Passage) (old now after : MadeLists) → q ≡ joined f body others → LeftToMake e ns p q old now → HasGrown now after
+    → AddsMade e (λ d many. FrontComesTo e ns f body d many) (λ many. FirstInFront e ns f body many) now after → LeftToMake e ns p others old after
+more_left law e ns p q f body others old now after same left grown a = record {
   comes = λ d m is.
       let (k, n, comes, makes, size, all, straight) = left.comes (joined_deeds a.deeds d) (a.many + m)
       (subst (λ (t : Passage). PassageComesTo e ns t (joined_deeds a.deeds d) (a.many + m)) (sym same) (comes_joined e ns f body others a.deeds d a.many m a.are is)) in (
@@ -126,14 +117,15 @@ more_left e ns p q f body others old now after same left grown a = record {
   first = λ m first.
       let (n, is, size) = left.first (a.many + m) (subst (λ (t : Passage). FirstIn e ns t (a.many + m)) (sym same) (first_behind e ns f body others a.deeds a.many m a.are first)) in
       (n, is, omega (arith, size, a.longer));
+  few = left_few_more law e ns p q f body others (length old.list) (length now.list) (length after.list) a.deeds a.many same a.are a.longer a.fits a.few left.few;
 }
 
-pub deeds_more : (e : Entries) (ns : List Counted) (words rest more : List Lexeme) (f : PassageFront) (old now after : MadeLists) → LeftOfDeeds e ns words rest old now → 0 < length rest → IsOnlyFront f rest more
+pub deeds_more : OneDeeds → (e : Entries) (ns : List Counted) (words rest more : List Lexeme) (f : PassageFront) (old now after : MadeLists) → LeftOfDeeds e ns words rest old now → 0 < length rest → IsOnlyFront f rest more
     → HasGrown now after → AddsFront e ns f now after → LeftOfDeeds e ns words more old after
-deeds_more e ns words rest more f old now after left some only grown adds p is =
+deeds_more law e ns words rest more f old now after left some only grown adds p is =
     let (q, are, so) = left p is in
     let k : Parted f more q = parted f rest more q are some only in
-    (k.others, k.is, more_left e ns p q f k.body k.others old now after k.same so grown (adds k.body k.within))
+    (k.others, k.is, more_left law e ns p q f k.body k.others old now after k.same so grown (adds k.body k.within))
 
 pub deeds_end : (e : Entries) (ns : List Counted) (words rest : List Lexeme) (old now : MadeLists) → IsMade (records_of e) now → LeftOfDeeds e ns words rest old now
     → ((f : PassageFront) (more : List Lexeme) → FrontStands f rest more → ⊥) → AddsDeeds e ns words old now
@@ -149,23 +141,28 @@ deeds_end e ns words rest old now made left none p is =
       longer = omega (arith, size);
       whole = sym (append-nil (moves (records_of e) now.list)) ∙ all;
       straight = λ is. (straight is).1;
+      fits = λ le. (so.few le).0;
+      few = left_few_end e ns p q (length old.list) (length now.list) nothing so.few;
     }
 
-left_refused : (n : NotRead) (e : Entries) (ns : List Counted) (p q : Passage) (f : PassageFront) (body others : Passage) (old now : MadeLists) → q ≡ joined f body others → LeftToMake e ns p q old now
+left_refused : DeedsBreakNoRule → (n : NotRead) (e : Entries) (ns : List Counted) (p q : Passage) (f : PassageFront) (body others : Passage) (old now : MadeLists) → AllMayBeNamed e → q ≡ joined f body others → LeftToMake e ns p q old now
     → RefusedMade n (λ g. FrontIsRefused g e ns f body) (λ many. FirstInFront e ns f body many) now → RefusedMade n (λ g. IsRefusedIn g e ns p) (λ many. FirstIn e ns p many) old
-left_refused why.Memory e ns p q f body others old now same left refused = tt
-left_refused (why.Broken g) e ns p q f body others old now same left refused =
-    (refused.0, left.refused g (subst (λ (t : Passage). IsRefusedIn g e ns t) (sym same) (refused_joined g e ns f body others refused.1)))
-left_refused why.TooMany e ns p q f body others old now same left (m, first, most) =
+left_refused law why.Memory e ns p q f body others old now named same left refused = tt
+left_refused law (why.Broken g) e ns p q f body others old now named same left refused = (
+  refused.0,
+  left.refused g (subst (λ (t : Passage). IsRefusedIn g e ns t) (sym same) (refused_joined g e ns f body others refused.1)),
+  left_few_refused law g e ns p q f body others (length old.list) (length now.list) named refused.0 same refused.1 refused.2 left.few,
+)
+left_refused law why.TooMany e ns p q f body others old now named same left (m, first, most) =
     let (n, is, size) = left.first m (subst (λ (t : Passage). FirstIn e ns t m) (sym same) (first_joined e ns f body others m first)) in
     (n, is, subst (λ (k : ℕ). most_written_out < k) size most)
 
-pub deeds_refused : (n : NotRead) (e : Entries) (ns : List Counted) (words rest more : List Lexeme) (f : PassageFront) (old now : MadeLists) → LeftOfDeeds e ns words rest old now → 0 < length rest → IsOnlyFront f rest more
-    → FrontRefused n e ns f now → TurnRefused n e ns words old
-deeds_refused n e ns words rest more f old now left some only refused p is =
+pub deeds_refused : DeedsBreakNoRule → (n : NotRead) (e : Entries) (ns : List Counted) (words rest more : List Lexeme) (f : PassageFront) (old now : MadeLists) → AllMayBeNamed e → LeftOfDeeds e ns words rest old now → 0 < length rest
+    → IsOnlyFront f rest more → FrontRefused n e ns f now → TurnRefused n e ns words old
+deeds_refused law n e ns words rest more f old now named left some only refused p is =
     let (q, are, so) = left p is in
     let k : Parted f more q = parted f rest more q are some only in
-    left_refused n e ns p q f k.body k.others old now k.same so (refused k.body k.within)
+    left_refused law n e ns p q f k.body k.others old now named k.same so (refused k.body k.within)
 
 -- ---- bounds of loops
 

@@ -19,6 +19,8 @@ use Rattle.cob_move_deeds.specs.Turns.{turns_from}
 use Rattle.cob_move_loops.specs.Passages.{IsPassage, Passage, ToItem, WrittenBound, WrittenLoop}
 use Rattle.cob_move_loops.specs.Turns.{Counted, in_turn, turns as loop_turns, turns_between}
 use Rattle.cob_move_names.specs.Candidates.{Candidate}
+use Rattle.cob_move_names.specs.Laws.{NamedBreakNoRule, OneNamed}
+use Rattle.cob_move_statements.specs.Laws.{OneReference}
 use Rattle.cob_move_statements.specs.declared.fault.MoveFault.{MoveFault}
 use Rattle.cob_move_statements.specs.declared.fault.MoveRule.{MoveRule}
 use Rattle.cob_move_statements.specs.declared.fault.MoveRule.TheVariants as rule
@@ -27,14 +29,15 @@ use Rattle.cob_move.specs.declared.made.NotRead.TheVariants as why
 use Rattle.cob_move.specs.declared.entries.Entries.{Entries}
 use Rattle.cob_move.specs.declared.entries.NamedEntry.{NamedEntry}
 use Rattle.cob_move.specs.Among.{nameable}
-use Rattle.cob_move.specs.Deeds.{AreDeeds, ComeFirstInLoop, IsLoopOf, IsLoopRefused, IsTurnRefused, count_of_turns}
-use Rattle.cob_move.specs.DeedsRead.{AddsDeeds, AddsLoop, AddsMade, AreKept, AreParted, AreTurns, BoundNotRead, BreaksInTurn, FirstIn, HasBounds, HasGrown, HasNoTurn, IsBoundRead, IsFrontOf, IsMade, IsNotBroken, IsRefusedIn, LeavesFront, LoopComesTo, LoopRefused, MadeLists, PassageComesTo, ReadsTurns, TurnRefused, all_deeds, closed, closed_where, in_its_turn, last_marked, linked_turns, made_deeds, open_deeds, open_statements, without_flows}
+use Rattle.cob_move.specs.Deeds.{AreDeeds, ComeFirstInLoop, IsBoundOf, IsLoopOf, IsLoopRefused, IsTurnRefused, count_of_turns}
+use Rattle.cob_move.specs.DeedsRead.{AddsDeeds, AddsLoop, AddsMade, AreKept, AreParted, AreTurns, BoundNotRead, BreaksInTurn, FewWith, FirstBelow, FirstIn, FirstInLoop, HasBounds, HasGrown, HasNoTurn, IsBoundRead, IsFrontOf, IsMade, IsNotBroken, IsRefusedIn, LeavesFront, LoopComesTo, LoopRefused, MadeLists, PassageComesTo, ReadsTurns, TurnRefused, all_deeds, closed, closed_where, in_its_turn, last_marked, linked_turns, made_deeds, open_deeds, open_statements, without_flows}
 use Rattle.cob_move.specs.Entries.{AllMayBeNamed, records_of}
-use Rattle.cob_move.specs.DeedsLaws.{DeedsBreakNoRule}
+use Rattle.cob_move.specs.DeedsLaws.{DeedsBreakNoRule, OneDeeds}
 use Rattle.cob_move.specs.Joined.{before_deeds, joined_deeds}
 use Rattle.cob_move.proofs.CloseLemmas.{closed_deeds, closed_flows, closed_grown, closed_open}
 use Rattle.cob_move.proofs.DeedsLemmas.{counted_same, either_side, mul_within, up_to_some}
 use Rattle.cob_move.proofs.FlowLemmas.{before_parted, before_turns, both_assoc, both_flows, both_nothing, both_parted, flows_both, linked_deeds, linked_flows, parted_joined, turns_parted}
+use Rattle.cob_move.proofs.FewLemmas.{below_few_first, below_few_next, bound_few, far_few, first_turn_few, item_few, kept_below}
 use Rattle.cob_move.proofs.MadeLemmas.{front_back}
 use Rattle.cob_move.proofs.TurnsLemmas.{changed, changed_elsewhere, changed_there}
 use Rattle.cob_move.proofs.WholeLemmas.{moves_of_tested, tested_not_straight, turns_as, turns_one_more}
@@ -79,13 +82,6 @@ kept_same from by kept behind next k other = record {
   where
     zero_next : kept ≡ 0 → from ≡ from + kept * by
     zero_next e = sym (ap (λ (n : ℕ). from + n * by) e ∙ omega arith)
-
--- each that is kept stands below the number behind
-pub kept_below : (from by kept behind next k : ℕ) → AreKept from by kept behind next → k < kept → from + k * by < behind
-kept_below from by zero behind next k is less = absurd (omega (arith, less))
-kept_below from by (suc kept) behind next k is less =
-    let few : k * by ≤ kept * by = mul_within k kept by (omega (arith, less)) in
-    omega (arith, is.at, is.last (omega arith), suc-mul kept by, few)
 
 -- as many are kept as the counter takes up to the number before
 pub kept_turns : (from by kept behind next : ℕ) → AreKept from by kept behind next → from < behind → turns_between from by (behind - 1) ≡ kept
@@ -137,6 +133,8 @@ no_reads e ns l p m = record {
   flows = λ on f. tt;
   longer = omega arith;
   whole = sym (append-nil (moves (records_of e) m.list));
+  fits = λ le. le;
+  few = below_few_first e ns l p (length m.list);
 }
 
 pub reads_first : (e : Entries) (ns : List Counted) (l : WrittenLoop) (p : Passage) (behind : ℕ) (turns : List (List Flow)) (m : MadeLists) → behind ≡ l.from → turns ≡ [] → ReadsTurns e ns l p behind turns m m
@@ -166,9 +164,9 @@ moves_changed f behind d by n i other =
     (λ k less. ap (λ (t : Deeds Past). moves_of_deeds t) (sym (changed_elsewhere f behind d (i + k * by) (other k less))))
 
 -- the turn of a number that the counter doesn't take is not kept
-pub reads_passed : (e : Entries) (ns : List Counted) (l : WrittenLoop) (p : Passage) (behind next : ℕ) (turns : List (List Flow)) (old now after : MadeLists) → AreKept l.from l.by (length turns) behind next
-    → ReadsTurns e ns l p behind turns old now → AddsMade e (λ d many. PassageComesTo e (in_its_turn ns l behind) p d many) now after → ReadsTurns e ns l p (behind + 1) turns old now
-reads_passed e ns l p behind next turns old now after kept so a =
+pub reads_passed : OneDeeds → (e : Entries) (ns : List Counted) (l : WrittenLoop) (p : Passage) (behind next : ℕ) (turns : List (List Flow)) (old now after : MadeLists) → AreKept l.from l.by (length turns) behind next
+    → ReadsTurns e ns l p behind turns old now → AddsMade e (λ d many. PassageComesTo e (in_its_turn ns l behind) p d many) (λ many. FirstIn e (in_its_turn ns l behind) p many) now after → ReadsTurns e ns l p (behind + 1) turns old now
+reads_passed law e ns l p behind next turns old now after kept so a =
     let other : (k : ℕ) → k < length turns → (l.from + k * l.by ≡ behind) → ⊥ = λ k less e. omega (arith, kept_below l.from l.by (length turns) behind next k kept less, e) in
     record {
       comes = changed so.comes behind a.deeds;
@@ -179,6 +177,8 @@ reads_passed e ns l p behind next turns old now after kept so a =
           (counted_same so.count (changed so.count behind a.many) l.by (length turns) l.from (λ k less. sym (changed_elsewhere so.count behind a.many (l.from + k * l.by) (other k less))));
       whole = so.whole ∙ ap (λ (t : List Move). moves (records_of e) old.list ++ t)
           (moves_changed so.comes behind a.deeds l.by (length turns) l.from (λ k less. other k less));
+      fits = so.fits;
+      few = below_few_next law e ns l p behind next (length turns) (length old.list) (length now.list) so.comes so.count kept so.are so.longer so.fits a.few so.few;
     }
 
 -- nothing is made but what has a mark behind it
@@ -205,11 +205,11 @@ closed_after now mid none g =
       flows = ([], sym (ap (λ (t : List Flow). t ++ []) none));
     }
 
-pub reads_kept : (e : Entries) (ns : List Counted) (l : WrittenLoop) (p : Passage) (behind next : ℕ) (turns : List (List Flow)) (old now mid : MadeLists) → AreKept l.from l.by (length turns) behind next → behind ≡ next
+pub reads_kept : OneDeeds → (e : Entries) (ns : List Counted) (l : WrittenLoop) (p : Passage) (behind next : ℕ) (turns : List (List Flow)) (old now mid : MadeLists) → AreKept l.from l.by (length turns) behind next → behind ≡ next
     → now.flows ≡ [] → open_statements now ≡ [] → HasGrown now mid → IsMade (records_of e) mid
-    → ReadsTurns e ns l p behind turns old now → AddsMade e (λ d many. PassageComesTo e (in_its_turn ns l behind) p d many) now mid
+    → ReadsTurns e ns l p behind turns old now → AddsMade e (λ d many. PassageComesTo e (in_its_turn ns l behind) p d many) (λ many. FirstIn e (in_its_turn ns l behind) p many) now mid
     → ReadsTurns e ns l p (behind + 1) (turns ++ (closed mid).flows ∷ []) old (without_flows (closed mid))
-reads_kept e ns l p behind next turns old now mid kept here none marked grown made so a =
+reads_kept law e ns l p behind next turns old now mid kept here none marked grown made so a =
     let r = records_of e in
     let after = without_flows (closed mid) in
     let other : (k : ℕ) → k < length turns → (l.from + k * l.by ≡ behind) → ⊥ = λ k less e. omega (arith, kept_below l.from l.by (length turns) behind next k kept less, e) in
@@ -247,34 +247,42 @@ reads_kept e ns l p behind next turns old now mid kept here none marked grown ma
           ∙ ap (λ (t : List Move). moves r old.list ++ (loop_turns g l.by (length turns) l.from ++ t)) last
           ∙ ap (λ (t : List Move). moves r old.list ++ t) (sym (turns_one_more g l.by (length turns) l.from))
           ∙ ap (λ (n : ℕ). moves r old.list ++ loop_turns g l.by n l.from) (sym size);
+      fits = λ le. subst (λ (ss : List StatementMoves). length ss ≤ most_written_out) (sym (closed_list mid)) (a.fits (so.fits le));
+      few = below_few_next law e ns l p behind next (length turns) (length old.list) (length now.list) so.comes so.count kept so.are so.longer so.fits a.few so.few;
     }
 
 -- ---- why a loop to an item isn't read
 
-pub first_refused : (f : MoveFault) (e : Entries) (ns : List Counted) (l : WrittenLoop) (ws body : List Lexeme) (number : ℕ) (old : MadeLists) → l.bound ≡ ToItem ws → number ≡ l.from
-    → BreaksInTurn f e (in_its_turn ns l number) body → LoopRefused (why.Broken f) e ns l body old
-first_refused f e ns l ws body number old bound first broken p is = (
-  (broken p is).0,
-  subst (λ (b : WrittenBound). IsLoopRefused f (nameable e) ns l b (λ i. IsRefusedIn f e (in_its_turn ns l i) p) (λ i. (d : Deeds Past) × (c : ℕ) × PassageComesTo e (in_its_turn ns l i) p d c)) (sym bound)
-      (inr (inl (subst (λ (i : ℕ). IsRefusedIn f e (in_its_turn ns l i) p) first (broken p is).1))),
-)
+pub first_refused : OneDeeds → DeedsBreakNoRule → (f : MoveFault) (e : Entries) (ns : List Counted) (l : WrittenLoop) (ws body : List Lexeme) (number : ℕ) (old : MadeLists) → AllMayBeNamed e → l.bound ≡ ToItem ws → number ≡ l.from
+    → BreaksInTurn f e (in_its_turn ns l number) body (length old.list) → LoopRefused (why.Broken f) e ns l body old
+first_refused law unbroken f e ns l ws body number old named bound first broken p is =
+    let k : ((f.rule ≡ rule.Memory) → ⊥) × IsRefusedIn f e (in_its_turn ns l l.from) p × FewWith (λ many. FirstIn e (in_its_turn ns l l.from) p many) (length old.list) =
+    subst (λ (i : ℕ). ((f.rule ≡ rule.Memory) → ⊥) × IsRefusedIn f e (in_its_turn ns l i) p × FewWith (λ many. FirstIn e (in_its_turn ns l i) p many) (length old.list)) first (broken p is) in (
+      k.0,
+      subst (λ (b : WrittenBound). IsLoopRefused f (nameable e) ns l b (λ i. IsRefusedIn f e (in_its_turn ns l i) p) (λ i. (d : Deeds Past) × (c : ℕ) × PassageComesTo e (in_its_turn ns l i) p d c)) (sym bound)
+          (inr (inl k.1)),
+      first_turn_few law unbroken f e ns l p ws (length old.list) named k.0 bound k.1 k.2,
+    )
 
 pub later_refused : (n : NotRead) (e : Entries) (ns : List Counted) (l : WrittenLoop) (ws body : List Lexeme) (behind next : ℕ) (turns : List (List Flow)) (old now : MadeLists) → l.bound ≡ ToItem ws
-    → AreKept l.from l.by (length turns) behind next → ((p : Passage) → IsPassage p body → ReadsTurns e ns l p behind turns old now) → IsNotBroken n
-    → TurnRefused n e (in_its_turn ns l behind) body now → LoopRefused n e ns l body old
-later_refused why.Memory e ns l ws body behind next turns old now bound kept reads only refused p is = tt
-later_refused (why.Broken f) e ns l ws body behind next turns old now bound kept reads only refused p is = absurd only
-later_refused why.TooMany e ns l ws body behind next turns old now bound kept reads only refused p is =
+    → AreKept l.from l.by (length turns) behind next → ((p : Passage) → IsPassage p body → ReadsTurns e ns l p behind turns old now) → behind ≤ l.from + longest_record
+    → ((t : Past) × IsBoundOf (nameable e) (in_turn ns false 0 ws) t) → IsNotBroken n → TurnRefused n e (in_its_turn ns l behind) body now → LoopRefused n e ns l body old
+later_refused why.Memory e ns l ws body behind next turns old now bound kept reads far item only refused p is = tt
+later_refused (why.Broken f) e ns l ws body behind next turns old now bound kept reads far item only refused p is = absurd only
+later_refused why.TooMany e ns l ws body behind next turns old now bound kept reads far item only refused p is =
     let (m, first, most) = refused p is in
     let so = reads p is in
     let begin = count_of_turns so.count l.by (length turns) l.from in (
       begin + m,
-      subst (λ (b : WrittenBound). ComeFirstInLoop l b (λ i c. (d : Deeds Past) × PassageComesTo e (in_its_turn ns l i) p d c) (λ i c. FirstIn e (in_its_turn ns l i) p c) (begin + m)) (sym bound) (
+      subst (λ (b : WrittenBound). ComeFirstInLoop (nameable e) ns l b (λ i c. (d : Deeds Past) × PassageComesTo e (in_its_turn ns l i) p d c) (λ i c. FirstIn e (in_its_turn ns l i) p c) (begin + m)) (sym bound) (
+        item.0,
         behind,
         m,
         length turns,
         so.count,
+        item.1,
         kept.first,
+        far,
         λ j low less. (so.comes j, so.are j low less),
         omega (arith, kept.below, kept.at),
         λ k less. kept_below l.from l.by (length turns) behind next k kept less,
@@ -291,21 +299,26 @@ never_refused f e ns l ws body behind turns old now bound same line far reads p 
       λ memory. let never : rule.Counter ≡ rule.Memory = sym same ∙ memory in cc,
       subst (λ (b : WrittenBound). IsLoopRefused f (nameable e) ns l b (λ i. IsRefusedIn f e (in_its_turn ns l i) p) (λ i. (d : Deeds Past) × (c : ℕ) × PassageComesTo e (in_its_turn ns l i) p d c)) (sym bound)
           (inr (inr (same, line, λ i low high. (so.comes i, so.count i, so.are i low (omega (arith, high, far)))))),
+      far_few e ns l p ws behind (length old.list) bound far so.few,
     )
 
-pub bound_not_read : (n : NotRead) (e : Entries) (ns : List Counted) (l : WrittenLoop) (ws body : List Lexeme) (old : MadeLists) → l.bound ≡ ToItem ws → BoundNotRead n e l.line (in_turn ns false 0 ws) → LoopRefused n e ns l body old
-bound_not_read why.Memory e ns l ws body old bound refused p is = tt
-bound_not_read why.TooMany e ns l ws body old bound refused p is = absurd refused
-bound_not_read (why.Broken f) e ns l ws body old bound refused p is = (
+pub bound_not_read : OneReference → OneNamed → NamedBreakNoRule → (n : NotRead) (e : Entries) (ns : List Counted) (l : WrittenLoop) (ws body : List Lexeme) (old : MadeLists) → l.bound ≡ ToItem ws
+    → BoundNotRead n e l.line (in_turn ns false 0 ws) → LoopRefused n e ns l body old
+bound_not_read one named none why.Memory e ns l ws body old bound refused p is = tt
+bound_not_read one named none why.TooMany e ns l ws body old bound refused p is = absurd refused
+bound_not_read one named none (why.Broken f) e ns l ws body old bound refused p is = (
   refused.0,
   subst (λ (b : WrittenBound). IsLoopRefused f (nameable e) ns l b (λ i. IsRefusedIn f e (in_its_turn ns l i) p) (λ i. (d : Deeds Past) × (c : ℕ) × PassageComesTo e (in_its_turn ns l i) p d c)) (sym bound)
       (inl (refused.2, refused.1)),
+  bound_few one named none f.rule e ns l p ws (length old.list) bound refused.2,
 )
 
 -- the mark that was put before the turns changes nothing of it
 pub closed_refused : (n : NotRead) (e : Entries) (ns : List Counted) (l : WrittenLoop) (body : List Lexeme) (old : MadeLists) → LoopRefused n e ns l body (without_flows (closed old)) → LoopRefused n e ns l body old
 closed_refused why.Memory e ns l body old refused p is = tt
-closed_refused (why.Broken f) e ns l body old refused p is = refused p is
+closed_refused (why.Broken f) e ns l body old refused p is =
+    let k = refused p is in
+    (k.0, k.1, subst (λ (ss : List StatementMoves). FewWith (λ many. FirstInLoop e ns l p many) (length ss)) (closed_list old) k.2)
 closed_refused why.TooMany e ns l body old refused p is =
     let (m, first, most) = refused p is in
     (m, first, subst (λ (ss : List StatementMoves). most_written_out < length ss + m) (closed_list old) most)
@@ -440,8 +453,9 @@ loop_made e ns l p n behind turns b old now so = record {
 pub loop_added : (e : Entries) (ns : List Counted) (l : WrittenLoop) (p : Passage) (n : NamedEntry) (ws : List Lexeme) (behind next : ℕ) (turns : List (List Flow)) (b : Bound) (old now : MadeLists) → l.bound ≡ ToItem ws
     → IsBoundRead e (in_turn ns false 0 ws) n → AreKept l.from l.by (length turns) behind next → l.from < behind → behind ≤ l.from + longest_record
     → ((d : Deeds Past) (c : ℕ) → PassageComesTo e (in_its_turn ns l behind) p d c → ⊥) → IsLoopRead e ns l p n behind turns b old now
-    → AddsMade e (λ d many. LoopComesTo e ns l p d many) old (with_loop old now b (linked_turns (length now.bounds) l.by l.from turns))
-loop_added e ns l p n ws behind next turns b old now bound named kept first last none so =
+    → FewWith (λ many. FirstIn e (in_its_turn ns l behind) p many) (length now.list) → OneDeeds
+    → AddsMade e (λ d many. LoopComesTo e ns l p d many) (λ many. FirstInLoop e ns l p many) old (with_loop old now b (linked_turns (length now.bounds) l.by l.from turns))
+loop_added e ns l p n ws behind next turns b old now bound named kept first last none so few law =
     let r = records_of e in
     let t = past_of e n (behind - 1) in
     let many : turns_between l.from l.by (behind - 1) ≡ length turns = kept_turns l.from l.by (length turns) behind next kept first in
@@ -473,11 +487,15 @@ loop_added e ns l p n ws behind next turns b old now bound named kept first last
       whole = so.reads.whole ∙ ap (λ (ss : List StatementMoves). moves r ss ++ loop_turns (λ i. moves_of_deeds (so.reads.comes i)) l.by (length turns) l.from) (closed_list old)
           ∙ ap (λ (t : List Move). moves r old.list ++ t) (sym (moves_of_tested (with_number t) so.reads.comes l.by (length turns) l.from));
       straight = λ is. absurd (tested_not_straight (with_number t) so.reads.comes l.by (length turns) l.from is);
+      fits = λ le. so.reads.fits (subst (λ (ss : List StatementMoves). length ss ≤ most_written_out) (sym (closed_list old)) le);
+      few = subst (λ (ss : List StatementMoves). FewWith (λ many. FirstInLoop e ns l p many) (length ss)) (closed_list old)
+          (item_few e ns l p ws behind (length (closed old).list) bound (omega (arith, first)) none
+          (below_few_next law e ns l p behind next (length turns) (length (closed old).list) (length now.list) so.reads.comes so.reads.count kept so.reads.are so.reads.longer so.reads.fits few so.reads.few));
     }
 
 -- a turn that breaks a rule comes to nothing
-pub no_turn_comes : DeedsBreakNoRule → (e : Entries) (ns : List Counted) (p : Passage) (body : List Lexeme) → AllMayBeNamed e → HasNoTurn e ns body → IsPassage p body → (d : Deeds Past) (c : ℕ) → PassageComesTo e ns p d c → ⊥
-no_turn_comes law e ns p body named (f, broken) is d c comes =
+pub no_turn_comes : DeedsBreakNoRule → (e : Entries) (ns : List Counted) (p : Passage) (body : List Lexeme) → AllMayBeNamed e → (before : ℕ) → HasNoTurn e ns body before → IsPassage p body → (d : Deeds Past) (c : ℕ) → PassageComesTo e ns p d c → ⊥
+no_turn_comes law e ns p body named before (f, broken) is d c comes =
     let k = broken p is in
     k.0 (law f e.input.now e.output.now ns p d c (subst (λ (all : List Candidate). AreDeeds all e.input.now e.output.now ns p d c) named comes)
     (subst (λ (all : List Candidate). IsTurnRefused f all e.input.now e.output.now ns p) named k.1))
@@ -509,10 +527,10 @@ loop_read e ns l body n behind turns b old now so p is = record {
 pub tested_added : (e : Entries) (ns : List Counted) (l : WrittenLoop) (ws body : List Lexeme) (n : NamedEntry) (behind next : ℕ) (turns : List (List Flow)) (b : Bound) (old now new : MadeLists) → l.bound ≡ ToItem ws
     → IsBoundRead e (in_turn ns false 0 ws) n → AreKept l.from l.by (length turns) behind next → l.from < behind → behind ≤ l.from + longest_record
     → ((p : Passage) → IsPassage p body → (d : Deeds Past) (c : ℕ) → PassageComesTo e (in_its_turn ns l behind) p d c → ⊥) → HasReadLoop e ns l body n behind turns b old now
-    → new ≡ with_loop old now b (linked_turns (length now.bounds) l.by l.from turns) → AddsLoop e ns l body old new
-tested_added e ns l ws body n behind next turns b old now new bound named kept first last none so same p is =
-    subst (λ (m : MadeLists). AddsMade e (λ d many. LoopComesTo e ns l p d many) old m) (sym same)
-    (loop_added e ns l p n ws behind next turns b old now bound named kept first last (none p is) (loop_read e ns l body n behind turns b old now so p is))
+    → HasNoTurn e (in_its_turn ns l behind) body (length now.list) → OneDeeds → new ≡ with_loop old now b (linked_turns (length now.bounds) l.by l.from turns) → AddsLoop e ns l body old new
+tested_added e ns l ws body n behind next turns b old now new bound named kept first last none so (f, broken) law same p is =
+    subst (λ (m : MadeLists). AddsMade e (λ d many. LoopComesTo e ns l p d many) (λ many. FirstInLoop e ns l p many) old m) (sym same)
+    (loop_added e ns l p n ws behind next turns b old now bound named kept first last (none p is) (loop_read e ns l body n behind turns b old now so p is) (broken p is).2 law)
 
 pub tested_made : (e : Entries) (ns : List Counted) (l : WrittenLoop) (body : List Lexeme) (n : NamedEntry) (behind : ℕ) (turns : List (List Flow)) (b : Bound) (old now new : MadeLists) → HasBounds body
     → HasReadLoop e ns l body n behind turns b old now → new ≡ with_loop old now b (linked_turns (length now.bounds) l.by l.from turns) → IsMade (records_of e) new

@@ -23,11 +23,13 @@ use Rattle.cob_move.specs.declared.made.NotRead.TheVariants as why
 use Rattle.cob_move.specs.declared.entries.Entries.{Entries}
 use Rattle.cob_move.specs.Among.{nameable}
 use Rattle.cob_move.specs.Deeds.{ComeFirstInLoop, IsLoopOf, IsLoopRefused, count_of_turns, deeds_of_turns}
-use Rattle.cob_move.specs.DeedsRead.{AddsDeeds, AddsLoop, AddsMade, AddsTurns, AreTurnsMeant, FirstIn, FirstInLoop, HasBounds, HasGrown, IsFrontOf, IsMade, IsRefusedIn, LoopComesTo, LoopIsRefused, LoopRefused, MadeLists, PassageComesTo, RefusedMade, TurnComesTo, TurnRefused, in_its_turn, made_deeds}
-use Rattle.cob_move.specs.Entries.{records_of}
+use Rattle.cob_move.specs.DeedsRead.{AddsDeeds, AddsLoop, AddsMade, AddsTurns, AreTurnsMeant, FewWith, FirstIn, FirstInLoop, FirstInTurns, HasBounds, HasGrown, IsFrontOf, IsMade, IsRefusedIn, LoopComesTo, LoopIsRefused, LoopRefused, MadeLists, PassageComesTo, RefusedMade, TurnComesTo, TurnRefused, in_its_turn, made_deeds}
+use Rattle.cob_move.specs.DeedsLaws.{DeedsBreakNoRule, OneDeeds}
+use Rattle.cob_move.specs.Entries.{AllMayBeNamed, records_of}
 use Rattle.cob_move.specs.Joined.{joined_deeds}
 use Rattle.cob_move.proofs.DeedsLemmas.{counted_same, turned_same}
 use Rattle.cob_move.proofs.FlowLemmas.{joined_assoc}
+use Rattle.cob_move.proofs.FewLemmas.{count_one, turns_few_begin, turns_few_end, turns_few_next, turns_few_refused}
 use Rattle.cob_move.proofs.MadeLemmas.{front_back}
 use Rattle.cob_move.proofs.ReadingLemmas.{made_alone}
 use Rattle.cob_move.proofs.WholeLemmas.{moves_joined, straight_parts}
@@ -130,14 +132,16 @@ turns_begin e ns l body m made p is = record {
   longer = omega arith;
   whole = sym (append-nil (moves (records_of e) m.list));
   straight = λ is. refl;
+  fits = λ le. le;
+  few = turns_few_begin e ns l p (length m.list);
 }
 
 after_one : (n : ℕ) → suc n ≡ n + 1
 after_one n = omega arith
 
-pub turns_next : (e : Entries) (ns : List Counted) (l : WrittenLoop) (body : List Lexeme) (done number : ℕ) (old now after : MadeLists) → number ≡ l.from + done * l.by → HasGrown now after → IsMade (records_of e) after
+pub turns_next : OneDeeds → (e : Entries) (ns : List Counted) (l : WrittenLoop) (body : List Lexeme) (done number : ℕ) (old now after : MadeLists) → number ≡ l.from + done * l.by → HasGrown now after → IsMade (records_of e) after
     → AddsTurns e ns l body done old now → AddsDeeds e (in_its_turn ns l number) body now after → AddsTurns e ns l body (done + 1) old after
-turns_next e ns l body done number old now after at grown made so adds p is =
+turns_next law e ns l body done number old now after at grown made so adds p is =
     let a = so p is in
     let b = adds p is in
     let r = records_of e in record {
@@ -157,6 +161,8 @@ turns_next e ns l body done number old now after at grown made so adds p is =
       straight = λ is.
           let parts = straight_parts a.deeds (joined_deeds b.deeds Nothing) is in
           b.straight (straight_parts b.deeds Nothing parts.1).0 ∙ a.straight parts.0;
+      fits = λ le. b.fits (a.fits le);
+      few = turns_few_next law e ns l p done number (length old.list) (length now.list) a.deeds a.many at a.longer a.fits a.are b.few a.few;
     }
 
 loop_to_number : (e : Entries) (ns : List Counted) (l : WrittenLoop) (p : Passage) (n : ℕ) (d : Deeds Past) (m : ℕ) → 0 < l.by → l.bound ≡ ToNumber n
@@ -259,46 +265,112 @@ nothing_comes e ns (ALoop l body more) ws (head, own, stops, rest, end, h, b, in
   refl,
 )
 
+-- where a passage comes to no statement, none comes first
+
+none_in_turns : OneDeeds → (e : Entries) (ns : List Counted) (l : WrittenLoop) (p : Passage) (count : ℕ → ℕ) (n i : ℕ) → ((j : ℕ) → PassageComesTo e (in_its_turn ns l j) p Nothing 0)
+    → ((k : ℕ) → k < n → (d : Deeds Past) × PassageComesTo e (in_its_turn ns l (i + k * l.by)) p d (count (i + k * l.by))) → count_of_turns count l.by n i ≡ 0
+none_in_turns law e ns l p count n i comes whole =
+    counted_same count (λ j. 0) l.by n i (λ k less.
+    let (d, is) = whole k less in
+    count_one law e (in_its_turn ns l (i + k * l.by)) p d Nothing (count (i + k * l.by)) 0 is (comes (i + k * l.by)))
+    ∙ none_counted l.by n i
+
+loop_first_none : OneDeeds → (e : Entries) (ns : List Counted) (l : WrittenLoop) (p : Passage) (ws : List Lexeme) (b : WrittenBound) → l.bound ≡ b → IsPassage p ws → AreBounded p → IsBounded b l.counter p → turns_of l * statements_of p ≡ 0
+    → ((ns : List Counted) → statements_of p ≡ 0 → (m : ℕ) → FirstIn e ns p m → m ≡ 0) → (m : ℕ)
+    → ComeFirstInLoop (nameable e) ns l b (λ i c. (d : Deeds Past) × PassageComesTo e (in_its_turn ns l i) p d c) (λ i c. FirstIn e (in_its_turn ns l i) p c) m → m ≡ 0
+loop_first_none law e ns l p ws (ToNumber n) same is bounded counter none part m (k, own, count, less, whole, first, at) =
+    let turns : turns_of l ≡ turns_between l.from l.by n = turns_are l n same in
+    let no : statements_of p ≡ 0 = no_product (turns_of l) (statements_of p) k none (subst (λ (j : ℕ). k < j) (sym turns) less) in
+    let before = none_in_turns law e ns l p count k l.from (λ j. nothing_comes e (in_its_turn ns l j) p ws is bounded no) whole in
+    omega (arith, at, before, part (in_its_turn ns l (l.from + k * l.by)) no own first)
+loop_first_none law e ns l p ws (ToItem words) same is bounded counter none part m first =
+    let one : turns_of l ≡ 1 = ap (λ (b : WrittenBound). turns_up_to l.from l.by b) same in
+    absurd (omega (arith, some_product (turns_of l) (statements_of p) (omega (arith, one)) (subscript_some l.counter p ws is bounded counter), none))
+
+pub nothing_first : OneDeeds → (e : Entries) (ns : List Counted) (p : Passage) (ws : List Lexeme) → IsPassage p ws → AreBounded p → statements_of p ≡ 0 → (m : ℕ) → FirstIn e ns p m → m ≡ 0
+nothing_first law e ns NoMore ws is bounded none m first = first
+nothing_first law e ns (Moves own more) ws (rest, run, front, cut, is) bounded none m first = absurd (omega (arith, run_some own run, none))
+nothing_first law e ns (Pause more) ws (pause, stops, rest, word, are, cut, is) bounded none m first = nothing_first law e ns more rest is bounded none m first
+nothing_first law e ns (ALoop l body more) ws (head, own, stops, rest, end, h, b, inner, word, are, cut, is) bounded none m (inl first) = first
+nothing_first law e ns (ALoop l body more) ws (head, own, stops, rest, end, h, b, inner, word, are, cut, is) bounded none m (inr (inl first)) =
+    loop_first_none law e ns l body own l.bound refl inner bounded.1 bounded.0 (omega (arith, none)) (λ k no n x. nothing_first law e k body own inner bounded.1 no n x) m first
+nothing_first law e ns (ALoop l body more) ws (head, own, stops, rest, end, h, b, inner, word, are, cut, is) bounded none m (inr (inr (f, count, k, turned, left, loop, first, at))) =
+    let loop_none : PassageComesTo e ns (ALoop l body NoMore) Nothing 0 =
+    nothing_alone e ns l body own inner bounded.1 bounded.0 (omega (arith, none)) in
+    let same : turned + 0 ≡ 0 = count_one law e ns (ALoop l body NoMore) (joined_deeds k Nothing) Nothing (turned + 0) 0 (f, count, k, Nothing, turned, 0, loop, (refl, refl), refl, refl) loop_none in
+    omega (arith, at, same, nothing_first law e ns more rest is bounded.2 (omega (arith, none)) left first)
+  where
+    nothing_alone : (e : Entries) (ns : List Counted) (l : WrittenLoop) (body : Passage) (own : List Lexeme) → IsPassage body own → AreBounded body → IsBounded l.bound l.counter body → turns_of l * statements_of body ≡ 0
+        → PassageComesTo e ns (ALoop l body NoMore) Nothing 0
+    nothing_alone e ns l body own inner bounded counter none = (
+      λ i. Nothing,
+      λ i. 0,
+      Nothing,
+      Nothing,
+      0,
+      0,
+      loop_nothing e ns l l.bound body own refl inner bounded counter (λ i k. nothing_comes e (in_its_turn ns l i) body own inner bounded k) none,
+      (refl, refl),
+      refl,
+      refl,
+    )
+
+none_in_loop : OneDeeds → (e : Entries) (ns : List Counted) (l : WrittenLoop) (p : Passage) (ws : List Lexeme) → IsPassage p ws → AreBounded p → (b : WrittenBound) → l.bound ≡ b → IsBounded b l.counter p → turns_of l * statements_of p ≡ 0
+    → (m : ℕ) → FirstInLoop e ns l p m → m ≡ 0
+none_in_loop law e ns l p ws is bounded b same counter none m first =
+    loop_first_none law e ns l p ws b same is bounded counter none (λ k no n x. nothing_first law e k p ws is bounded no n x) m
+    (subst (λ (t : WrittenBound). ComeFirstInLoop (nameable e) ns l t (λ i c. (d : Deeds Past) × PassageComesTo e (in_its_turn ns l i) p d c) (λ i c. FirstIn e (in_its_turn ns l i) p c) m) same first)
+
 -- ---- the turns of a loop to a number
 
 -- what is made, meant otherwise
-made_as : (e : Entries) (meant other : Deeds Past → ℕ → Type 0) (old new : MadeLists) (a : AddsMade e meant old new) → other a.deeds a.many → AddsMade e other old new
-made_as e meant other old new a is = record { deeds = a.deeds; many = a.many; are = is; added = a.added; longer = a.longer; whole = a.whole; straight = a.straight }
+made_as : (e : Entries) (meant other : Deeds Past → ℕ → Type 0) (first later : ℕ → Type 0) (old new : MadeLists) (a : AddsMade e meant first old new) → other a.deeds a.many → FewWith later (length old.list)
+    → AddsMade e other later old new
+made_as e meant other first later old new a is few =
+    record { deeds = a.deeds; many = a.many; are = is; added = a.added; longer = a.longer; whole = a.whole; straight = a.straight; fits = a.fits; few = few }
 
-pub turns_end : (e : Entries) (ns : List Counted) (l : WrittenLoop) (body : List Lexeme) (turns n : ℕ) (old now : MadeLists) → 0 < l.by → OnePassage → HasBounds body → l.bound ≡ ToNumber n
+pub turns_end : OneDeeds → (e : Entries) (ns : List Counted) (l : WrittenLoop) (body : List Lexeme) (turns n : ℕ) (old now : MadeLists) → 0 < l.by → OnePassage → HasBounds body → l.bound ≡ ToNumber n
     → (turns ≡ turns_of l) ⊎ ((turns ≡ 0) × ((p : Passage) → IsPassage p body → statements_of p ≡ 0)) → AddsTurns e ns l body turns old now → AddsLoop e ns l body old now
-turns_end e ns l body turns n old now some one bounds bound (inl all) so p is =
+turns_end law e ns l body turns n old now some one bounds bound (inl all) so p is =
     let a = so p is in
-    made_as e (λ d many. AreTurnsMeant (λ i k c. TurnComesTo e ns l p i k c) l.by turns l.from d many) (λ d many. LoopComesTo e ns l p d many) old now a
+    made_as e (λ d many. AreTurnsMeant (λ i k c. TurnComesTo e ns l p i k c) l.by turns l.from d many) (λ d many. LoopComesTo e ns l p d many)
+    (λ many. FirstInTurns e ns l p turns many) (λ many. FirstInLoop e ns l p many) old now a
     (loop_to_number e ns l p n a.deeds a.many some bound
     (subst (λ (k : ℕ). AreTurnsMeant (λ i t c. TurnComesTo e ns l p i t c) l.by k l.from a.deeds a.many) (all ∙ turns_are l n bound) a.are))
-turns_end e ns l body turns n old now some one (q, are, bounded) bound (inr (zero_is, none)) so p is =
+    (turns_few_end e ns l p n turns (length old.list) bound (all ∙ turns_are l n bound) a.few)
+turns_end law e ns l body turns n old now some one (q, are, bounded) bound (inr (zero_is, none)) so p is =
     let a = so p is in
     let nothing : (a.deeds ≡ Nothing) × (a.many ≡ 0) = subst (λ (k : ℕ). AreTurnsMeant (λ i t c. TurnComesTo e ns l p i t c) l.by k l.from a.deeds a.many) zero_is a.are in
     let all : AreBounded p = subst AreBounded (one q p body are is) bounded in
     let product : turns_of l * statements_of p ≡ 0 = ap (λ (k : ℕ). turns_of l * k) (none p is) ∙ omega arith in
     let loop = loop_nothing e ns l (ToNumber n) p body bound is all tt (λ i k. nothing_comes e (in_its_turn ns l i) p body is all k) product in
-    made_as e (λ d many. AreTurnsMeant (λ i k c. TurnComesTo e ns l p i k c) l.by turns l.from d many) (λ d many. LoopComesTo e ns l p d many) old now a
+    let none_loop : LoopComesTo e ns l p Nothing 0 =
+    (λ i. Nothing, λ i. 0, subst (λ (b : WrittenBound). IsLoopOf (nameable e) ns l b (λ i k c. TurnComesTo e ns l p i k c) (λ i. Nothing) (λ i. 0) Nothing 0) (sym bound) loop) in
+    made_as e (λ d many. AreTurnsMeant (λ i k c. TurnComesTo e ns l p i k c) l.by turns l.from d many) (λ d many. LoopComesTo e ns l p d many)
+    (λ many. FirstInTurns e ns l p turns many) (λ many. FirstInLoop e ns l p many) old now a
     (subst (λ (d : Deeds Past). LoopComesTo e ns l p d a.many) (sym nothing.0)
-    (subst (λ (k : ℕ). LoopComesTo e ns l p Nothing k) (sym nothing.1)
-    (λ i. Nothing, λ i. 0, subst (λ (b : WrittenBound). IsLoopOf (nameable e) ns l b (λ i k c. TurnComesTo e ns l p i k c) (λ i. Nothing) (λ i. 0) Nothing 0) (sym bound) loop)))
+    (subst (λ (k : ℕ). LoopComesTo e ns l p Nothing k) (sym nothing.1) none_loop))
+    (λ le many first. omega (arith, le, none_in_loop law e ns l p body is all (ToNumber n) bound tt product many first))
 
 all_turns : (turns most done : ℕ) (P : Type 0) → (turns ≡ most) ⊎ ((turns ≡ 0) × P) → done < turns → done < most
 all_turns turns most done P (inl all) less = omega (arith, all, less)
 all_turns turns most done P (inr none) less = absurd (omega (arith, none.0, less))
 
-pub turn_refused : (n : NotRead) (e : Entries) (ns : List Counted) (l : WrittenLoop) (body : List Lexeme) (turns done number bound : ℕ) (old now : MadeLists) → 0 < l.by → l.bound ≡ ToNumber bound
-    → (turns ≡ turns_of l) ⊎ ((turns ≡ 0) × ((p : Passage) → IsPassage p body → statements_of p ≡ 0)) → done < turns → number ≡ l.from + done * l.by
+pub turn_refused : OneDeeds → DeedsBreakNoRule → (n : NotRead) (e : Entries) (ns : List Counted) (l : WrittenLoop) (body : List Lexeme) (turns done number bound : ℕ) (old now : MadeLists) → AllMayBeNamed e → 0 < l.by
+    → l.bound ≡ ToNumber bound → (turns ≡ turns_of l) ⊎ ((turns ≡ 0) × ((p : Passage) → IsPassage p body → statements_of p ≡ 0)) → done < turns → number ≡ l.from + done * l.by
     → AddsTurns e ns l body done old now → TurnRefused n e (in_its_turn ns l number) body now → LoopRefused n e ns l body old
-turn_refused why.Memory e ns l body turns done number bound old now some same all less at adds refused p is = tt
-turn_refused (why.Broken f) e ns l body turns done number bound old now some same all less at adds refused p is =
+turn_refused law unbroken why.Memory e ns l body turns done number bound old now named some same all less at adds refused p is = tt
+turn_refused law unbroken (why.Broken f) e ns l body turns done number bound old now named some same all less at adds refused p is =
     let few : done < turns_between l.from l.by bound =
     subst (λ (k : ℕ). done < k) (turns_are l bound same) (all_turns turns (turns_of l) done ((q : Passage) → IsPassage q body → statements_of q ≡ 0) all less) in (
       (refused p is).0,
       subst (λ (b : WrittenBound). IsLoopRefused f (nameable e) ns l b (λ i. IsRefusedIn f e (in_its_turn ns l i) p) (λ i. (d : Deeds Past) × (c : ℕ) × PassageComesTo e (in_its_turn ns l i) p d c)) (sym same)
           (done, few, subst (λ (i : ℕ). IsRefusedIn f e (in_its_turn ns l i) p) at (refused p is).1),
+      let a = adds p is in
+      turns_few_end e ns l p bound (turns_between l.from l.by bound) (length old.list) same refl
+      (turns_few_refused law unbroken f e ns l p bound done number (length old.list) (length now.list) a.deeds a.many named (refused p is).0 at a.longer a.fits a.are (refused p is).1 (refused p is).2 a.few),
     )
-turn_refused why.TooMany e ns l body turns done number bound old now some same all less at adds refused p is =
+turn_refused law unbroken why.TooMany e ns l body turns done number bound old now named some same all less at adds refused p is =
     let few : done < turns_between l.from l.by bound =
     subst (λ (k : ℕ). done < k) (turns_are l bound same) (all_turns turns (turns_of l) done ((q : Passage) → IsPassage q body → statements_of q ≡ 0) all less) in
     let (m, first, most) = refused p is in
@@ -306,7 +378,7 @@ turn_refused why.TooMany e ns l body turns done number bound old now some same a
     let k = chosen (λ i t c. TurnComesTo e ns l p i t c) l.by done l.from a.deeds a.many some a.are in
     let begin = count_of_turns k.count l.by done l.from in (
       begin + m,
-      subst (λ (b : WrittenBound). ComeFirstInLoop l b (λ i c. (d : Deeds Past) × PassageComesTo e (in_its_turn ns l i) p d c) (λ i c. FirstIn e (in_its_turn ns l i) p c) (begin + m)) (sym same)
+      subst (λ (b : WrittenBound). ComeFirstInLoop (nameable e) ns l b (λ i c. (d : Deeds Past) × PassageComesTo e (in_its_turn ns l i) p d c) (λ i c. FirstIn e (in_its_turn ns l i) p c) (begin + m)) (sym same)
           (done, m, k.count, few, λ j lt. (k.comes (l.from + j * l.by), k.each j lt), subst (λ (i : ℕ). FirstIn e (in_its_turn ns l i) p m) at first, refl),
       omega (arith, most, a.longer, k.many),
     )

@@ -73,15 +73,15 @@ AreDeeds all input output ns (ALoop l body more) d many = (f : ℕ → Deeds Pas
 
 -- ---- how much is read
 
--- So many statements come first in a loop: those of the turns in front of one, and of that one so many. Of a loop to an item each number up to that of
--- a turn is looked at, and those are the turns in front that the counter takes.
-abbrev pub ComeFirstInLoop : WrittenLoop → WrittenBound → (whole part : ℕ → ℕ → Type 0) → ℕ → Type 0
-ComeFirstInLoop l (ToNumber n) whole part many = (k own : ℕ) × (count : ℕ → ℕ)
+-- So many statements come first in a loop: those of the turns in front of one, and of that one so many. Of a loop to an item, whose bound is one, each number up
+-- to that of a turn is looked at, so far as a table may have elements, and those are the turns in front that the counter takes.
+abbrev pub ComeFirstInLoop : List Candidate → List Counted → WrittenLoop → WrittenBound → (whole part : ℕ → ℕ → Type 0) → ℕ → Type 0
+ComeFirstInLoop all ns l (ToNumber n) whole part many = (k own : ℕ) × (count : ℕ → ℕ)
     × (k < turns_between l.from l.by n) × ((j : ℕ) → j < k → whole (l.from + j * l.by) (count (l.from + j * l.by)))
     × part (l.from + k * l.by) own × (many ≡ count_of_turns count l.by k l.from + own)
-ComeFirstInLoop l (ToItem ws) whole part many = (i own kept : ℕ) × (count : ℕ → ℕ)
-    × (l.from ≤ i) × ((j : ℕ) → l.from ≤ j → j < i → whole j (count j)) × (i ≤ l.from + kept * l.by) × ((k : ℕ) → k < kept → l.from + k * l.by < i)
-    × part i own × (many ≡ count_of_turns count l.by kept l.from + own)
+ComeFirstInLoop all ns l (ToItem ws) whole part many = (t : Past) × (i own kept : ℕ) × (count : ℕ → ℕ)
+    × IsBoundOf all (in_turn ns false 0 ws) t × (l.from ≤ i) × (i ≤ l.from + longest_record) × ((j : ℕ) → l.from ≤ j → j < i → whole j (count j))
+    × (i ≤ l.from + kept * l.by) × ((k : ℕ) → k < kept → l.from + k * l.by < i) × part i own × (many ≡ count_of_turns count l.by kept l.from + own)
 
 -- So many statements come first in what a passage comes to, where the counters round it have these numbers: before the first thing that has no meaning, if
 -- there is one.
@@ -93,7 +93,7 @@ ComeFirst all input output ns (Moves own more) many =
 ComeFirst all input output ns (Pause more) many = ComeFirst all input output ns more many
 ComeFirst all input output ns (ALoop l body more) many =
     (many ≡ 0)
-    ⊎ (ComeFirstInLoop l l.bound (λ i c. (d : Deeds Past) × AreDeeds all input output (ns ++ counter_at l i ∷ []) body d c) (λ i c. ComeFirst all input output (ns ++ counter_at l i ∷ []) body c) many
+    ⊎ (ComeFirstInLoop all ns l l.bound (λ i c. (d : Deeds Past) × AreDeeds all input output (ns ++ counter_at l i ∷ []) body d c) (λ i c. ComeFirst all input output (ns ++ counter_at l i ∷ []) body c) many
     ⊎ ((f : ℕ → Deeds Past) × (count : ℕ → ℕ) × (own : Deeds Past) × (turned rest : ℕ)
     × IsLoopOf all ns l l.bound (λ i e c. AreDeeds all input output (ns ++ counter_at l i ∷ []) body e c) f count own turned
     × ComeFirst all input output ns more rest × (many ≡ turned + rest)))

@@ -156,13 +156,13 @@ FrontHasBounds f = (p : Passage) × Within f p × BoundedFront f p
 
 -- ---- what readers add
 
--- behind so many statements those that come first are few
+-- behind so many statements, if these are few, those that come first are few
 abbrev pub FewWith : (ℕ → Type 0) → ℕ → Type 0
-FewWith first before = (many : ℕ) → first many → before + many ≤ most_written_out
+FewWith first before = before ≤ most_written_out → (many : ℕ) → first many → before + many ≤ most_written_out
 
 -- Deeds that are meant so, with so many statements, stand behind what was made before, with as many statements. The statements' moves are those that may be
--- carried out, in their order, and a mark came where there is a test.
-pub record AddsMade (e : Entries) (meant : Deeds Past → ℕ → Type 0) (old new : MadeLists) : Type 0 where
+-- carried out, in their order, and a mark came where there is a test. They are few, and so are those that come first.
+pub record AddsMade (e : Entries) (meant : Deeds Past → ℕ → Type 0) (first : ℕ → Type 0) (old new : MadeLists) : Type 0 where
   pub deeds : Deeds Past
   pub many : ℕ
   pub are : meant deeds many
@@ -170,12 +170,15 @@ pub record AddsMade (e : Entries) (meant : Deeds Past → ℕ → Type 0) (old n
   pub longer : length new.list ≡ length old.list + many
   pub whole : moves (records_of e) new.list ≡ moves (records_of e) old.list ++ moves_of_deeds deeds
   pub straight : IsStraight deeds → new.ends ≡ old.ends
+  pub fits : length old.list ≤ most_written_out → length new.list ≤ most_written_out
+  pub few : FewWith first (length old.list)
 
--- Why it is not read: memory was refused; or more statements come first than may be, with those so far (M12); or it breaks a rule so.
+-- Why it is not read: memory was refused; or more statements come first than may be, with those so far (M12); or it breaks a rule so, and those that come first
+-- are few.
 abbrev pub RefusedMade : NotRead → (MoveFault → Type 0) → (ℕ → Type 0) → MadeLists → Type 0
 RefusedMade why.Memory refused first old = Unit {0}
 RefusedMade why.TooMany refused first old = (many : ℕ) × first many × (most_written_out < length old.list + many)
-RefusedMade (why.Broken f) refused first old = ((f.rule ≡ rule.Memory) → ⊥) × refused f
+RefusedMade (why.Broken f) refused first old = ((f.rule ≡ rule.Memory) → ⊥) × refused f × FewWith first (length old.list)
 
 -- it breaks no rule
 abbrev pub IsNotBroken : NotRead → Type 0
@@ -249,7 +252,7 @@ FirstInRun e ns own many = (ms : List Move) × IsRunMeant e.input.now e.output.n
 -- in a loop with this passage
 abbrev pub FirstInLoop : Entries → List Counted → WrittenLoop → Passage → ℕ → Type 0
 FirstInLoop e ns l p many =
-    ComeFirstInLoop l l.bound (λ i c. (d : Deeds Past) × PassageComesTo e (ns ++ counter_at l i ∷ []) p d c) (λ i c. FirstIn e (ns ++ counter_at l i ∷ []) p c) many
+    ComeFirstInLoop (nameable e) ns l l.bound (λ i c. (d : Deeds Past) × PassageComesTo e (ns ++ counter_at l i ∷ []) p d c) (λ i c. FirstIn e (ns ++ counter_at l i ∷ []) p c) many
 
 -- in so many turns of a loop to a number
 abbrev pub FirstInTurns : Entries → List Counted → WrittenLoop → Passage → ℕ → ℕ → Type 0
@@ -271,19 +274,19 @@ FirstInFront e ns (Looped l own) p many = FirstInLoop e ns l p many
 
 -- Whatever passage words are, what it comes to in a turn stands behind what was made before.
 abbrev pub AddsDeeds : Entries → List Counted → List Lexeme → (old new : MadeLists) → Type 0
-AddsDeeds e ns words old new = (p : Passage) → IsPassage p words → AddsMade e (λ d many. PassageComesTo e ns p d many) old new
+AddsDeeds e ns words old new = (p : Passage) → IsPassage p words → AddsMade e (λ d many. PassageComesTo e ns p d many) (λ many. FirstIn e ns p many) old new
 
 -- whatever passage the statements of a loop are, so it is of the loop
 abbrev pub AddsLoop : Entries → List Counted → WrittenLoop → List Lexeme → (old new : MadeLists) → Type 0
-AddsLoop e ns l body old new = (p : Passage) → IsPassage p body → AddsMade e (λ d many. LoopComesTo e ns l p d many) old new
+AddsLoop e ns l body old new = (p : Passage) → IsPassage p body → AddsMade e (λ d many. LoopComesTo e ns l p d many) (λ many. FirstInLoop e ns l p many) old new
 
 -- whatever passage the statements of what stands in front are, if it is a loop, so it is of it
 abbrev pub AddsFront : Entries → List Counted → PassageFront → (old new : MadeLists) → Type 0
-AddsFront e ns f old new = (p : Passage) → Within f p → AddsMade e (λ d many. FrontComesTo e ns f p d many) old new
+AddsFront e ns f old new = (p : Passage) → Within f p → AddsMade e (λ d many. FrontComesTo e ns f p d many) (λ many. FirstInFront e ns f p many) old new
 
 -- what words of MOVE statements come to in a turn stands behind what was made before
 abbrev pub AddsMoved : Entries → List Counted → List Lexeme → (old new : MadeLists) → Type 0
-AddsMoved e ns words old new = AddsMade e (λ d many. RunComesTo e ns words d many) old new
+AddsMoved e ns words old new = AddsMade e (λ d many. RunComesTo e ns words d many) (λ many. FirstInRun e ns words many) old new
 
 -- words of MOVE statements are not read in a turn, with what was made before
 abbrev pub MovedRefused : NotRead → Entries → List Counted → List Lexeme → MadeLists → Type 0
@@ -301,13 +304,13 @@ LoopRefused n e ns l body old = (p : Passage) → IsPassage p body → RefusedMa
 abbrev pub FrontRefused : NotRead → Entries → List Counted → PassageFront → MadeLists → Type 0
 FrontRefused n e ns front old = (p : Passage) → Within front p → RefusedMade n (λ f. FrontIsRefused f e ns front p) (λ many. FirstInFront e ns front p many) old
 
--- whatever passage words are, it breaks a rule in a turn
-abbrev pub BreaksInTurn : MoveFault → Entries → List Counted → List Lexeme → Type 0
-BreaksInTurn f e ns words = (p : Passage) → IsPassage p words → ((f.rule ≡ rule.Memory) → ⊥) × IsRefusedIn f e ns p
+-- whatever passage words are, it breaks a rule in a turn, and behind so many statements those that come first are few
+abbrev pub BreaksInTurn : MoveFault → Entries → List Counted → List Lexeme → ℕ → Type 0
+BreaksInTurn f e ns words before = (p : Passage) → IsPassage p words → ((f.rule ≡ rule.Memory) → ⊥) × IsRefusedIn f e ns p × FewWith (λ many. FirstIn e ns p many) before
 
 -- so it does, whatever the fault is
-abbrev pub HasNoTurn : Entries → List Counted → List Lexeme → Type 0
-HasNoTurn e ns words = (f : MoveFault) × BreaksInTurn f e ns words
+abbrev pub HasNoTurn : Entries → List Counted → List Lexeme → ℕ → Type 0
+HasNoTurn e ns words before = (f : MoveFault) × BreaksInTurn f e ns words before
 
 -- ---- turns of a loop
 
@@ -324,7 +327,8 @@ TurnComesTo e ns l p i d many = PassageComesTo e (in_its_turn ns l i) p d many
 -- whatever passage the statements of a loop are, so many of its turns stand behind what was made before
 abbrev pub AddsTurns : Entries → List Counted → WrittenLoop → List Lexeme → ℕ → (old new : MadeLists) → Type 0
 AddsTurns e ns l body done old new =
-    (p : Passage) → IsPassage p body → AddsMade e (λ d many. AreTurnsMeant (λ i k c. TurnComesTo e ns l p i k c) l.by done l.from d many) old new
+    (p : Passage) → IsPassage p body
+    → AddsMade e (λ d many. AreTurnsMeant (λ i k c. TurnComesTo e ns l p i k c) l.by done l.from d many) (λ many. FirstInTurns e ns l p done many) old new
 
 -- flows of turns come to what the turns do
 abbrev pub AreTurns : Records → FlowSupport → (ℕ → Deeds Past) → ℕ → ℕ → List (List Flow) → Type 0
@@ -340,6 +344,8 @@ pub record ReadsTurns (e : Entries) (ns : List Counted) (l : WrittenLoop) (p : P
   pub flows : (on : FlowSupport) → IsFrontOf new on → AreTurns (records_of e) on comes l.by l.from turns
   pub longer : length new.list ≡ length old.list + count_of_turns count l.by (length turns) l.from
   pub whole : moves (records_of e) new.list ≡ moves (records_of e) old.list ++ loop_turns (λ i. moves_of_deeds (comes i)) l.by (length turns) l.from
+  pub fits : length old.list ≤ most_written_out → length new.list ≤ most_written_out
+  pub few : FewWith (λ many. FirstBelow e ns l p behind many) (length old.list)
 
 -- So many turns are kept of those whose numbers stand below one: the counter takes the next number then.
 pub record AreKept (from by kept behind next : ℕ) : Type 0 where

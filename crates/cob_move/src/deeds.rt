@@ -10,18 +10,21 @@ ghost use Rattle.cob_move_loops.specs.Reading.{counters, item_front, written_bou
 ghost use Rattle.cob_move_loops.specs.Turns.{in_turn};
 ghost use Rattle.cob_move_statements.specs.declared.fault.MoveRule.TheVariants.{Memory};
 ghost use Rattle.cob_source.specs.Tokens.{Lexeme, lexemes};
+ghost use Rattle.cob_move_deeds.specs.Tests.{Past};
+ghost use Rattle.cob_move.specs.Among.{nameable};
+ghost use Rattle.cob_move.specs.Deeds.{IsBoundOf};
 ghost use Rattle.cob_move.specs.Between.{ArePairsOf};
 ghost use Rattle.cob_move.specs.DeedsRead.{AddsDeeds, AddsFront, AddsLoop, AddsMoved, AreKept, BoundNotRead, BoundRefused, BreaksInTurn, FrontHasBounds, FrontRefused, HasBounds, HasGrown, HasNoTurn, IsBoundRead, IsFrontRead, IsMade, IsNotBroken, LeavesFront, LoopRefused, MovedRefused, ReadsTurns, TurnRefused, closed, flow_lists, in_its_turn, last_marked, linked_size, linked_turns, made_lists, open_statements, taken_back, without_flows};
 ghost use Rattle.cob_move.specs.Entries.{AllMayBeNamed, records_of};
 ghost use Rattle.cob_move.specs.Loops.{AddsRun, RunRefused};
 ghost use Rattle.cob_move.specs.declared.made.NotRead.TheVariants as unread;
 
-use crate::deeds_laws::deeds_break_no_rule;
+use crate::deeds_laws::{deeds_break_no_rule, one_deeds};
 use crate::entries::{Entries, NamedEntry};
 use crate::linking::{link_turns, next_number};
 use crate::loops::{add_words, fault_of};
 use crate::made::{Made, NotRead, keep_turn};
-use crate::meaning_laws::meant_are_moves;
+use crate::meaning_laws::{meant_are_moves, meant_break_no_rule};
 use cob_copybook_tree::{Kind, is_number_item};
 use cob_limits::{MAX_RECORD, MAX_WRITTEN_OUT};
 use cob_move_apply::PlacedEntry;
@@ -31,7 +34,7 @@ use cob_move_loops::{
     Counter, Loop, LoopBound, PassageItem, in_turn, item_at, no_turn, one_passage, turns_to_write,
     with_counter,
 };
-use cob_move_names::Correspondences;
+use cob_move_names::{Correspondences, named_break_no_rule, one_named};
 use cob_move_statements::{MoveFault, MoveRule, one_list_of_ended, one_reference, whole_reference};
 use cob_source::Token;
 use std::alloc::Global;
@@ -109,6 +112,9 @@ fn add_moves(
 {
     // What statements mean are moves between the records: both layouts are those of record descriptions.
     meant_are_moves();
+    // Words are one list of statements, and what has a meaning breaks no rule.
+    one_list_of_ended();
+    meant_break_no_rule();
     let _ = entries.input.root();
     let _ = entries.output.root();
     if let Err(fault) = add_words_in(alloc, entries, pairs, words, turn, &mut made.list) {
@@ -242,7 +248,8 @@ fn try_turn<'a>(
         (in_its_turn (counters turn.now) (written_loop head.now) number) (lexemes body.now)
         (made_lists made.old) (made_lists made.new))) }
     ensures refused { IfOk result (λ o. IfSome o (λ f. BreaksInTurn f entries.now
-        (in_its_turn (counters turn.now) (written_loop head.now) number) (lexemes body.now))) }
+        (in_its_turn (counters turn.now) (written_loop head.now) number) (lexemes body.now)
+        (length (made_lists made.old).list))) }
     ensures same { IfOk result (λ o. IfSome o
         (λ f. made_lists made.new ≡ made_lists made.old)) }
     ensures fault { IfErr result (λ n. TurnRefused n entries.now
@@ -296,6 +303,9 @@ fn add_turns<'a>(
 {
     // For a loop whose turns come to nothing: words are one passage at most.
     one_passage();
+    // For what comes first: what comes to something does so once, and breaks no rule.
+    one_deeds();
+    deeds_break_no_rule();
     let turns = turns_to_write(head, body);
     let mut done: u64 = 0;
     let mut number = head.from;
@@ -330,7 +340,8 @@ fn try_turns<'a>(
     requires bounds { HasBounds (lexemes body.now) }
     requires none { (made.old.flows.items ≡ []) × (turns.old.items ≡ []) }
     requires marked { open_statements (made_lists made.old) ≡ [] }
-    requires item { (ws : List Lexeme) × (written_bound head.now.bound ≡ ToItem ws) }
+    requires item { (ws : List Lexeme) × (t : Past) × (written_bound head.now.bound ≡ ToItem ws)
+        × IsBoundOf (nameable entries.now) (in_turn (counters turn.now) false 0 ws) t }
     ensures read { IfOk result (λ behind. (next : ℕ)
         × AreKept head.now.from head.now.by
         (length (flow_lists turns.new.items)) behind next
@@ -340,7 +351,8 @@ fn try_turns<'a>(
     ensures some { IfOk result (λ behind. (head.now.from < behind)
         × (behind ≤ head.now.from + longest_record)) }
     ensures past { IfOk result (λ behind. HasNoTurn entries.now
-        (in_its_turn (counters turn.now) (written_loop head.now) behind) (lexemes body.now)) }
+        (in_its_turn (counters turn.now) (written_loop head.now) behind) (lexemes body.now)
+        (length (made_lists made.new).list)) }
     ensures flows { OnOk result (made.new.flows.items ≡ []) }
     ensures marked { OnOk result (open_statements (made_lists made.new) ≡ []) }
     ensures fault { IfErr result (λ n. LoopRefused n entries.now (counters turn.now)
@@ -350,6 +362,9 @@ fn try_turns<'a>(
     ensures kept { IfErr result (λ n. LeavesFront n (made_lists made.old) (made_lists made.new)) }
     ensures pairs { ArePairsOf (records_of entries.now) pairs.new }
 {
+    // For what comes first: what comes to something does so once, and breaks no rule.
+    one_deeds();
+    deeds_break_no_rule();
     let mut next = head.from;
     for step in 0..MAX_RECORD + 1 {
         let number = next_number(head.from, step)?;
@@ -396,8 +411,12 @@ fn add_tested<'a>(
     ensures kept { IfErr result (λ n. LeavesFront n (made_lists made.old) (made_lists made.new)) }
     ensures pairs { ArePairsOf (records_of entries.now) pairs.new }
 {
-    // A turn that breaks a rule comes to nothing.
+    // A turn that breaks a rule comes to nothing, and what comes to something does so once; so it is of a bound.
     deeds_break_no_rule();
+    one_deeds();
+    one_reference();
+    one_named();
+    named_break_no_rule();
     let found = read_bound(alloc, entries, head, words, turn)?;
     made.close()?;
     let outside = replace(&mut made.flows, Vec::new(alloc));
@@ -482,6 +501,9 @@ pub(crate) fn add_passage<'a>(
     ensures kept { IfErr result (λ n. LeavesFront n (made_lists made.old) (made_lists made.new)) }
     ensures pairs { ArePairsOf (records_of entries.now) pairs.new }
 {
+    // For what comes first: what comes to something does so once, and breaks no rule.
+    one_deeds();
+    deeds_break_no_rule();
     let mut rest = words;
     while let Some((item, more)) = item_at(rest) {
         add_item(alloc, entries, pairs, &item, turn, made)?;

@@ -27,7 +27,7 @@ add_passage-loop-item-preserved t c =
     let rest = lexemes c.loop-item.rest.now in
     let more = lexemes c.in-Some.more.now in
     let less = shorter f rest more c.in-Some.ensures.found in record {
-      left = deeds_more c.args.entries.now (counters c.args.turn.now) (lexemes c.args.words.now) rest more f (made_lists c.args.made.now) (made_lists c.loop-item.made) (made_lists c.add_item.new.made)
+      left = deeds_more c.one_deeds.ensures c.args.entries.now (counters c.args.turn.now) (lexemes c.args.words.now) rest more f (made_lists c.args.made.now) (made_lists c.loop-item.made) (made_lists c.add_item.new.made)
           c.loop-item.invariant.left (omega (arith, less)) c.in-Some.ensures.only c.in_ok-add_item.ensures.grown c.in_ok-add_item.ensures.added;
       fewer = omega (arith, c.loop-item.invariant.fewer, less);
       bounds = (bounds_parted f rest more c.loop-item.invariant.bounds (omega (arith, less)) c.in-Some.ensures.only).1;
@@ -46,8 +46,8 @@ add_passage-returns-in_err-add_item-clause-fault t c =
     let more = lexemes c.in-Some.more.now in
     let less = shorter f rest more c.in-Some.ensures.found in
     let p = err_from_is_err_and c.from_residual.result c.from_residual.ensures.1 in
-    rw (p.1, p.2) (deeds_refused c.in_err-add_item.field-0.0 c.args.entries.now (counters c.args.turn.now) (lexemes c.args.words.now) rest more f (made_lists c.args.made.now) (made_lists c.loop-item.made)
-    c.loop-item.invariant.left (omega (arith, less)) c.in-Some.ensures.only c.in_err-add_item.ensures.fault)
+    rw (p.1, p.2) (deeds_refused c.deeds_break_no_rule.ensures c.in_err-add_item.field-0.0 c.args.entries.now (counters c.args.turn.now) (lexemes c.args.words.now) rest more f (made_lists c.args.made.now) (made_lists c.loop-item.made)
+    c.requires.named c.loop-item.invariant.left (omega (arith, less)) c.in-Some.ensures.only c.in_err-add_item.ensures.fault)
 
 pub add_passage-returns-in_err-add_item-clause-kept : goal.add_passage-returns-in_err-add_item-clause-kept
 add_passage-returns-in_err-add_item-clause-kept t c =
