@@ -276,7 +276,7 @@ far_few e ns l p ws behind old bound past few le many first =
 pub bound_few : OneReference → OneNamed → NamedBreakNoRule → (r : MoveRule) (e : Entries) (ns : List Counted) (l : WrittenLoop) (p : Passage) (ws : List Lexeme) (old : ℕ) → l.bound ≡ ToItem ws → IsBoundRefusal r (nameable e) (in_turn ns false 0 ws)
     → FewWith (λ many. FirstInLoop e ns l p many) old
 bound_few one named none r e ns l p ws old bound refused le many first =
-    let (t, i, own, k, count, is, others) = first_to_item e ns l p ws many bound first in
+    let (t, i, own, k, count, is, low, far, whole, over, below, part, at) = first_to_item e ns l p ws many bound first in
     absurd (bound_refused one named none r (nameable e) (in_turn ns false 0 ws) t is refused)
 
 -- where the first turn breaks a rule, what comes first is in it
