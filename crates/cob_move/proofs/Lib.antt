@@ -22,4 +22,5 @@ mod TestedLemmas
 mod FewLemmas
 mod LiteralLemmas
 mod BodyLemmas
+mod ReadyLemmas
 mod JoinedLemmas
