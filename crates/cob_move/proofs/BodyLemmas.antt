@@ -11,10 +11,11 @@ use Rattle.cob_move_deeds.specs.declared.flow.Bound.{Bound}
 use Rattle.cob_move_deeds.specs.declared.flow.CountedLoop.{CountedLoop}
 use Rattle.cob_move_apply.specs.declared.marked.MarkedMoves.{MarkedMoves}
 use Rattle.cob_move_deeds.specs.Deeds.{Deeds, IsStraight, moves_of_deeds}
-use Rattle.cob_move_deeds.specs.Prepared.{deeds_of}
+use Rattle.cob_move_deeds.specs.Prepared.{AreDeedsPrepared, deeds_of}
 use Rattle.cob_move_deeds.specs.declared.ready.ReadyDeeds.{ReadyDeeds}
 use Rattle.cob_move_deeds.specs.Flows.{AreFlows, FlowSupport}
-use Rattle.cob_move_apply.specs.Marked.{RiseUpTo, ends_of_marks}
+use Rattle.cob_move_apply.specs.Marked.{AreMarkedPrepared, RiseUpTo, ends_of_marks}
+use Rattle.cob_move_apply.specs.Prepared.{moves_of}
 use Rattle.cob_move_deeds.specs.Tests.{IsBound, Past}
 use Rattle.cob_move_loops.specs.Bounded.{AreBounded, LacksBound}
 use Rattle.cob_move_loops.specs.Few.{loop_line}
@@ -22,17 +23,19 @@ use Rattle.cob_move_loops.specs.Passages.{IsPassage, Passage}
 use Rattle.cob_move_statements.specs.declared.fault.MoveFault.{MoveFault}
 use Rattle.cob_move_statements.specs.declared.fault.MoveRule.{MoveRule}
 use Rattle.cob_move_statements.specs.declared.fault.MoveRule.TheVariants as rule
+use Rattle.std.specs.Global.{Vec}
+use Rattle.cob_move.specs.declared.made.Made.{Made}
 use Rattle.cob_move.specs.declared.made.NotRead.{NotRead}
 use Rattle.cob_move.specs.declared.made.NotRead.TheVariants as why
 use Rattle.cob_move.specs.declared.entries.Entries.{Entries}
 use Rattle.cob_move.specs.Among.{nameable}
-use Rattle.cob_move.specs.DeedsRead.{AddsDeeds, DeedsRefused, HasItemLoop, IsFrontOf, IsMade, MadeLists, IsReadied, SaysDeeds, TellsFault, TurnRefused, all_deeds, closed, closed_where, last_marked, made_deeds, nothing_made, open_deeds}
+use Rattle.cob_move.specs.DeedsRead.{AddsDeeds, DeedsRefused, HasItemLoop, IsFrontOf, IsMade, MadeLists, IsReadied, SaysDeeds, TellsFault, TurnRefused, all_deeds, closed, closed_where, last_marked, made_deeds, made_lists, nothing_made, open_deeds}
 use Rattle.cob_move.specs.Entries.{records_of}
 use Rattle.cob_move.specs.Loops.{HasJudged}
 use Rattle.cob_move.specs.Bodies.{IsPassageRefusal}
 use Rattle.cob_move.specs.Paragraphs.{AreReady}
 use Rattle.cob_move.specs.Pieces.{IsRefusedMemory}
-use Rattle.cob_move.proofs.CloseLemmas.{closed_deeds, closed_grown, equal_is, rise_more}
+use Rattle.cob_move.proofs.CloseLemmas.{closed_deeds, closed_flows, closed_grown, equal_is, rise_more}
 use Rattle.cob_move.proofs.MadeLemmas.{front_back}
 use Rattle.cob_move.proofs.WholeLemmas.{moves_of_open}
 
@@ -97,6 +100,42 @@ bounds_where false r m is = is.bounds
 pub body_bounds : (r : Records) (m : MadeLists) → IsMade r m → AllByRecursion (IsBound r) (closed m).bounds
 body_bounds r m is = bounds_where (nat_eq (length m.list) (last_marked 0 m.ends)) r m is
 
+-- what was put together of what is made
+pub record IsPutTogether (r : Records) (m : MadeLists) (moves_made : MarkedMoves) (loops : List CountedLoop) (d : ReadyDeeds) : Type 0 where
+  pub reading : moves_made.moves.reading ≡ Pictured
+  pub statements : moves_made.moves.statements.items ≡ m.list
+  pub ends : ends_of_marks moves_made ≡ 0 ∷ m.ends
+  pub are : moves_of r moves_made.moves ≡ moves r m.list
+  pub marked : AreMarkedPrepared r moves_made
+  pub same : d.moves ≡ moves_made
+  pub deeds : deeds_of r d ≡ all_deeds r (support_with moves_made m.bounds loops) m.flows
+  pub prepared : AreMarkedPrepared r moves_made → AllByRecursion (IsBound r) m.bounds → AreFlows (support_with moves_made m.bounds loops) m.flows → AreDeedsPrepared r d
+
+closed_list_is : (m : MadeLists) → (closed m).list ≡ m.list
+closed_list_is m = list_where (nat_eq (length m.list) (last_marked 0 m.ends)) m
+  where
+    list_where : (b : Bool) (m : MadeLists) → (closed_where b m).list ≡ m.list
+    list_where true m = refl
+    list_where false m = refl
+
+-- so what is made is made ready
+pub readied : (r : Records) (m now : MadeLists) (moves_made : MarkedMoves) (loops : List CountedLoop) (d : ReadyDeeds) → IsMade r m → now ≡ closed m → IsPutTogether r now moves_made loops d → IsReadied r m d
+readied r m now moves_made loops d is same put =
+    let k : IsPutTogether r (closed m) moves_made loops d = subst (λ (t : MadeLists). IsPutTogether r t moves_made loops d) same put in
+    let on = support_with moves_made (closed m).bounds loops in
+    let front : IsFrontOf (closed m) on = body_front (closed m) moves_made loops k.reading k.statements k.ends in record {
+      prepared = k.prepared k.marked (body_bounds r m is) (closed_flows r m is on front);
+      comes = λ own so. k.deeds ∙ closed_deeds r m is on front ∙ so on (front_back m (closed m) on (closed_grown m) front);
+      moves = ap (λ (t : MarkedMoves). moves_of r t.moves) k.same ∙ k.are ∙ ap (λ (ss : List StatementMoves). moves r ss) (closed_list_is m);
+      ends = ap (λ (t : MarkedMoves). ends_of_marks t) k.same ∙ k.ends;
+    }
+
+pub now_moves : (r : Records) (m now : MadeLists) → IsMade r m → now ≡ closed m → AreMoves r (moves r now.list)
+now_moves r m now is same = subst (λ (t : MadeLists). AreMoves r (moves r t.list)) (sym same) (body_moves r m is)
+
+pub now_ends : (r : Records) (m now : MadeLists) → IsMade r m → now ≡ closed m → RiseUpTo 0 (length now.list) now.ends
+now_ends r m now is same = subst (λ (t : MadeLists). RiseUpTo 0 (length t.list) t.ends) (sym same) (body_ends r m is)
+
 -- what is made is ready, where its moves are those that may be carried out, and a mark stands where there is a test
 pub made_ready : (r : Records) (m : MadeLists) (d : ReadyDeeds) (own : Deeds Past) → IsReadied r m d → ((on : FlowSupport) → IsFrontOf m on → made_deeds r on m ≡ own)
     → moves r m.list ≡ moves_of_deeds own → (IsStraight own → m.ends ≡ []) → (deeds_of r d ≡ own) × AreReady r d
@@ -120,6 +159,10 @@ made_ready r m d own is comes whole straight =
 -- statements, and nothing else
 abbrev pub list_made : List StatementMoves → MadeLists
 list_made list = record { list = list; ends = []; bounds = []; flows = [] }
+
+-- nothing made yet, with these statements in its place
+pub set_list : (new : Made) (list : Vec StatementMoves) → made_lists new ≡ nothing_made → made_lists (record { list = list; ends = new.ends; bounds = new.bounds; flows = new.flows }) ≡ list_made list.items
+set_list new list none = λ i. record { list = list.items; ends = (none i).ends; bounds = (none i).bounds; flows = (none i).flows }
 
 pub list_is_made : (r : Records) (list : List StatementMoves) → AreMoves r (moves r list) → IsMade r (list_made list)
 list_is_made r list given = record {

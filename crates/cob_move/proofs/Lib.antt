@@ -22,4 +22,5 @@ mod TurnsLemmas
 mod TestedLemmas
 mod LiteralLemmas
 mod BodyLemmas
+mod ReadyLemmas
 mod JoinedLemmas

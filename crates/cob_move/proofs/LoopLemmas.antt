@@ -83,8 +83,8 @@ names_refused all body ls f h are same broken =
     subst (λ (r : MoveRule). IsPassageRefusal r f.line all body) (sym same) (h.passage, h.says, inr (subst (λ (ks : List WrittenLoop). BreaksCounters all f.line ks) (are h.passage h.says).1 broken))
 
 -- whether its loops end by numbers is so of the passage
-pub literal_so : (literal : Bool) (p : Passage) (ls : List WrittenLoop) → ls ≡ loops_of p → (literal ≡ true) ↔ AllByRecursion (λ (l : WrittenLoop). EndsByNumber l.bound) ls → (literal ≡ true) ↔ IsLiteral p
-literal_so literal p ls same is = subst (λ (ks : List WrittenLoop). (literal ≡ true) ↔ AllByRecursion (λ (l : WrittenLoop). EndsByNumber l.bound) ks) same is
+pub literal_so : (literal : Bool) (p : Passage) (ls : List WrittenLoop) → ls ≡ loops_of p → ((literal ≡ true) ↔ AllByRecursion (λ (l : WrittenLoop). EndsByNumber l.bound) ls) → ((literal ≡ true) ↔ IsLiteral p)
+literal_so literal p ls same is = subst (λ (ks : List WrittenLoop). ((literal ≡ true) ↔ AllByRecursion (λ (l : WrittenLoop). EndsByNumber l.bound) ks)) same is
 
 -- words that are no statements refuse a run
 pub run_refused : (r : MoveRule) (line : ℕ) (ws : List Lexeme)

@@ -22,6 +22,7 @@ use Rattle.cob_move_names.specs.Candidates.{Candidate, all_entries}
 use Rattle.cob_move_loops.specs.Bounded.{AreBounded, IsBounded, LacksBound}
 use Rattle.cob_move_loops.specs.Laws.{BreaksNone, OnePassage}
 use Rattle.cob_move_loops.specs.Passages.{ALoop, IsPassage, Moves, NoMore, Passage, Pause}
+use Rattle.cob_move_loops.specs.Turns.{words_by_turn}
 use Rattle.cob_move.specs.declared.entries.Entries.{Entries}
 use Rattle.cob_move.specs.Among.{nameable}
 use Rattle.cob_move.specs.Bodies.{AreCounters, HasPassage, IsBodyIn}
@@ -100,7 +101,7 @@ pub says_moves : (text : List ℕ) (input output : Forest Resolved) (list : List
     → IsParagraphOf text input output (open_deeds (record { input = input; output = output }) list)
 says_moves text input output list (p, many) =
     let r : Records = record { input = input; output = output } in
-    let mean : RunsMean input output _ (moves r list) (length p.statements) = record { statements = p.statements; spelled = p.spelled; meant = p.meant; many = refl } in
+    let mean : RunsMean input output (words_by_turn [] p.passage) (moves r list) (length p.statements) = record { statements = p.statements; spelled = p.spelled; meant = p.meant; many = refl } in
     let (d, comes, done) = literal_comes input output [] p.passage p.has.body p.has.says p.literal (moves r list) (length p.statements) mean in
     subst (λ (k : Deeds Past). IsParagraphOf text input output k) (open_done r list (length p.statements) d done many) (record {
       words = p.words;
@@ -119,7 +120,7 @@ pub says_literal : (e : Entries) (body : List Lexeme) (list : List StatementMove
 says_literal e body list named literal s =
     let p = s.judged.passage in
     let r = records_of e in
-    let mean : RunsMean e.input.now e.output.now _ (moves r list) (length s.statements) =
+    let mean : RunsMean e.input.now e.output.now (words_by_turn [] p) (moves r list) (length s.statements) =
     record { statements = s.statements; spelled = s.spelled; meant = meant_here (nameable e) r s.statements list named s.meant; many = refl } in
     let (d, comes, done) = literal_comes e.input.now e.output.now [] p body s.judged.says (literal p s.judged.says) (moves r list) (length s.statements) mean in
     subst (λ (k : Deeds Past). SaysDeeds e body k) (open_done r list (length s.statements) d done s.many) (record {

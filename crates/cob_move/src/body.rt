@@ -94,7 +94,9 @@ fn ready_deeds(
         flows,
     } = made;
     let moves = MarkedMoves::new(alloc, list, ends.as_slice(), input, output)?;
-    Ok(ReadyDeeds::new(moves, bounds, Vec::new(alloc), flows))
+    let loops = Vec::new(alloc);
+    let deeds = ReadyDeeds::new(moves, bounds, loops, flows);
+    Ok(deeds)
 }
 
 /// Moves in order, and no test among them, ready to be carried out.
