@@ -9,7 +9,7 @@ ghost use Rattle.cob_move_statements.specs.declared.fault.MoveRule.TheVariants.{
 ghost use Rattle.cob_source.specs.Tokens.{lexemes};
 ghost use Rattle.cob_move.specs.Among.{both, nameable};
 ghost use Rattle.cob_move.specs.Between.{ArePairsOf};
-ghost use Rattle.cob_move.specs.DeedsRead.{DeedsRefused, HasItemLoop, IsMade, IsReadied, SaysDeeds, TellsFault, made_lists, nothing_made, open_deeds};
+ghost use Rattle.cob_move.specs.DeedsRead.{AddsDeeds, DeedsRefused, HasBounds, HasItemLoop, IsMade, IsReadied, SaysDeeds, TellsFault, made_lists, nothing_made, open_deeds};
 ghost use Rattle.cob_move.specs.Entries.{AllMayBeNamed, records_of};
 ghost use Rattle.cob_move.specs.Loops.{AreLiteralWords, HasJudged};
 ghost use Rattle.cob_move.specs.Paragraphs.{AreReady};
@@ -151,6 +151,33 @@ fn literal_deeds(
     Ok(deeds)
 }
 
+/// What is made of words behind a heading, read turn by turn.
+///
+/// # Errors
+///
+/// A rule that they break, with its line; `Memory`.
+fn made_of_body(
+    alloc: Global,
+    entries: &Entries<'_, '_>,
+    pairs: &mut Correspondences<'_>,
+    body: &[Token],
+) -> Result<Made, MoveFault>
+    requires named { AllMayBeNamed entries.now }
+    requires pairs { ArePairsOf (records_of entries.now) pairs.old }
+    requires bounds { HasBounds (lexemes body.now) }
+    requires item { HasItemLoop (lexemes body.now) }
+    ensures made { IfOk result (λ m. IsMade (records_of entries.now) (made_lists m)) }
+    ensures added { IfOk result (λ m. AddsDeeds entries.now [] (lexemes body.now) nothing_made
+        (made_lists m)) }
+    ensures fault { IfErr result (λ f. DeedsRefused f entries.now (lexemes body.now)) }
+{
+    let mut made = Made::new(alloc);
+    match add_passage(alloc, entries, pairs, body, &[], &mut made) {
+        Ok(()) => Ok(made),
+        Err(why) => Err(fault_told(why, body)),
+    }
+}
+
 /// What words behind a heading come to that have a loop to an item, ready to be carried out.
 ///
 /// # Errors
@@ -172,10 +199,7 @@ fn tested_deeds(
     ensures fault { IfErr result (λ f. DeedsRefused f entries.now (lexemes body.now)) }
 {
     check_bounded(body)?;
-    let mut made = Made::new(alloc);
-    if let Err(why) = add_passage(alloc, entries, pairs, body, &[], &mut made) {
-        return Err(fault_told(why, body));
-    }
+    let made = made_of_body(alloc, entries, pairs, body)?;
     let deeds = ready_deeds(alloc, made, entries.input, entries.output)?;
     Ok(deeds)
 }
