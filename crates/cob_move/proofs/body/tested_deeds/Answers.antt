@@ -18,9 +18,9 @@ made_of_body-requires-clause-bounds c =
 pub returns-clause-found : goal.returns-clause-found
 returns-clause-found c =
     let judged = c.requires.judged in
-    (tested_ready c.args.entries.now (lexemes c.args.body.now) (made_lists c.in_ok-made.made) c.in_ok-deeds.deeds judged (c.in_ok-check_bounded.ensures.bounded judged.passage judged.says) c.in_ok-made.ensures.added c.in_ok-deeds.ensures).0
+    (tested_ready c.args.entries.now (lexemes c.args.body.now) (made_lists c.in_ok-made.made) c.in_ok-deeds.deeds judged (c.in_ok-check_bounded.ensures.bounded judged.passage judged.says) ? c.in_ok-made.ensures.added c.in_ok-deeds.ensures).0
 
 pub returns-clause-ready : goal.returns-clause-ready
 returns-clause-ready c =
     let judged = c.requires.judged in
-    (tested_ready c.args.entries.now (lexemes c.args.body.now) (made_lists c.in_ok-made.made) c.in_ok-deeds.deeds judged (c.in_ok-check_bounded.ensures.bounded judged.passage judged.says) c.in_ok-made.ensures.added c.in_ok-deeds.ensures).1
+    (tested_ready c.args.entries.now (lexemes c.args.body.now) (made_lists c.in_ok-made.made) c.in_ok-deeds.deeds judged (c.in_ok-check_bounded.ensures.bounded judged.passage judged.says) ? c.in_ok-made.ensures.added c.in_ok-deeds.ensures).1
