@@ -216,8 +216,8 @@ literal_comes input output ns (Moves own more) ws (rest, run, first, e, is) all 
     )
 literal_comes input output ns (Pause more) ws (pause, stops, rest, word, are, e, is) all ms m h = literal_comes input output ns more rest is all ms m h
 literal_comes input output ns (ALoop l body more) ws (head, own, stops, rest, end, h, b, inner, word, are, e, is) all ms m g =
-    let out = λ (i : ℕ). words_by_turn (ns ++ counter_at l i ∷ []) body in
-    let meant = λ (i : ℕ) (d : Deeds Past) (c : ℕ). AreDeeds (all_entries input output) input output (ns ++ counter_at l i ∷ []) body d c in
+    let out : ℕ → List (List Lexeme) = λ i. words_by_turn (ns ++ counter_at l i ∷ []) body in
+    let meant : ℕ → Deeds Past → ℕ → Type 0 = λ i d c. AreDeeds (all_entries input output) input output (ns ++ counter_at l i ∷ []) body d c in
     let k = runs_parts input output (turns out l.by (turns_of l) l.from) (words_by_turn ns more) ms m g in
     let (d, turned, done) = turns_come meant out input output
     (λ i t c r. literal_comes input output (ns ++ counter_at l i ∷ []) body own inner (literal_within l body more all) t c r) l.by (turns_of l) l.from k.first k.count k.mean in
@@ -242,8 +242,9 @@ turns_mean g input output f count by zero i each = ([], runs_none input output, 
 turns_mean g input output f count by (suc n) i each =
     let here : i + 0 * by ≡ i = omega arith in
     let (ms, mean, done) = subst (λ (j : ℕ). Means input output (g j) (f j) (count j)) here (each 0 (omega arith)) in
+    let later : (k : ℕ) → i + suc k * by ≡ i + by + k * by = λ k. omega (arith, suc-mul k by) in
     let (ns, others, all) = turns_mean g input output f count by n (i + by)
-    (λ k less. subst (λ (j : ℕ). Means input output (g j) (f j) (count j)) (omega (arith, suc-mul k by)) (each (suc k) (omega (arith, less)))) in (
+    (λ k less. subst (λ (j : ℕ). Means input output (g j) (f j) (count j)) (later k) (each (suc k) (omega (arith, less)))) in (
       ms ++ ns,
       runs_both input output (g i) (turns g by n (i + by)) ms ns (count i) (count_of_turns count by n (i + by)) mean others,
       done_both (count i) (count_of_turns count by n (i + by)) ms ns (f i) (deeds_of_turns f by n (i + by)) done all,
@@ -279,7 +280,7 @@ comes_literal input output ns (Moves own more) ws (rest, run, first, e, is) all 
     (means_both input output (words ∷ []) (words_by_turn ns more) (Moving ms Nothing) next count others one (comes_literal input output ns more rest is all next others are))
 comes_literal input output ns (Pause more) ws (pause, stops, rest, word, are, e, is) all d m h = comes_literal input output ns more rest is all d m h
 comes_literal input output ns (ALoop l body more) ws (head, within, stops, rest, end, h, b, inner, word, are, e, is) all d m (f, count, own, next, turned, others, loop, behind, d_is, m_is) =
-    let out = λ (i : ℕ). words_by_turn (ns ++ counter_at l i ∷ []) body in
+    let out : ℕ → List (List Lexeme) = λ i. words_by_turn (ns ++ counter_at l i ∷ []) body in
     let first = loop_means (all_entries input output) ns l l.bound (λ i k c. AreDeeds (all_entries input output) input output (ns ++ counter_at l i ∷ []) body k c) out input output all.0
     (λ i k c x. comes_literal input output (ns ++ counter_at l i ∷ []) body within inner (literal_within l body more all) k c x) f count own turned loop in
     means_as input output (turns out l.by (turns_of l) l.from ++ words_by_turn ns more) (joined_deeds own next) d (turned + others) m (sym d_is) (sym m_is)
@@ -300,10 +301,13 @@ turns_refused : (P : List Lexeme → Type 0) (g : ℕ → List (List Lexeme)) (r
     → (k : ℕ) × (k < n) × refused (i + k * by)
 turns_refused P g refused each by zero i h = absurd h
 turns_refused P g refused each by (suc n) i h = elim (some_parts P (g i) (turns g by n (i + by)) h) [
-  | inl here ↦ (0, omega arith, subst refused (omega arith) (each i here))
+  | inl here ↦
+      let first : i ≡ i + 0 * by = omega arith in
+      (0, omega arith, subst refused first (each i here))
   | inr there ↦
       let (k, less, is) = turns_refused P g refused each by n (i + by) there in
-      (suc k, omega (arith, less), subst refused (omega (arith, suc-mul k by)) is)
+      let later : i + by + k * by ≡ i + suc k * by = omega (arith, suc-mul k by) in
+      (suc k, omega (arith, less), subst refused later is)
 ]
 
 loop_refused_by : (f : MoveFault) (all : List Candidate) (ns : List Counted) (l : WrittenLoop) (b : WrittenBound) (refused : ℕ → Type 0) (meant : ℕ → Type 0) → EndsByNumber b
@@ -318,7 +322,7 @@ runs_turn_refused f all input output ns (Moves own more) literal (inl here) = in
 runs_turn_refused f all input output ns (Moves own more) literal (inr there) = inr (runs_turn_refused f all input output ns more literal there)
 runs_turn_refused f all input output ns (Pause more) literal h = runs_turn_refused f all input output ns more literal h
 runs_turn_refused f all input output ns (ALoop l body more) literal h =
-    let out = λ (i : ℕ). words_by_turn (ns ++ counter_at l i ∷ []) body in
+    let out : ℕ → List (List Lexeme) = λ i. words_by_turn (ns ++ counter_at l i ∷ []) body in
     elim (some_parts (RunIsRefused f all input output) (turns out l.by (turns_of l) l.from) (words_by_turn ns more) h) [
       | inl here ↦
           inl (loop_refused_by f all ns l l.bound (λ i. IsTurnRefused f all input output (ns ++ counter_at l i ∷ []) body)
