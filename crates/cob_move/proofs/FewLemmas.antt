@@ -156,8 +156,9 @@ counts_are law e ns l p count (suc n) i d m (own, next, c, rest, is, are, d_is, 
     let (k, first) = each 0 (omega arith) in
     let same : count i ≡ c = count_one law e (in_its_turn ns l i) p k own (count i) c
     (subst (λ (j : ℕ). PassageComesTo e (in_its_turn ns l j) p k (count j)) here first) is in
+    let later : (j : ℕ) → i + suc j * l.by ≡ i + l.by + j * l.by = λ j. omega (arith, suc-mul j l.by) in
     let others = counts_are law e ns l p count n (i + l.by) next rest are
-    (λ j less. subst (λ (t : ℕ). (u : Deeds Past) × PassageComesTo e (in_its_turn ns l t) p u (count t)) (omega (arith, suc-mul j l.by)) (each (suc j) (omega (arith, less)))) in
+    (λ j less. subst (λ (t : ℕ). (u : Deeds Past) × PassageComesTo e (in_its_turn ns l t) p u (count t)) (later j) (each (suc j) (omega (arith, less)))) in
     omega (arith, same, others, m_is)
 
 pub turns_few_begin : (e : Entries) (ns : List Counted) (l : WrittenLoop) (p : Passage) (n : ℕ) → FewWith (λ many. FirstInTurns e ns l p 0 many) n
