@@ -1,4 +1,4 @@
-use Rattle.std.proofs.Common.{refl}
+use Rattle.std.proofs.Common.{false, refl}
 use Rattle.cob_move_loops.specs.Passages.{WrittenLoop}
 use Rattle.cob_move_loops.specs.Reading.{written_loop}
 use Rattle.cob_move.specs.Paragraphs.{EndsByNumber}
@@ -18,7 +18,7 @@ loop-head-preserved c = record {
 
 pub returns-then-not-ends_by_number : goal.returns-then-not-ends_by_number
 returns-then-not-ends_by_number c = (
-  λ yes. absurd (not_true _ refl yes),
+  λ yes. absurd (not_true false refl yes),
   λ all. absurd (not_true c.ends_by_number.result c.if-not-ends_by_number.true
       (c.ends_by_number.ensures.1 (loops_here written_loop (λ (h : WrittenLoop). EndsByNumber h.bound) c.args.heads.now c.loop-head.head-index c.head-item.result c.loop-head-test.true c.head-item.is (c.loop-head.invariant.must all)))),
 )
