@@ -28,9 +28,6 @@ together_by x r d e ready same ends is =
 
 -- ---- steps where all moves lie together
 
-none_between : (xs : List StatementMoves) → items_between 0 0 xs ≡ []
-none_between xs = refl
-
 all_between : (n : ℕ) (xs : List StatementMoves) → n ≡ length xs → items_between 0 n xs ≡ xs
 all_between n xs same = ap (λ (k : ℕ). take (k - 0) xs) same ∙ ap (λ (k : ℕ). take k xs) (omega arith) ∙ take-length xs
 
@@ -38,15 +35,19 @@ steps_at : (x : Reading) (r : Records) (given : List StatementMoves) (marks : Li
     → parted_steps x r given 0 marks ≡ steps_in r (moves_by x r given)
 steps_at x r given [] some few first last = absurd (omega (arith, some))
 steps_at x r given (m ∷ []) some few first last =
-    let none : given ≡ [] = nothing given (sym last ∙ first) in
-    ap (λ (n : ℕ). steps_in r (moves_by x r (items_between 0 n given)) + 0) first ∙ ap (λ (ss : List StatementMoves). steps_in r (moves_by x r ss)) (sym none)
+    let none : [] ≡ given = sym (nothing given (sym last ∙ first)) in
+    let all : steps_in r (moves_by x r (items_between 0 m.statement given)) ≡ steps_in r (moves_by x r given) =
+    ap (λ (n : ℕ). steps_in r (moves_by x r (items_between 0 n given))) first ∙ ap (λ (ss : List StatementMoves). steps_in r (moves_by x r ss)) none in
+    omega (arith, all)
   where
     nothing : (xs : List StatementMoves) → length xs ≡ 0 → xs ≡ []
     nothing [] e = refl
     nothing (y ∷ xs) e = absurd (omega (arith, e))
 steps_at x r given (m ∷ n ∷ []) some few first last =
-    ap (λ (k : ℕ). steps_in r (moves_by x r (items_between 0 k given)) + (steps_in r (moves_by x r (items_between k n.statement given)) + 0)) first
-    ∙ omega (arith, ap (λ (ss : List StatementMoves). steps_in r (moves_by x r ss)) (all_between n.statement given last))
+    let before : steps_in r (moves_by x r (items_between 0 m.statement given)) ≡ 0 = ap (λ (k : ℕ). steps_in r (moves_by x r (items_between 0 k given))) first in
+    let all : steps_in r (moves_by x r (items_between m.statement n.statement given)) ≡ steps_in r (moves_by x r given) =
+    ap (λ (k : ℕ). steps_in r (moves_by x r (items_between k n.statement given))) first ∙ ap (λ (ss : List StatementMoves). steps_in r (moves_by x r ss)) (all_between n.statement given last) in
+    omega (arith, before, all)
 steps_at x r given (m ∷ n ∷ k ∷ marks) some few first last = absurd (omega (arith, few))
 
 marks_many : (marks : List Mark) → length (map statement_of marks) ≡ length marks
