@@ -20,3 +20,4 @@ mod TurnsLemmas
 mod TestedLemmas
 mod BodyLemmas
 mod JoinedLemmas
+mod BoundLemmas
