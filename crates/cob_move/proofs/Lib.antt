@@ -24,3 +24,4 @@ mod LiteralLemmas
 mod BodyLemmas
 mod ReadyLemmas
 mod JoinedLemmas
+mod BoundLemmas

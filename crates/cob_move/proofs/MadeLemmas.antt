@@ -14,6 +14,7 @@ use Rattle.cob_move_deeds.specs.Tests.{Past}
 use Rattle.cob_move_loops.specs.Passages.{IsRun, WrittenLoop}
 use Rattle.cob_move_loops.specs.Turns.{Counted, in_turn}
 use Rattle.cob_move_statements.specs.declared.fault.MoveFault.{MoveFault}
+use Rattle.cob_move_statements.specs.declared.fault.MoveRule.{MoveRule}
 use Rattle.cob_move_statements.specs.declared.fault.MoveRule.TheVariants as rule
 use Rattle.cob_limits.specs.Limits.{most_written_out}
 use Rattle.cob_move_statements.specs.Laws.{OneListOfEnded}
@@ -191,11 +192,35 @@ memory_loop n e ns l body m is = subst (λ (k : NotRead). LoopRefused k e ns l b
 
 -- ---- words of MOVE statements that aren't read
 
+-- memory was refused, or not
+either_memory : (r : MoveRule) → (r ≡ rule.Memory) ⊎ ((r ≡ rule.Memory) → ⊥)
+either_memory rule.Memory = inl refl
+either_memory (rule.Source s) = inr (λ e. absurd (let never : rule.Source s ≡ rule.Memory = e in cc))
+either_memory rule.Grammar = inr (λ e. absurd (let never : rule.Grammar ≡ rule.Memory = e in cc))
+either_memory rule.Unknown = inr (λ e. absurd (let never : rule.Unknown ≡ rule.Memory = e in cc))
+either_memory rule.Ambiguous = inr (λ e. absurd (let never : rule.Ambiguous ≡ rule.Memory = e in cc))
+either_memory rule.Subscripts = inr (λ e. absurd (let never : rule.Subscripts ≡ rule.Memory = e in cc))
+either_memory rule.Receiver = inr (λ e. absurd (let never : rule.Receiver ≡ rule.Memory = e in cc))
+either_memory rule.NotAllowed = inr (λ e. absurd (let never : rule.NotAllowed ≡ rule.Memory = e in cc))
+either_memory rule.Literal = inr (λ e. absurd (let never : rule.Literal ≡ rule.Memory = e in cc))
+either_memory rule.Groups = inr (λ e. absurd (let never : rule.Groups ≡ rule.Memory = e in cc))
+either_memory rule.Twice = inr (λ e. absurd (let never : rule.Twice ≡ rule.Memory = e in cc))
+either_memory rule.TooLong = inr (λ e. absurd (let never : rule.TooLong ≡ rule.Memory = e in cc))
+either_memory rule.Counter = inr (λ e. absurd (let never : rule.Counter ≡ rule.Memory = e in cc))
+either_memory rule.TooMany = inr (λ e. absurd (let never : rule.TooMany ≡ rule.Memory = e in cc))
+
+told_refused : (f : MoveFault) (e : Entries) (ns : List Counted) (ws : List Lexeme) → ((f.rule ≡ rule.Memory) → ⊥) → (f.rule ≡ rule.Memory) ⊎ RunRefused f e (in_turn ns false 0 ws) → RunRefused f e (in_turn ns false 0 ws)
+told_refused f e ns ws other (inl is) = absurd (other is)
+told_refused f e ns ws other (inr refused) = refused
+
 pub moves_refused : OneListOfEnded → MeantBreakNoRule → (n : NotRead) (f : MoveFault) (e : Entries) (ns : List Counted) (ws : List Lexeme) (m : MadeLists) → AllMayBeNamed e → ((f.rule ≡ rule.Memory) → n ≡ why.Memory)
-    → (((f.rule ≡ rule.Memory) → ⊥) → n ≡ why.Broken f) → (f.rule ≡ rule.Memory) ⊎ (((f.rule ≡ rule.Memory) → ⊥) × RunRefused f e (in_turn ns false 0 ws)) → MovedRefused n e ns ws m
-moves_refused one unbroken n f e ns ws m named memory broken (inl is) = subst (λ (k : NotRead). MovedRefused k e ns ws m) (sym (memory is)) tt
-moves_refused one unbroken n f e ns ws m named memory broken (inr (other, refused)) =
-    subst (λ (k : NotRead). MovedRefused k e ns ws m) (sym (broken other)) (other, refused, run_none_few one unbroken f e ns ws (length m.list) named other refused)
+    → (((f.rule ≡ rule.Memory) → ⊥) → n ≡ why.Broken f) → (f.rule ≡ rule.Memory) ⊎ RunRefused f e (in_turn ns false 0 ws) → MovedRefused n e ns ws m
+moves_refused one unbroken n f e ns ws m named memory broken given = elim (either_memory f.rule) [
+  | inl is ↦ subst (λ (k : NotRead). MovedRefused k e ns ws m) (sym (memory is)) tt
+  | inr other ↦
+      let refused = told_refused f e ns ws other given in
+      subst (λ (k : NotRead). MovedRefused k e ns ws m) (sym (broken other)) (other, refused, run_none_few one unbroken f e ns ws (length m.list) named other refused)
+]
 
 -- ---- what is left where words aren't read
 
@@ -216,3 +241,6 @@ leaves_unbroken (why.Broken f) a b only = absurd only
 
 pub leaves_memory : (n : NotRead) (a b : MadeLists) → n ≡ why.Memory → LeavesFront n a b
 leaves_memory n a b is = subst (λ (k : NotRead). LeavesFront k a b) (sym is) tt
+
+pub leaves_list : (n : NotRead) (m : MadeLists) (new : List StatementMoves) → new ≡ m.list → LeavesFront n m (with_list m new)
+leaves_list n m new same = subst (λ (xs : List StatementMoves). LeavesFront n m (with_list m xs)) (sym same) (leaves_same n m)

@@ -26,19 +26,20 @@ use Rattle.cob_move_statements.specs.declared.fault.MoveRule.{MoveRule}
 use Rattle.cob_move_statements.specs.declared.fault.MoveRule.TheVariants as rule
 use Rattle.cob_move.specs.declared.made.NotRead.{NotRead}
 use Rattle.cob_move.specs.declared.made.NotRead.TheVariants as why
+use Rattle.cob_move.specs.declared.made.Sizes.{Sizes}
 use Rattle.cob_move.specs.declared.entries.Entries.{Entries}
 use Rattle.cob_move.specs.declared.entries.NamedEntry.{NamedEntry}
 use Rattle.cob_move.specs.Among.{nameable}
 use Rattle.cob_move.specs.Deeds.{AreDeeds, ComeFirstInLoop, IsBoundOf, IsLoopOf, IsLoopRefused, IsTurnRefused, count_of_turns}
-use Rattle.cob_move.specs.DeedsRead.{AddsDeeds, AddsLoop, AddsMade, AreKept, AreParted, AreTurns, BoundNotRead, BreaksInTurn, FewWith, FirstBelow, FirstIn, FirstInLoop, HasBounds, HasGrown, HasNoTurn, IsBoundRead, IsFrontOf, IsMade, IsNotBroken, IsRefusedIn, LeavesFront, LoopComesTo, LoopRefused, MadeLists, PassageComesTo, ReadsTurns, TurnRefused, all_deeds, closed, closed_where, in_its_turn, last_marked, linked_turns, made_deeds, open_deeds, open_statements, without_flows}
+use Rattle.cob_move.specs.DeedsRead.{AddsDeeds, AddsLoop, AddsMade, AreKept, AreParted, AreTurns, BoundNotRead, BreaksInTurn, FewWith, FirstBelow, FirstIn, FirstInLoop, HasBounds, HasGrown, HasNoTurn, IsBoundRead, IsFrontOf, IsMade, IsNotBroken, IsRefusedIn, IsSizeOf, LeavesFront, LoopComesTo, LoopRefused, MadeLists, PassageComesTo, ReadsTurns, TurnRefused, all_deeds, closed, closed_where, flow_lists, in_its_turn, last_marked, linked_turns, made_deeds, open_deeds, open_statements, taken_back, without_flows}
 use Rattle.cob_move.specs.Entries.{AllMayBeNamed, records_of}
 use Rattle.cob_move.specs.DeedsLaws.{DeedsBreakNoRule, OneDeeds}
 use Rattle.cob_move.specs.Joined.{before_deeds, joined_deeds}
-use Rattle.cob_move.proofs.CloseLemmas.{closed_deeds, closed_flows, closed_grown, closed_open}
+use Rattle.cob_move.proofs.CloseLemmas.{closed_deeds, closed_flows, closed_grown, closed_made, closed_open, equal_is, equal_not}
 use Rattle.cob_move.proofs.DeedsLemmas.{counted_same, either_side, mul_within, up_to_some}
 use Rattle.cob_move.proofs.FlowLemmas.{before_parted, before_turns, both_assoc, both_flows, both_nothing, both_parted, flows_both, linked_deeds, linked_flows, parted_joined, turns_parted}
 use Rattle.cob_move.proofs.FewLemmas.{below_few_first, below_few_next, bound_few, far_few, first_turn_few, item_few, kept_below}
-use Rattle.cob_move.proofs.MadeLemmas.{front_back}
+use Rattle.cob_move.proofs.MadeLemmas.{back_again, front_back, grown_both, grown_none}
 use Rattle.cob_move.proofs.TurnsLemmas.{changed, changed_elsewhere, changed_there}
 use Rattle.cob_move.proofs.WholeLemmas.{moves_of_tested, tested_not_straight, turns_as, turns_one_more}
 
@@ -551,3 +552,77 @@ loop_left (why.Broken f) old now g =
       bounds = (h.bounds.0 ++ g.bounds.0, g.bounds.1 ∙ ap (λ (t : List Bound). t ++ g.bounds.0) h.bounds.1 ∙ append_assoc old.bounds h.bounds.0 g.bounds.0);
       flows = h.flows;
     }
+
+-- ---- turns that are tried one behind another
+
+-- what is known of the turns below a number, whatever passage the statements of the loop are
+pub record HasTried (e : Entries) (ns : List Counted) (l : WrittenLoop) (body : List Lexeme) (behind next : ℕ) (turns : List (List Flow)) (old now : MadeLists) : Type 0 where
+  pub kept : AreKept l.from l.by (length turns) behind next
+  pub reads : (p : Passage) → IsPassage p body → ReadsTurns e ns l p behind turns old now
+  pub none : now.flows ≡ []
+  pub marked : open_statements now ≡ []
+  pub made : IsMade (records_of e) now
+  pub grown : HasGrown old now
+
+pub tried_first : (e : Entries) (ns : List Counted) (l : WrittenLoop) (body : List Lexeme) (behind next : ℕ) (turns : List (List Flow)) (m : MadeLists) → behind ≡ l.from → next ≡ l.from → turns ≡ [] → m.flows ≡ []
+    → open_statements m ≡ [] → IsMade (records_of e) m → HasTried e ns l body behind next turns m m
+tried_first e ns l body behind next turns m first same none flows marked made = record {
+  kept = kept_first l.from l.by (length turns) behind next (ap length none) first same;
+  reads = λ p is. reads_first e ns l p behind turns m first none;
+  none = flows;
+  marked = marked;
+  made = made;
+  grown = grown_none m;
+}
+
+tried_kept : OneDeeds → (e : Entries) (ns : List Counted) (l : WrittenLoop) (body : List Lexeme) (behind next : ℕ) (turns : List (List Flow)) (old now mid : MadeLists) → 0 < l.by → HasTried e ns l body behind next turns old now
+    → IsMade (records_of e) mid → HasGrown now mid → AddsDeeds e (in_its_turn ns l behind) body now mid → behind ≡ next
+    → HasTried e ns l body (behind + 1) (next + l.by) (turns ++ (closed mid).flows ∷ []) old (without_flows (closed mid))
+tried_kept law e ns l body behind next turns old now mid some t made grown adds here = record {
+  kept = subst (λ (n : ℕ). AreKept l.from l.by n (behind + 1) (next + l.by)) (omega (arith, length-append turns ((closed mid).flows ∷ []))) (kept_more l.from l.by (length turns) behind next some t.kept here);
+  reads = λ p is. reads_kept law e ns l p behind next turns old now mid t.kept here t.none t.marked grown made (t.reads p is) (adds p is);
+  none = refl;
+  marked = closed_open mid;
+  made = closed_made (records_of e) mid made;
+  grown = grown_both old now (without_flows (closed mid)) t.grown (closed_after now mid t.none grown);
+}
+
+tried_passed : OneDeeds → (e : Entries) (ns : List Counted) (l : WrittenLoop) (body : List Lexeme) (behind next : ℕ) (turns : List (List Flow)) (old now mid : MadeLists) → HasTried e ns l body behind next turns old now
+    → AddsDeeds e (in_its_turn ns l behind) body now mid → (behind ≡ next → ⊥) → HasTried e ns l body (behind + 1) next turns old now
+tried_passed law e ns l body behind next turns old now mid t adds other = record {
+  kept = kept_same l.from l.by (length turns) behind next t.kept other;
+  reads = λ p is. reads_passed law e ns l p behind next turns old now mid t.kept (t.reads p is) (adds p is);
+  none = t.none;
+  marked = t.marked;
+  made = t.made;
+  grown = t.grown;
+}
+
+tried_as : (e : Entries) (ns : List Counted) (l : WrittenLoop) (body : List Lexeme) (behind next then_next : ℕ) (turns then_turns : List (List Flow)) (old now after : MadeLists) → then_next ≡ next → after ≡ now → then_turns ≡ turns
+    → HasTried e ns l body behind next turns old now → HasTried e ns l body behind then_next then_turns old after
+tried_as e ns l body behind next then_next turns then_turns old now after p q r t =
+    subst (λ (n : ℕ). HasTried e ns l body behind n then_turns old after) (sym p)
+    (subst (λ (m : MadeLists). HasTried e ns l body behind next then_turns old m) (sym q) (subst (λ (ts : List (List Flow)). HasTried e ns l body behind next ts old now) (sym r) t))
+
+-- what keep_turn leaves
+pub record IsTurnKept (l : WrittenLoop) (behind next then_next : ℕ) (turns then_turns : List (List Flow)) (size : Sizes) (mid after : MadeLists) : Type 0 where
+  pub kept : behind ≡ next → (then_next ≡ next + l.by) × (after ≡ without_flows (closed mid)) × (then_turns ≡ turns ++ (closed mid).flows ∷ [])
+  pub passed : (behind ≡ next → ⊥) → (then_next ≡ next) × (after ≡ taken_back size mid) × (then_turns ≡ turns)
+
+tried_where : OneDeeds → (b : Bool) (e : Entries) (ns : List Counted) (l : WrittenLoop) (body : List Lexeme) (behind next then_next : ℕ) (turns then_turns : List (List Flow)) (size : Sizes) (old now mid after : MadeLists) → b ≡ nat_eq behind next → 0 < l.by
+    → HasTried e ns l body behind next turns old now → IsSizeOf now size → IsMade (records_of e) mid → HasGrown now mid → AddsDeeds e (in_its_turn ns l behind) body now mid
+    → IsTurnKept l behind next then_next turns then_turns size mid after → HasTried e ns l body (behind + 1) then_next then_turns old after
+tried_where law true e ns l body behind next then_next turns then_turns size old now mid after same some t sized made grown adds k =
+    let here : behind ≡ next = equal_is behind next (sym same) in
+    let is = k.kept here in
+    tried_as e ns l body (behind + 1) (next + l.by) then_next (turns ++ (closed mid).flows ∷ []) then_turns old (without_flows (closed mid)) after is.0 is.1 is.2 (tried_kept law e ns l body behind next turns old now mid some t made grown adds here)
+tried_where law false e ns l body behind next then_next turns then_turns size old now mid after same some t sized made grown adds k =
+    let other : (behind ≡ next) → ⊥ = equal_not behind next (sym same) in
+    let is = k.passed other in
+    tried_as e ns l body (behind + 1) next then_next turns then_turns old now after is.0 (is.1 ∙ back_again size now mid sized grown) is.2 (tried_passed law e ns l body behind next turns old now mid t adds other)
+
+pub tried_more : OneDeeds → (e : Entries) (ns : List Counted) (l : WrittenLoop) (body : List Lexeme) (behind next then_next : ℕ) (turns then_turns : List (List Flow)) (size : Sizes) (old now mid after : MadeLists) → 0 < l.by
+    → HasTried e ns l body behind next turns old now → IsSizeOf now size → IsMade (records_of e) mid → HasGrown now mid → AddsDeeds e (in_its_turn ns l behind) body now mid
+    → IsTurnKept l behind next then_next turns then_turns size mid after → HasTried e ns l body (behind + 1) then_next then_turns old after
+tried_more law e ns l body behind next then_next turns then_turns size old now mid after some t sized made grown adds k =
+    tried_where law (nat_eq behind next) e ns l body behind next then_next turns then_turns size old now mid after refl some t sized made grown adds k

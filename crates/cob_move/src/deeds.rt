@@ -1,7 +1,8 @@
 //! Paragraphs with loops to items, read turn by turn.
 
-ghost use Rattle.std.specs.Prelude.{◌≡◌, ◌≢◌, ◌↔◌, ◌⊎◌, ◌+◌, ◌<◌, ◌≤◌, ◌∷◌, ◌++◌, List, ℕ, [], false, length, IfErr, IfNone, IfOk, IfSome, IsTrue, OnOk};
+ghost use Rattle.std.specs.Prelude.{◌≡◌, ◌≢◌, ◌⊎◌, ◌+◌, ◌<◌, ◌≤◌, ◌∷◌, ◌++◌, List, ℕ, [], false, length, IfErr, IfNone, IfOk, IfSome, IsTrue, OnOk};
 ghost use Rattle.cob_copybook_tree.specs.declared.node.Item.{Item as TreeItem};
+ghost use Rattle.cob_copybook_tree.specs.declared.node.Kind.TheVariants.{Item as ItemKind};
 ghost use Rattle.cob_limits.specs.Limits.{longest_record};
 ghost use Rattle.cob_move_data.specs.Moves.{IsOperand, operand_in, record_of};
 ghost use Rattle.cob_move_deeds.specs.Tests.{IsBoundItem};
@@ -25,7 +26,7 @@ use crate::linking::{link_turns, next_number};
 use crate::loops::{add_words, fault_of};
 use crate::made::{Made, NotRead, keep_turn};
 use crate::meaning_laws::{meant_are_moves, meant_break_no_rule};
-use cob_copybook_tree::{Kind, is_number_item};
+use cob_copybook_tree::{Item, Kind, is_number_item};
 use cob_limits::{MAX_RECORD, MAX_WRITTEN_OUT};
 use cob_move_apply::PlacedEntry;
 use cob_move_data::StatementMoves;
@@ -126,12 +127,21 @@ fn add_moves(
     Ok(())
 }
 
-/// Whether an entry is a whole number, as a table's count is.
+/// Whether an item is a whole number, as a table's count is.
+fn is_whole(item: &Item) -> bool
+    ensures yes { IsTrue result → IsBoundItem (ItemKind item.now) item.now }
+    ensures must { IsBoundItem (ItemKind item.now) item.now → IsTrue result }
+{
+    is_number_item(item) && item.picture.scale() == 0
+}
+
+/// Whether an entry is such an item.
 fn is_bound_item(kind: &Kind) -> bool
-    ensures { IsTrue result ↔ ((i : TreeItem) × IsBoundItem kind.now i) }
+    ensures yes { IsTrue result → (i : TreeItem) × IsBoundItem kind.now i }
+    ensures must { (i : TreeItem) → IsBoundItem kind.now i → IsTrue result }
 {
     match kind {
-        Kind::Item(item) => is_number_item(item) && item.picture.scale() == 0,
+        Kind::Item(item) => is_whole(item),
         Kind::Group => false,
     }
 }
