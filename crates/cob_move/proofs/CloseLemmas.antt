@@ -100,7 +100,7 @@ closed_grown m = grown_where (nat_eq (length m.list) (last_marked 0 m.ends)) m
 pub equal_is : (a b : ℕ) → nat_eq a b ≡ true → a ≡ b
 equal_is a b e = grind (arith, e)
 
-equal_not : (a b : ℕ) → nat_eq a b ≡ false → a ≡ b → ⊥
+pub equal_not : (a b : ℕ) → nat_eq a b ≡ false → a ≡ b → ⊥
 equal_not a b e same = grind (arith, e, same)
 
 open_where : (b : Bool) (m : MadeLists) → b ≡ nat_eq (length m.list) (last_marked 0 m.ends) → open_statements (closed_where b m) ≡ []
