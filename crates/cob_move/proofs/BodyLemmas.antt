@@ -184,6 +184,6 @@ pub tested_ready : (e : Entries) (body : List Lexeme) (m : MadeLists) (d : Ready
 tested_ready e body m d h bounded adds is =
     let a = adds h.passage h.says in
     let k = made_ready (records_of e) m d a.deeds is a.added a.whole a.straight in (
-      subst (λ (t : Deeds Past). SaysDeeds e body t) (sym k.0) (record { judged = h; bounded = bounded; many = a.many; comes = a.are; few = λ none many first. a.few (omega arith) many first }),
+      subst (λ (t : Deeds Past). SaysDeeds e body t) (sym k.0) (record { judged = h; bounded = bounded; many = a.many; comes = a.are; few = λ none many first. omega (arith, a.few (omega arith) many first) }),
       k.1,
     )
