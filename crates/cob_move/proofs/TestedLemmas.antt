@@ -608,3 +608,23 @@ pub tried_more : (e : Entries) (ns : List Counted) (l : WrittenLoop) (body : Lis
     → IsTurnKept l behind next then_next turns then_turns size mid after → HasTried e ns l body (behind + 1) then_next then_turns old after
 tried_more e ns l body behind next then_next turns then_turns size old now mid after some t sized made grown adds k =
     tried_where (nat_eq behind next) e ns l body behind next then_next turns then_turns size old now mid after refl some t sized made grown adds k
+
+-- the same by what the reader of a turn and what keeps it say
+pub tried_step : (e : Entries) (ns : List Counted) (l : WrittenLoop) (body : List Lexeme) (step number next then_next : ℕ) (turns then_turns : List (List Flow)) (size : Sizes) (old now mid after : MadeLists) → 0 < l.by → number ≡ l.from + step
+    → HasTried e ns l body (l.from + step) next turns old now → IsSizeOf now size → IsMade (records_of e) mid → HasGrown now mid → AddsDeeds e (in_its_turn ns l number) body now mid
+    → (number ≡ next → (then_next ≡ next + l.by) × (after ≡ without_flows (closed mid)) × (then_turns ≡ turns ++ (closed mid).flows ∷ []))
+    → ((number ≡ next → ⊥) → (then_next ≡ next) × (after ≡ taken_back size mid) × (then_turns ≡ turns)) → HasTried e ns l body (l.from + (step + 1)) then_next then_turns old after
+tried_step e ns l body step number next then_next turns then_turns size old now mid after some at t sized made grown adds kept passed =
+    subst (λ (i : ℕ). HasTried e ns l body i then_next then_turns old after) (omega arith)
+    (tried_more e ns l body (l.from + step) next then_next turns then_turns size old now mid after some t sized made grown (subst (λ (i : ℕ). AddsDeeds e (in_its_turn ns l i) body now mid) at adds)
+    (record { kept = λ here. kept (at ∙ here); passed = λ other. passed (λ here. other (sym at ∙ here)) }))
+
+-- a loop to an item whose first turn breaks a rule
+pub broken_left : (f : MoveFault) (e : Entries) (ns : List Counted) (l : WrittenLoop) (body : List Lexeme) (behind next : ℕ) (turns : List (List Flow)) (old now new : MadeLists) → HasTried e ns l body behind next turns old now → new ≡ now → LeavesFront (why.Broken f) old new
+broken_left f e ns l body behind next turns old now new t same = subst (λ (m : MadeLists). HasGrown old m) (sym same) t.grown
+
+-- the same at a number, wherever what was made lies
+pub tried_now : (e : Entries) (ns : List Counted) (l : WrittenLoop) (body : List Lexeme) (behind number next : ℕ) (turns : List (List Flow)) (old now new : MadeLists) → number ≡ behind → new ≡ now → HasTried e ns l body behind next turns old now
+    → HasTried e ns l body number next turns old new
+tried_now e ns l body behind number next turns old now new at same t =
+    subst (λ (i : ℕ). HasTried e ns l body i next turns old new) (sym at) (subst (λ (m : MadeLists). HasTried e ns l body behind next turns old m) (sym same) t)
