@@ -8,7 +8,7 @@ use Rattle.cob_move_deeds.specs.Deeds.{Deeds, IsStraight, Moving, Nothing, both_
 use Rattle.cob_move_deeds.specs.Flows.{FlowSupport}
 use Rattle.cob_move_deeds.specs.Tests.{Past}
 use Rattle.cob_move_loops.specs.Bounded.{AreBounded, BoundedFront}
-use Rattle.cob_move_loops.specs.Passages.{ALoop, APause, ARun, FrontStands, IsPassage, Looped, Moves, NoMore, Passage, PassageFront, Pause}
+use Rattle.cob_move_loops.specs.Passages.{ALoop, APause, ARun, FrontStands, IsPassage, Looped, Moves, NoMore, Passage, PassageFront, Pause, WrittenLoop}
 use Rattle.cob_move_loops.specs.Reading.{Within}
 use Rattle.cob_move_loops.specs.Turns.{Counted}
 use Rattle.cob_move_loops.proofs.PassageLemmas.{IsOnlyFront, Parted, joined, nothing_left, parted}
@@ -182,3 +182,7 @@ pub front_read : (f : PassageFront) (words more : List Lexeme) → FrontStands f
 front_read (ARun own) words more stands = stands.0
 front_read APause words more stands = tt
 front_read (Looped l own) words more stands = tt
+
+-- the statements of a loop in front are such a passage
+pub loop_bounds : (l : WrittenLoop) (own : List Lexeme) → FrontHasBounds (Looped l own) → HasBounds own
+loop_bounds l own (p, within, bounded) = (p, within, bounded.1)

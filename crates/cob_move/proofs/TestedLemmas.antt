@@ -626,3 +626,42 @@ pub tried_more : OneDeeds → (e : Entries) (ns : List Counted) (l : WrittenLoop
     → IsTurnKept l behind next then_next turns then_turns size mid after → HasTried e ns l body (behind + 1) then_next then_turns old after
 tried_more law e ns l body behind next then_next turns then_turns size old now mid after some t sized made grown adds k =
     tried_where law (nat_eq behind next) e ns l body behind next then_next turns then_turns size old now mid after refl some t sized made grown adds k
+
+-- the same by what the reader of a turn and what keeps it say
+pub tried_step : OneDeeds → (e : Entries) (ns : List Counted) (l : WrittenLoop) (body : List Lexeme) (step number next then_next : ℕ) (turns then_turns : List (List Flow)) (size : Sizes) (old now mid after : MadeLists) → 0 < l.by → number ≡ l.from + step
+    → HasTried e ns l body (l.from + step) next turns old now → IsSizeOf now size → IsMade (records_of e) mid → HasGrown now mid → AddsDeeds e (in_its_turn ns l number) body now mid
+    → (number ≡ next → (then_next ≡ next + l.by) × (after ≡ without_flows (closed mid)) × (then_turns ≡ turns ++ (closed mid).flows ∷ []))
+    → ((number ≡ next → ⊥) → (then_next ≡ next) × (after ≡ taken_back size mid) × (then_turns ≡ turns)) → HasTried e ns l body (l.from + (step + 1)) then_next then_turns old after
+tried_step law e ns l body step number next then_next turns then_turns size old now mid after some at t sized made grown adds kept passed =
+    subst (λ (i : ℕ). HasTried e ns l body i then_next then_turns old after) (omega arith)
+    (tried_more law e ns l body (l.from + step) next then_next turns then_turns size old now mid after some t sized made grown (subst (λ (i : ℕ). AddsDeeds e (in_its_turn ns l i) body now mid) at adds)
+    (record { kept = λ here. kept (at ∙ here); passed = λ other. passed (λ here. other (sym at ∙ here)) }))
+
+-- a loop to an item whose first turn breaks a rule
+pub broken_left : (f : MoveFault) (e : Entries) (ns : List Counted) (l : WrittenLoop) (body : List Lexeme) (behind next : ℕ) (turns : List (List Flow)) (old now new : MadeLists) → HasTried e ns l body behind next turns old now → new ≡ now → LeavesFront (why.Broken f) old new
+broken_left f e ns l body behind next turns old now new t same = subst (λ (m : MadeLists). HasGrown old m) (sym same) t.grown
+
+-- the same at a number, wherever what was made lies
+pub tried_now : (e : Entries) (ns : List Counted) (l : WrittenLoop) (body : List Lexeme) (behind number next : ℕ) (turns : List (List Flow)) (old now new : MadeLists) → number ≡ behind → new ≡ now → HasTried e ns l body behind next turns old now
+    → HasTried e ns l body number next turns old new
+tried_now e ns l body behind number next turns old now new at same t =
+    subst (λ (i : ℕ). HasTried e ns l body i next turns old new) (sym at) (subst (λ (m : MadeLists). HasTried e ns l body behind next turns old m) (sym same) t)
+
+-- before the first number nothing is kept
+none_kept : (from by kept behind next : ℕ) → AreKept from by kept behind next → behind ≡ from → kept ≡ 0
+none_kept from by zero behind next is same = refl
+none_kept from by (suc kept) behind next is same = absurd (omega (arith, is.at, is.last (omega arith), suc-mul kept by, same))
+
+-- so a first turn that breaks a rule does so behind what was made before the loop
+pub breaks_first : (f : MoveFault) (e : Entries) (ns inner : List Counted) (l : WrittenLoop) (body : List Lexeme) (behind next : ℕ) (turns : List (List Flow)) (old now : MadeLists) → HasTried e ns l body behind next turns old now → behind ≡ l.from
+    → BreaksInTurn f e inner body (length now.list) → BreaksInTurn f e inner body (length old.list)
+breaks_first f e ns inner l body behind next turns old now t same broken p is =
+    let r = t.reads p is in
+    let none : length turns ≡ 0 = none_kept l.from l.by (length turns) behind next t.kept same in
+    let size : length now.list ≡ length old.list = omega (arith, r.longer, ap (λ (n : ℕ). count_of_turns r.count l.by n l.from) none) in
+    let k = broken p is in
+    (k.0, k.1, subst (λ (n : ℕ). FewWith (λ many. FirstIn e inner p many) n) size k.2)
+
+-- behind a turn that was taken back the same is made
+pub breaks_same : (f : MoveFault) (e : Entries) (inner : List Counted) (body : List Lexeme) (now new : MadeLists) → new ≡ now → BreaksInTurn f e inner body (length now.list) → HasNoTurn e inner body (length new.list)
+breaks_same f e inner body now new same broken = (f, subst (λ (m : MadeLists). BreaksInTurn f e inner body (length m.list)) (sym same) broken)

@@ -139,6 +139,10 @@ turns_begin e ns l body m made p is = record {
 after_one : (n : ℕ) → suc n ≡ n + 1
 after_one n = omega arith
 
+-- the number of the next turn
+pub number_next : (from done by number next : ℕ) → number ≡ from + done * by → next ≡ number + by → next ≡ from + (done + 1) * by
+number_next from done by number next at more = omega (arith, at, more, suc-mul done by, ap (λ (k : ℕ). k * by) (after_one done))
+
 pub turns_next : OneDeeds → (e : Entries) (ns : List Counted) (l : WrittenLoop) (body : List Lexeme) (done number : ℕ) (old now after : MadeLists) → number ≡ l.from + done * l.by → HasGrown now after → IsMade (records_of e) after
     → AddsTurns e ns l body done old now → AddsDeeds e (in_its_turn ns l number) body now after → AddsTurns e ns l body (done + 1) old after
 turns_next law e ns l body done number old now after at grown made so adds p is =
