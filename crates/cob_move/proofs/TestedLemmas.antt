@@ -9,7 +9,11 @@ use Rattle.cob_limits.specs.Limits.{longest_record, most_written_out}
 use Rattle.cob_source.specs.Tokens.{Lexeme}
 use Rattle.cob_copybook_tree.specs.declared.node.Item.{Item}
 use Rattle.cob_move_data.specs.declared.operands.StatementMoves.{StatementMoves}
+use Rattle.cob_layout_places.specs.declared.reference.Ref.{Ref}
+use Rattle.cob_move_data.specs.declared.operands.Side.{Side}
 use Rattle.cob_move_data.specs.Moves.{Records, moves, operand_in, record_of}
+use Rattle.cob_move_apply.specs.declared.placed.PlacedEntry.{PlacedEntry}
+use Rattle.cob_move_apply.specs.Entries.{IsPlacedEntry}
 use Rattle.cob_move_deeds.specs.declared.flow.Bound.{Bound}
 use Rattle.cob_move_deeds.specs.declared.flow.Flow.{Flow}
 use Rattle.cob_move_deeds.specs.Deeds.{Choice, Deeds, Moving, Nothing, both_deeds}
@@ -499,16 +503,47 @@ pub tested_grown : (old now new : MadeLists) (b : Bound) (linked : List Flow) �
 tested_grown old now new b linked g same = subst (λ (m : MadeLists). HasGrown old m) (sym same) (all_grown old now b linked g)
 
 -- where a turn of it breaks a rule, what was made before it stands in front
-pub loop_left : (n : NotRead) (old now : MadeLists) → LeavesFront n (without_flows (closed old)) now → LeavesFront n old (record { list = now.list; ends = now.ends; bounds = now.bounds; flows = (closed old).flows })
-loop_left why.Memory old now left = tt
-loop_left why.TooMany old now left = tt
-loop_left (why.Broken f) old now g =
+left_closed : (n : NotRead) (old now : MadeLists) → LeavesFront n (without_flows (closed old)) now → LeavesFront n old (record { list = now.list; ends = now.ends; bounds = now.bounds; flows = (closed old).flows })
+left_closed why.Memory old now left = tt
+left_closed why.TooMany old now left = tt
+left_closed (why.Broken f) old now g =
     let h = closed_grown old in record {
       list = (h.list.0 ++ g.list.0, g.list.1 ∙ ap (λ (t : List StatementMoves). t ++ g.list.0) h.list.1 ∙ append_assoc old.list h.list.0 g.list.0);
       ends = (h.ends.0 ++ g.ends.0, g.ends.1 ∙ ap (λ (t : List ℕ). t ++ g.ends.0) h.ends.1 ∙ append_assoc old.ends h.ends.0 g.ends.0);
       bounds = (h.bounds.0 ++ g.bounds.0, g.bounds.1 ∙ ap (λ (t : List Bound). t ++ g.bounds.0) h.bounds.1 ∙ append_assoc old.bounds h.bounds.0 g.bounds.0);
       flows = h.flows;
     }
+
+pub loop_left : (n : NotRead) (old now : MadeLists) (fs : List Flow) → fs ≡ (closed old).flows → LeavesFront n (without_flows (closed old)) now → LeavesFront n old (record { list = now.list; ends = now.ends; bounds = now.bounds; flows = fs })
+loop_left n old now fs same left = subst (λ (t : List Flow). LeavesFront n old (record { list = now.list; ends = now.ends; bounds = now.bounds; flows = t })) (sym same) (left_closed n old now left)
+
+-- with no flows, it is the same without them
+pub emptied : (m : MadeLists) (fs : List Flow) → fs ≡ [] → record { list = m.list; ends = m.ends; bounds = m.bounds; flows = fs } ≡ without_flows m
+emptied m fs none = λ i. record { list = m.list; ends = m.ends; bounds = m.bounds; flows = none i }
+
+-- what is made with a loop, by its parts
+pub loop_same : (old now : MadeLists) (b : Bound) (bounds : List Bound) (flows outside linked : List Flow) → bounds ≡ now.bounds ++ b ∷ [] → flows ≡ outside ++ linked → outside ≡ (closed old).flows
+    → record { list = now.list; ends = now.ends; bounds = bounds; flows = flows } ≡ with_loop old now b linked
+loop_same old now b bounds flows outside linked more behind same =
+    let all : flows ≡ (closed old).flows ++ linked = behind ∙ ap (λ (t : List Flow). t ++ linked) same in
+    λ i. record { list = now.list; ends = now.ends; bounds = more i; flows = all i }
+
+-- the bound that words name, placed
+pub bound_for : (e : Entries) (ws : List Lexeme) (n : NamedEntry) (most : ℕ) (item : PlacedEntry) → item.side ≡ n.side → item.entry ≡ n.entry → IsPlacedEntry (records_of e) item → IsBoundRead e ws n
+    → IsBoundFor e n most (record { most = most; item = item })
+bound_for e ws n most item side entry placed read = record {
+  most = refl;
+  side = side;
+  entry = entry;
+  placed = record {
+    placed = placed;
+    item = (
+      read.item.0,
+      subst (λ (s : Side). IsBoundItem (operand_in (record_of (records_of e) s) item.entry).kind read.item.0) (sym side)
+          (subst (λ (r : Ref). IsBoundItem (operand_in (record_of (records_of e) n.side) r).kind read.item.0) (sym entry) read.item.1),
+    );
+  };
+}
 
 -- ---- turns that are tried one behind another
 
