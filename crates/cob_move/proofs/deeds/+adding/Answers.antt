@@ -221,16 +221,16 @@ add_tested-try_turns-read-requires t c =
     let empty : c.replace-outside.new.dest.items ≡ [] = ap (λ (v : Vec Flow). v.items) c.replace-outside.ensures.after ∙ c.new.ensures.items in
     let begin = emptied (made_lists c.close.new.self) c.replace-outside.new.dest.items empty ∙ ap without_flows c.in_ok-close.ensures.closed in (
       omega (arith, c.decreases),
-(
-      c.requires.named,
-      c.requires.pairs,
-      subst (λ (m : MadeLists). IsMade (records_of c.args.entries.now) m) (sym begin) (closed_made (records_of c.args.entries.now) (made_lists c.args.made.now) c.requires.made),
-      c.requires.bounds,
-      (empty, c.new-turns.ensures.items),
-      ap open_statements begin ∙ closed_open (made_lists c.args.made.now),
-      (lexemes c.args.words.now, c.requires.item),
-),
-)
+      (
+        c.requires.named,
+        c.requires.pairs,
+        subst (λ (m : MadeLists). IsMade (records_of c.args.entries.now) m) (sym begin) (closed_made (records_of c.args.entries.now) (made_lists c.args.made.now) c.requires.made),
+        c.requires.bounds,
+        (empty, c.new-turns.ensures.items),
+        ap open_statements begin ∙ closed_open (made_lists c.args.made.now),
+        (lexemes c.args.words.now, c.requires.item),
+      ),
+    )
 
 pub add_tested-returns-in_err-behind-clause-fault : goal.add_tested-returns-in_err-behind-clause-fault
 add_tested-returns-in_err-behind-clause-fault t c =
@@ -323,11 +323,11 @@ add_passage-add_item-requires t c =
     let less = front_smaller (item_front c.in-Some.item) (lexemes c.loop-item.rest.now) (lexemes c.in-Some.more.now) c.in-Some.ensures.found in
     let short = shorter (item_front c.in-Some.item) (lexemes c.loop-item.rest.now) (lexemes c.in-Some.more.now) c.in-Some.ensures.found in (
       omega (arith, c.decreases, less, c.loop-item.invariant.fewer),
-(
-      c.requires.named,
-      c.loop-item.invariant.pairs,
-      c.loop-item.invariant.made,
-      front_read (item_front c.in-Some.item) (lexemes c.loop-item.rest.now) (lexemes c.in-Some.more.now) c.in-Some.ensures.found,
-      (bounds_parted (item_front c.in-Some.item) (lexemes c.loop-item.rest.now) (lexemes c.in-Some.more.now) c.loop-item.invariant.bounds (omega (arith, short)) c.in-Some.ensures.only).0,
-),
-)
+      (
+        c.requires.named,
+        c.loop-item.invariant.pairs,
+        c.loop-item.invariant.made,
+        front_read (item_front c.in-Some.item) (lexemes c.loop-item.rest.now) (lexemes c.in-Some.more.now) c.in-Some.ensures.found,
+        (bounds_parted (item_front c.in-Some.item) (lexemes c.loop-item.rest.now) (lexemes c.in-Some.more.now) c.loop-item.invariant.bounds (omega (arith, short)) c.in-Some.ensures.only).0,
+      ),
+    )
