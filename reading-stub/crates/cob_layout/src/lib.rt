@@ -1,0 +1,4 @@
+//! Stub.
+#![tactic(auto)]
+mod layout;
+pub use layout::Layout;

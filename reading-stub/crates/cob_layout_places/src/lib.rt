@@ -1,0 +1,4 @@
+//! Stub.
+#![tactic(auto)]
+mod reference;
+pub use reference::Ref;

@@ -1,0 +1,7 @@
+//! Stub.
+
+/// Stub.
+#[derive(Drop)]
+pub struct Ref {
+    pub node: usize,
+}

@@ -1,0 +1,7 @@
+mod MadeLemmas
+mod CloseLemmas
+mod ReadingLemmas
+mod TurnsLemmas
+mod TestedLemmas
+mod BoundLemmas
+mod FlowLemmas

@@ -1,0 +1,4 @@
+//! Stub.
+#![tactic(auto)]
+mod placed;
+pub use placed::PlacedEntry;

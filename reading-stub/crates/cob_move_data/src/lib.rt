@@ -1,0 +1,4 @@
+//! Stub.
+#![tactic(auto)]
+mod operands;
+pub use operands::{Side, StatementMoves};

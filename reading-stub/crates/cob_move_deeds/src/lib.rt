@@ -1,0 +1,4 @@
+//! Stub.
+#![tactic(auto)]
+mod flow;
+pub use flow::{Bound, CountedLoop, Flow};

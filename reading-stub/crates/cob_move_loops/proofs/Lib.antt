@@ -1,0 +1,3 @@
+pub mod PassageLemmas
+pub mod WritingLemmas
+pub mod FrontLemmas

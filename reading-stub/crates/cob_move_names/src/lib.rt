@@ -1,0 +1,4 @@
+//! Stub.
+#![tactic(auto)]
+mod correspondences;
+pub use correspondences::{Correspondences, Names};

@@ -1,0 +1,4 @@
+//! Stub.
+#![tactic(auto)]
+mod token;
+pub use token::Token;
