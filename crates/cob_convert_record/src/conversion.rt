@@ -166,6 +166,7 @@ impl Conversion {
     /// What is done, whose moves are moves between its records. Its output record has a storage before the first of them.
     pub fn deeds(&self) -> &ReadyDeeds
         ensures value { deeds_of self.now.records result.now ≡ self.now.deeds }
+        ensures prepared { AreDeedsPrepared self.now.records result.now }
         ensures between { AreMoves self.now.records (moves_of_deeds self.now.deeds) }
         ensures image { HasImage self.now.records.output }
     {

@@ -57,6 +57,7 @@
 #![tactic(auto)]
 
 mod explainer;
+mod flows;
 mod giving;
 mod moves;
 mod places;
@@ -66,6 +67,7 @@ mod senders;
 mod single;
 mod statements;
 mod stops;
+mod tests;
 mod values;
 mod walk;
 mod walking;
@@ -77,7 +79,8 @@ pub use explainer::{Explanation, ReadAgain, StoppedRecord, explain};
 pub use moves::{Silent, SingleText, Teller, Watching};
 pub use room::{EachRoom, RecordLayouts};
 pub use single::{Asked, CarriedMove, MoveStop, SingleNumber};
-pub use stops::{Scene, count_words, move_words};
-pub use walk::{RecordStop, WalkRoom, walk_record};
+pub use stops::{Scene, count_words, move_words, test_words};
+pub use tests::{TakenTest, TestText};
+pub use walk::{RecordStop, TestStop, WalkRoom, walk_record};
 pub use walking::each;
 pub use watcher::Watcher;
