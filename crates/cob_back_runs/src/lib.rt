@@ -28,5 +28,5 @@ mod tested;
 
 pub use cob_back_moves::{Direction, Loss, MovesBetween};
 pub use converters::{ConversionLoss, carried, first_loss, lossless};
-pub use tested::{tested_statements, untested};
 pub use laws::{lossless_keep, lossless_runs};
+pub use tested::{tested_statements, untested};

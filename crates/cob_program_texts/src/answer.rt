@@ -86,11 +86,7 @@ struct Paragraphs<'a> {
 }
 
 /// The lines of the paragraph of a conversion. It was read before, so that only memory can lack.
-fn deed_lines(
-    alloc: Global,
-    converter: &Converter,
-    text: &[u8],
-) -> Result<DeedLines, CommandFault>
+fn deed_lines(alloc: Global, converter: &Converter, text: &[u8]) -> Result<DeedLines, CommandFault>
     ensures { IfErr result (λ fault. fault ≡ Memory) }
 {
     match lines_of_deeds(alloc, text, converter.conversion().deeds()) {

@@ -7,7 +7,8 @@ use cob_convert_record::{Conversion, Side, Stop, StopCause};
 use cob_layout::Layout;
 use cob_move_data::{Sent, single_at};
 use cob_report_faults::{
-    Asker, AskingLoop, AskingMove, CountTable, Occurrence, Qualifying, SentText, StopCase, StopText, counted_at,
+    Asker, AskingLoop, AskingMove, CountTable, Occurrence, Qualifying, SentText, StopCase,
+    StopText, counted_at,
 };
 use cob_report_lossless::{DeedLines, line_at};
 use std::alloc::{AllocError, Global};

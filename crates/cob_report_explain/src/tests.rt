@@ -39,11 +39,7 @@ fn verdict(one: &TakenTest<'_>) -> &'static str {
 
 impl fmt::Display for TestText<'_> {
     fn fmt<W: fmt::Write>(&self, f: &mut fmt::Formatter<W>) -> fmt::Result {
-        let item = Occurrence::of(
-            self.records,
-            self.one.item.side(),
-            self.one.item.entry(),
-        );
+        let item = Occurrence::of(self.records, self.one.item.side(), self.one.item.entry());
         write!(f, "line {}: UNTIL {} > {item}: ", self.line, self.counter)?;
         let verdict = verdict(self.one);
         writeln!(f, "{} > {}, {verdict}", self.one.number, self.one.gave)

@@ -20,11 +20,11 @@ returns-in_err-paragraph-clause-refused c =
 
 pub new-requires-clause-deeds : goal.new-requires-clause-deeds
 new-requires-clause-deeds c =
-    subst (λ d. AreDeedsPrepared (record { input = c.in_ok-in_layout.in_layout; output = c.in_ok-out_layout.out_layout }) d) (sym c.into_deeds.ensures) c.in_ok-paragraph.ensures.ready
+    subst (λ d. AreDeedsPrepared (record { input = c.in_ok-in_layout.in_layout; output = c.in_ok-out_layout.out_layout }) d) (sym c.into_deeds.ensures) c.in_ok-paragraph.ensures.ready.prepared
 
 pub new-requires-clause-whole : goal.new-requires-clause-whole
 new-requires-clause-whole c =
-    subst (λ d. HaveAllMoves (record { input = c.in_ok-in_layout.in_layout; output = c.in_ok-out_layout.out_layout }) d) (sym c.into_deeds.ensures) c.in_ok-paragraph.ensures.whole
+    subst (λ d. HaveAllMoves (record { input = c.in_ok-in_layout.in_layout; output = c.in_ok-out_layout.out_layout }) d) (sym c.into_deeds.ensures) c.in_ok-paragraph.ensures.ready.all
 
 pub returns-clause-paragraph : goal.returns-clause-paragraph
 returns-clause-paragraph c =
