@@ -3,6 +3,7 @@
 ghost use Rattle.std.specs.Prelude.{◌≡◌, IfNone, IfSome, IsTrue};
 ghost use Rattle.std.specs.Bool.{Decides};
 ghost use Rattle.cob_back_moves.specs.Brought.{AreLegal, moves_between};
+ghost use Rattle.cob_back_moves.specs.Lossless.{IsLossless};
 ghost use Rattle.cob_back_moves.specs.Tested.{layout_records};
 ghost use Rattle.cob_back_runs.specs.Keeps.{AreLossless, Keeps};
 ghost use Rattle.cob_back_runs.specs.Laws.{IsPrepared};
@@ -45,6 +46,21 @@ fn is_straight(conversion: &Conversion) -> bool
     conversion.deeds().is_straight()
 }
 
+/// Whether the moves of a conversion bring back what those of another one take.
+fn are_returned(there: &Conversion, back: &Conversion) -> bool
+    ensures { Decides result (IsLossless there.now.records back.now.records
+        (moves_of_deeds there.now.deeds) (moves_of_deeds back.now.deeds)) }
+{
+    is_lossless(&carried(there), &carried(back))
+}
+
+/// Whether two conversions lose nothing.
+fn lose_nothing(there: &Conversion, back: &Conversion) -> bool
+    ensures { Decides result (AreLossless there.now back.now) }
+{
+    is_straight(there) && is_straight(back) && are_returned(there, back)
+}
+
 /// Whether two conversions lose nothing, of which the second one is to bring back what the first one takes of each record: neither has a test, their
 /// records agree crosswise, but for the names of the records, and stand in one way, and the moves of the second one bring back what those of the first one
 /// take. It takes no memory.
@@ -55,9 +71,11 @@ pub fn lossless(there: &Converter, back: &Converter) -> bool
     ensures keeps { IsTrue result → Keeps there.now back.now }
 {
     lossless_keep();
-    is_straight(there.conversion())
-        && is_straight(back.conversion())
-        && is_lossless(&carried(there.conversion()), &carried(back.conversion()))
+    let (first, second) = (there.conversion(), back.conversion());
+    // Both are prepared.
+    let _ = carried(first);
+    let _ = carried(second);
+    lose_nothing(first, second)
 }
 
 /// A point in which two conversions may lose something.
@@ -71,15 +89,29 @@ pub enum ConversionLoss {
 
 /// The first point in which the moves of two conversions may lose something.
 fn first_of_moves(there: &Conversion, back: &Conversion) -> Option<ConversionLoss>
-    requires there { IsStraight there.now.deeds }
-    requires back { IsStraight back.now.deeds }
-    ensures none { IfNone result (AreLossless there.now back.now) }
-    ensures lost { IfSome result (λ loss. AreLossless there.now back.now → ⊥) }
+    ensures none { IfNone result (IsLossless there.now.records back.now.records
+        (moves_of_deeds there.now.deeds) (moves_of_deeds back.now.deeds)) }
+    ensures lost { IfSome result (λ loss. IsLossless there.now.records back.now.records
+        (moves_of_deeds there.now.deeds) (moves_of_deeds back.now.deeds) → ⊥) }
 {
     match cob_back_moves::first_loss(&carried(there), &carried(back)) {
         Some(loss) => Some(ConversionLoss::Moves(loss)),
         None => None,
     }
+}
+
+/// The first point in which two conversions may lose something.
+fn first_point(there: &Conversion, back: &Conversion) -> Option<ConversionLoss>
+    ensures none { IfNone result (AreLossless there.now back.now) }
+    ensures lost { IfSome result (λ loss. AreLossless there.now back.now → ⊥) }
+{
+    if !is_straight(there) {
+        return Some(ConversionLoss::Test(Direction::There));
+    }
+    if !is_straight(back) {
+        return Some(ConversionLoss::Test(Direction::Back));
+    }
+    first_of_moves(there, back)
 }
 
 /// The first point in which two conversions may lose something, of which the second one is to bring back what the first one takes of each record: none
@@ -91,11 +123,9 @@ pub fn first_loss(there: &Converter, back: &Converter) -> Option<ConversionLoss>
     ensures lost { IfSome result (λ loss. AreLossless there.now back.now → ⊥) }
 {
     lossless_keep();
-    if !is_straight(there.conversion()) {
-        return Some(ConversionLoss::Test(Direction::There));
-    }
-    if !is_straight(back.conversion()) {
-        return Some(ConversionLoss::Test(Direction::Back));
-    }
-    first_of_moves(there.conversion(), back.conversion())
+    let (first, second) = (there.conversion(), back.conversion());
+    // Both are prepared.
+    let _ = carried(first);
+    let _ = carried(second);
+    first_point(first, second)
 }

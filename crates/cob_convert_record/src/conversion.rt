@@ -167,6 +167,7 @@ impl Conversion {
     pub fn deeds(&self) -> &ReadyDeeds
         ensures value { deeds_of self.now.records result.now ≡ self.now.deeds }
         ensures prepared { AreDeedsPrepared self.now.records result.now }
+        ensures whole { HaveAllMoves self.now.records result.now }
         ensures between { AreMoves self.now.records (moves_of_deeds self.now.deeds) }
         ensures image { HasImage self.now.records.output }
     {

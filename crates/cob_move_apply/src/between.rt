@@ -1,6 +1,6 @@
 //! The statements between two marks.
 
-ghost use Rattle.std.specs.Prelude.{◌≡◌, ◌×◌, ◌<◌, ◌≤◌, length};
+ghost use Rattle.std.specs.Prelude.{◌≡◌, ◌<◌, ◌≤◌, length};
 ghost use Rattle.cob_move_data.specs.Moves.{Records, moves_by};
 ghost use Rattle.cob_move_apply.specs.Marked.{items_between};
 
@@ -32,11 +32,13 @@ impl MarkedMoves {
         requires prepared { (r : Records) × AreMarkedPrepared r self.now }
         requires rises { from ≤ to }
         requires within { to < length self.now.marks.items }
-        ensures { (r : Records) → moves_between_marks r self.now from to
+        ensures value { result.now ≡ items_between (mark_at self.now.marks.items from).statement
+            (mark_at self.now.marks.items to).statement self.now.moves.statements.items }
+        ensures moves { (r : Records) → moves_between_marks r self.now from to
             ≡ moves_by self.now.moves.reading r result.now }
     {
         let begin = self.marks[from].statement;
         let end = self.marks[to].statement;
-        statements_from(self.moves.statements(), begin, end)
+        statements_from(self.moves.statements.as_slice(), begin, end)
     }
 }

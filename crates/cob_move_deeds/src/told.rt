@@ -1,14 +1,15 @@
 //! What is told of deeds: their flows, the statements between marks, whether there is a test, and what a bound gives.
 
-ghost use Rattle.std.specs.Prelude.{◌≡◌, ◌×◌, ◌<◌, ◌≤◌, length};
+ghost use Rattle.std.specs.Prelude.{◌≡◌, ◌<◌, ◌≤◌, length, Some};
 ghost use Rattle.std.specs.Bool.{Decides};
-ghost use Rattle.std.specs.List.{slice_get};
+ghost use Rattle.std.specs.List.{AllByRecursion, slice_get};
 ghost use Rattle.cob_layout.specs.Storage.{greatest_length, IsStorage};
-ghost use Rattle.cob_move_apply.specs.Marked.{mark_at, moves_between_marks};
+ghost use Rattle.cob_move_apply.specs.Marked.{items_between, mark_at, moves_between_marks};
 ghost use Rattle.cob_move_apply.specs.Room.{room_of};
 ghost use Rattle.cob_move_data.specs.Moves.{Records, moves_by};
 ghost use Rattle.cob_move_deeds.specs.Deeds.{IsStraight};
 ghost use Rattle.cob_move_deeds.specs.Tests.{BoundSays, past_bound};
+ghost use Rattle.cob_move_deeds.specs.Told.{MovesAlone};
 ghost use Rattle.cob_move_deeds.specs.declared.flow.Bound.{Bound as TheBound};
 
 use crate::bound::number_of;
@@ -20,8 +21,24 @@ use cob_move_apply::{Scratch, Stop};
 use cob_move_data::StatementMoves;
 
 /// Whether a flow carries out moves alone.
-fn moves_alone(flow: &Flow) -> bool {
+fn moves_alone(flow: &Flow) -> bool
+    ensures { Decides result (MovesAlone flow.now) }
+{
     matches!(*flow, Flow::Moves(_))
+}
+
+/// Whether each of these flows carries out moves alone.
+fn all_move(flows: &[Flow]) -> bool
+    ensures { Decides result (AllByRecursion MovesAlone flows.now) }
+{
+    let mut rest = flows;
+    while let Some((flow, more)) = rest.split_first() {
+        if !moves_alone(flow) {
+            return false;
+        }
+        rest = more;
+    }
+    true
 }
 
 impl ReadyDeeds {
@@ -53,12 +70,7 @@ impl ReadyDeeds {
         requires prepared { (r : Records) × AreDeedsPrepared r self.now }
         ensures { (r : Records) → Decides result (IsStraight (deeds_of r self.now)) }
     {
-        for flow in self.flows.iter() {
-            if !moves_alone(flow) {
-                return false;
-            }
-        }
-        true
+        all_move(self.flows.as_slice())
     }
 
     /// How many statements stand before the mark with this number.
@@ -74,7 +86,11 @@ impl ReadyDeeds {
         requires prepared { (r : Records) × AreDeedsPrepared r self.now }
         requires rises { from ≤ to }
         requires within { to < length self.now.moves.marks.items }
-        ensures { (r : Records) → moves_between_marks r self.now.moves from to
+        ensures value { result.now
+            ≡ items_between (mark_at self.now.moves.marks.items from).statement
+            (mark_at self.now.moves.marks.items to).statement
+            self.now.moves.moves.statements.items }
+        ensures moves { (r : Records) → moves_between_marks r self.now.moves from to
             ≡ moves_by self.now.moves.moves.reading r result.now }
     {
         self.moves.statements_between(from, to)

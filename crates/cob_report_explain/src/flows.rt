@@ -1,17 +1,18 @@
 //! What a conversion does to a record, flow by flow, its single moves and its tests handed out.
 
-ghost use Rattle.std.specs.Prelude.{◌≡◌, ◌<◌, ◌≤◌, ◌∷◌, ◌×◌, drop, length, IfErr, IfOk, None};
+ghost use Rattle.std.specs.Prelude.{◌≡◌, ◌<◌, ◌≤◌, ◌∷◌, ℕ, drop, length, IfErr, IfOk, None, Some};
 ghost use Rattle.std.specs.List.{slice_get};
-ghost use Rattle.cob_layout.specs.Storage.{greatest_length, IsStorage};
-ghost use Rattle.cob_move_data.specs.Moves.{AreMoves};
-ghost use Rattle.cob_move_apply.specs.Applied.{Applied, ending};
+ghost use Rattle.cob_layout.specs.Storage.{greatest_length};
+ghost use Rattle.cob_move_apply.specs.Applied.{Applied};
 ghost use Rattle.cob_move_apply.specs.Marked.{moves_between_marks};
 ghost use Rattle.cob_move_deeds.specs.Carrying.{LeavesFlows, StopsFlows};
 ghost use Rattle.cob_move_deeds.specs.Deeds.{Carried};
-ghost use Rattle.cob_move_deeds.specs.Flows.{IsFlow, loop_done};
-ghost use Rattle.cob_move_deeds.specs.Prepared.{AreDeedsPrepared, deeds_of, flow_support};
-ghost use Rattle.cob_move_deeds.specs.Tests.{Judged};
-ghost use Rattle.cob_report_explain.specs.Flowing.{IsWalk, records_walked, walked_ending};
+ghost use Rattle.cob_move_deeds.specs.Flows.{IsFlow, IsLoop, loop_done};
+ghost use Rattle.cob_move_deeds.specs.Prepared.{deeds_of, flow_support};
+ghost use Rattle.cob_move_deeds.specs.Tests.{BoundSays, Judged, past_bound};
+ghost use Rattle.cob_move_deeds.specs.declared.flow.Bound.{Bound};
+ghost use Rattle.cob_move_loops.specs.Turns.{turns_between};
+ghost use Rattle.cob_report_explain.specs.Flowing.{IsWalk, plain_answer, records_walked, walked_ending};
 ghost use Rattle.cob_report_explain.specs.Walked.{HasWalkRoom, plain_stop};
 
 use crate::room::RecordLayouts;
@@ -20,6 +21,7 @@ use crate::tests::TakenTest;
 use crate::walk::{RecordStop, TestStop, WalkRoom};
 use crate::walking::each;
 use crate::watcher::Watcher;
+use cob_layout::one_outcome_of_counts;
 use cob_move_deeds::{CountedLoop, Flow, ReadyDeeds};
 
 /// What is done to a record, and the record: the layouts of both records, what is done between them, and the storage of the input record.
@@ -130,6 +132,9 @@ fn bound_given(
     requires walk { IsWalk walk.now }
     requires within { bound < length walk.now.deeds.now.bounds.items }
     requires room { HasWalkRoom (records_walked walk.now) room.old }
+    ensures says { (b : Bound) → slice_get walk.now.deeds.now.bounds.items bound ≡ Some b
+        → BoundSays (records_walked walk.now) (past_bound (records_walked walk.now) b 0)
+        walk.now.input.now output.now (plain_answer result) }
     ensures room { HasWalkRoom (records_walked walk.now) room.new }
 {
     match walk.deeds.bound_number(
@@ -146,11 +151,25 @@ fn bound_given(
 }
 
 /// How many turns a loop has up to a number.
-fn turns_up_to(one: &CountedLoop, number: u32) -> usize {
+fn turns_up_to(one: &CountedLoop, number: u32) -> usize
+    requires grows { 0 < one.now.by }
+    ensures { result ≡ turns_between one.now.from one.now.by number }
+{
     if number < one.from {
         return 0;
     }
     ((number - one.from) / one.by) as usize + 1
+}
+
+/// The number of the counter of a loop that is past what its bound gives.
+fn number_past(one: &CountedLoop, gave: u32) -> u32
+    requires grows { 0 < one.now.by }
+{
+    if gave < one.from {
+        return one.from;
+    }
+    let over = (gave - one.from) % one.by;
+    (gave - over).saturating_add(one.by)
 }
 
 /// Carries out a loop whose bound is read once, and hands its single moves to the watcher, and then the test that ends it.
@@ -164,14 +183,24 @@ fn walk_turns<W: Watcher>(
     output: &mut [u8],
     room: &mut WalkRoom,
     watcher: &mut W,
-) -> Result<(), RecordStop> {
+) -> Result<(), RecordStop>
+    requires walk { IsWalk walk.now }
+    requires counted { IsLoop (flow_support walk.now.deeds.now) one.now }
+    requires output { length output.old ≡ greatest_length walk.now.layouts.output.now }
+    requires room { HasWalkRoom (records_walked walk.now) room.old }
+    ensures carried { Carried (Judged (records_walked walk.now)) (records_walked walk.now)
+        (loop_done (records_walked walk.now) (flow_support walk.now.deeds.now) (Some one.now))
+        walk.now.input.now output.old (walked_ending result output.new) }
+    ensures room { HasWalkRoom (records_walked walk.now) room.new }
+{
+    one_outcome_of_counts();
     let gave = bound_given(walk, one.bound, output, room)?;
     let turns = turns_up_to(one, gave);
     walk_between(walk, one.first, one.first + turns, output, room, watcher)?;
     watcher.see_test(&TakenTest {
         bound: one.bound,
         item: &walk.deeds.bounds()[one.bound].item,
-        number: one.from.saturating_add(one.by.saturating_mul(turns as u32)),
+        number: number_past(one, gave),
         gave,
     });
     Ok(())
