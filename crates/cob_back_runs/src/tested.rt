@@ -1,27 +1,43 @@
 //! The moves that no test stands before.
 
+ghost use Rattle.std.specs.Prelude.{◌≡◌, ◌+◌, ◌<◌, ◌≤◌, ℕ, drop, length, IfSome};
+ghost use Rattle.cob_back_moves.specs.Brought.{moves_between};
+ghost use Rattle.cob_back_moves.specs.Tested.{layout_records};
+ghost use Rattle.cob_move_apply.specs.Marked.{moves_between_marks};
+ghost use Rattle.cob_move_data.specs.Moves.{Records};
+ghost use Rattle.cob_move_deeds.specs.Prepared.{AreDeedsPrepared};
+ghost use Rattle.cob_move_deeds.specs.declared.flow.Flow.TheVariants as the_flow;
+
 use cob_back_moves::{BothLayouts, MovesBetween};
 use cob_convert_record::Conversion;
 use cob_move_deeds::{Flow, ReadyDeeds};
 use std::alloc::{AllocError, Global};
 
-/// The moves of a conversion between two marks.
-fn moves_between(conversion: &Conversion, from: usize, to: usize) -> MovesBetween<'_> {
-    let (input, output) = conversion.layouts();
-    let deeds = conversion.deeds();
+/// The moves of deeds between the mark with this number and the next one.
+fn stretch<'a>(
+    layouts: BothLayouts<'a>,
+    deeds: &'a ReadyDeeds,
+    number: usize,
+) -> MovesBetween<'a>
+    requires prepared { (r : Records) × AreDeedsPrepared r deeds.now }
+    requires within { number + 1 < length deeds.now.moves.marks.items }
+    requires reading { layouts.reading ≡ deeds.now.moves.moves.reading }
+    ensures layouts { result.layouts ≡ layouts }
+    ensures moves { moves_between layouts result.statements.now
+        ≡ moves_between_marks (layout_records layouts) deeds.now.moves number (number + 1) }
+{
     MovesBetween {
-        layouts: BothLayouts {
-            input,
-            output,
-            reading: deeds.reading(),
-        },
-        statements: deeds.statements_between(from, to),
+        layouts,
+        statements: deeds.statements_between(number, number + 1),
     }
 }
 
-/// The flows behind those that the test in front of them may pass over, where one stands there, and else behind the first; and the number of the mark
-/// before its moves, where it is moves.
-fn untested_flow(flow: Flow, rest: &[Flow]) -> (Option<usize>, &[Flow]) {
+/// What a flow carries out whatever tests say, the number of the mark before its moves; and the flows behind those that it may pass over.
+fn untested_flow(flow: Flow, rest: &[Flow]) -> (Option<usize>, &[Flow])
+    ensures moves { IfSome result.0 (λ number. flow ≡ the_flow.Moves number) }
+    ensures fewer { (count : ℕ) × (result.1.now ≡ drop count rest.now) }
+    ensures shorter { length result.1.now ≤ length rest.now }
+{
     match flow {
         Flow::Moves(number) => (Some(number), rest),
         Flow::Turns(_) => (None, rest),
@@ -42,27 +58,38 @@ pub fn untested(
     alloc: Global,
     conversion: &Conversion,
 ) -> Result<Vec<MovesBetween<'_>>, AllocError> {
+    let (input, output) = conversion.layouts();
+    let deeds = conversion.deeds();
+    let layouts = BothLayouts {
+        input,
+        output,
+        reading: deeds.reading(),
+    };
     let mut stretches = Vec::new(alloc);
-    let mut rest = conversion.deeds().flows();
+    let mut rest = deeds.flows();
     while let Some((flow, more)) = rest.split_first() {
         let (number, behind) = untested_flow(*flow, more);
         if let Some(number) = number {
-            stretches.push(moves_between(conversion, number, number + 1))?;
+            stretches.push(stretch(layouts, deeds, number))?;
         }
         rest = behind;
     }
     Ok(stretches)
 }
 
-/// Marks the statements between two marks of deeds as those that no test stands before.
-fn mark_untested(deeds: &ReadyDeeds, number: usize, tested: &mut [bool]) {
-    let first = deeds.statements_before(number);
-    let behind = deeds.statements_before(number + 1);
-    for (place, mark) in tested.iter_mut().enumerate() {
-        if first <= place && place < behind {
-            *mark = false;
-        }
+/// Adds as many marks.
+fn push_marks(count: usize, mark: bool, marks: &mut Vec<bool>) -> Result<(), AllocError> {
+    for _ in 0..count {
+        marks.push(mark)?;
     }
+    Ok(())
+}
+
+/// How many statements stand between two marks.
+fn count_between(deeds: &ReadyDeeds, from: usize, to: usize) -> usize {
+    deeds
+        .statements_before(to)
+        .saturating_sub(deeds.statements_before(from))
 }
 
 /// Of each statement of a conversion, whether a test stands before it.
@@ -72,14 +99,24 @@ fn mark_untested(deeds: &ReadyDeeds, number: usize, tested: &mut [bool]) {
 /// Where no memory is left.
 pub fn tested_statements(alloc: Global, conversion: &Conversion) -> Result<Vec<bool>, AllocError> {
     let deeds = conversion.deeds();
-    let mut tested = vec![in alloc; true; deeds.statements().len()]?;
-    let mut rest = deeds.flows();
-    while let Some((flow, more)) = rest.split_first() {
-        let (number, behind) = untested_flow(*flow, more);
-        if let Some(number) = number {
-            mark_untested(deeds, number, tested.as_mut_slice());
+    let mut tested = Vec::with_capacity(alloc, deeds.statements().len())?;
+    // So many flows are left that a test may pass over.
+    let mut left: usize = 0;
+    for flow in deeds.flows() {
+        let is_tested = left > 0;
+        left = left.saturating_sub(1);
+        match *flow {
+            Flow::Moves(number) => {
+                let count = count_between(deeds, number, number + 1);
+                push_marks(count, is_tested, &mut tested)?;
+            }
+            Flow::Turns(number) => {
+                let one = deeds.loops()[number];
+                let count = count_between(deeds, one.first, one.first + one.turns);
+                push_marks(count, true, &mut tested)?;
+            }
+            Flow::Until { skip, .. } => left = left.max(skip),
         }
-        rest = behind;
     }
     Ok(tested)
 }

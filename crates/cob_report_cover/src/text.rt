@@ -272,6 +272,24 @@ fn push_covered(
     push_open(alloc, &record, &items, text)
 }
 
+/// Of each byte, whether it is marked in the first list and not in the second.
+fn marked_apart(alloc: Global, marks: &[bool], others: &[bool]) -> Result<Vec<bool>, AllocError> {
+    let mut apart = Vec::with_capacity(alloc, marks.len())?;
+    for (mark, other) in marks.iter().zip(others.iter()) {
+        apart.push(*mark && !*other)?;
+    }
+    Ok(apart)
+}
+
+/// Of each byte, whether it is not marked.
+fn unmarked(alloc: Global, marks: &[bool]) -> Result<Vec<bool>, AllocError> {
+    let mut others = Vec::with_capacity(alloc, marks.len())?;
+    for mark in marks {
+        others.push(!*mark)?;
+    }
+    Ok(others)
+}
+
 /// Of each byte of the output record, whether it is covered and a test stands before all moves to it.
 fn covered_where_something_holds(
     alloc: Global,
@@ -281,11 +299,7 @@ fn covered_where_something_holds(
     let mut marks = bytes_covered(alloc, &moves.moves)?;
     for always in untested {
         let own = bytes_covered(alloc, always)?;
-        for (mark, always) in marks.iter_mut().zip(own.iter()) {
-            if *always {
-                *mark = false;
-            }
-        }
+        marks = marked_apart(alloc, &marks, &own)?;
     }
     Ok(marks)
 }
@@ -298,10 +312,8 @@ fn push_tested(
     text: &mut String,
 ) -> Result<(), AllocError> {
     let layout = moves.moves.layouts.output;
-    let mut marks = covered_where_something_holds(alloc, moves, untested)?;
-    for mark in marks.iter_mut() {
-        *mark = !*mark;
-    }
+    let covered = covered_where_something_holds(alloc, moves, untested)?;
+    let marks = unmarked(alloc, &covered)?;
     let mut items = Vec::new(alloc);
     push_items(layout.root(), &mut items)?;
     let record = Marked {

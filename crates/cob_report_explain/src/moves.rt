@@ -126,7 +126,8 @@ impl<T: Teller> Watcher for Watching<'_, T> {
     }
 
     fn see_test(&mut self, one: &TakenTest<'_>) {
-        if let Some(of) = self.lines.loops.get(one.bound) {
+        let lines = self.lines;
+        if let Some(of) = lines.loops.get(one.bound) {
             self.teller.tell_test(&TestText {
                 line: of.line,
                 counter: of.counter.as_str(),

@@ -1,6 +1,6 @@
 //! The lines of what a paragraph comes to: of the statements, those of a loop once for each of its turns, and of what loops end by.
 
-ghost use Rattle.std.specs.Prelude.{◌≡◌, IfOk};
+ghost use Rattle.std.specs.Prelude.{◌<◌, ◌≤◌, length, IfOk, IfSome};
 ghost use Rattle.cob_move_deeds.specs.Deeds.{IsStraight};
 ghost use Rattle.cob_move_deeds.specs.Prepared.{AreDeedsPrepared, deeds_of};
 ghost use Rattle.cob_move_data.specs.Moves.{Records};
@@ -32,7 +32,9 @@ pub struct DeedLines {
 }
 
 /// The test in front of flows, or behind the moves in front of them: the number of its bound, how many flows it may pass over, and the flows behind it.
-fn next_test(flows: &[Flow]) -> Option<(usize, usize, &[Flow])> {
+fn next_test(flows: &[Flow]) -> Option<(usize, usize, &[Flow])>
+    ensures { IfSome result (λ test. length test.2.now < length flows.now) }
+{
     let mut rest = flows;
     while let Some((flow, more)) = rest.split_first() {
         if let Flow::Until { bound, skip, .. } = *flow {
@@ -73,7 +75,9 @@ fn read_turn<'f>(
     turn: &[Counter<'_>],
     flows: &'f [Flow],
     lines: &mut DeedLines,
-) -> Result<&'f [Flow], MoveFault> {
+) -> Result<&'f [Flow], MoveFault>
+    ensures { IfOk result (λ left. length left.now ≤ length flows.now) }
+{
     let counter = Counter {
         name: head.counter,
         number,
@@ -91,7 +95,9 @@ fn read_turns<'f>(
     turn: &[Counter<'_>],
     flows: &'f [Flow],
     lines: &mut DeedLines,
-) -> Result<&'f [Flow], MoveFault> {
+) -> Result<&'f [Flow], MoveFault>
+    ensures { IfOk result (λ left. length left.now ≤ length flows.now) }
+{
     let turns = turns_to_write(head, body);
     let mut rest = flows;
     let mut done: u64 = 0;
@@ -113,7 +119,9 @@ fn read_tested<'f>(
     turn: &[Counter<'_>],
     flows: &'f [Flow],
     lines: &mut DeedLines,
-) -> Result<&'f [Flow], MoveFault> {
+) -> Result<&'f [Flow], MoveFault>
+    ensures { IfOk result (λ left. length left.now ≤ length flows.now) }
+{
     let mut rest = flows;
     let mut number = head.from;
     while let Some((bound, skip, behind)) = next_test(rest) {
@@ -136,7 +144,9 @@ fn read_item<'f>(
     turn: &[Counter<'_>],
     flows: &'f [Flow],
     lines: &mut DeedLines,
-) -> Result<&'f [Flow], MoveFault> {
+) -> Result<&'f [Flow], MoveFault>
+    ensures { IfOk result (λ left. length left.now ≤ length flows.now) }
+{
     match item {
         PassageItem::Run(words) => {
             let words = in_turn(alloc, words, turn)?;
@@ -160,7 +170,9 @@ fn read_passage<'f>(
     turn: &[Counter<'_>],
     flows: &'f [Flow],
     lines: &mut DeedLines,
-) -> Result<&'f [Flow], MoveFault> {
+) -> Result<&'f [Flow], MoveFault>
+    ensures { IfOk result (λ left. length left.now ≤ length flows.now) }
+{
     let mut rest = flows;
     let mut left = words;
     while let Some((item, more)) = item_at(left) {
@@ -190,7 +202,7 @@ fn tested_lines(alloc: Global, text: &[u8], deeds: &ReadyDeeds) -> Result<DeedLi
         statements: Vec::new(alloc),
         loops: unknown_loops(alloc, deeds.bounds().len())?,
     };
-    read_passage(alloc, body, &[], deeds.flows(), &mut lines)?;
+    let _ = read_passage(alloc, body, &[], deeds.flows(), &mut lines)?;
     Ok(lines)
 }
 

@@ -369,7 +369,7 @@ impl fmt::Display for Page<'_> {
         write_names(f, &self.mapping)?;
         write_summary(f, &self.mapping)?;
         f.write_str(KEY)?;
-        if self.mapping.tested.iter().any(|tested| *tested) {
+        if !self.mapping.tested.iter().all(|tested| !*tested) {
             f.write_str(TESTED_KEY)?;
         }
         write_drawing(f, self)?;
