@@ -14,11 +14,7 @@ use cob_move_deeds::{Flow, ReadyDeeds};
 use std::alloc::{AllocError, Global};
 
 /// The moves of deeds between the mark with this number and the next one.
-fn stretch<'a>(
-    layouts: BothLayouts<'a>,
-    deeds: &'a ReadyDeeds,
-    number: usize,
-) -> MovesBetween<'a>
+fn stretch<'a>(layouts: BothLayouts<'a>, deeds: &'a ReadyDeeds, number: usize) -> MovesBetween<'a>
     requires prepared { (r : Records) × AreDeedsPrepared r deeds.now }
     requires within { number + 1 < length deeds.now.moves.marks.items }
     requires reading { layouts.reading ≡ deeds.now.moves.moves.reading }

@@ -44,6 +44,9 @@
 //! and each as soon as it is done, so that no text of them is kept. Where the record does not convert, the answer has the fault that a run has, and what is
 //! wrong in words.
 //!
+//! Where a paragraph has loops to a count, its flows are carried out one behind another, each stretch of moves by [`each`], and each test is handed out too
+//! ([`TakenTest`]; [`TestText`] prints it in one line).
+//!
 //! What is promised: what becomes of a record is what a run makes of it (`converts`, `stops` of [`walk_record`], by `Becomes` and `StopsAt` of
 //! `cob_convert_record`). Which words tell it is shown by `cob_test_jobs`.
 //!

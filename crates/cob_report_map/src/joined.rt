@@ -91,9 +91,13 @@ pub(crate) fn tested_ends(
     tested: &[bool],
 ) -> Result<Vec<bool>, AllocError> {
     let mut always = IndexMap::new(alloc);
-    for (single, ends) in Singles::new(statements).zip(ends.iter()) {
-        if !matches!(tested.get(single.statement), Some(true)) {
-            always.insert(*ends, true)?;
+    let mut rest = ends;
+    for single in Singles::new(statements) {
+        if let Some((own, more)) = rest.split_first() {
+            if !matches!(tested.get(single.statement), Some(true)) {
+                always.insert(*own, true)?;
+            }
+            rest = more;
         }
     }
     let mut marks = Vec::new(alloc);
