@@ -55,7 +55,7 @@ fn note(
     if let Some(one) = lines.loops.get_mut(bound) {
         let mut counter = String::new(alloc);
         for byte in head.counter {
-            counter.push(*byte as char)?;
+            counter.push(char::from(*byte))?;
         }
         *one = LoopLine {
             line: head.line,
