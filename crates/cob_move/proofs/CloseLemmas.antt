@@ -1,6 +1,6 @@
 -- A mark behind the statements that were made last.
-use Rattle.std.proofs.Common.{◌≡◌, inl, inr, ℕ, zero, suc, ◌+◌, ◌-◌, ◌<◌, ◌≤◌, Bool, true, false, List, [], ◌∷◌, ◌++◌, drop, get_or, length, map, nat_eq, take, refl, sym, ap, subst, ◌∙◌, append_assoc, append-nil, arith}
-use Rattle.std.specs.List.{AllByRecursion}
+use Rattle.std.proofs.Common.{◌≡◌, inl, inr, ℕ, zero, suc, ◌+◌, ◌-◌, ◌<◌, ◌≤◌, Bool, true, false, List, [], ◌∷◌, ◌++◌, drop, get_or, length, map, nat_eq, take, refl, sym, ap, subst, ◌∙◌, append_assoc, append-nil, arith, Option, Some, None}
+use Rattle.std.specs.List.{AllByRecursion, slice_get}
 use Rattle.std.proofs.lemmas.List.{drop-append-le, length-append, take-append-le}
 use Rattle.std.proofs.Math.Seq.{drop-length, take-length}
 use Rattle.cob_codec.specs.declared.reading.Reading.{Reading}
@@ -167,3 +167,19 @@ none_made false r m is = record {
 
 pub closed_made : (r : Records) (m : MadeLists) → IsMade r m → IsMade r (without_flows (closed m))
 closed_made r m is = none_made (nat_eq (length m.list) (last_marked 0 m.ends)) r m is
+
+-- ---- the last mark
+
+abbrev number_or : Option ℕ → ℕ
+number_or (Some n) = n
+number_or None = 0
+
+-- the last of some numbers is what stands at the last place
+pub last_found : (before : ℕ) (ends : List ℕ) (end : ℕ) → Some end ≡ slice_get ends (length ends - 1) → end ≡ last_marked before ends
+last_found before [] end e = absurd (let never : Some end ≡ None = e in cc)
+last_found before (x ∷ []) end e =
+    let at : length (x ∷ []) - 1 ≡ zero = omega arith in
+    ap number_or (e ∙ ap (λ (n : ℕ). slice_get (x ∷ []) n) at)
+last_found before (x ∷ y ∷ ys) end e =
+    let at : length (x ∷ y ∷ ys) - 1 ≡ suc (length (y ∷ ys) - 1) = omega arith in
+    last_found x (y ∷ ys) end (e ∙ ap (λ (n : ℕ). slice_get (x ∷ y ∷ ys) n) at)

@@ -28,7 +28,7 @@ use Rattle.cob_move_statements.specs.Written.{WrittenReference, WrittenStatement
 use Rattle.cob_move.specs.Deeds.{AreDeeds, IsBoundOf, IsBoundRefusal, IsLoopOf, IsLoopRefused, IsRunMeant, IsTurnRefused, count_of_turns, deeds_of_turns}
 use Rattle.cob_move.specs.Meaning.{AreMeant}
 use Rattle.cob_move.specs.MeaningLaws.{MeantBreakNoRule, OneMeant}
-use Rattle.cob_move.specs.Paragraphs.{IsRunRefusal, RunIsRefused}
+use Rattle.cob_move.specs.Bodies.{IsRunRefusal, RunIsRefused}
 use Rattle.cob_move.proofs.PassageLemmas.{run_unbroken}
 
 -- ---- numbers of turns
@@ -155,7 +155,7 @@ deeds_one ended meant reference named all input output ns (ALoop l body more) d 
 
 -- ---- what comes to something is refused for want of memory alone
 
-run_refused : OneListOfEnded → MeantBreakNoRule → (f : MoveFault) (input output : Forest Resolved) (ws : List Lexeme) (ms : List Move) (c : ℕ)
+pub run_refused : OneListOfEnded → MeantBreakNoRule → (f : MoveFault) (input output : Forest Resolved) (ws : List Lexeme) (ms : List Move) (c : ℕ)
     → IsRunMeant input output ws ms c → RunIsRefused f (all_entries input output) input output ws → f.rule ≡ rule.Memory
 run_refused ended unbroken f input output ws ms c is (inl broken) = run_unbroken ended unbroken f f.rule f.line (all_entries input output) input output ws is.statements ms refl is.spelled broken
 run_refused ended unbroken f input output ws ms c is (inr (ss, spelled, broken)) =

@@ -13,10 +13,15 @@ pub mod PlainLemmas
 pub mod LoopLemmas
 mod FlowLemmas
 mod DeedsLemmas
+mod WholeLemmas
 mod MadeLemmas
 mod CloseLemmas
 mod ReadingLemmas
 mod TurnsLemmas
 mod TestedLemmas
+mod FewLemmas
+mod LiteralLemmas
 mod BodyLemmas
+mod ReadyLemmas
 mod JoinedLemmas
+mod BoundLemmas

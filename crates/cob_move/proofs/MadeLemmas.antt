@@ -14,6 +14,7 @@ use Rattle.cob_move_deeds.specs.Tests.{Past}
 use Rattle.cob_move_loops.specs.Passages.{IsRun, WrittenLoop}
 use Rattle.cob_move_loops.specs.Turns.{Counted, in_turn}
 use Rattle.cob_move_statements.specs.declared.fault.MoveFault.{MoveFault}
+use Rattle.cob_move_statements.specs.declared.fault.MoveRule.{MoveRule}
 use Rattle.cob_move_statements.specs.declared.fault.MoveRule.TheVariants as rule
 use Rattle.cob_move_statements.specs.Statements.{IsEndedStatement, Several}
 use Rattle.cob_move_statements.specs.Written.{WrittenStatement}
@@ -23,7 +24,7 @@ use Rattle.cob_move.specs.declared.made.Sizes.{Sizes}
 use Rattle.cob_move.specs.declared.entries.Entries.{Entries}
 use Rattle.cob_move.specs.Deeds.{IsRunMeant}
 use Rattle.cob_move.specs.Among.{nameable}
-use Rattle.cob_move.specs.DeedsRead.{AddsMoved, AreParted, LoopRefused, MovedRefused, TurnRefused, HasGrown, IsFrontOf, IsMade, IsSizeOf, FirstInRun, MadeLists, all_deeds, last_marked, made_deeds, open_deeds, open_statements, taken_back}
+use Rattle.cob_move.specs.DeedsRead.{AddsMoved, AreParted, IsNotBroken, LeavesFront, LoopRefused, MovedRefused, TurnRefused, HasGrown, IsFrontOf, IsMade, IsSizeOf, FirstInRun, MadeLists, all_deeds, last_marked, made_deeds, open_deeds, open_statements, taken_back}
 use Rattle.cob_move.specs.Entries.{AllMayBeNamed, records_of}
 use Rattle.cob_move.specs.Joined.{joined_deeds}
 use Rattle.cob_move.specs.Loops.{AddsRun, RunRefused}
@@ -124,11 +125,11 @@ more_added r m s ss is on f =
     ∙ sym (parted_joined flows (open_deeds r (open_statements m)) (Moving (moves r own) Nothing) parted)
 
 -- words of MOVE statements are a statement at least, also in a turn
-some_in_turn : (ns : List Counted) (ws : List Lexeme) → IsRun ws → in_turn ns false 0 ws ≡ [] → ⊥
+pub some_in_turn : (ns : List Counted) (ws : List Lexeme) → IsRun ws → in_turn ns false 0 ws ≡ [] → ⊥
 some_in_turn ns [] run e = run
 some_in_turn ns (w ∷ ws) run e = absurd (omega (arith, ap length e))
 
-some_statements : (ss : List WrittenStatement) (ws : List Lexeme) → (ws ≡ [] → ⊥) → Several IsEndedStatement ss ws → 0 < length ss
+pub some_statements : (ss : List WrittenStatement) (ws : List Lexeme) → (ws ≡ [] → ⊥) → Several IsEndedStatement ss ws → 0 < length ss
 some_statements [] ws some e = absurd (some e)
 some_statements (s ∷ ss) ws some is = omega arith
 
@@ -142,6 +143,8 @@ moved_by e ns ws m ss (s ∷ own) is spelled meant many some = record {
   are = (moves (records_of e) (s ∷ own), record { statements = ss; spelled = spelled; meant = meant; many = refl }, refl);
   added = more_added (records_of e) m s own is;
   longer = omega (arith, many, length-append m.list (s ∷ own));
+  whole = moves_both (records_of e) m.list (s ∷ own) ∙ ap (λ (t : List Move). moves (records_of e) m.list ++ t) (sym (append-nil (moves (records_of e) (s ∷ own))));
+  straight = λ is. refl;
 }
 
 -- the same with these statements
@@ -184,7 +187,53 @@ memory_loop n e ns l body m is = subst (λ (k : NotRead). LoopRefused k e ns l b
 
 -- ---- words of MOVE statements that aren't read
 
+-- memory was refused, or not
+either_memory : (r : MoveRule) → (r ≡ rule.Memory) ⊎ ((r ≡ rule.Memory) → ⊥)
+either_memory rule.Memory = inl refl
+either_memory (rule.Source s) = inr (λ e. absurd (let never : rule.Source s ≡ rule.Memory = e in cc))
+either_memory rule.Grammar = inr (λ e. absurd (let never : rule.Grammar ≡ rule.Memory = e in cc))
+either_memory rule.Unknown = inr (λ e. absurd (let never : rule.Unknown ≡ rule.Memory = e in cc))
+either_memory rule.Ambiguous = inr (λ e. absurd (let never : rule.Ambiguous ≡ rule.Memory = e in cc))
+either_memory rule.Subscripts = inr (λ e. absurd (let never : rule.Subscripts ≡ rule.Memory = e in cc))
+either_memory rule.Receiver = inr (λ e. absurd (let never : rule.Receiver ≡ rule.Memory = e in cc))
+either_memory rule.NotAllowed = inr (λ e. absurd (let never : rule.NotAllowed ≡ rule.Memory = e in cc))
+either_memory rule.Literal = inr (λ e. absurd (let never : rule.Literal ≡ rule.Memory = e in cc))
+either_memory rule.Groups = inr (λ e. absurd (let never : rule.Groups ≡ rule.Memory = e in cc))
+either_memory rule.Twice = inr (λ e. absurd (let never : rule.Twice ≡ rule.Memory = e in cc))
+either_memory rule.TooLong = inr (λ e. absurd (let never : rule.TooLong ≡ rule.Memory = e in cc))
+either_memory rule.Counter = inr (λ e. absurd (let never : rule.Counter ≡ rule.Memory = e in cc))
+either_memory rule.TooMany = inr (λ e. absurd (let never : rule.TooMany ≡ rule.Memory = e in cc))
+
+told_refused : (f : MoveFault) (e : Entries) (ns : List Counted) (ws : List Lexeme) → ((f.rule ≡ rule.Memory) → ⊥) → (f.rule ≡ rule.Memory) ⊎ RunRefused f e (in_turn ns false 0 ws) → RunRefused f e (in_turn ns false 0 ws)
+told_refused f e ns ws other (inl is) = absurd (other is)
+told_refused f e ns ws other (inr refused) = refused
+
 pub moves_refused : (n : NotRead) (f : MoveFault) (e : Entries) (ns : List Counted) (ws : List Lexeme) (m : MadeLists) → ((f.rule ≡ rule.Memory) → n ≡ why.Memory) → (((f.rule ≡ rule.Memory) → ⊥) → n ≡ why.Broken f)
-    → (f.rule ≡ rule.Memory) ⊎ (((f.rule ≡ rule.Memory) → ⊥) × RunRefused f e (in_turn ns false 0 ws)) → MovedRefused n e ns ws m
-moves_refused n f e ns ws m memory broken (inl is) = subst (λ (k : NotRead). MovedRefused k e ns ws m) (sym (memory is)) tt
-moves_refused n f e ns ws m memory broken (inr (other, refused)) = subst (λ (k : NotRead). MovedRefused k e ns ws m) (sym (broken other)) (other, refused)
+    → (f.rule ≡ rule.Memory) ⊎ RunRefused f e (in_turn ns false 0 ws) → MovedRefused n e ns ws m
+moves_refused n f e ns ws m memory broken given = elim (either_memory f.rule) [
+  | inl is ↦ subst (λ (k : NotRead). MovedRefused k e ns ws m) (sym (memory is)) tt
+  | inr other ↦ subst (λ (k : NotRead). MovedRefused k e ns ws m) (sym (broken other)) (other, told_refused f e ns ws other given)
+]
+
+-- ---- what is left where words aren't read
+
+pub leaves_same : (n : NotRead) (m : MadeLists) → LeavesFront n m m
+leaves_same why.Memory m = tt
+leaves_same why.TooMany m = tt
+leaves_same (why.Broken f) m = grown_none m
+
+pub leaves_more : (n : NotRead) (a b c : MadeLists) → HasGrown a b → LeavesFront n b c → LeavesFront n a c
+leaves_more why.Memory a b c g left = tt
+leaves_more why.TooMany a b c g left = tt
+leaves_more (why.Broken f) a b c g left = grown_both a b c g left
+
+pub leaves_unbroken : (n : NotRead) (a b : MadeLists) → IsNotBroken n → LeavesFront n a b
+leaves_unbroken why.Memory a b only = tt
+leaves_unbroken why.TooMany a b only = tt
+leaves_unbroken (why.Broken f) a b only = absurd only
+
+pub leaves_memory : (n : NotRead) (a b : MadeLists) → n ≡ why.Memory → LeavesFront n a b
+leaves_memory n a b is = subst (λ (k : NotRead). LeavesFront k a b) (sym is) tt
+
+pub leaves_list : (n : NotRead) (m : MadeLists) (new : List StatementMoves) → new ≡ m.list → LeavesFront n m (with_list m new)
+leaves_list n m new same = subst (λ (xs : List StatementMoves). LeavesFront n m (with_list m xs)) (sym same) (leaves_same n m)

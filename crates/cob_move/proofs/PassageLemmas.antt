@@ -26,7 +26,7 @@ use Rattle.cob_move_apply.specs.Some.{SomeOf}
 use Rattle.cob_move_names.specs.Candidates.{Candidate}
 use Rattle.cob_move.specs.Meaning.{AreMeanings}
 use Rattle.cob_move.specs.MeaningLaws.{MeantBreakNoRule}
-use Rattle.cob_move.specs.Paragraphs.{AreCounters, AreSpelled, BreaksCounters, HasPassage, IsBodyIn, IsNoEntry, IsPassageRefusal, IsRunRefusal, RunIsRefused}
+use Rattle.cob_move.specs.Bodies.{AreCounters, AreSpelled, BreaksCounters, HasPassage, IsBodyIn, IsNoEntry, IsPassageRefusal, IsRunRefusal, RunIsRefused}
 
 -- ---- the words behind the heading
 

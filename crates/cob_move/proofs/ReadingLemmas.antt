@@ -1,10 +1,10 @@
 -- Passages read turn by turn.
-use Rattle.std.proofs.Common.{◌≡◌, ◌⊎◌, inl, inr, ℕ, ◌+◌, ◌<◌, List, [], ◌∷◌, ◌++◌, length, refl, sym, ap, subst, ◌∙◌, arith}
+use Rattle.std.proofs.Common.{◌≡◌, ◌⊎◌, inl, inr, ℕ, ◌+◌, ◌<◌, List, [], ◌∷◌, ◌++◌, length, refl, sym, ap, subst, ◌∙◌, append_assoc, append-nil, arith}
 use Rattle.cob_source.specs.Tokens.{Lexeme}
 use Rattle.cob_limits.specs.Limits.{most_written_out}
 use Rattle.cob_move_data.specs.declared.operands.StatementMoves.{StatementMoves}
-use Rattle.cob_move_data.specs.Moves.{Records}
-use Rattle.cob_move_deeds.specs.Deeds.{Deeds, Moving, Nothing, both_deeds}
+use Rattle.cob_move_data.specs.Moves.{Move, Records, moves}
+use Rattle.cob_move_deeds.specs.Deeds.{Deeds, IsStraight, Moving, Nothing, both_deeds, moves_of_deeds}
 use Rattle.cob_move_deeds.specs.Flows.{FlowSupport}
 use Rattle.cob_move_deeds.specs.Tests.{Past}
 use Rattle.cob_move_loops.specs.Bounded.{AreBounded, BoundedFront}
@@ -22,6 +22,7 @@ use Rattle.cob_move.specs.Entries.{records_of}
 use Rattle.cob_move.specs.Joined.{joined_deeds}
 use Rattle.cob_move.proofs.FlowLemmas.{joined_assoc, parted_joined}
 use Rattle.cob_move.proofs.MadeLemmas.{front_back}
+use Rattle.cob_move.proofs.WholeLemmas.{moves_joined, straight_parts}
 
 -- ---- nothing more
 
@@ -42,11 +43,13 @@ pause_added e m is ns p within = record {
   are = (refl, refl);
   added = λ on f. sym (made_alone (records_of e) m on is f);
   longer = omega arith;
+  whole = sym (append-nil (moves (records_of e) m.list));
+  straight = λ is. refl;
 }
 
 -- ---- what stands in front, and the others
 
-comes_joined : (e : Entries) (ns : List Counted) (f : PassageFront) (body others : Passage) (own d : Deeds Past) (count m : ℕ) → FrontComesTo e ns f body own count → PassageComesTo e ns others d m
+pub comes_joined : (e : Entries) (ns : List Counted) (f : PassageFront) (body others : Passage) (own d : Deeds Past) (count m : ℕ) → FrontComesTo e ns f body own count → PassageComesTo e ns others d m
     → PassageComesTo e ns (joined f body others) (joined_deeds own d) (count + m)
 comes_joined e ns (ARun ws) body others own d count m (ms, meant, e_is) is =
     (ms, d, count, m, meant, is, ap (λ (k : Deeds Past). joined_deeds k d) e_is, refl)
@@ -55,7 +58,7 @@ comes_joined e ns APause body others own d count m (e_is, none) is =
     (subst (λ (k : Deeds Past). PassageComesTo e ns others (joined_deeds k d) m) (sym e_is) is)
 comes_joined e ns (Looped l ws) body others own d count m (f, counted, loop) is = (f, counted, own, d, count, m, loop, is, refl, refl)
 
-refused_joined : (g : MoveFault) (e : Entries) (ns : List Counted) (f : PassageFront) (body others : Passage) → FrontIsRefused g e ns f body → IsRefusedIn g e ns (joined f body others)
+pub refused_joined : (g : MoveFault) (e : Entries) (ns : List Counted) (f : PassageFront) (body others : Passage) → FrontIsRefused g e ns f body → IsRefusedIn g e ns (joined f body others)
 refused_joined g e ns (ARun ws) body others refused = inl refused
 refused_joined g e ns APause body others refused = absurd refused
 refused_joined g e ns (Looped l ws) body others refused = inl refused
@@ -89,6 +92,8 @@ pub record LeftToMake (e : Entries) (ns : List Counted) (p q : Passage) (old now
   pub comes : (d : Deeds Past) (m : ℕ) → PassageComesTo e ns q d m → (k : Deeds Past) × (n : ℕ) × PassageComesTo e ns p k n
       × ((on : FlowSupport) → IsFrontOf now on → joined_deeds (made_deeds (records_of e) on now) d ≡ joined_deeds (made_deeds (records_of e) on old) k)
       × (length now.list + m ≡ length old.list + n)
+      × (moves (records_of e) now.list ++ moves_of_deeds d ≡ moves (records_of e) old.list ++ moves_of_deeds k)
+      × (IsStraight k → IsStraight d × (now.ends ≡ old.ends))
   pub refused : (f : MoveFault) → IsRefusedIn f e ns q → IsRefusedIn f e ns p
   pub first : (m : ℕ) → FirstIn e ns q m → (n : ℕ) × FirstIn e ns p n × (length now.list + m ≡ length old.list + n)
 
@@ -96,13 +101,13 @@ abbrev pub LeftOfDeeds : Entries → List Counted → (words rest : List Lexeme)
 LeftOfDeeds e ns words rest old now = (p : Passage) → IsPassage p words → (q : Passage) × IsPassage q rest × LeftToMake e ns p q old now
 
 pub deeds_first : (e : Entries) (ns : List Counted) (words : List Lexeme) (m : MadeLists) → LeftOfDeeds e ns words words m m
-deeds_first e ns words m p is = (p, is, record { comes = λ d n k. (d, n, k, λ on f. refl, refl); refused = λ f k. k; first = λ n k. (n, k, refl) })
+deeds_first e ns words m p is = (p, is, record { comes = λ d n k. (d, n, k, λ on f. refl, refl, refl, λ is. (is, refl)); refused = λ f k. k; first = λ n k. (n, k, refl) })
 
 more_left : (e : Entries) (ns : List Counted) (p q : Passage) (f : PassageFront) (body others : Passage) (old now after : MadeLists) → q ≡ joined f body others → LeftToMake e ns p q old now → HasGrown now after
     → AddsMade e (λ d many. FrontComesTo e ns f body d many) now after → LeftToMake e ns p others old after
 more_left e ns p q f body others old now after same left grown a = record {
   comes = λ d m is.
-      let (k, n, comes, makes, size) = left.comes (joined_deeds a.deeds d) (a.many + m)
+      let (k, n, comes, makes, size, all, straight) = left.comes (joined_deeds a.deeds d) (a.many + m)
       (subst (λ (t : Passage). PassageComesTo e ns t (joined_deeds a.deeds d) (a.many + m)) (sym same) (comes_joined e ns f body others a.deeds d a.many m a.are is)) in (
         k,
         n,
@@ -110,6 +115,12 @@ more_left e ns p q f body others old now after same left grown a = record {
         λ on front. ap (λ (t : Deeds Past). joined_deeds t d) (a.added on front)
             ∙ joined_assoc (made_deeds (records_of e) on now) a.deeds d ∙ makes on (front_back now after on grown front),
         omega (arith, size, a.longer),
+        ap (λ (t : List Move). t ++ moves_of_deeds d) a.whole ∙ append_assoc (moves (records_of e) now.list) (moves_of_deeds a.deeds) (moves_of_deeds d)
+            ∙ ap (λ (t : List Move). moves (records_of e) now.list ++ t) (sym (moves_joined a.deeds d)) ∙ all,
+        λ is.
+            let (both, same) = straight is in
+            let parts = straight_parts a.deeds d both in
+            (parts.1, a.straight parts.0 ∙ same),
       );
   refused = λ g broken. left.refused g (subst (λ (t : Passage). IsRefusedIn g e ns t) (sym same) (refused_behind g e ns f body others broken));
   first = λ m first.
@@ -129,8 +140,16 @@ pub deeds_end : (e : Entries) (ns : List Counted) (words rest : List Lexeme) (ol
 deeds_end e ns words rest old now made left none p is =
     let (q, are, so) = left p is in
     let nothing : q ≡ NoMore = nothing_left q rest are none in
-    let (k, n, comes, makes, size) = so.comes Nothing 0 (subst (λ (t : Passage). PassageComesTo e ns t Nothing 0) (sym nothing) (refl, refl)) in
-    record { deeds = k; many = n; are = comes; added = λ on f. sym (made_alone (records_of e) now on made f) ∙ makes on f; longer = omega (arith, size) }
+    let (k, n, comes, makes, size, all, straight) = so.comes Nothing 0 (subst (λ (t : Passage). PassageComesTo e ns t Nothing 0) (sym nothing) (refl, refl)) in
+    record {
+      deeds = k;
+      many = n;
+      are = comes;
+      added = λ on f. sym (made_alone (records_of e) now on made f) ∙ makes on f;
+      longer = omega (arith, size);
+      whole = sym (append-nil (moves (records_of e) now.list)) ∙ all;
+      straight = λ is. (straight is).1;
+    }
 
 left_refused : (n : NotRead) (e : Entries) (ns : List Counted) (p q : Passage) (f : PassageFront) (body others : Passage) (old now : MadeLists) → q ≡ joined f body others → LeftToMake e ns p q old now
     → RefusedMade n (λ g. FrontIsRefused g e ns f body) (λ many. FirstInFront e ns f body many) now → RefusedMade n (λ g. IsRefusedIn g e ns p) (λ many. FirstIn e ns p many) old

@@ -9,34 +9,36 @@ use Rattle.cob_limits.specs.Limits.{longest_record, most_written_out}
 use Rattle.cob_source.specs.Tokens.{Lexeme}
 use Rattle.cob_copybook_tree.specs.declared.node.Item.{Item}
 use Rattle.cob_move_data.specs.declared.operands.StatementMoves.{StatementMoves}
-use Rattle.cob_move_data.specs.Moves.{Records, moves, operand_in, record_of}
+use Rattle.cob_move_data.specs.Moves.{Move, Records, moves, operand_in, record_of}
 use Rattle.cob_move_deeds.specs.declared.flow.Bound.{Bound}
 use Rattle.cob_move_deeds.specs.declared.flow.Flow.{Flow}
-use Rattle.cob_move_deeds.specs.Deeds.{Choice, Deeds, Moving, Nothing, both_deeds}
+use Rattle.cob_move_deeds.specs.Deeds.{Choice, Deeds, Moving, Nothing, both_deeds, moves_of_deeds}
 use Rattle.cob_move_deeds.specs.Flows.{AreFlows, FlowSupport}
 use Rattle.cob_move_deeds.specs.Tests.{IsBound, IsBoundItem, Past, past_bound, with_number}
 use Rattle.cob_move_deeds.specs.Turns.{turns_from}
 use Rattle.cob_move_loops.specs.Passages.{IsPassage, Passage, ToItem, WrittenBound, WrittenLoop}
-use Rattle.cob_move_loops.specs.Turns.{Counted, in_turn, turns_between}
+use Rattle.cob_move_loops.specs.Turns.{Counted, in_turn, turns as loop_turns, turns_between}
 use Rattle.cob_move_names.specs.Candidates.{Candidate}
 use Rattle.cob_move_statements.specs.declared.fault.MoveFault.{MoveFault}
 use Rattle.cob_move_statements.specs.declared.fault.MoveRule.{MoveRule}
 use Rattle.cob_move_statements.specs.declared.fault.MoveRule.TheVariants as rule
 use Rattle.cob_move.specs.declared.made.NotRead.{NotRead}
 use Rattle.cob_move.specs.declared.made.NotRead.TheVariants as why
+use Rattle.cob_move.specs.declared.made.Sizes.{Sizes}
 use Rattle.cob_move.specs.declared.entries.Entries.{Entries}
 use Rattle.cob_move.specs.declared.entries.NamedEntry.{NamedEntry}
 use Rattle.cob_move.specs.Among.{nameable}
 use Rattle.cob_move.specs.Deeds.{AreDeeds, ComeFirstInLoop, IsLoopOf, IsLoopRefused, IsTurnRefused, count_of_turns}
-use Rattle.cob_move.specs.DeedsRead.{AddsDeeds, AddsLoop, AddsMade, AreKept, AreParted, AreTurns, BoundNotRead, BreaksInTurn, FirstIn, HasBounds, HasGrown, HasNoTurn, IsBoundRead, IsFrontOf, IsMade, IsNotBroken, IsRefusedIn, LoopComesTo, LoopRefused, MadeLists, PassageComesTo, ReadsTurns, TurnRefused, all_deeds, closed, closed_where, in_its_turn, last_marked, linked_turns, made_deeds, open_deeds, open_statements, without_flows}
+use Rattle.cob_move.specs.DeedsRead.{AddsDeeds, AddsLoop, AddsMade, AreKept, AreParted, AreTurns, BoundNotRead, BreaksInTurn, FirstIn, HasBounds, HasGrown, HasNoTurn, IsBoundRead, IsFrontOf, IsMade, IsNotBroken, IsRefusedIn, IsSizeOf, LeavesFront, LoopComesTo, LoopRefused, MadeLists, PassageComesTo, ReadsTurns, TurnRefused, all_deeds, closed, closed_where, flow_lists, in_its_turn, last_marked, linked_turns, made_deeds, open_deeds, open_statements, taken_back, without_flows}
 use Rattle.cob_move.specs.Entries.{AllMayBeNamed, records_of}
 use Rattle.cob_move.specs.DeedsLaws.{DeedsBreakNoRule}
 use Rattle.cob_move.specs.Joined.{before_deeds, joined_deeds}
-use Rattle.cob_move.proofs.CloseLemmas.{closed_deeds, closed_flows, closed_grown, closed_open}
+use Rattle.cob_move.proofs.CloseLemmas.{closed_deeds, closed_flows, closed_grown, closed_made, closed_open, equal_is, equal_not}
 use Rattle.cob_move.proofs.DeedsLemmas.{counted_same, either_side, mul_within, up_to_some}
 use Rattle.cob_move.proofs.FlowLemmas.{before_parted, before_turns, both_assoc, both_flows, both_nothing, both_parted, flows_both, linked_deeds, linked_flows, parted_joined, turns_parted}
-use Rattle.cob_move.proofs.MadeLemmas.{front_back}
+use Rattle.cob_move.proofs.MadeLemmas.{back_again, front_back, grown_both, grown_none}
 use Rattle.cob_move.proofs.TurnsLemmas.{changed, changed_elsewhere, changed_there}
+use Rattle.cob_move.proofs.WholeLemmas.{moves_of_tested, tested_not_straight, turns_as, turns_one_more}
 
 -- ---- which numbers are kept
 
@@ -135,6 +137,7 @@ no_reads e ns l p m = record {
   are = λ i low less. absurd (omega (arith, low, less));
   flows = λ on f. tt;
   longer = omega arith;
+  whole = sym (append-nil (moves (records_of e) m.list));
 }
 
 pub reads_first : (e : Entries) (ns : List Counted) (l : WrittenLoop) (p : Passage) (behind : ℕ) (turns : List (List Flow)) (m : MadeLists) → behind ≡ l.from → turns ≡ [] → ReadsTurns e ns l p behind turns m m
@@ -156,6 +159,13 @@ read_each e ns l p behind f count d c is are i low less = elim (either_side i be
       (subst (λ (j : ℕ). PassageComesTo e (in_its_turn ns l j) p d c) (sym same) is))
 ]
 
+-- the moves of turns before a number, where another turn is read
+moves_changed : (f : ℕ → Deeds Past) (behind : ℕ) (d : Deeds Past) (by n i : ℕ) → ((k : ℕ) → k < n → (i + k * by ≡ behind) → ⊥)
+    → loop_turns (λ j. moves_of_deeds (f j)) by n i ≡ loop_turns (λ j. moves_of_deeds (changed f behind d j)) by n i
+moves_changed f behind d by n i other =
+    turns_as (λ j. moves_of_deeds (f j)) (λ j. moves_of_deeds (changed f behind d j)) by n i
+    (λ k less. ap (λ (t : Deeds Past). moves_of_deeds t) (sym (changed_elsewhere f behind d (i + k * by) (other k less))))
+
 -- the turn of a number that the counter doesn't take is not kept
 pub reads_passed : (e : Entries) (ns : List Counted) (l : WrittenLoop) (p : Passage) (behind next : ℕ) (turns : List (List Flow)) (old now after : MadeLists) → AreKept l.from l.by (length turns) behind next
     → ReadsTurns e ns l p behind turns old now → AddsMade e (λ d many. PassageComesTo e (in_its_turn ns l behind) p d many) now after → ReadsTurns e ns l p (behind + 1) turns old now
@@ -168,6 +178,8 @@ reads_passed e ns l p behind next turns old now after kept so a =
       flows = λ on f. turns_same (records_of e) on so.comes (changed so.comes behind a.deeds) l.by l.from turns (λ k less. sym (changed_elsewhere so.comes behind a.deeds (l.from + k * l.by) (other k less))) (so.flows on f);
       longer = so.longer ∙ ap (λ (n : ℕ). length old.list + n)
           (counted_same so.count (changed so.count behind a.many) l.by (length turns) l.from (λ k less. sym (changed_elsewhere so.count behind a.many (l.from + k * l.by) (other k less))));
+      whole = so.whole ∙ ap (λ (t : List Move). moves (records_of e) old.list ++ t)
+          (moves_changed so.comes behind a.deeds l.by (length turns) l.from (λ k less. other k less));
     }
 
 -- nothing is made but what has a mark behind it
@@ -225,6 +237,17 @@ reads_kept e ns l p behind next turns old now mid kept here none marked grown ma
           let more : count_of_turns count l.by (length (turns ++ (closed mid).flows ∷ [])) l.from ≡ count_of_turns count l.by (suc (length turns)) l.from =
           ap (λ (n : ℕ). count_of_turns count l.by n l.from) (long_more turns (closed mid).flows) in
           omega (arith, ap length (closed_list mid), a.longer, so.longer, counts, count_more count l.by (length turns) l.from, many, more);
+      whole =
+          let g = λ (i : ℕ). moves_of_deeds (f i) in
+          let last : moves_of_deeds a.deeds ≡ g (l.from + length turns * l.by) =
+          ap (λ (d : Deeds Past). moves_of_deeds d) (sym (changed_there so.comes behind a.deeds (l.from + length turns * l.by) at)) in
+          let size : length (turns ++ (closed mid).flows ∷ []) ≡ suc (length turns) = long_more turns (closed mid).flows in
+          ap (λ (ss : List StatementMoves). moves r ss) (closed_list mid) ∙ a.whole ∙ ap (λ (t : List Move). t ++ moves_of_deeds a.deeds) so.whole
+          ∙ append_assoc (moves r old.list) (loop_turns (λ i. moves_of_deeds (so.comes i)) l.by (length turns) l.from) (moves_of_deeds a.deeds)
+          ∙ ap (λ (t : List Move). moves r old.list ++ (t ++ moves_of_deeds a.deeds)) (moves_changed so.comes behind a.deeds l.by (length turns) l.from (λ k less. other k less))
+          ∙ ap (λ (t : List Move). moves r old.list ++ (loop_turns g l.by (length turns) l.from ++ t)) last
+          ∙ ap (λ (t : List Move). moves r old.list ++ t) (sym (turns_one_more g l.by (length turns) l.from))
+          ∙ ap (λ (n : ℕ). moves r old.list ++ loop_turns g l.by n l.from) (sym size);
     }
 
 -- ---- why a loop to an item isn't read
@@ -448,6 +471,9 @@ loop_added e ns l p n ws behind next turns b old now bound named kept first last
           ap (λ (ss : List StatementMoves). both_deeds (all_deeds r on new.flows) (open_deeds r ss)) so.marked ∙ both_nothing (all_deeds r on new.flows) ∙ k.come
           ∙ sym (turns_joined r old on (with_number t) so.reads.comes l.by (length turns) l.from k.parted);
       longer = omega (arith, so.reads.longer, ap length (closed_list old));
+      whole = so.reads.whole ∙ ap (λ (ss : List StatementMoves). moves r ss ++ loop_turns (λ i. moves_of_deeds (so.reads.comes i)) l.by (length turns) l.from) (closed_list old)
+          ∙ ap (λ (t : List Move). moves r old.list ++ t) (sym (moves_of_tested (with_number t) so.reads.comes l.by (length turns) l.from));
+      straight = λ is. absurd (tested_not_straight (with_number t) so.reads.comes l.by (length turns) l.from is);
     }
 
 -- a turn that breaks a rule comes to nothing
@@ -496,3 +522,89 @@ tested_made e ns l body n behind turns b old now new (p, is, bounded) so same =
 
 pub tested_grown : (old now new : MadeLists) (b : Bound) (linked : List Flow) → HasGrown (without_flows (closed old)) now → new ≡ with_loop old now b linked → HasGrown old new
 tested_grown old now new b linked g same = subst (λ (m : MadeLists). HasGrown old m) (sym same) (all_grown old now b linked g)
+
+-- where a turn of it breaks a rule, what was made before it stands in front
+pub loop_left : (n : NotRead) (old now : MadeLists) → LeavesFront n (without_flows (closed old)) now → LeavesFront n old (record { list = now.list; ends = now.ends; bounds = now.bounds; flows = (closed old).flows })
+loop_left why.Memory old now left = tt
+loop_left why.TooMany old now left = tt
+loop_left (why.Broken f) old now g =
+    let h = closed_grown old in record {
+      list = (h.list.0 ++ g.list.0, g.list.1 ∙ ap (λ (t : List StatementMoves). t ++ g.list.0) h.list.1 ∙ append_assoc old.list h.list.0 g.list.0);
+      ends = (h.ends.0 ++ g.ends.0, g.ends.1 ∙ ap (λ (t : List ℕ). t ++ g.ends.0) h.ends.1 ∙ append_assoc old.ends h.ends.0 g.ends.0);
+      bounds = (h.bounds.0 ++ g.bounds.0, g.bounds.1 ∙ ap (λ (t : List Bound). t ++ g.bounds.0) h.bounds.1 ∙ append_assoc old.bounds h.bounds.0 g.bounds.0);
+      flows = h.flows;
+    }
+
+-- ---- turns that are tried one behind another
+
+-- what is known of the turns below a number, whatever passage the statements of the loop are
+pub record HasTried (e : Entries) (ns : List Counted) (l : WrittenLoop) (body : List Lexeme) (behind next : ℕ) (turns : List (List Flow)) (old now : MadeLists) : Type 0 where
+  pub kept : AreKept l.from l.by (length turns) behind next
+  pub reads : (p : Passage) → IsPassage p body → ReadsTurns e ns l p behind turns old now
+  pub none : now.flows ≡ []
+  pub marked : open_statements now ≡ []
+  pub made : IsMade (records_of e) now
+  pub grown : HasGrown old now
+
+pub tried_first : (e : Entries) (ns : List Counted) (l : WrittenLoop) (body : List Lexeme) (behind next : ℕ) (turns : List (List Flow)) (m : MadeLists) → behind ≡ l.from → next ≡ l.from → turns ≡ [] → m.flows ≡ []
+    → open_statements m ≡ [] → IsMade (records_of e) m → HasTried e ns l body behind next turns m m
+tried_first e ns l body behind next turns m first same none flows marked made = record {
+  kept = kept_first l.from l.by (length turns) behind next (ap length none) first same;
+  reads = λ p is. reads_first e ns l p behind turns m first none;
+  none = flows;
+  marked = marked;
+  made = made;
+  grown = grown_none m;
+}
+
+tried_kept : (e : Entries) (ns : List Counted) (l : WrittenLoop) (body : List Lexeme) (behind next : ℕ) (turns : List (List Flow)) (old now mid : MadeLists) → 0 < l.by → HasTried e ns l body behind next turns old now
+    → IsMade (records_of e) mid → HasGrown now mid → AddsDeeds e (in_its_turn ns l behind) body now mid → behind ≡ next
+    → HasTried e ns l body (behind + 1) (next + l.by) (turns ++ (closed mid).flows ∷ []) old (without_flows (closed mid))
+tried_kept e ns l body behind next turns old now mid some t made grown adds here = record {
+  kept = subst (λ (n : ℕ). AreKept l.from l.by n (behind + 1) (next + l.by)) (omega (arith, length-append turns ((closed mid).flows ∷ []))) (kept_more l.from l.by (length turns) behind next some t.kept here);
+  reads = λ p is. reads_kept e ns l p behind next turns old now mid t.kept here t.none t.marked grown made (t.reads p is) (adds p is);
+  none = refl;
+  marked = closed_open mid;
+  made = closed_made (records_of e) mid made;
+  grown = grown_both old now (without_flows (closed mid)) t.grown (closed_after now mid t.none grown);
+}
+
+tried_passed : (e : Entries) (ns : List Counted) (l : WrittenLoop) (body : List Lexeme) (behind next : ℕ) (turns : List (List Flow)) (old now mid : MadeLists) → HasTried e ns l body behind next turns old now
+    → AddsDeeds e (in_its_turn ns l behind) body now mid → (behind ≡ next → ⊥) → HasTried e ns l body (behind + 1) next turns old now
+tried_passed e ns l body behind next turns old now mid t adds other = record {
+  kept = kept_same l.from l.by (length turns) behind next t.kept other;
+  reads = λ p is. reads_passed e ns l p behind next turns old now mid t.kept (t.reads p is) (adds p is);
+  none = t.none;
+  marked = t.marked;
+  made = t.made;
+  grown = t.grown;
+}
+
+tried_as : (e : Entries) (ns : List Counted) (l : WrittenLoop) (body : List Lexeme) (behind next then_next : ℕ) (turns then_turns : List (List Flow)) (old now after : MadeLists) → then_next ≡ next → after ≡ now → then_turns ≡ turns
+    → HasTried e ns l body behind next turns old now → HasTried e ns l body behind then_next then_turns old after
+tried_as e ns l body behind next then_next turns then_turns old now after p q r t =
+    subst (λ (n : ℕ). HasTried e ns l body behind n then_turns old after) (sym p)
+    (subst (λ (m : MadeLists). HasTried e ns l body behind next then_turns old m) (sym q) (subst (λ (ts : List (List Flow)). HasTried e ns l body behind next ts old now) (sym r) t))
+
+-- what keep_turn leaves
+pub record IsTurnKept (l : WrittenLoop) (behind next then_next : ℕ) (turns then_turns : List (List Flow)) (size : Sizes) (mid after : MadeLists) : Type 0 where
+  pub kept : behind ≡ next → (then_next ≡ next + l.by) × (after ≡ without_flows (closed mid)) × (then_turns ≡ turns ++ (closed mid).flows ∷ [])
+  pub passed : (behind ≡ next → ⊥) → (then_next ≡ next) × (after ≡ taken_back size mid) × (then_turns ≡ turns)
+
+tried_where : (b : Bool) (e : Entries) (ns : List Counted) (l : WrittenLoop) (body : List Lexeme) (behind next then_next : ℕ) (turns then_turns : List (List Flow)) (size : Sizes) (old now mid after : MadeLists) → b ≡ nat_eq behind next → 0 < l.by
+    → HasTried e ns l body behind next turns old now → IsSizeOf now size → IsMade (records_of e) mid → HasGrown now mid → AddsDeeds e (in_its_turn ns l behind) body now mid
+    → IsTurnKept l behind next then_next turns then_turns size mid after → HasTried e ns l body (behind + 1) then_next then_turns old after
+tried_where true e ns l body behind next then_next turns then_turns size old now mid after same some t sized made grown adds k =
+    let here : behind ≡ next = equal_is behind next (sym same) in
+    let is = k.kept here in
+    tried_as e ns l body (behind + 1) (next + l.by) then_next (turns ++ (closed mid).flows ∷ []) then_turns old (without_flows (closed mid)) after is.0 is.1 is.2 (tried_kept e ns l body behind next turns old now mid some t made grown adds here)
+tried_where false e ns l body behind next then_next turns then_turns size old now mid after same some t sized made grown adds k =
+    let other : (behind ≡ next) → ⊥ = equal_not behind next (sym same) in
+    let is = k.passed other in
+    tried_as e ns l body (behind + 1) next then_next turns then_turns old now after is.0 (is.1 ∙ back_again size now mid sized grown) is.2 (tried_passed e ns l body behind next turns old now mid t adds other)
+
+pub tried_more : (e : Entries) (ns : List Counted) (l : WrittenLoop) (body : List Lexeme) (behind next then_next : ℕ) (turns then_turns : List (List Flow)) (size : Sizes) (old now mid after : MadeLists) → 0 < l.by
+    → HasTried e ns l body behind next turns old now → IsSizeOf now size → IsMade (records_of e) mid → HasGrown now mid → AddsDeeds e (in_its_turn ns l behind) body now mid
+    → IsTurnKept l behind next then_next turns then_turns size mid after → HasTried e ns l body (behind + 1) then_next then_turns old after
+tried_more e ns l body behind next then_next turns then_turns size old now mid after some t sized made grown adds k =
+    tried_where (nat_eq behind next) e ns l body behind next then_next turns then_turns size old now mid after refl some t sized made grown adds k

@@ -1,5 +1,5 @@
 -- The turns of a loop, read one behind another.
-use Rattle.std.proofs.Common.{◌≡◌, ◌⊎◌, inl, inr, ℕ, zero, suc, ◌+◌, ◌-◌, ◌*◌, ◌/◌, ◌<◌, ◌≤◌, Bool, true, false, nat_eq, nat_lt, List, [], ◌∷◌, ◌++◌, length, refl, sym, ap, subst, ◌∙◌, arith}
+use Rattle.std.proofs.Common.{◌≡◌, ◌⊎◌, inl, inr, ℕ, zero, suc, ◌+◌, ◌-◌, ◌*◌, ◌/◌, ◌<◌, ◌≤◌, Bool, true, false, nat_eq, nat_lt, List, [], ◌∷◌, ◌++◌, length, refl, sym, ap, subst, ◌∙◌, append_assoc, append-nil, arith}
 use Rattle.std.specs.Prelude.{◌||◌, ◌&&◌, if◌then◌else◌}
 use Rattle.std.proofs.lemmas.Nat.{div-mul-add}
 use Rattle.std.proofs.lemmas.List.{length-append}
@@ -7,9 +7,9 @@ use Rattle.std.proofs.Math.Nat.{suc-mul}
 use Rattle.cob_limits.specs.Limits.{longest_record, most_written_out}
 use Rattle.cob_copybook_clauses.specs.Terms.{word_class}
 use Rattle.cob_source.specs.Tokens.{Lexeme}
-use Rattle.cob_move_data.specs.Moves.{Records}
+use Rattle.cob_move_data.specs.Moves.{Move, Records, moves}
 use Rattle.cob_move_deeds.specs.declared.flow.Flow.{Flow}
-use Rattle.cob_move_deeds.specs.Deeds.{Deeds, Nothing}
+use Rattle.cob_move_deeds.specs.Deeds.{Deeds, Nothing, moves_of_deeds}
 use Rattle.cob_move_deeds.specs.Flows.{AreFlows, FlowSupport}
 use Rattle.cob_move_deeds.specs.Tests.{Past}
 use Rattle.cob_move_loops.specs.Bounded.{AreBounded, IsBounded, has_subscript, is_subscripted, words_of_bound}
@@ -30,6 +30,7 @@ use Rattle.cob_move.proofs.DeedsLemmas.{counted_same, turned_same}
 use Rattle.cob_move.proofs.FlowLemmas.{joined_assoc}
 use Rattle.cob_move.proofs.MadeLemmas.{front_back}
 use Rattle.cob_move.proofs.ReadingLemmas.{made_alone}
+use Rattle.cob_move.proofs.WholeLemmas.{moves_joined, straight_parts}
 
 -- ---- functions of numbers
 
@@ -127,6 +128,8 @@ turns_begin e ns l body m made p is = record {
   are = (refl, refl);
   added = λ on f. sym (made_alone (records_of e) m on made f);
   longer = omega arith;
+  whole = sym (append-nil (moves (records_of e) m.list));
+  straight = λ is. refl;
 }
 
 after_one : (n : ℕ) → suc n ≡ n + 1
@@ -147,6 +150,13 @@ turns_next e ns l body done number old now after at grown made so adds p is =
           ∙ ap (λ (t : Deeds Past). joined_deeds t (joined_deeds b.deeds Nothing)) (a.added on (front_back now after on grown f))
           ∙ joined_assoc (made_deeds r on old) a.deeds (joined_deeds b.deeds Nothing);
       longer = omega (arith, a.longer, b.longer);
+      whole =
+          b.whole ∙ ap (λ (t : List Move). t ++ moves_of_deeds b.deeds) a.whole ∙ append_assoc (moves r old.list) (moves_of_deeds a.deeds) (moves_of_deeds b.deeds)
+          ∙ ap (λ (t : List Move). moves r old.list ++ (moves_of_deeds a.deeds ++ t)) (sym (append-nil (moves_of_deeds b.deeds)) ∙ sym (moves_joined b.deeds Nothing))
+          ∙ ap (λ (t : List Move). moves r old.list ++ t) (sym (moves_joined a.deeds (joined_deeds b.deeds Nothing)));
+      straight = λ is.
+          let parts = straight_parts a.deeds (joined_deeds b.deeds Nothing) is in
+          b.straight (straight_parts b.deeds Nothing parts.1).0 ∙ a.straight parts.0;
     }
 
 loop_to_number : (e : Entries) (ns : List Counted) (l : WrittenLoop) (p : Passage) (n : ℕ) (d : Deeds Past) (m : ℕ) → 0 < l.by → l.bound ≡ ToNumber n
@@ -253,7 +263,7 @@ nothing_comes e ns (ALoop l body more) ws (head, own, stops, rest, end, h, b, in
 
 -- what is made, meant otherwise
 made_as : (e : Entries) (meant other : Deeds Past → ℕ → Type 0) (old new : MadeLists) (a : AddsMade e meant old new) → other a.deeds a.many → AddsMade e other old new
-made_as e meant other old new a is = record { deeds = a.deeds; many = a.many; are = is; added = a.added; longer = a.longer }
+made_as e meant other old new a is = record { deeds = a.deeds; many = a.many; are = is; added = a.added; longer = a.longer; whole = a.whole; straight = a.straight }
 
 pub turns_end : (e : Entries) (ns : List Counted) (l : WrittenLoop) (body : List Lexeme) (turns n : ℕ) (old now : MadeLists) → 0 < l.by → OnePassage → HasBounds body → l.bound ≡ ToNumber n
     → (turns ≡ turns_of l) ⊎ ((turns ≡ 0) × ((p : Passage) → IsPassage p body → statements_of p ≡ 0)) → AddsTurns e ns l body turns old now → AddsLoop e ns l body old now

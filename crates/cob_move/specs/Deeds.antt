@@ -9,9 +9,7 @@ use Rattle.cob_move_data.specs.Moves.{Move}
 use Rattle.cob_move_deeds.specs.Deeds.{Deeds, Nothing}
 use Rattle.cob_move_deeds.specs.Tests.{IsBoundItem, Past, with_number}
 use Rattle.cob_move_deeds.specs.Turns.{turns_from}
-use Rattle.cob_move_loops.specs.Bounded.{LacksBound}
-use Rattle.cob_move_loops.specs.Few.{loop_line}
-use Rattle.cob_move_loops.specs.Passages.{ALoop, IsPassage, Moves, NoMore, Passage, Pause, ToItem, ToNumber, WrittenBound, WrittenLoop}
+use Rattle.cob_move_loops.specs.Passages.{ALoop, Moves, NoMore, Passage, Pause, ToItem, ToNumber, WrittenBound, WrittenLoop}
 use Rattle.cob_move_loops.specs.Turns.{Counted, counter_at, in_turn, turns_between}
 use Rattle.cob_move_names.specs.Candidates.{Candidate}
 use Rattle.cob_move_names.specs.References.{BreaksReference, NamesOperand}
@@ -24,7 +22,7 @@ use Rattle.cob_move_statements.specs.Statements.{IsEndedStatement, IsReference, 
 use Rattle.cob_move_statements.specs.Written.{WrittenReference, WrittenStatement}
 use Rattle.cob_move.specs.Joined.{before_deeds, joined_deeds}
 use Rattle.cob_move.specs.Meaning.{AreMeant}
-use Rattle.cob_move.specs.Paragraphs.{IsPassageRefusal, RunIsRefused}
+use Rattle.cob_move.specs.Bodies.{RunIsRefused}
 
 -- what so many turns of a loop come to, one turn's behind another's
 abbrev pub deeds_of_turns : {T : Type 0} → (ℕ → Deeds T) → (by n i : ℕ) → Deeds T
@@ -135,13 +133,3 @@ IsTurnRefused f all input output ns (ALoop l body more) =
     IsLoopRefused f all ns l l.bound (λ i. IsTurnRefused f all input output (ns ++ counter_at l i ∷ []) body)
     (λ i. (d : Deeds Past) × (c : ℕ) × AreDeeds all input output (ns ++ counter_at l i ∷ []) body d c)
     ⊎ IsTurnRefused f all input output ns more
-
--- Words behind a heading are refused: they break a rule of passages; or they are a passage, of which a loop to an item isn't bounded (M11), on its line, or
--- too many statements come first (M12), on the line of its first loop, or which is refused itself.
-abbrev pub IsDeedsRefusal : MoveFault → List Candidate → Forest Resolved → Forest Resolved → List Lexeme → Type 0
-IsDeedsRefusal f all input output body =
-    IsPassageRefusal f.rule f.line all body
-    ⊎ ((p : Passage) × IsPassage p body
-    × (((f.rule ≡ rule.Counter) × LacksBound p f.line)
-    ⊎ (((f.rule ≡ rule.TooMany) × (f.line ≡ loop_line body) × ((many : ℕ) × ComeFirst all input output [] p many × (most_written_out < many)))
-    ⊎ IsTurnRefused f all input output [] p)))

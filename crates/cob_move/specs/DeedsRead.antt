@@ -12,14 +12,17 @@ use Rattle.cob_move_data.specs.Moves.{AreMoves, Move, Records, moves, operand_in
 use Rattle.cob_move_deeds.specs.declared.flow.Bound.{Bound}
 use Rattle.cob_move_deeds.specs.declared.flow.Flow.{Flow}
 use Rattle.cob_move_deeds.specs.declared.flow.Flow.TheVariants as flow
-use Rattle.cob_move_deeds.specs.Deeds.{Choice, Deeds, Moving, Nothing, both_deeds}
+use Rattle.cob_move_deeds.specs.Deeds.{Choice, Deeds, IsStraight, Moving, Nothing, both_deeds, moves_of_deeds}
 use Rattle.cob_move_deeds.specs.Flows.{AreFlows, FlowSupport, deeds_from}
+use Rattle.cob_move_deeds.specs.Prepared.{AreDeedsPrepared, deeds_of}
+use Rattle.cob_move_deeds.specs.declared.ready.ReadyDeeds.{ReadyDeeds}
+use Rattle.cob_move_apply.specs.Prepared.{moves_of}
 use Rattle.cob_move_deeds.specs.Tests.{IsBound, IsBoundItem, Past}
 use Rattle.cob_move_loops.specs.Bounded.{AreBounded, BoundedFront}
 use Rattle.cob_move_loops.specs.Few.{loop_line}
 use Rattle.cob_move_loops.specs.Passages.{APause, ARun, IsPassage, IsRun, Looped, Passage, PassageFront, WrittenLoop}
 use Rattle.cob_move_loops.specs.Reading.{Within}
-use Rattle.cob_move_loops.specs.Turns.{Counted, counter_at, in_turn}
+use Rattle.cob_move_loops.specs.Turns.{Counted, counter_at, in_turn, turns as loop_turns}
 use Rattle.cob_move_statements.specs.declared.fault.MoveFault.{MoveFault}
 use Rattle.cob_move_statements.specs.declared.fault.MoveRule.{MoveRule}
 use Rattle.cob_move_statements.specs.declared.fault.MoveRule.TheVariants as rule
@@ -32,11 +35,12 @@ use Rattle.cob_move.specs.declared.made.Sizes.{Sizes}
 use Rattle.cob_move.specs.declared.entries.Entries.{Entries}
 use Rattle.cob_move.specs.declared.entries.NamedEntry.{NamedEntry}
 use Rattle.cob_move.specs.Among.{NamesAmong, nameable}
-use Rattle.cob_move.specs.Deeds.{AreDeeds, ComeFirst, ComeFirstInLoop, IsBoundRefusal, IsLoopOf, IsLoopRefused, IsDeedsRefusal, IsRunMeant, IsTurnRefused, count_of_turns}
+use Rattle.cob_move.specs.Deeds.{AreDeeds, ComeFirst, ComeFirstInLoop, IsBoundRefusal, IsLoopOf, IsLoopRefused, IsRunMeant, IsTurnRefused, count_of_turns}
 use Rattle.cob_move.specs.Entries.{records_of}
 use Rattle.cob_move.specs.Joined.{joined_deeds}
 use Rattle.cob_move.specs.Loops.{HasJudged}
-use Rattle.cob_move.specs.Paragraphs.{RunIsRefused}
+use Rattle.cob_move.specs.Bodies.{RunIsRefused}
+use Rattle.cob_move.specs.Paragraphs.{ComesToFew, IsBodyRefusal, IsLiteral}
 use Rattle.cob_move.specs.Pieces.{IsRefusedMemory}
 
 -- ---- what is made so far
@@ -152,13 +156,20 @@ FrontHasBounds f = (p : Passage) × Within f p × BoundedFront f p
 
 -- ---- what readers add
 
--- Deeds that are meant so, with so many statements, stand behind what was made before, with as many statements.
+-- behind so many statements those that come first are few
+abbrev pub FewWith : (ℕ → Type 0) → ℕ → Type 0
+FewWith first before = (many : ℕ) → first many → before + many ≤ most_written_out
+
+-- Deeds that are meant so, with so many statements, stand behind what was made before, with as many statements. The statements' moves are those that may be
+-- carried out, in their order, and a mark came where there is a test.
 pub record AddsMade (e : Entries) (meant : Deeds Past → ℕ → Type 0) (old new : MadeLists) : Type 0 where
   pub deeds : Deeds Past
   pub many : ℕ
   pub are : meant deeds many
   pub added : (on : FlowSupport) → IsFrontOf new on → made_deeds (records_of e) on new ≡ joined_deeds (made_deeds (records_of e) on old) deeds
   pub longer : length new.list ≡ length old.list + many
+  pub whole : moves (records_of e) new.list ≡ moves (records_of e) old.list ++ moves_of_deeds deeds
+  pub straight : IsStraight deeds → new.ends ≡ old.ends
 
 -- Why it is not read: memory was refused; or more statements come first than may be, with those so far (M12); or it breaks a rule so.
 abbrev pub RefusedMade : NotRead → (MoveFault → Type 0) → (ℕ → Type 0) → MadeLists → Type 0
@@ -171,6 +182,12 @@ abbrev pub IsNotBroken : NotRead → Type 0
 IsNotBroken why.Memory = Unit {0}
 IsNotBroken why.TooMany = Unit {0}
 IsNotBroken (why.Broken f) = ⊥
+
+-- where a rule is broken, what was there stands in front of what was made, so that this can be taken back
+abbrev pub LeavesFront : NotRead → (old new : MadeLists) → Type 0
+LeavesFront why.Memory old new = Unit {0}
+LeavesFront why.TooMany old new = Unit {0}
+LeavesFront (why.Broken f) old new = HasGrown old new
 
 -- the fault of words behind a heading that are not read: where they come to too much, on the line of the first loop
 abbrev pub TellsFault : NotRead → MoveFault → List Lexeme → Type 0
@@ -233,6 +250,18 @@ FirstInRun e ns own many = (ms : List Move) × IsRunMeant e.input.now e.output.n
 abbrev pub FirstInLoop : Entries → List Counted → WrittenLoop → Passage → ℕ → Type 0
 FirstInLoop e ns l p many =
     ComeFirstInLoop l l.bound (λ i c. (d : Deeds Past) × PassageComesTo e (ns ++ counter_at l i ∷ []) p d c) (λ i c. FirstIn e (ns ++ counter_at l i ∷ []) p c) many
+
+-- in so many turns of a loop to a number
+abbrev pub FirstInTurns : Entries → List Counted → WrittenLoop → Passage → ℕ → ℕ → Type 0
+FirstInTurns e ns l p done many = (k own : ℕ) × (count : ℕ → ℕ)
+    × (k < done) × ((j : ℕ) → j < k → (d : Deeds Past) × PassageComesTo e (ns ++ counter_at l (l.from + j * l.by) ∷ []) p d (count (l.from + j * l.by)))
+    × FirstIn e (ns ++ counter_at l (l.from + k * l.by) ∷ []) p own × (many ≡ count_of_turns count l.by k l.from + own)
+
+-- in the turns of a loop to an item whose numbers stand below one
+abbrev pub FirstBelow : Entries → List Counted → WrittenLoop → Passage → ℕ → ℕ → Type 0
+FirstBelow e ns l p behind many = (i own kept : ℕ) × (count : ℕ → ℕ)
+    × (l.from ≤ i) × (i < behind) × ((j : ℕ) → l.from ≤ j → j < i → (d : Deeds Past) × PassageComesTo e (ns ++ counter_at l j ∷ []) p d (count j))
+    × (i ≤ l.from + kept * l.by) × ((k : ℕ) → k < kept → l.from + k * l.by < i) × FirstIn e (ns ++ counter_at l i ∷ []) p own × (many ≡ count_of_turns count l.by kept l.from + own)
 
 -- in what stands in front
 abbrev pub FirstInFront : Entries → List Counted → PassageFront → Passage → ℕ → Type 0
@@ -310,6 +339,7 @@ pub record ReadsTurns (e : Entries) (ns : List Counted) (l : WrittenLoop) (p : P
   pub are : (i : ℕ) → l.from ≤ i → i < behind → PassageComesTo e (in_its_turn ns l i) p (comes i) (count i)
   pub flows : (on : FlowSupport) → IsFrontOf new on → AreTurns (records_of e) on comes l.by l.from turns
   pub longer : length new.list ≡ length old.list + count_of_turns count l.by (length turns) l.from
+  pub whole : moves (records_of e) new.list ≡ moves (records_of e) old.list ++ loop_turns (λ i. moves_of_deeds (comes i)) l.by (length turns) l.from
 
 -- So many turns are kept of those whose numbers stand below one: the counter takes the next number then.
 pub record AreKept (from by kept behind next : ℕ) : Type 0 where
@@ -361,13 +391,29 @@ flow_lists vs = map (λ v. v.items) vs
 -- ---- words behind a heading
 
 -- They are a passage that is not empty, with few loops in one another, which come to few statements, with counters of their own, and whose loops to items are
--- bounded; and this is what it comes to.
+-- bounded; and this is what it comes to, and it comes to few statements.
 pub record SaysDeeds (e : Entries) (body : List Lexeme) (d : Deeds Past) : Type 0 where
   pub judged : HasJudged (nameable e) body
   pub bounded : AreBounded judged.passage
   pub many : ℕ
   pub comes : PassageComesTo e [] judged.passage d many
+  pub few : ComesToFew (nameable e) e.input.now e.output.now judged.passage
 
 -- They are refused.
 abbrev pub DeedsRefused : MoveFault → Entries → List Lexeme → Type 0
-DeedsRefused f e body = IsDeedsRefusal f (nameable e) e.input.now e.output.now body
+DeedsRefused f e body = IsBodyRefusal f (nameable e) e.input.now e.output.now body
+
+-- some passage that words are has a loop to an item
+abbrev pub HasItemLoop : List Lexeme → Type 0
+HasItemLoop body = (p : Passage) → IsPassage p body → IsLiteral p → ⊥
+
+-- what is to be done is what is made so far, whatever it rests on
+abbrev pub IsWhatIsMade : Records → MadeLists → Deeds Past → Type 0
+IsWhatIsMade r m d = (own : Deeds Past) → ((on : FlowSupport) → IsFrontOf m on → made_deeds r on m ≡ own) → d ≡ own
+
+-- what is made so far is made ready: its moves, in their order, up to a mark behind them
+pub record IsReadied (r : Records) (m : MadeLists) (d : ReadyDeeds) : Type 0 where
+  pub prepared : AreDeedsPrepared r d
+  pub comes : IsWhatIsMade r m (deeds_of r d)
+  pub moves : moves_of r d.moves.moves ≡ moves r m.list
+  pub ends : ends_of_marks d.moves ≡ 0 ∷ (closed m).ends

@@ -1,7 +1,8 @@
 //! Paragraphs with loops to items, read turn by turn.
 
-ghost use Rattle.std.specs.Prelude.{◌≡◌, ◌≢◌, ◌↔◌, ◌⊎◌, ◌+◌, ◌<◌, ◌≤◌, ◌∷◌, ◌++◌, List, ℕ, [], false, length, IfErr, IfNone, IfOk, IfSome, IsTrue, OnOk};
+ghost use Rattle.std.specs.Prelude.{◌≡◌, ◌≢◌, ◌⊎◌, ◌+◌, ◌<◌, ◌≤◌, ◌∷◌, ◌++◌, List, ℕ, [], false, length, IfErr, IfNone, IfOk, IfSome, IsTrue, OnOk};
 ghost use Rattle.cob_copybook_tree.specs.declared.node.Item.{Item as TreeItem};
+ghost use Rattle.cob_copybook_tree.specs.declared.node.Kind.TheVariants.{Item as ItemKind};
 ghost use Rattle.cob_limits.specs.Limits.{longest_record};
 ghost use Rattle.cob_move_data.specs.Moves.{IsOperand, operand_in, record_of};
 ghost use Rattle.cob_move_deeds.specs.Tests.{IsBoundItem};
@@ -11,7 +12,7 @@ ghost use Rattle.cob_move_loops.specs.Turns.{in_turn};
 ghost use Rattle.cob_move_statements.specs.declared.fault.MoveRule.TheVariants.{Memory};
 ghost use Rattle.cob_source.specs.Tokens.{Lexeme, lexemes};
 ghost use Rattle.cob_move.specs.Between.{ArePairsOf};
-ghost use Rattle.cob_move.specs.DeedsRead.{AddsDeeds, AddsFront, AddsLoop, AddsMoved, AreKept, BoundNotRead, BoundRefused, BreaksInTurn, FrontHasBounds, FrontRefused, HasBounds, HasGrown, HasNoTurn, IsBoundRead, IsFrontRead, IsMade, IsNotBroken, LoopRefused, MovedRefused, ReadsTurns, TurnRefused, closed, flow_lists, in_its_turn, last_marked, linked_size, linked_turns, made_lists, open_statements, taken_back, without_flows};
+ghost use Rattle.cob_move.specs.DeedsRead.{AddsDeeds, AddsFront, AddsLoop, AddsMoved, AreKept, BoundNotRead, BoundRefused, BreaksInTurn, FrontHasBounds, FrontRefused, HasBounds, HasGrown, HasNoTurn, IsBoundRead, IsFrontRead, IsMade, IsNotBroken, LeavesFront, LoopRefused, MovedRefused, ReadsTurns, TurnRefused, closed, flow_lists, in_its_turn, last_marked, linked_size, linked_turns, made_lists, open_statements, taken_back, without_flows};
 ghost use Rattle.cob_move.specs.Entries.{AllMayBeNamed, records_of};
 ghost use Rattle.cob_move.specs.Loops.{AddsRun, RunRefused};
 ghost use Rattle.cob_move.specs.declared.made.NotRead.TheVariants as unread;
@@ -22,7 +23,7 @@ use crate::linking::{link_turns, next_number};
 use crate::loops::{add_words, fault_of};
 use crate::made::{Made, NotRead, keep_turn};
 use crate::meaning_laws::meant_are_moves;
-use cob_copybook_tree::{Kind, is_number_item};
+use cob_copybook_tree::{Item, Kind, is_number_item};
 use cob_limits::{MAX_RECORD, MAX_WRITTEN_OUT};
 use cob_move_apply::PlacedEntry;
 use cob_move_data::StatementMoves;
@@ -32,7 +33,7 @@ use cob_move_loops::{
     with_counter,
 };
 use cob_move_names::Correspondences;
-use cob_move_statements::{MoveFault, MoveRule, one_list_of_ended, one_reference, whole_reference};
+use cob_move_statements::{MoveFault, MoveRule, whole_reference};
 use cob_source::Token;
 use std::alloc::Global;
 use std::mem::replace;
@@ -103,7 +104,8 @@ fn add_moves(
     ensures fault { IfErr result (λ n. MovedRefused n entries.now (counters turn.now)
         (lexemes words.now) (made_lists made.old)) }
     ensures made { OnOk result (IsMade (records_of entries.now) (made_lists made.new)) }
-    ensures grown { HasGrown (made_lists made.old) (made_lists made.new) }
+    ensures grown { OnOk result (HasGrown (made_lists made.old) (made_lists made.new)) }
+    ensures kept { IfErr result (λ n. LeavesFront n (made_lists made.old) (made_lists made.new)) }
     ensures pairs { ArePairsOf (records_of entries.now) pairs.new }
 {
     // What statements mean are moves between the records: both layouts are those of record descriptions.
@@ -119,12 +121,21 @@ fn add_moves(
     Ok(())
 }
 
-/// Whether an entry is a whole number, as a table's count is.
+/// Whether an item is a whole number, as a table's count is.
+fn is_whole(item: &Item) -> bool
+    ensures yes { IsTrue result → IsBoundItem (ItemKind item.now) item.now }
+    ensures must { IsBoundItem (ItemKind item.now) item.now → IsTrue result }
+{
+    is_number_item(item) && item.picture.scale() == 0
+}
+
+/// Whether an entry is such an item.
 fn is_bound_item(kind: &Kind) -> bool
-    ensures { IsTrue result ↔ ((i : TreeItem) × IsBoundItem kind.now i) }
+    ensures yes { IsTrue result → (i : TreeItem) × IsBoundItem kind.now i }
+    ensures must { (i : TreeItem) → IsBoundItem kind.now i → IsTrue result }
 {
     match kind {
-        Kind::Item(item) => is_number_item(item) && item.picture.scale() == 0,
+        Kind::Item(item) => is_whole(item),
         Kind::Group => false,
     }
 }
@@ -184,14 +195,14 @@ fn read_bound(
 ///
 /// A rule that the turn breaks, with its line; where it comes to too much; where no memory is left.
 #[cycle(adding)]
-fn add_turn(
+fn add_turn<'a>(
     alloc: Global,
     entries: &Entries<'_, '_>,
     pairs: &mut Correspondences<'_>,
-    head: &Loop<'_>,
+    head: &Loop<'a>,
     number: u32,
-    body: &[Token],
-    turn: &[Counter<'_>],
+    body: &'a [Token],
+    turn: &[Counter<'a>],
     made: &mut Made,
 ) -> Result<(), NotRead>
     requires named { AllMayBeNamed entries.now }
@@ -205,7 +216,8 @@ fn add_turn(
         (in_its_turn (counters turn.now) (written_loop head.now) number) (lexemes body.now)
         (made_lists made.old)) }
     ensures made { OnOk result (IsMade (records_of entries.now) (made_lists made.new)) }
-    ensures grown { HasGrown (made_lists made.old) (made_lists made.new) }
+    ensures grown { OnOk result (HasGrown (made_lists made.old) (made_lists made.new)) }
+    ensures kept { IfErr result (λ n. LeavesFront n (made_lists made.old) (made_lists made.new)) }
     ensures pairs { ArePairsOf (records_of entries.now) pairs.new }
 {
     let counter = Counter {
@@ -222,14 +234,14 @@ fn add_turn(
 ///
 /// Where it comes to too much; where no memory is left.
 #[cycle(adding)]
-fn try_turn(
+fn try_turn<'a>(
     alloc: Global,
     entries: &Entries<'_, '_>,
     pairs: &mut Correspondences<'_>,
-    head: &Loop<'_>,
+    head: &Loop<'a>,
     number: u32,
-    body: &[Token],
-    turn: &[Counter<'_>],
+    body: &'a [Token],
+    turn: &[Counter<'a>],
     made: &mut Made,
 ) -> Result<Option<MoveFault>, NotRead>
     requires named { AllMayBeNamed entries.now }
@@ -248,7 +260,7 @@ fn try_turn(
         (made_lists made.old)) }
     ensures only { IfErr result IsNotBroken }
     ensures made { OnOk result (IsMade (records_of entries.now) (made_lists made.new)) }
-    ensures grown { HasGrown (made_lists made.old) (made_lists made.new) }
+    ensures grown { OnOk result (HasGrown (made_lists made.old) (made_lists made.new)) }
     ensures pairs { ArePairsOf (records_of entries.now) pairs.new }
 {
     let before = made.sizes();
@@ -258,7 +270,8 @@ fn try_turn(
             made.take_back(before);
             Ok(Some(fault))
         }
-        Err(why) => Err(why),
+        Err(NotRead::Memory) => Err(NotRead::Memory),
+        Err(NotRead::TooMany) => Err(NotRead::TooMany),
     }
 }
 
@@ -268,13 +281,13 @@ fn try_turn(
 ///
 /// A rule that a turn breaks, with its line; where they come to too much; where no memory is left.
 #[cycle(adding)]
-fn add_turns(
+fn add_turns<'a>(
     alloc: Global,
     entries: &Entries<'_, '_>,
     pairs: &mut Correspondences<'_>,
-    head: &Loop<'_>,
-    body: &[Token],
-    turn: &[Counter<'_>],
+    head: &Loop<'a>,
+    body: &'a [Token],
+    turn: &[Counter<'a>],
     made: &mut Made,
 ) -> Result<(), NotRead>
     requires named { AllMayBeNamed entries.now }
@@ -287,7 +300,8 @@ fn add_turns(
     ensures fault { IfErr result (λ n. LoopRefused n entries.now (counters turn.now)
         (written_loop head.now) (lexemes body.now) (made_lists made.old)) }
     ensures made { OnOk result (IsMade (records_of entries.now) (made_lists made.new)) }
-    ensures grown { HasGrown (made_lists made.old) (made_lists made.new) }
+    ensures grown { OnOk result (HasGrown (made_lists made.old) (made_lists made.new)) }
+    ensures kept { IfErr result (λ n. LeavesFront n (made_lists made.old) (made_lists made.new)) }
     ensures pairs { ArePairsOf (records_of entries.now) pairs.new }
 {
     // For a loop whose turns come to nothing: words are one passage at most.
@@ -310,13 +324,13 @@ fn add_turns(
 ///
 /// The fault of the first turn; `Counter`, with the loop's line, where nothing bounds the loop; where they come to too much; where no memory is left.
 #[cycle(adding)]
-fn try_turns(
+fn try_turns<'a>(
     alloc: Global,
     entries: &Entries<'_, '_>,
     pairs: &mut Correspondences<'_>,
-    head: &Loop<'_>,
-    body: &[Token],
-    turn: &[Counter<'_>],
+    head: &Loop<'a>,
+    body: &'a [Token],
+    turn: &[Counter<'a>],
     made: &mut Made,
     turns: &mut Vec<Vec<Flow>>,
 ) -> Result<u32, NotRead>
@@ -342,7 +356,8 @@ fn try_turns(
     ensures fault { IfErr result (λ n. LoopRefused n entries.now (counters turn.now)
         (written_loop head.now) (lexemes body.now) (made_lists made.old)) }
     ensures made { OnOk result (IsMade (records_of entries.now) (made_lists made.new)) }
-    ensures grown { HasGrown (made_lists made.old) (made_lists made.new) }
+    ensures grown { OnOk result (HasGrown (made_lists made.old) (made_lists made.new)) }
+    ensures kept { IfErr result (λ n. LeavesFront n (made_lists made.old) (made_lists made.new)) }
     ensures pairs { ArePairsOf (records_of entries.now) pairs.new }
 {
     let mut next = head.from;
@@ -367,14 +382,14 @@ fn try_turns(
 /// A rule that its bound breaks, with its line; the fault of the first turn; `Counter`, with its line, where nothing bounds it; where it comes to too much;
 /// where no memory is left.
 #[cycle(adding)]
-fn add_tested(
+fn add_tested<'a>(
     alloc: Global,
     entries: &Entries<'_, '_>,
     pairs: &mut Correspondences<'_>,
-    head: &Loop<'_>,
+    head: &Loop<'a>,
     words: &[Token],
-    body: &[Token],
-    turn: &[Counter<'_>],
+    body: &'a [Token],
+    turn: &[Counter<'a>],
     made: &mut Made,
 ) -> Result<(), NotRead>
     requires named { AllMayBeNamed entries.now }
@@ -387,7 +402,8 @@ fn add_tested(
     ensures fault { IfErr result (λ n. LoopRefused n entries.now (counters turn.now)
         (written_loop head.now) (lexemes body.now) (made_lists made.old)) }
     ensures made { OnOk result (IsMade (records_of entries.now) (made_lists made.new)) }
-    ensures grown { HasGrown (made_lists made.old) (made_lists made.new) }
+    ensures grown { OnOk result (HasGrown (made_lists made.old) (made_lists made.new)) }
+    ensures kept { IfErr result (λ n. LeavesFront n (made_lists made.old) (made_lists made.new)) }
     ensures pairs { ArePairsOf (records_of entries.now) pairs.new }
 {
     // A turn that breaks a rule comes to nothing.
@@ -415,12 +431,12 @@ fn add_tested(
 ///
 /// A rule that it breaks, with its line; where it comes to too much; where no memory is left.
 #[cycle(adding)]
-fn add_item(
+fn add_item<'a>(
     alloc: Global,
     entries: &Entries<'_, '_>,
     pairs: &mut Correspondences<'_>,
-    item: &PassageItem<'_>,
-    turn: &[Counter<'_>],
+    item: &PassageItem<'a>,
+    turn: &[Counter<'a>],
     made: &mut Made,
 ) -> Result<(), NotRead>
     requires named { AllMayBeNamed entries.now }
@@ -433,7 +449,8 @@ fn add_item(
     ensures fault { IfErr result (λ n. FrontRefused n entries.now (counters turn.now)
         (item_front item.now) (made_lists made.old)) }
     ensures made { OnOk result (IsMade (records_of entries.now) (made_lists made.new)) }
-    ensures grown { HasGrown (made_lists made.old) (made_lists made.new) }
+    ensures grown { OnOk result (HasGrown (made_lists made.old) (made_lists made.new)) }
+    ensures kept { IfErr result (λ n. LeavesFront n (made_lists made.old) (made_lists made.new)) }
     ensures pairs { ArePairsOf (records_of entries.now) pairs.new }
 {
     match item {
@@ -454,12 +471,12 @@ fn add_item(
 ///
 /// A rule that it breaks, with its line; where it comes to too much; where no memory is left.
 #[cycle(adding)]
-pub(crate) fn add_passage(
+pub(crate) fn add_passage<'a>(
     alloc: Global,
     entries: &Entries<'_, '_>,
     pairs: &mut Correspondences<'_>,
-    words: &[Token],
-    turn: &[Counter<'_>],
+    words: &'a [Token],
+    turn: &[Counter<'a>],
     made: &mut Made,
 ) -> Result<(), NotRead>
     requires named { AllMayBeNamed entries.now }
@@ -471,7 +488,8 @@ pub(crate) fn add_passage(
     ensures fault { IfErr result (λ n. TurnRefused n entries.now (counters turn.now)
         (lexemes words.now) (made_lists made.old)) }
     ensures made { OnOk result (IsMade (records_of entries.now) (made_lists made.new)) }
-    ensures grown { HasGrown (made_lists made.old) (made_lists made.new) }
+    ensures grown { OnOk result (HasGrown (made_lists made.old) (made_lists made.new)) }
+    ensures kept { IfErr result (λ n. LeavesFront n (made_lists made.old) (made_lists made.new)) }
     ensures pairs { ArePairsOf (records_of entries.now) pairs.new }
 {
     let mut rest = words;

@@ -30,7 +30,7 @@ use Rattle.cob_move_apply.specs.declared.basis.Basis.{Basis}
 use Rattle.cob_move_apply.specs.declared.basis.Basis.TheVariants as basis
 use Rattle.cob_move_apply.specs.Located.{Located, StandsUnder, stop_of}
 use Rattle.cob_move_apply.specs.declared.stop.Stop.{Stop}
-use Rattle.cob_move_apply.specs.Placed.{IsFixed, StandsAsNoted, IsPlaced, IsBasis}
+use Rattle.cob_move_apply.specs.Placed.{IsFixed, StandsAsNoted, IsPlaced}
 use Rattle.cob_move_apply.specs.Surveyed.{IsSurvey}
 use Rattle.cob_move_apply.specs.declared.survey.Survey.{Survey}
 use Rattle.cob_layout.specs.Sound.{IsSound, IsStorableKind, AreStorable}

@@ -32,7 +32,7 @@ use Rattle.cob_move_apply.specs.Located.{Located}
 use Rattle.cob_move_apply.specs.Made.{IsMadeConstant, IsMadePictured, IsMadeReady, StandAt}
 use Rattle.cob_move_apply.specs.Met.{HaveMet, ReceiverMet, ReceiversMet}
 use Rattle.cob_move_apply.specs.Going.{IsBounded, SpentSteps}
-use Rattle.cob_move_apply.specs.Spent.{HaveSpent, IsSpent, IsSpentAtStop, MovesSpend, PlaceMet, PlaceSpends, ReceiversSpend, WriteSpends, allowed, kept_of}
+use Rattle.cob_move_apply.specs.Spent.{HaveSpent, IsSpent, IsSpentAtStop, MovesSpend, PlaceMet, PlaceSpends, ReceiversSpend, WriteSpends, kept_of}
 use Rattle.cob_move_apply.specs.Steps.{AreSteps, CarriesAnywhere, CarriesPictured, GivesText, HasPart, IsLocatedMove, IsMoveOfPart, IsPicturedPart, IsPreparedMove, IsStep, StandFor, Support, copied_move, pair_at}
 use Rattle.cob_move_apply.specs.Written.{received_at}
 use Rattle.cob_move_apply.specs.declared.basis.Basis.{Basis}
@@ -52,7 +52,7 @@ use Rattle.cob_move_apply.proofs.MetLemmas.{MetFrom, cut_met, met_all, met_more,
 use Rattle.cob_move_apply.proofs.OneLemmas.{stop_of}
 use Rattle.cob_move_apply.proofs.PartLemmas.{has_part, the_move}
 use Rattle.cob_move_apply.proofs.PreparedLemmas.{kinds_of}
-use Rattle.cob_move_apply.proofs.SpentLemmas.{allowed_both, allowed_none, at_stop, most_kept, spent_behind, spent_both, spent_none, spent_stop, stop_as, stop_behind}
+use Rattle.cob_move_apply.proofs.SpentLemmas.{allowed_none, at_stop, most_kept, spent_behind, spent_both, spent_none, spent_stop, stop_as, stop_behind}
 
 plain : (n : ℕ) → 0 + n ≡ n
 plain n = omega arith

@@ -7,7 +7,7 @@ use Rattle.cob_move_data.specs.declared.operands.Sender as code_sender
 use Rattle.cob_move_data.specs.declared.operands.Side.{Side}
 use Rattle.cob_move_data.specs.declared.operands.Side.TheVariants.{In, Out}
 use Rattle.cob_move_data.specs.declared.operands.StatementMoves.{StatementMoves}
-use Rattle.cob_move_data.specs.Moves.{Entry, Move, Sender, moves_by, numbered_move_by, operand_in, record_of, sender_by}
+use Rattle.cob_move_data.specs.Moves.{Entry, Move, Sender, moves_by, numbered_move_by, operand_in, sender_by}
 use Rattle.cob_move_steps.specs.declared.pool.MoveStep.{MoveStep}
 use Rattle.cob_move_apply.specs.Applied.{Applied, Ending, IsMoved}
 use Rattle.cob_move_apply.specs.Going.{Left, SpentSteps}

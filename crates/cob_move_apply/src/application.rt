@@ -1,6 +1,6 @@
 //! Steps, one after another.
 
-ghost use Rattle.std.specs.Prelude.{◌≡◌, ◌+◌, ◌≤◌, ℕ, List, false, length, IsTrue, OnErr};
+ghost use Rattle.std.specs.Prelude.{◌≡◌, ◌+◌, ◌≤◌, ℕ, List, false, length, OnErr};
 ghost use Rattle.cob_layout.specs.Sound.{IsSound};
 ghost use Rattle.cob_layout.specs.Standing.{KeepsOf};
 ghost use Rattle.cob_layout.specs.Storage.{greatest_length, IsStorage};
@@ -13,7 +13,7 @@ ghost use Rattle.cob_move_apply.specs.Steps.{support_of};
 ghost use Rattle.cob_move_apply.specs.Surveyed.{HasSpace, IsWorkspace, records};
 
 use crate::basis::{Basis, PlacedReceivers};
-use crate::constant::{make_constant, make_located_constant, run_located_constant};
+use crate::constant::{make_constant, make_located_constant};
 use crate::laws::one_ending;
 use crate::layouts::Layouts;
 use crate::located::{make_located, run_located};

@@ -1,6 +1,6 @@
 //! Single moves of constants that were made ready, carried out: to places that are the same in every storage, and wherever their receivers stand.
 
-ghost use Rattle.std.specs.Prelude.{◌≡◌, ◌+◌, ◌≤◌, false, length, IfSome, IsTrue, List, OnOk, IfErr, Err};
+ghost use Rattle.std.specs.Prelude.{◌≡◌, ◌+◌, ◌≤◌, false, length, IsTrue, List, Err};
 ghost use Rattle.cob_copybook_tree.specs.declared.node.Kind.{Kind};
 ghost use Rattle.cob_copybook_entry.specs.Described.{PlainValue};
 ghost use Rattle.cob_layout.specs.Sound.{IsSound};

@@ -1,8 +1,7 @@
 //! Which moves of an entry of the output record may be carried out as their single moves.
 
-ghost use Rattle.std.specs.Prelude.{◌≡◌, map, not, IsTrue};
+ghost use Rattle.std.specs.Prelude.{map, IsTrue};
 ghost use Rattle.std.specs.List.{AllByRecursion};
-ghost use Rattle.cob_layout.specs.declared.fields.Place.{Place as PlaceOf};
 ghost use Rattle.cob_move_data.specs.Moves.{IsOperand, operand_in};
 ghost use Rattle.cob_move_apply.specs.Cut.{ArePlacesApart, LeaveEntry, LeavesPlace, MayCutEntry};
 

@@ -26,7 +26,7 @@ use crate::workspace::Workspace;
 use cob_codec::Reading;
 use cob_layout::{field, places_lie_in_storage};
 use cob_move_data::Side;
-use cob_move_steps::{CharactersStep, MoveStep};
+use cob_move_steps::{CharactersStep, MoveStep, PicturedStep};
 use std::slice;
 
 /// Whether a step carries its moves out where senders are read so.
@@ -187,7 +187,8 @@ fn run_rarer(
     }
 }
 
-/// Does what [`run_rarer`] does. Plain copies, characters and numbers of up to sixteen digits have ways of their own here.
+/// Does what [`run_rarer`] does. Plain copies, characters, numbers of up to sixteen digits and those that are read as their pictures say have ways of their own
+/// here.
 #[inline(always)]
 fn run_between(
     plan: &Plan,
@@ -230,7 +231,23 @@ fn run_between(
             }
             _ => run_rarer(plan, one, *places, layouts, input, output, space),
         },
-        _ => run_rarer(plan, one, *places, layouts, input, output, space),
+        LocatedStep::Pictured(step) => match step {
+            PicturedStep::Number(_) => match layouts.reading {
+                Reading::Pictured => {
+                    let ready = PicturedMove {
+                        places: *places,
+                        step,
+                    };
+                    match run_pictured(&plan.pictured, ready, layouts, input, output, space) {
+                        Ok(()) => true,
+                        Err(_) => false,
+                    }
+                }
+                Reading::Whole => false,
+            },
+            _ => run_rarer(plan, one, *places, layouts, input, output, space),
+        },
+        LocatedStep::Rule => run_rarer(plan, one, *places, layouts, input, output, space),
     }
 }
 

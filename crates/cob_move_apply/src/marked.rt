@@ -1,7 +1,7 @@
 //! Moves that are ready to be carried out from one mark to another.
 
-ghost use Rattle.std.specs.Prelude.{◌≡◌, ◌<◌, ◌≤◌, ℕ, [], ◌∷◌, length, map, min, IfOk};
-ghost use Rattle.cob_codec.specs.declared.reading.Reading.{Reading as Read};
+ghost use Rattle.std.specs.Prelude.{◌≡◌, ◌<◌, ◌≤◌, ℕ, ◌∷◌, length, map, min, IfOk};
+ghost use Rattle.cob_codec.specs.declared.reading.Reading.TheVariants.{Pictured};
 ghost use Rattle.cob_layout.specs.Kept.{AreKeptOf};
 ghost use Rattle.cob_layout.specs.Storage.{greatest_length, IsStorage};
 ghost use Rattle.cob_move_data.specs.Moves.{AreMoves, Records, moves, moves_by, read_by};
@@ -61,6 +61,8 @@ impl MarkedMoves {
             (moves (record { input = input.now; output = output.now }) given.items) }
         requires ends { RiseUpTo 0 (length given.items) ends.now }
         ensures made { IfOk result (λ m. (r : Records) → moves_of r m.moves ≡ moves r given.items) }
+        ensures statements { IfOk result (λ m. m.moves.statements.items ≡ given.items) }
+        ensures reading { IfOk result (λ m. m.moves.reading ≡ Pictured) }
         ensures ends { IfOk result (λ m. ends_of_marks m ≡ 0 ∷ ends.now) }
         ensures prepared { IfOk result
             (AreMarkedPrepared (record { input = input.now; output = output.now })) }

@@ -1,6 +1,6 @@
 //! What the places of operands rest on, found before a record comes.
 
-ghost use Rattle.std.specs.Prelude.{◌∷◌, map, true, false, OnOk};
+ghost use Rattle.std.specs.Prelude.{map, true, false, OnOk};
 ghost use Rattle.std.specs.List.{AllByRecursion};
 ghost use Rattle.cob_move_data.specs.Moves.{
   IsOperand,

@@ -9,7 +9,7 @@ use Rattle.cob_move_deeds.specs.declared.flow.Flow.{Flow}
 use Rattle.cob_move_deeds.specs.declared.flow.Flow.TheVariants as flow
 use Rattle.cob_move_deeds.specs.Deeds.{Choice, Deeds, Moving, Nothing, both_deeds}
 use Rattle.cob_move_deeds.specs.Flows.{AreFlows, AreNestedFlows, FlowSupport, IsFlow, deeds_from, loop_done, unless_past}
-use Rattle.cob_move_deeds.specs.Tests.{Past, past_bound}
+use Rattle.cob_move_deeds.specs.Tests.{Past}
 use Rattle.cob_move_deeds.proofs.FlowLemmas.{all_behind}
 
 -- ---- how many are looked at changes nothing, where they are not more

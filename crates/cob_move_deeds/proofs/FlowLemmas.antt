@@ -1,11 +1,10 @@
 -- Flows carried out one behind another, and what is done.
-use Rattle.std.proofs.Common.{◌≡◌, ◌⊎◌, ℕ, zero, suc, ◌+◌, ◌<◌, ◌≤◌, Bool, true, false, List, [], ◌∷◌, ◌++◌, drop, get_or, length, take, refl, sym, ap, subst, ◌∙◌, arith, inl, inr, append_assoc, append-nil, length-append, length-drop, Ok, Err, Option, Some, None, nat_lt}
+use Rattle.std.proofs.Common.{◌≡◌, ℕ, zero, suc, ◌+◌, ◌<◌, ◌≤◌, Bool, true, false, List, [], ◌∷◌, ◌++◌, drop, get_or, length, take, refl, sym, ap, subst, ◌∙◌, arith, inl, inr, append_assoc, append-nil, length-append, length-drop, Ok, Err, Option, Some, nat_lt}
 use Rattle.std.specs.List.{AllByRecursion, slice_get}
 use Rattle.std.proofs.lemmas.List.{drop-append-le, length-take-le, take-append-drop}
 use Rattle.std.proofs.lemmas.Option.{same_Some, slice_get_read, slice_get_within}
-use Rattle.cob_codec.specs.declared.reading.Reading.{Reading}
 use Rattle.cob_move_data.specs.Moves.{Move, Records}
-use Rattle.cob_move_apply.specs.Applied.{Applied, Ending, done, stopped, storage_of}
+use Rattle.cob_move_apply.specs.Applied.{Applied, Ending, done, stopped}
 use Rattle.cob_move_apply.specs.Marked.{moves_between_marks}
 use Rattle.cob_move_apply.specs.declared.stop.Stop.{Stop}
 use Rattle.cob_move_deeds.specs.declared.flow.Bound.{Bound}
@@ -13,7 +12,7 @@ use Rattle.cob_move_deeds.specs.declared.flow.CountedLoop.{CountedLoop}
 use Rattle.cob_move_deeds.specs.declared.flow.Flow.{Flow}
 use Rattle.cob_move_deeds.specs.declared.flow.Flow.TheVariants as flow
 use Rattle.cob_move_deeds.specs.Carrying.{LeavesFlows, StopsFlows, carried_from, either_way}
-use Rattle.cob_move_deeds.specs.Deeds.{Carried, Choice, Deeds, Moving, Nothing, Then, both_deeds}
+use Rattle.cob_move_deeds.specs.Deeds.{Carried, Choice, Deeds, Nothing, Then, both_deeds}
 use Rattle.cob_move_deeds.specs.Flows.{AreNestedFlows, FlowSupport, IsFlow, IsLoop, deeds_from, loop_done, unless_past}
 use Rattle.cob_move_deeds.specs.Tests.{BoundGives, IsBound, Judged, Past, past_bound, with_number}
 use Rattle.cob_move_deeds.proofs.DeedLemmas.{both_apart, both_together, then_back, then_done, then_map, to_nothing, with_nothing}

@@ -1,5 +1,5 @@
 -- Loops whose bound stands in the input record: how many turns they have, and which moves these are.
-use Rattle.std.proofs.Common.{◌≡◌, ◌⊎◌, ℕ, zero, suc, ◌+◌, ◌-◌, ◌*◌, ◌/◌, ◌%◌, ◌<◌, ◌≤◌, Bool, true, false, List, [], ◌++◌, length, nat_lt, refl, sym, ap, subst, ◌∙◌, arith, inl, inr, Ok, Err, Option, Some}
+use Rattle.std.proofs.Common.{◌≡◌, ◌⊎◌, ℕ, zero, suc, ◌+◌, ◌-◌, ◌*◌, ◌/◌, ◌%◌, ◌<◌, ◌≤◌, Bool, true, false, List, ◌++◌, length, nat_lt, refl, sym, ap, subst, ◌∙◌, arith, inl, inr, Err, Option, Some}
 use Rattle.std.specs.Prelude.{if◌then◌else◌}
 use Rattle.std.specs.List.{slice_get}
 use Rattle.std.proofs.lemmas.Nat.{div-add-mod', div-mul-add, div_below, mod_below}
@@ -17,7 +17,7 @@ use Rattle.cob_move_apply.proofs.PlanLemmas.{moves_append}
 use Rattle.cob_move_loops.specs.Turns.{turns, turns_between}
 use Rattle.cob_move_deeds.specs.declared.flow.Bound.{Bound}
 use Rattle.cob_move_deeds.specs.declared.flow.CountedLoop.{CountedLoop}
-use Rattle.cob_move_deeds.specs.Deeds.{Carried, Choice, Deeds, Moving, Nothing}
+use Rattle.cob_move_deeds.specs.Deeds.{Carried, Deeds, Moving, Nothing}
 use Rattle.cob_move_deeds.specs.Flows.{FlowSupport, IsLoop, loop_done, moves_of_turn, turns_to}
 use Rattle.cob_move_deeds.specs.Tests.{BoundGives, Judged, Past, past_bound, with_number}
 use Rattle.cob_move_deeds.specs.Turns.{number_after, turns_from}

@@ -1,11 +1,11 @@
 -- Receivers of what is done that met the item of a count, one thing behind another.
-use Rattle.std.proofs.Common.{◌≡◌, ◌⊎◌, ℕ, zero, suc, ◌+◌, ◌<◌, ◌≤◌, Bool, true, false, List, [], ◌∷◌, ◌++◌, nat_lt, refl, sym, ap, subst, arith, inl, inr, Ok, Err}
+use Rattle.std.proofs.Common.{◌≡◌, ◌⊎◌, ℕ, zero, suc, ◌+◌, ◌<◌, ◌≤◌, Bool, false, List, [], ◌∷◌, ◌++◌, nat_lt, refl, sym, ap, subst, arith, inl, inr, Ok}
 use Rattle.cob_copybook_tree.specs.Forests.{Forest}
 use Rattle.cob_copybook_tree.specs.Nodes.{Resolved}
 use Rattle.cob_layout.specs.Laws.{OneOfNeeded}
 use Rattle.cob_move_data.specs.declared.operands.Operand.{Operand}
 use Rattle.cob_move_data.specs.Moves.{Move, Records}
-use Rattle.cob_move_apply.specs.Applied.{AllGet, Applied, Content, Ending, OneEnding, done, stopped}
+use Rattle.cob_move_apply.specs.Applied.{AllGet, Applied, Content, Ending, OneEnding, done}
 use Rattle.cob_move_apply.specs.Met.{HaveMet, ReceiversMet}
 use Rattle.cob_move_apply.proofs.MetLemmas.{none_met}
 use Rattle.cob_move_apply.proofs.OneLemmas.{stop_of}

@@ -1,5 +1,5 @@
 -- How many counts are read as flows are carried out: receivers of deeds, one flow behind another.
-use Rattle.std.proofs.Common.{◌≡◌, ◌⊎◌, ℕ, zero, suc, ◌+◌, ◌*◌, ◌<◌, ◌≤◌, Bool, true, false, List, [], ◌∷◌, ◌++◌, drop, length, nat_lt, take, refl, sym, ap, subst, ◌∙◌, arith, inl, inr, append_assoc, append-nil, length-append, length-drop, Ok, Err, Result, Option, Some}
+use Rattle.std.proofs.Common.{◌≡◌, ℕ, zero, suc, ◌+◌, ◌*◌, ◌<◌, ◌≤◌, Bool, true, false, List, [], ◌∷◌, ◌++◌, drop, length, nat_lt, take, refl, sym, ap, subst, ◌∙◌, arith, inl, inr, append_assoc, append-nil, length-append, length-drop, Ok, Err, Result, Option, Some}
 use Rattle.std.specs.List.{AllByRecursion, slice_get}
 use Rattle.std.proofs.lemmas.List.{drop-append-le, length-take-le, take-append-drop}
 use Rattle.std.proofs.Math.Nat.{mul-add, mul_comm}
@@ -9,12 +9,11 @@ use Rattle.cob_layout.specs.Laws.{OneOfNeeded}
 use Rattle.cob_layout_places.specs.Counts.{tables_of}
 use Rattle.cob_move_data.specs.declared.operands.Side.TheVariants.{In}
 use Rattle.cob_move_data.specs.Moves.{Move, Records}
-use Rattle.cob_move_apply.specs.Applied.{Applied, Ending, OneEnding, done}
+use Rattle.cob_move_apply.specs.Applied.{Applied, OneEnding, done}
 use Rattle.cob_move_apply.specs.Marked.{AreMarkedPrepared, moves_between_marks}
 use Rattle.cob_move_apply.specs.Met.{HaveMet}
 use Rattle.cob_move_apply.specs.Reads.{ReadsFor, ReadsOfMoves, kept_among}
 use Rattle.cob_move_apply.specs.Room.{Scratching}
-use Rattle.cob_move_apply.specs.Spent.{allowed}
 use Rattle.cob_move_apply.specs.declared.stop.Stop.{Stop}
 use Rattle.cob_move_apply.proofs.ReadsLemmas.{most_kept_among}
 use Rattle.cob_move_apply.proofs.SpentLemmas.{allowed_both, allowed_none}
@@ -28,7 +27,7 @@ use Rattle.cob_move_deeds.specs.Deeds.{Carried, Choice, Deeds, Moving, Nothing, 
 use Rattle.cob_move_deeds.specs.Flows.{AreNestedFlows, FlowSupport, IsFlow, IsLoop, deeds_from, loop_done, moves_of_turn, turns_to, unless_past}
 use Rattle.cob_move_deeds.specs.Met.{DeedsHaveMet, MetThen, ReadsOfDeeds}
 use Rattle.cob_move_deeds.specs.Tests.{BoundGives, Judged, Past, past_bound, with_number}
-use Rattle.cob_move_deeds.specs.Turns.{number_after, turns_from}
+use Rattle.cob_move_deeds.specs.Turns.{number_after}
 use Rattle.cob_move_deeds.proofs.DeedLemmas.{both_together}
 use Rattle.cob_move_deeds.proofs.FlowLemmas.{all_behind, all_front, none_carried}
 use Rattle.cob_move_deeds.proofs.LoopLemmas.{either_side, few_turns, reaches, turns_all}

@@ -12,7 +12,7 @@ use Rattle.cob_move_deeds.specs.declared.flow.Flow.{Flow}
 use Rattle.cob_move_deeds.specs.declared.flow.Flow.TheVariants as flow
 use Rattle.cob_move_deeds.specs.Deeds.{Choice, Deeds, Moving, Nothing, both_deeds, moves_of_deeds}
 use Rattle.cob_move_deeds.specs.Flows.{FlowSupport, IsFlow, IsLoop, deeds_by, deeds_from, loop_done, moves_of_turn, turns_to, unless_past}
-use Rattle.cob_move_deeds.specs.Tests.{Past, past_bound, with_number}
+use Rattle.cob_move_deeds.specs.Tests.{Past, past_bound}
 use Rattle.cob_move_deeds.specs.Turns.{turns_from}
 
 -- the moves between marks are the same, but for the reading

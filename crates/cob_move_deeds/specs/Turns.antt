@@ -1,6 +1,6 @@
 -- Loops: what a loop makes of a record turn by turn, and the choices that it is written out as.
 use Rattle.std.specs.Prelude.{◌≡◌, ℕ, zero, suc, ◌+◌, true, false, List, Ok, Err, nat_lt}
-use Rattle.cob_move_data.specs.Moves.{Move, Records}
+use Rattle.cob_move_data.specs.Moves.{Records}
 use Rattle.cob_move_apply.specs.declared.stop.Stop.{Stop}
 use Rattle.cob_move_apply.specs.Applied.{Ending, done, stopped}
 use Rattle.cob_move_deeds.specs.Deeds.{Carried, Choice, Deeds, Judging, Nothing, both_deeds}

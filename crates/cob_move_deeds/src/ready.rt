@@ -1,13 +1,13 @@
 //! Deeds that are ready to be carried out.
 
-ghost use Rattle.std.specs.Prelude.{◌≡◌, ◌+◌, ◌*◌, ◌≤◌, ℕ, length, map, min};
+ghost use Rattle.std.specs.Prelude.{◌≡◌, ◌+◌, ◌*◌, ◌≤◌, ℕ, length, min};
 ghost use Rattle.std.specs.List.{AllByRecursion};
 ghost use Rattle.cob_layout.specs.Kept.{AreKeptOf};
 ghost use Rattle.cob_layout.specs.Storage.{greatest_length, IsStorage};
 ghost use Rattle.cob_layout_places.specs.Counts.{tables_of};
-ghost use Rattle.cob_move_data.specs.Moves.{Records, moves_by, read_by};
+ghost use Rattle.cob_move_data.specs.Moves.{Records, moves_by};
 ghost use Rattle.cob_move_apply.specs.Applied.{ending};
-ghost use Rattle.cob_move_apply.specs.Marked.{AreMarkedPrepared, marked_steps};
+ghost use Rattle.cob_move_apply.specs.Marked.{AreMarkedPrepared, ends_of_marks, marked_steps};
 ghost use Rattle.cob_move_apply.specs.Prepared.{moves_of};
 ghost use Rattle.cob_move_apply.specs.Room.{room_of};
 ghost use Rattle.cob_move_apply.specs.Told.{most_moves_told, single_moves};
@@ -33,7 +33,7 @@ pub struct ReadyDeeds {
 }
 
 impl ReadyDeeds {
-    ghost use Rattle.cob_move_deeds.specs.Prepared.{AreDeedsPrepared, HaveAllMoves, deeds_of, flow_support};
+    ghost use Rattle.cob_move_deeds.specs.Prepared.{AreDeedsPrepared, HaveAllMoves, deeds_of};
 
     /// What these flows come to, over moves that were made ready, bounds and loops.
     pub fn new(
@@ -64,6 +64,7 @@ impl ReadyDeeds {
         ensures deeds { (r : Records) → deeds_of r result ≡ deeds_by reading (deeds_of r self) }
         ensures prepared { (r : Records) → AreDeedsPrepared r self → AreDeedsPrepared r result }
         ensures whole { (r : Records) → HaveAllMoves r self → HaveAllMoves r result }
+        ensures ends { ends_of_marks result.moves ≡ ends_of_marks self.moves }
     {
         ReadyDeeds {
             moves: self.moves.with_reading(reading),

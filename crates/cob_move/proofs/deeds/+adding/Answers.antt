@@ -7,7 +7,7 @@ use Rattle.cob_move_loops.specs.Turns.{Counted, counter_at}
 use Rattle.cob_move_loops.proofs.PassageLemmas.{shorter}
 use Rattle.cob_move_loops.proofs.WritingLemmas.{counters_more}
 use Rattle.cob_move.specs.DeedsRead.{AddsDeeds, TurnRefused, made_lists}
-use Rattle.cob_move.proofs.MadeLemmas.{grown_both, grown_none}
+use Rattle.cob_move.proofs.MadeLemmas.{grown_both, grown_none, leaves_more}
 use Rattle.cob_move.proofs.ReadingLemmas.{bounds_parted, deeds_end, deeds_first, deeds_more, deeds_refused, front_read}
 use Rattle.cob_move.proofs.deeds.+adding.Goals as goal
 
@@ -49,9 +49,10 @@ add_passage-returns-in_err-add_item-clause-fault t c =
     rw (p.1, p.2) (deeds_refused c.in_err-add_item.field-0.0 c.args.entries.now (counters c.args.turn.now) (lexemes c.args.words.now) rest more f (made_lists c.args.made.now) (made_lists c.loop-item.made)
     c.loop-item.invariant.left (omega (arith, less)) c.in-Some.ensures.only c.in_err-add_item.ensures.fault)
 
-pub add_passage-returns-in_err-add_item-clause-grown : goal.add_passage-returns-in_err-add_item-clause-grown
-add_passage-returns-in_err-add_item-clause-grown t c =
-    grown_both (made_lists c.args.made.now) (made_lists c.loop-item.made) (made_lists c.add_item.new.made) c.loop-item.invariant.grown c.in_err-add_item.ensures.grown
+pub add_passage-returns-in_err-add_item-clause-kept : goal.add_passage-returns-in_err-add_item-clause-kept
+add_passage-returns-in_err-add_item-clause-kept t c =
+    let p = err_from_is_err_and c.from_residual.result c.from_residual.ensures.1 in
+    rw (p.1, p.2) (leaves_more c.in_err-add_item.field-0.0 (made_lists c.args.made.now) (made_lists c.loop-item.made) (made_lists c.add_item.new.made) c.loop-item.invariant.grown c.in_err-add_item.ensures.kept)
 
 pub add_passage-returns-clause-added : goal.add_passage-returns-clause-added
 add_passage-returns-clause-added t c =

@@ -1,12 +1,12 @@
-use Rattle.std.proofs.Common.{◌≡◌, ℕ, ◌≤◌, ◌+◌, ◌*◌, [], length}
+use Rattle.std.proofs.Common.{◌≡◌, ℕ, ◌≤◌, ◌+◌, ◌-◌, ◌*◌, length}
 use Rattle.cob_source.specs.Tokens.{lexemes}
-use Rattle.cob_move_loops.specs.Passages.{IsPassage, Passage}
 use Rattle.cob_move_loops.specs.Reading.{counters, item_front, written_loop}
 use Rattle.cob_move_loops.proofs.FrontLemmas.{front_size}
 use Rattle.cob_move.specs.Between.{ArePairsOf}
-use Rattle.cob_move.specs.DeedsRead.{AddsTurns, AreKept, HasBounds, HasGrown, IsMade, ReadsTurns, flow_lists, made_lists, open_statements}
+use Rattle.cob_move.specs.DeedsRead.{AddsTurns, HasBounds, HasGrown, IsMade, flow_lists, made_lists}
 use Rattle.cob_move.specs.Entries.{records_of}
 use Rattle.cob_move.proofs.ReadingLemmas.{LeftOfDeeds}
+use Rattle.cob_move.proofs.TestedLemmas.{HasTried}
 use Rattle.cob_move.proofs.deeds.+adding.Given as goal
 
 abbrev pub decreases-add_passage : goal.decreases-add_passage
@@ -43,6 +43,9 @@ invariant-add_passage-loop-item l = record {
 abbrev pub decreases-add_passage-loop-item : goal.decreases-add_passage-loop-item
 decreases-add_passage-loop-item l = length (lexemes l.rest)
 
+abbrev pub decreases-add_turns-loop-done : goal.decreases-add_turns-loop-done
+decreases-add_turns-loop-done l = l.turns - l.done
+
 abbrev pub invariant-add_turns-loop-done : goal.invariant-add_turns-loop-done
 invariant-add_turns-loop-done l = record {
   few : l.done ≤ l.turns;
@@ -55,12 +58,6 @@ invariant-add_turns-loop-done l = record {
 
 abbrev pub invariant-try_turns-loop-step : goal.invariant-try_turns-loop-step
 invariant-try_turns-loop-step l = record {
-  kept : AreKept l.head.from l.head.by (length (flow_lists l.turns.items)) (l.head.from + l.step) l.next;
-  reads : (p : Passage) → IsPassage p (lexemes l.body)
-      → ReadsTurns l.entries (counters l.turn) (written_loop l.head) p (l.head.from + l.step) (flow_lists l.turns.items) (made_lists l.fn.made) (made_lists l.made);
-  none : l.made.flows.items ≡ [];
-  marked : open_statements (made_lists l.made) ≡ [];
-  made : IsMade (records_of l.entries) (made_lists l.made);
-  grown : HasGrown (made_lists l.fn.made) (made_lists l.made);
+  tried : HasTried l.entries (counters l.turn) (written_loop l.head) (lexemes l.body) (l.head.from + l.step) l.next (flow_lists l.turns.items) (made_lists l.fn.made) (made_lists l.made);
   pairs : ArePairsOf (records_of l.entries) l.pairs;
 }

@@ -3,10 +3,10 @@ use Rattle.cob_move_data.specs.Moves.{operand_in}
 use Rattle.cob_move_data.specs.declared.operands.Side.TheVariants.{In}
 use Rattle.cob_move_apply.specs.Applied.{done}
 use Rattle.cob_move_apply.specs.Surveyed.{records}
-use Rattle.cob_move_apply.specs.declared.step.LocatedStep.TheVariants.{Always, Characters}
-use Rattle.cob_move_apply.proofs.LocatedLemmas.{carries_as, characters_there, made_always, made_characters}
+use Rattle.cob_move_apply.specs.declared.step.LocatedStep.TheVariants.{Always, Characters, Pictured}
+use Rattle.cob_move_apply.proofs.LocatedLemmas.{carries_as, characters_there, made_always, made_by_picture, made_characters}
 use Rattle.cob_move_apply.proofs.PreparedLemmas.{kinds_of}
-use Rattle.cob_move_apply.proofs.SpendingLemmas.{always_spends, characters_spend}
+use Rattle.cob_move_apply.proofs.SpendingLemmas.{always_spends, characters_spend, pictured_spends}
 use Rattle.cob_move_apply.proofs.located.run_between.Goals as goal
 
 pub make_text-requires-clause-step : goal.make_text-requires-clause-step
@@ -58,3 +58,23 @@ returns-in-Ok-clause-spends c = λ yes before spent.
     let carries = carries_as c.args.plan.now.prepared c.args.plan.now.pictured from to one.step (Always c.in-Always.step) c.in-Always.is c.requires.ready.carries in
     always_spends {A = ℕ} In r c.args.layouts.now.reading c.args.plan.now.prepared one c.in-Always.step c.args.places.now c.args.input.now c.args.output.now
     (Ok 0) c.make_prepared.new.output before _ _ c.requires.stand carries c.in-Ok.ensures.made spent c.in-Ok.ensures.spends
+
+pub returns-in-Ok-run_pictured-clause-moved : goal.returns-in-Ok-run_pictured-clause-moved
+returns-in-Ok-run_pictured-clause-moved c = λ yes.
+    let r = records c.args.layouts.now in
+    let one = c.args.one.now in
+    let from = (operand_in r.input one.sent).kind in
+    let to = (operand_in r.output one.receiver).kind in
+    let carries = carries_as c.args.plan.now.prepared c.args.plan.now.pictured from to one.step (Pictured c.in-Pictured.step) c.in-Pictured.is c.requires.ready.carries in
+    made_by_picture r c.args.layouts.now.reading c.args.plan.now.pictured one c.in-Pictured.step c.args.places.now c.args.input.now c.args.output.now
+    (done c.run_pictured.new.output) c.in-Pictured-reading.is c.requires.stand carries c.in-Ok-run_pictured.ensures.made
+
+pub returns-in-Ok-run_pictured-clause-spends : goal.returns-in-Ok-run_pictured-clause-spends
+returns-in-Ok-run_pictured-clause-spends c = λ yes before spent.
+    let r = records c.args.layouts.now in
+    let one = c.args.one.now in
+    let from = (operand_in r.input one.sent).kind in
+    let to = (operand_in r.output one.receiver).kind in
+    let carries = carries_as c.args.plan.now.prepared c.args.plan.now.pictured from to one.step (Pictured c.in-Pictured.step) c.in-Pictured.is c.requires.ready.carries in
+    pictured_spends {A = ℕ} r c.args.layouts.now.reading c.args.plan.now.pictured one c.in-Pictured.step c.args.places.now c.args.input.now c.args.output.now
+    (Ok 0) c.run_pictured.new.output before _ _ c.in-Pictured-reading.is c.requires.stand carries c.in-Ok-run_pictured.ensures.made spent c.in-Ok-run_pictured.ensures.spends

@@ -1,6 +1,4 @@
-use Rattle.std.proofs.Common.{◌≡◌, ◌∙◌, ap, arith, length, sym, subst}
-use Rattle.cob_codec.specs.declared.reading.Reading.{Reading}
-use Rattle.cob_move_apply.specs.Marked.{last_mark}
+use Rattle.std.proofs.Common.{arith}
 use Rattle.cob_move_apply.specs.Planned.{records_between}
 use Rattle.cob_move_apply.specs.Steps.{support_of}
 use Rattle.cob_move_apply.proofs.MarkLemmas.{ends_pushed, mark_last_of, parted_by_more}

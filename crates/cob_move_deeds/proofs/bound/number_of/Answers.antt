@@ -1,10 +1,9 @@
-use Rattle.std.proofs.Common.{Result, ℕ, subst, sym}
 use Rattle.std.proofs.lemmas.Result.{err_from_is_err_and}
 use Rattle.cob_move_data.specs.Moves.{Records}
 use Rattle.cob_move_deeds.specs.Carrying.{records_of_sides}
 use Rattle.cob_move_deeds.specs.Tests.{past_bound}
 use Rattle.cob_move_deeds.proofs.ReadLemmas.{read_so}
-use Rattle.cob_move_deeds.proofs.TestLemmas.{nowhere_says, says_from}
+use Rattle.cob_move_deeds.proofs.TestLemmas.{nowhere_says}
 use Rattle.cob_move_deeds.proofs.bound.number_of.Goals as goal
 
 pub returns-in_err-place-clause-says : goal.returns-in_err-place-clause-says

@@ -1,5 +1,4 @@
 use Rattle.std.proofs.Common.{◌≡◌, ◌∙◌, length, refl, subst, sym}
-use Rattle.std.specs.List.{slice_get}
 use Rattle.std.proofs.lemmas.Option.{same_Some, slice_get_read}
 use Rattle.cob_move_data.specs.Moves.{Records}
 use Rattle.cob_move_deeds.specs.Carrying.{records_of_sides}
