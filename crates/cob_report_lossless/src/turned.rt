@@ -67,15 +67,15 @@ fn note(
 
 /// Reads the turn of a loop in which its counter has this number.
 #[cycle(turning)]
-fn read_turn<'f>(
+fn read_turn<'a>(
     alloc: Global,
-    head: &Loop<'_>,
+    head: &Loop<'a>,
     number: u32,
-    body: &[Token],
-    turn: &[Counter<'_>],
-    flows: &'f [Flow],
+    body: &'a [Token],
+    turn: &[Counter<'a>],
+    flows: &'a [Flow],
     lines: &mut DeedLines,
-) -> Result<&'f [Flow], MoveFault>
+) -> Result<&'a [Flow], MoveFault>
     ensures { IfOk result (λ left. length left.now ≤ length flows.now) }
 {
     let counter = Counter {
@@ -88,14 +88,14 @@ fn read_turn<'f>(
 
 /// Reads the turns of a loop to a number.
 #[cycle(turning)]
-fn read_turns<'f>(
+fn read_turns<'a>(
     alloc: Global,
-    head: &Loop<'_>,
-    body: &[Token],
-    turn: &[Counter<'_>],
-    flows: &'f [Flow],
+    head: &Loop<'a>,
+    body: &'a [Token],
+    turn: &[Counter<'a>],
+    flows: &'a [Flow],
     lines: &mut DeedLines,
-) -> Result<&'f [Flow], MoveFault>
+) -> Result<&'a [Flow], MoveFault>
     ensures { IfOk result (λ left. length left.now ≤ length flows.now) }
 {
     let turns = turns_to_write(head, body);
@@ -112,14 +112,14 @@ fn read_turns<'f>(
 
 /// Reads the turns of a loop to an item: one behind each of its tests but the last, which passes over nothing.
 #[cycle(turning)]
-fn read_tested<'f>(
+fn read_tested<'a>(
     alloc: Global,
-    head: &Loop<'_>,
-    body: &[Token],
-    turn: &[Counter<'_>],
-    flows: &'f [Flow],
+    head: &Loop<'a>,
+    body: &'a [Token],
+    turn: &[Counter<'a>],
+    flows: &'a [Flow],
     lines: &mut DeedLines,
-) -> Result<&'f [Flow], MoveFault>
+) -> Result<&'a [Flow], MoveFault>
     ensures { IfOk result (λ left. length left.now ≤ length flows.now) }
 {
     let mut rest = flows;
@@ -138,13 +138,13 @@ fn read_tested<'f>(
 
 /// Reads what stands in front of a passage, in a turn.
 #[cycle(turning)]
-fn read_item<'f>(
+fn read_item<'a>(
     alloc: Global,
-    item: &PassageItem<'_>,
-    turn: &[Counter<'_>],
-    flows: &'f [Flow],
+    item: &PassageItem<'a>,
+    turn: &[Counter<'a>],
+    flows: &'a [Flow],
     lines: &mut DeedLines,
-) -> Result<&'f [Flow], MoveFault>
+) -> Result<&'a [Flow], MoveFault>
     ensures { IfOk result (λ left. length left.now ≤ length flows.now) }
 {
     match item {
@@ -164,13 +164,13 @@ fn read_item<'f>(
 
 /// Reads a passage in a turn, and answers the flows behind those that it comes to.
 #[cycle(turning)]
-fn read_passage<'f>(
+fn read_passage<'a>(
     alloc: Global,
-    words: &[Token],
-    turn: &[Counter<'_>],
-    flows: &'f [Flow],
+    words: &'a [Token],
+    turn: &[Counter<'a>],
+    flows: &'a [Flow],
     lines: &mut DeedLines,
-) -> Result<&'f [Flow], MoveFault>
+) -> Result<&'a [Flow], MoveFault>
     ensures { IfOk result (λ left. length left.now ≤ length flows.now) }
 {
     let mut rest = flows;
