@@ -1,4 +1,4 @@
-ghost use Rattle.std.specs.Prelude.{◌≡◌, IfErr, IfOk};
+ghost use Rattle.std.specs.Prelude.{◌≡◌, IfErr, IfOk, OnOk};
 ghost use Rattle.cob_copybook.specs.Books.{IsBookOf};
 ghost use Rattle.cob_copybook.specs.declared.role.Role.TheVariants.{Out};
 ghost use Rattle.cob_records.specs.Forms.{HasBlockSize};
@@ -8,6 +8,7 @@ ghost use Rattle.cob_program_faults.specs.Texts.{LacksConversion, StopsAtRecord}
 ghost use Rattle.cob_program_faults.specs.declared.fault.CommandFault.TheVariants.{Stopped as StoppedFault};
 ghost use Rattle.cob_convert.specs.declared.status.Status.TheVariants.{Device, Done};
 ghost use Rattle.cob_report_explain.specs.Explained.{IsExplanation};
+ghost use Rattle.cob_report_lossless.specs.Lines.{SaysMoves};
 ghost use Rattle.cob_program_explain.specs.Ends.{EndsTold};
 
 use crate::printing::MovePrinter;
@@ -16,6 +17,7 @@ use cob_program_faults::{CommandFault, FileName, fitting, opened, printed, tell_
 use cob_program_line::ExplainLine;
 use cob_records_parts::open_part;
 use cob_report_explain::{Explanation, ReadAgain, StoppedRecord, Teller, explain};
+use cob_report_lossless::paragraph_lines;
 use std::io;
 use std::io::{Eprint, Input, Print};
 use std::rt::Files;
@@ -32,6 +34,7 @@ fn converter_of<R: AllocGlobal>(
     requires out_block { HasBlockSize line.now.forms.output }
     ensures book { IfOk result
         (λ made. IsBookOf Out out_book.now made.records.output) }
+    ensures paragraph { OnOk result (SaysMoves moves.now) }
     ensures lacks { IfErr result LacksConversion }
 {
     let (in_form, out_form) = (line.forms.input, line.forms.output);
@@ -106,14 +109,13 @@ pub fn explain_record_of<R: AllocGlobal + Files + Input, T: Teller>(
     let in_book = text_of(rt, line.texts.in_book, FileName::InBook)?;
     let out_book = text_of(rt, line.texts.out_book, FileName::OutBook)?;
     let moves = text_of(rt, line.texts.moves, FileName::Moves)?;
+    let converter = converter_of(rt, line, &in_book, &out_book, &moves)?;
+    let lines = paragraph_lines(rt.alloc(), &moves)?;
     let texts = ReadAgain {
         out_book: &out_book,
-        moves: &moves,
+        lines: &lines,
     };
-    match converter_of(rt, line, &in_book, &out_book, &moves) {
-        Ok(converter) => explained(rt, line, stretch, &converter, texts, teller),
-        Err(fault) => Err(fault),
-    }
+    explained(rt, line, stretch, &converter, texts, teller)
 }
 
 /// Reads the three texts of a conversion and one record of the whole file, has its single moves told, and answers what is told of it beside them.

@@ -4,6 +4,7 @@ ghost use Rattle.std.specs.Prelude.{◌<◌, IfErr};
 ghost use Rattle.cob_records.specs.Forms.{HasBlockSize};
 ghost use Rattle.cob_program_faults.specs.Ends.{EndsAtRecord};
 ghost use Rattle.cob_program_map.specs.Ends.{MayNotMap};
+ghost use Rattle.cob_report_lossless.specs.Lines.{SaysMoves};
 
 use crate::ends::{Unmapped, tell_mapped};
 use crate::mapping::print_conversion;
@@ -11,7 +12,7 @@ use cob_convert::{Converter, Status};
 use cob_convert_record::Conversion;
 use cob_program_faults::{CommandFault, FileName, judge_lrecl, text_of};
 use cob_program_line::MapLine;
-use cob_report_lossless::lines_of;
+use cob_report_lossless::paragraph_lines;
 use std::io::{Eprint, Input, Print};
 use std::rt::Files;
 
@@ -22,14 +23,12 @@ fn print_lined<R: AllocGlobal + Files + Input + Print>(
     conversion: &Conversion,
     moves: &[u8],
 ) -> Result<(), Unmapped>
-    requires { 0 < line.now.record }
+    requires record { 0 < line.now.record }
+    requires paragraph { SaysMoves moves.now }
     ensures { IfErr result MayNotMap }
 {
-    match lines_of(rt.alloc(), moves) {
-        Ok(lines) => print_conversion(rt, line, conversion, lines),
-        // The paragraph was read before, so that only memory can lack.
-        Err(_) => Err(Unmapped::Fault(CommandFault::Memory)),
-    }
+    let lines = paragraph_lines(rt.alloc(), moves)?;
+    print_conversion(rt, line, conversion, lines)
 }
 
 /// Prints the page of a conversion, which this paragraph says, where its records fit the record length that the input is said to have.
@@ -39,7 +38,8 @@ fn print_fitting<R: AllocGlobal + Files + Input + Print>(
     converter: &Converter,
     moves: &[u8],
 ) -> Result<(), Unmapped>
-    requires { 0 < line.now.record }
+    requires record { 0 < line.now.record }
+    requires paragraph { SaysMoves moves.now }
     ensures { IfErr result MayNotMap }
 {
     let greatest = converter.in_length();

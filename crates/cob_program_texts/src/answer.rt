@@ -3,6 +3,7 @@ ghost use Rattle.std.specs.Bool.{Decides};
 ghost use Rattle.cob_program_faults.specs.declared.fault.CommandFault.TheVariants.{Memory};
 ghost use Rattle.cob_back_runs.specs.Keeps.{AreLossless, Keeps};
 ghost use Rattle.cob_convert.specs.Means.{Means};
+ghost use Rattle.cob_report_lossless.specs.Lines.{SaysMoves};
 ghost use Rattle.cob_program_texts.specs.Answers.{is_yes, IsAnswer, IsRefusal, IsRefusedBack, IsRefusedThere, RefusesTexts};
 ghost use Rattle.cob_program_texts.specs.LosslessEnds.{RefusesConversion};
 
@@ -11,7 +12,7 @@ use cob_back_runs::{Loss, carried, first_loss};
 use cob_convert::{Converter, PrepareFault};
 use cob_program_faults::CommandFault;
 use cob_records::Form;
-use cob_report_lossless::{LinedMoves, lines_of, told_loss};
+use cob_report_lossless::{LinedMoves, paragraph_lines, told_loss};
 use std::alloc::Global;
 
 /// The conversion of records of fixed length that three texts say.
@@ -85,16 +86,6 @@ struct Paragraphs<'a> {
     back: &'a [u8],
 }
 
-/// The lines of the statements of a paragraph that was read before, so that only memory can lack.
-fn statement_lines(alloc: Global, text: &[u8]) -> Result<Vec<u32>, CommandFault>
-    ensures { IfErr result (λ fault. fault ≡ Memory) }
-{
-    match lines_of(alloc, text) {
-        Ok(lines) => Ok(lines),
-        Err(_) => Err(CommandFault::Memory),
-    }
-}
-
 /// A point in which conversions may lose something, in words; the statements of their paragraphs stand on these lines.
 fn words_on<'a>(
     alloc: Global,
@@ -128,10 +119,12 @@ fn words_of(
     paragraphs: Paragraphs<'_>,
     loss: Loss,
 ) -> Result<String, CommandFault>
+    requires there { SaysMoves paragraphs.there.now }
+    requires back { SaysMoves paragraphs.back.now }
     ensures { IfErr result (λ fault. fault ≡ Memory) }
 {
-    let lines = statement_lines(alloc, paragraphs.there)?;
-    let lines_back = statement_lines(alloc, paragraphs.back)?;
+    let lines = paragraph_lines(alloc, paragraphs.there)?;
+    let lines_back = paragraph_lines(alloc, paragraphs.back)?;
     let words = words_on(alloc, forth, home, &lines, &lines_back, loss)?;
     Ok(words)
 }
@@ -143,6 +136,8 @@ fn answer_between(
     home: &Converter,
     paragraphs: Paragraphs<'_>,
 ) -> Result<Answer, CommandFault>
+    requires there { SaysMoves paragraphs.there.now }
+    requires back { SaysMoves paragraphs.back.now }
     ensures exactly { IfOk result
         (λ answer. Decides (is_yes answer) (AreLossless forth.now home.now)) }
     ensures keeps { IfOk result
@@ -167,6 +162,7 @@ fn answer_from(
     there: &[u8],
     back: &[u8],
 ) -> Result<Answer, CommandFault>
+    requires { SaysMoves there.now }
     ensures answer { Means in_book.now out_book.now there.now forth.now → IfOk result
         (λ a. IsAnswer in_book.now out_book.now there.now back.now (is_yes a)) }
     ensures refused { IfErr result

@@ -3,6 +3,7 @@
 ghost use Rattle.std.specs.Prelude.{◌≡◌, IfErr};
 ghost use Rattle.cob_program_faults.specs.declared.fault.CommandFault.TheVariants.{Memory};
 ghost use Rattle.cob_program_texts.specs.CheckEnds.{MayEndCheck};
+ghost use Rattle.cob_report_lossless.specs.Lines.{SaysMoves};
 
 use crate::checking::Checked;
 use cob_back_runs::carried;
@@ -11,7 +12,7 @@ use cob_program_faults::{CommandFault, FileName, text_of};
 use cob_program_line::CheckLine;
 use cob_records::Form;
 use cob_report_cover::{CoverText, cover_text};
-use cob_report_lossless::{LinedMoves, lines_of};
+use cob_report_lossless::{LinedMoves, paragraph_lines};
 use std::alloc::Global;
 use std::rt::Files;
 
@@ -42,6 +43,7 @@ fn lists_of(
     moves: &[u8],
     cover: bool,
 ) -> Result<CoverText, CommandFault>
+    requires { SaysMoves moves.now }
     ensures { IfErr result (λ fault. fault ≡ Memory) }
 {
     if !cover {
@@ -50,11 +52,8 @@ fn lists_of(
             is_open: false,
         });
     }
-    match lines_of(alloc, moves) {
-        Ok(lines) => lists_on(alloc, converter, &lines),
-        // The paragraph was read before: only memory can lack.
-        Err(_) => Err(CommandFault::Memory),
-    }
+    let lines = paragraph_lines(alloc, moves)?;
+    lists_on(alloc, converter, &lines)
 }
 
 /// What a conversion of this paragraph came to, and its lists.
@@ -64,6 +63,7 @@ fn told_of(
     moves: &[u8],
     cover: bool,
 ) -> Result<(Checked, CoverText), CommandFault>
+    requires { SaysMoves moves.now }
     ensures { IfErr result (λ fault. fault ≡ Memory) }
 {
     let lists = lists_of(alloc, converter, moves, cover)?;

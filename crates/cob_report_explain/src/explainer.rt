@@ -22,7 +22,6 @@ use cob_move_initial::initial;
 use cob_records::Source;
 use cob_records_parts::Numbered;
 use cob_report_faults::{Asker, Qualifying, frame_words};
-use cob_report_lossless::lines_of;
 use std::alloc::{AllocError, Global};
 
 /// What is told of a record that stops a run: its fault, and what is wrong in words, where there are some.
@@ -45,11 +44,11 @@ pub enum Explanation {
     Refused(StoppedRecord),
 }
 
-/// The texts of a conversion that are read again: the copybook of the output record, and the paragraph.
+/// What is read again of the texts of a conversion: the copybook of the output record, and the lines of the paragraph's statements.
 #[derive(Clone, Copy)]
 pub struct ReadAgain<'a> {
     pub out_book: &'a [u8],
-    pub moves: &'a [u8],
+    pub lines: &'a [u32],
 }
 
 /// Begins an output record of a conversion, whose copybook this text is: its storage holds its initial values.
@@ -69,14 +68,6 @@ fn begin_output(
     let layout = Layout::of(alloc, &book)?;
     initial(&layout, &book, output);
     Ok(())
-}
-
-/// The lines of the statements of a paragraph that was read before, so that only memory can lack.
-fn statement_lines(alloc: Global, text: &[u8]) -> Result<Vec<u32>, AllocError> {
-    match lines_of(alloc, text) {
-        Ok(lines) => Ok(lines),
-        Err(_) => Err(AllocError),
-    }
 }
 
 /// The records of a conversion.
@@ -254,13 +245,19 @@ pub fn explain<R: Source, T: Teller>(
     requires { IsBookOf Out texts.out_book.now conversion.now.records.output }
     ensures { IfOk result IsExplanation }
 {
-    let lines = statement_lines(alloc, texts.moves)?;
     let mut output = vec![in alloc; 0u8; usize::from(conversion.out_length())]?;
     let output = output.as_mut_slice();
     begin_output(alloc, texts.out_book, conversion, output)?;
     let mut slot = vec![in alloc; 0u8; usize::from(conversion.in_length())]?;
     let slot = slot.as_mut_slice();
     explained_from(
-        alloc, conversion, &lines, source, number, slot, output, teller,
+        alloc,
+        conversion,
+        texts.lines,
+        source,
+        number,
+        slot,
+        output,
+        teller,
     )
 }

@@ -10,6 +10,7 @@ use Rattle.cob_copybook_clauses.specs.declared.term.WordClass.TheVariants as ter
 use Rattle.cob_source.specs.Tokens.{Lexeme, lexemes}
 use Rattle.cob_source.specs.Words.{AreParagraphWordsOf}
 use Rattle.cob_source.specs.declared.token.TokenKind.TheVariants as kind
+use Rattle.cob_move.specs.Paragraphs.{AreSpelled}
 use Rattle.cob_move_loops.specs.Laws.{BreaksNone, NoTurn, OnePassage}
 use Rattle.cob_move_loops.specs.Reading.{all_runs, counters, run_words}
 use Rattle.cob_move_loops.specs.Passages.{ALoop, Breaks, IsPassage, Moves, NoMore, Passage, Pause}
@@ -22,7 +23,7 @@ use Rattle.cob_move_statements.specs.Statements.{IsBody, IsEndedStatement, IsHea
 use Rattle.cob_move_statements.specs.Written.{WrittenStatement}
 use Rattle.cob_move_statements.specs.declared.fault.MoveFault.{MoveFault}
 use Rattle.cob_move_statements.specs.declared.fault.MoveRule.TheVariants as rule
-use Rattle.cob_report_lossless.specs.Lines.{AreLinesOf, AreRunLines, AreStatementLines, HasBody, line_of}
+use Rattle.cob_report_lossless.specs.Lines.{AreLinesOf, AreRunLines, AreStatementLines, HasBody, SaysMoves, line_of}
 
 none_in : {A : Type 0} (xs : List A) → length xs ≡ 0 → xs ≡ []
 none_in {A} [] e = refl
@@ -161,3 +162,32 @@ pub runs_read : (text : List ℕ) (words body : List Lexeme) (runs : List (List 
     → AreRunLines runs lines
 runs_read text words body runs lines a same has out only =
     subst (λ (rs : List (List Lexeme)). AreRunLines rs lines) (sym (out has.passage has.says ∙ only a.body (body_read words a.words a.body same a.has) has.passage has.says)) a.lines_are
+
+-- ---- a paragraph has lines
+
+-- statements that runs spell stand on lines
+spelled_lines : (runs : List (List Lexeme)) (ss : List WrittenStatement) → AreSpelled runs ss → (lines : List ℕ) × AreRunLines runs lines
+spelled_lines [] ss e = ([], refl)
+spelled_lines (ws ∷ runs) ss (own, rest, is, others, e) =
+    let (more, are) = spelled_lines runs rest others in
+    (map line_of own ++ more, (map line_of own, more, record { statements = own; spelled = is; lines_are = refl }, are, refl))
+
+-- those of a paragraph are its lines
+pub has_lines : (text : List ℕ) → SaysMoves text → (lines : List ℕ) × AreLinesOf text lines
+has_lines text (input, output, ms, p) =
+    let (lines, are) = spelled_lines (words_by_turn [] p.passage) p.statements p.spelled in (
+      lines,
+      record {
+        words = p.words;
+        body = p.has.body;
+        are_words = p.are_words;
+        has = record {
+          heading = p.has.heading;
+          passage = p.passage;
+          named = p.has.named;
+          words_are = p.has.words_are;
+          says = p.has.says;
+        };
+        lines_are = are;
+      },
+    )

@@ -2,6 +2,10 @@
 use Rattle.std.specs.Prelude.{◌≡◌, ℕ, List, [], ◌∷◌, ◌++◌, map}
 use Rattle.cob_source.specs.Tokens.{Lexeme}
 use Rattle.cob_source.specs.Words.{AreParagraphWordsOf}
+use Rattle.cob_copybook_tree.specs.Forests.{Forest}
+use Rattle.cob_copybook_tree.specs.Nodes.{Resolved}
+use Rattle.cob_move_data.specs.Moves.{Move}
+use Rattle.cob_move.specs.Paragraphs.{IsParagraphOf}
 use Rattle.cob_move_loops.specs.Passages.{IsPassage, Passage}
 use Rattle.cob_move_loops.specs.Turns.{words_by_turn}
 use Rattle.cob_move_statements.specs.Statements.{IsEndedStatement, IsHeading, Several}
@@ -38,3 +42,11 @@ pub record AreLinesOf (text lines : List ℕ) : Type 0 where
   pub are_words : AreParagraphWordsOf text words
   pub has : HasBody words body
   pub lines_are : AreRunLines (words_by_turn [] has.passage) lines
+
+-- the text is a paragraph: it says moves between some two records
+abbrev pub SaysMoves : List ℕ → Type 0
+SaysMoves text = (input output : Forest Resolved) × (ms : List Move) × IsParagraphOf text input output ms
+
+-- Law: a text that is a paragraph has lines.
+abbrev pub ParagraphsHaveLines : Type 0
+ParagraphsHaveLines = (text : List ℕ) → SaysMoves text → (lines : List ℕ) × AreLinesOf text lines

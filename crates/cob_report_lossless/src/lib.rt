@@ -10,12 +10,12 @@
 //!
 //! What is promised: of two items, what the second one lacks ([`lack_of`]; `Lacks` of specs/Lacks.antt), nothing exactly where it loses nothing of the
 //! first (`LosesNothing` of `cob_back_moves`); and the lines of the statements that a paragraph comes to, those of a loop once for each of its turns
-//! ([`lines_of`]; `AreLinesOf` of specs/Lines.antt), which are answered, memory aside, of each text that has such lines. Which words tell
-//! a loss is shown by `cob_test_jobs`.
+//! ([`lines_of`]; `AreLinesOf` of specs/Lines.antt), which are answered, memory aside, of each text that has such lines. Each paragraph between two
+//! records has some ([`paragraphs_have_lines`]), so that [`paragraph_lines`] refuses none of them. Which words tell a loss is shown by `cob_test_jobs`.
 //!
 //! # Where it is proved
 //!
-//! The clauses `none`, `lost`, `lacks` of `lack_of`, and `found`, `only` of `lines_of`: a text that has lines is refused for want of memory alone; which words tell a loss is shown by rows.
+//! The clauses `none`, `lost`, `lacks` of `lack_of`, `found`, `only` of `lines_of`, and that of `paragraph_lines`: a paragraph lacks its lines for want of memory alone; the law `paragraphs_have_lines`. Which words tell a loss is shown by rows.
 #![tactic(auto)]
 
 mod items;
@@ -27,6 +27,6 @@ mod storage;
 mod words;
 
 pub use lacks::{Lack, lack_of};
-pub use lines::{line_at, lines_of};
+pub use lines::{line_at, lines_of, paragraph_lines, paragraphs_have_lines};
 pub use reasons::{LinedMoves, LossPosition, LossReason, ToldLoss, named_in, told_loss};
 pub use singles::{LinedSingle, singles_of};

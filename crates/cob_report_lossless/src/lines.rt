@@ -6,7 +6,7 @@ ghost use Rattle.cob_move_loops.specs.Reading.{all_runs, run_words};
 ghost use Rattle.cob_move_loops.specs.Turns.{words_by_turn};
 ghost use Rattle.cob_move_statements.specs.Reading.{IsOrLacksMemory};
 ghost use Rattle.cob_move_statements.specs.Written.{written_statements};
-ghost use Rattle.cob_report_lossless.specs.Lines.{AreLinesOf, AreRunLines, AreStatementLines, HasBody, line_of};
+ghost use Rattle.cob_report_lossless.specs.Lines.{AreLinesOf, AreRunLines, AreStatementLines, HasBody, ParagraphsHaveLines, SaysMoves, line_of};
 ghost use Rattle.cob_source.specs.Tokens.{Lexeme, lexemes};
 
 use cob_move_loops::{Run, breaks_none, check, in_turn, no_turn, one_passage, write_out};
@@ -89,7 +89,7 @@ fn body_of(words: &[Token]) -> Result<&[Token], MoveFault>
     }
 }
 
-/// The line of the first word of each statement of a paragraph that was read before, in their order.
+/// The line of the first word of each statement of a text, in their order.
 ///
 /// # Errors
 ///
@@ -107,6 +107,30 @@ pub fn lines_of(alloc: Global, text: &[u8]) -> Result<Vec<u32>, MoveFault>
     let runs = write_out(alloc, body)?;
     let lines = all_lines(alloc, runs.as_slice())?;
     Ok(lines)
+}
+
+/// A law: a text that is a paragraph between two records has lines.
+pub fn paragraphs_have_lines()
+    ensures { ParagraphsHaveLines }
+{}
+
+/// The line of the first word of each statement of a text that is a paragraph between two records, in their order.
+///
+/// # Errors
+///
+/// Memory was refused.
+pub fn paragraph_lines(alloc: Global, text: &[u8]) -> Result<Vec<u32>, AllocError>
+    requires { SaysMoves text.now }
+    ensures { IfOk result (λ lines. AreLinesOf text.now lines.items) }
+{
+    paragraphs_have_lines();
+    match lines_of(alloc, text) {
+        Ok(lines) => Ok(lines),
+        Err(fault) => match fault.rule {
+            MoveRule::Memory => Err(AllocError),
+            _ => unreachable!(),
+        },
+    }
 }
 
 /// The line of the statement with this number, from 0.

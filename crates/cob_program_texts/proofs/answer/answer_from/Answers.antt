@@ -9,3 +9,7 @@ returns-in-Ok-clause-answer c means =
 pub returns-in-Ok-clause-refused : goal.returns-in-Ok-clause-refused
 returns-in-Ok-clause-refused c =
     memory_refused c.answer_between.result c.args.in_book.now c.args.out_book.now c.args.back.now c.answer_between.ensures.memory
+
+pub answer_between-requires-clause-back : goal.answer_between-requires-clause-back
+answer_between-requires-clause-back c =
+    let home = c.in-Ok.home in (home.records.input, home.records.output, home.moves, c.in-Ok.ensures.means.paragraph)

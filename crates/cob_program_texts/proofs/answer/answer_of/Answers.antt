@@ -20,3 +20,7 @@ returns-in-Err-clause-refused c = inl c.in-Err.ensures.refused
 pub returns-in-Err-clause-may : goal.returns-in-Err-clause-may
 returns-in-Err-clause-may c =
     may_there c.in-Err.fault c.args.in_book.now c.args.out_book.now c.args.there.now c.in-Err.ensures.refused
+
+pub answer_from-requires : goal.answer_from-requires
+answer_from-requires c =
+    let forth = c.in-Ok.forth in (forth.records.input, forth.records.output, forth.moves, c.in-Ok.ensures.means.paragraph)

@@ -12,3 +12,7 @@ of_memory (Err e) h = inl (inr (inr h))
 
 pub returns-in-Ok : goal.returns-in-Ok
 returns-in-Ok c = of_memory c.told_of.result c.told_of.ensures
+
+pub told_of-requires : goal.told_of-requires
+told_of-requires c =
+    let made = c.in-Ok.converter in (made.records.input, made.records.output, made.moves, c.in-Ok.ensures.means.paragraph)
