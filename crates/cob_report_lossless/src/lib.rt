@@ -15,7 +15,8 @@
 //!
 //! # Where it is proved
 //!
-//! The clauses `none`, `lost`, `lacks` of `lack_of`, `found`, `only` of `lines_of`, and that of `paragraph_lines`: a paragraph lacks its lines for want of memory alone; the law `paragraphs_have_lines`. Which words tell a loss is shown by rows.
+//! The clauses `none`, `lost`, `lacks` of `lack_of`, `found`, `only` of `lines_of`, and that of `paragraph_lines`: a paragraph lacks its lines for want of
+//! memory alone; the law `paragraphs_have_lines`. Which words tell a loss is shown by rows.
 #![tactic(auto)]
 
 mod items;
