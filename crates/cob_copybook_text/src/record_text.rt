@@ -1,12 +1,12 @@
 //! The text of one record description.
 
-ghost use Rattle.std.specs.Prelude.{◌≡◌, List, true, option_map, IfErr, IfOk, IsTrue};
+ghost use Rattle.std.specs.Prelude.{◌≡◌, ℕ, List, Option, true, option_map, IfErr, IfOk, IsTrue};
 ghost use Rattle.cob_source.specs.Tokens.{Lexeme, lexeme, lexemes};
 ghost use Rattle.cob_copybook_text.specs.Meant.{AreMeant};
-ghost use Rattle.cob_copybook_text.specs.Refusals.{IsTextRefusal, IsWant};
+ghost use Rattle.cob_copybook_text.specs.Refusals.{IsCopyingRefusal, IsTextRefusal, IsWant};
 ghost use Rattle.cob_copybook_text.specs.Written.{IsTextFor};
 ghost use Rattle.cob_source_copies.specs.declared.fault.CopyRule.TheVariants.{Memory};
-ghost use Rattle.cob_copybook_text.specs.Meant.{ComeTo};
+ghost use Rattle.cob_copybook_text.specs.declared.copying.Copying.{Copying};
 
 use crate::again::text_saying;
 use crate::choosing::chosen;
@@ -52,10 +52,15 @@ fn are_same(words: &[Token], others: &[Token]) -> bool
 }
 
 /// What a fault of COPY is here: want of memory is told as that alone.
-fn copy_refusal(fault: CopyFault) -> RecordTextFault {
-    match fault.rule {
-        CopyRule::Memory => RecordTextFault::Memory,
-        _ => RecordTextFault::Copy(fault),
+fn copy_refusal(fault: CopyFault) -> RecordTextFault
+    ensures want { fault.rule ≡ Memory → IsWant result }
+    ensures refused { (how : Copying) (name : Option (List ℕ)) (words : List Lexeme)
+        → IsCopyingRefusal how fault.rule fault.line words → IsTextRefusal result how name words }
+{
+    if fault.rule == CopyRule::Memory {
+        RecordTextFault::Memory
+    } else {
+        RecordTextFault::Copy(fault)
     }
 }
 
