@@ -17,8 +17,8 @@ HasBooks line.Completion = ⊥
 HasBooks line.Manual = ⊥
 HasBooks said = ⊤
 
--- The copybooks of a command are not handed over: the file of one was not read; one is refused, or a text that it copies was not read; or words of the command
--- line say no exchange; or memory was refused.
+-- The copybooks of a command are not handed over: the file of one was not read; one is refused, or a text that it copies was not read,
+-- or stands in a file that is written; or words of the command line say no exchange; or memory was refused.
 abbrev pub LacksHanding : HandingFault → Type 0
 LacksHanding (fault.File told) = LacksText name.InBook told ⊎ LacksText name.OutBook told ⊎ LacksText name.Book told
 LacksHanding other = ⊤
@@ -28,5 +28,6 @@ abbrev pub status_of_handing : HandingFault → Status
 status_of_handing (fault.File told) = status_of told
 status_of_handing (fault.Refused words) = status.Refused
 status_of_handing (fault.NotRead words) = status.Device
+status_of_handing (fault.OneFile book output) = status.Malformed
 status_of_handing fault.BadReplace = status.Malformed
 status_of_handing fault.Memory = status.Memory

@@ -6,7 +6,7 @@ ghost use Rattle.cob_program_copies.specs.declared.fault.HandingFault.TheVariant
 ghost use Rattle.cob_program_faults.specs.Ends.{EndsAs};
 
 use cob_convert::Status;
-use cob_program_faults::{CommandFault, printed, tell_fault};
+use cob_program_faults::{CommandFault, FileName, printed, tell_fault};
 use std::alloc::{AllocError, AllocFailed};
 use std::io::Eprint;
 
@@ -19,6 +19,8 @@ pub enum HandingFault {
     Refused(String),
     /// A text that a copybook copies is there, and a read of it failed: the words of the line that is told.
     NotRead(String),
+    /// A file that the command writes holds a text that a copybook copies: the option of the copybook, and that of the file.
+    OneFile(FileName, FileName),
     /// The option for exchanges says none.
     BadReplace,
     /// Memory was refused.
@@ -49,6 +51,10 @@ pub fn tell_unhanded<R: Eprint>(rt: &R, fault: &HandingFault) -> Status
         HandingFault::File(fault) => tell_fault(rt, *fault),
         HandingFault::Refused(words) => printed(eprintln!(rt; "{words}"), Status::Refused),
         HandingFault::NotRead(words) => printed(eprintln!(rt; "{words}"), Status::Device),
+        HandingFault::OneFile(book, output) => printed(
+            eprintln!(rt; "a copy of {book} and {output} are one file"),
+            Status::Malformed,
+        ),
         HandingFault::BadReplace => printed(eprintln!(rt; "bad replace"), Status::Malformed),
         HandingFault::Memory => printed(eprintln!(rt; "memory"), Status::Memory),
     }

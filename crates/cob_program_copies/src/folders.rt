@@ -1,6 +1,7 @@
 //! Texts that stand in folders.
 
-use cob_program_faults::{TextFault, read_text};
+use crate::outputs::Outputs;
+use cob_program_faults::{FileIdentity, FileName, TextFault, read_text};
 use cob_source_copies::{Shelf, ShelfFault, TextName};
 use std::alloc::{AllocError, Global};
 use std::rt::Files;
@@ -14,12 +15,26 @@ const SUFFIXES: [&str; 3] = ["", ".cpy", ".cbl"];
 pub struct Folders<'a, R> {
     rt: &'a R,
     folders: &'a str,
+    /// The files that the command writes.
+    outputs: Outputs,
+    /// The first of these that a text came from.
+    lost: Option<FileName>,
 }
 
 impl<'a, R> Folders<'a, R> {
-    /// These folders, parted by colons.
-    pub fn new(rt: &'a R, folders: &'a str) -> Folders<'a, R> {
-        Folders { rt, folders }
+    /// These folders, parted by colons, for a command that writes these files.
+    pub fn new(rt: &'a R, folders: &'a str, outputs: Outputs) -> Folders<'a, R> {
+        Folders {
+            rt,
+            folders,
+            outputs,
+            lost: None,
+        }
+    }
+
+    /// A file that the command writes and that a text came from, which would be lost.
+    pub fn lost(&self) -> Option<FileName> {
+        self.lost
     }
 }
 
@@ -48,18 +63,28 @@ fn folder_of(
     }
 }
 
+/// A text, and the identity of its file.
+#[derive(Drop)]
+struct Found {
+    text: Vec<u8>,
+    identity: Option<FileIdentity>,
+}
+
 /// The text in the first file in a folder that may have it: of the name with nothing, `.cpy` or `.cbl` behind it.
 fn text_in<R: AllocGlobal + Files>(
     rt: &R,
     folder: &str,
     name: &str,
-) -> Result<Option<Vec<u8>>, ShelfFault> {
-    for suffix in SUFFIXES {
+) -> Result<Option<Found>, ShelfFault> {
+    for suffix in &SUFFIXES {
         let Ok(path) = format!(in rt.alloc(); "{folder}/{name}{suffix}") else {
             return Err(ShelfFault::Memory);
         };
         match read_text(rt, &path) {
-            Ok(text) => return Ok(Some(text)),
+            Ok(text) => {
+                let identity = FileIdentity::of(rt, &path);
+                return Ok(Some(Found { text, identity }));
+            }
             Err(TextFault::NotOpened) => {}
             Err(TextFault::NotRead) => return Err(ShelfFault::Unreadable),
             Err(TextFault::Memory) => return Err(ShelfFault::Memory),
@@ -74,21 +99,44 @@ fn text_named<R: AllocGlobal + Files>(
     folder: &str,
     library: Option<&str>,
     name: &str,
-) -> Result<Option<Vec<u8>>, ShelfFault> {
+) -> Result<Option<Found>, ShelfFault> {
     let alloc = rt.alloc();
     let Ok(beneath) = folder_of(alloc, folder, library, false) else {
         return Err(ShelfFault::Memory);
     };
-    if let Some(text) = text_in(rt, &beneath, name)? {
-        return Ok(Some(text));
+    if let Some(found) = text_in(rt, &beneath, name)? {
+        return Ok(Some(found));
     }
-    let (Ok(small_beneath), Ok(small)) = (
-        folder_of(alloc, folder, library, true),
-        name.to_ascii_lowercase(alloc),
-    ) else {
+    let Ok(small_beneath) = folder_of(alloc, folder, library, true) else {
+        return Err(ShelfFault::Memory);
+    };
+    let Ok(small) = name.to_ascii_lowercase(alloc) else {
         return Err(ShelfFault::Memory);
     };
     text_in(rt, &small_beneath, &small)
+}
+
+impl<R: AllocGlobal + Files> Folders<'_, R> {
+    /// The text of this name in the first folder that has it.
+    fn found(&self, library: Option<&str>, name: &str) -> Result<Option<Found>, ShelfFault> {
+        for folder in self.folders.split(':') {
+            if let Some(found) = text_named(self.rt, folder, library, name)? {
+                return Ok(Some(found));
+            }
+        }
+        Ok(None)
+    }
+}
+
+/// The name of a library as that of a folder, where one is named; `Err` where it can be none.
+fn library_name(named: &TextName) -> Result<Option<&str>, ()> {
+    match &named.library {
+        Some(library) => match file_name(library.as_slice()) {
+            Some(library) => Ok(Some(library)),
+            None => Err(()),
+        },
+        None => Ok(None),
+    }
 }
 
 impl<R: AllocGlobal + Files> Shelf for Folders<'_, R> {
@@ -96,18 +144,15 @@ impl<R: AllocGlobal + Files> Shelf for Folders<'_, R> {
         let Some(name) = file_name(named.name.as_slice()) else {
             return Ok(None);
         };
-        let library = match &named.library {
-            Some(library) => match file_name(library.as_slice()) {
-                Some(library) => Some(library),
-                None => return Ok(None),
-            },
-            None => None,
+        let Ok(library) = library_name(named) else {
+            return Ok(None);
         };
-        for folder in self.folders.split(':') {
-            if let Some(text) = text_named(self.rt, folder, library, name)? {
-                return Ok(Some(text));
-            }
+        let Some(found) = self.found(library, name)? else {
+            return Ok(None);
+        };
+        if self.lost.is_none() {
+            self.lost = self.outputs.lost_with(found.identity);
         }
-        Ok(None)
+        Ok(Some(found.text))
     }
 }

@@ -9,6 +9,7 @@ use crate::exchanges::exchanges_of;
 use crate::fault::HandingFault;
 use crate::folders::Folders;
 use crate::judging::judged;
+use crate::outputs::Outputs;
 use crate::told::{of_fetching, of_text};
 use cob_copybook::Role;
 use cob_copybook_text::{Copying, record_text};
@@ -34,6 +35,15 @@ struct BookOption<'a> {
     record: Option<&'a str>,
 }
 
+/// What is asked of all copybooks of a line.
+#[derive(Clone, Copy)]
+struct Asked<'a> {
+    /// What the options say.
+    options: Handing<'a>,
+    /// The files that the command writes.
+    outputs: Outputs,
+}
+
 /// A fault that is none of a copybook's file.
 fn beside_file(fault: HandingFault) -> HandingFault
     ensures { LacksHanding result }
@@ -48,19 +58,22 @@ fn beside_file(fault: HandingFault) -> HandingFault
 fn copying_of<R: AllocGlobal + Files>(
     rt: &R,
     file: FileName,
-    handing: &Handing<'_>,
+    handing: &Asked<'_>,
     words: &[Token],
 ) -> Result<Copying, HandingFault> {
     let alloc = rt.alloc();
-    if let Some(said) = handing.replace {
+    if let Some(said) = handing.options.replace {
         return Ok(Copying::Replaced(exchanges_of(alloc, said)?));
     }
-    let Some(folders) = handing.copy_dirs else {
+    let Some(folders) = handing.options.copy_dirs else {
         return Ok(Copying::Left);
     };
-    let mut shelf = Folders::new(rt, folders);
+    let mut shelf = Folders::new(rt, folders, handing.outputs);
     match fetch(alloc, &mut shelf, words) {
-        Ok(library) => Ok(Copying::CarriedOut(library)),
+        Ok(library) => match shelf.lost() {
+            Some(output) => Err(HandingFault::OneFile(file, output)),
+            None => Ok(Copying::CarriedOut(library)),
+        },
         Err(fault) => Err(of_fetching(alloc, file, &fault)?),
     }
 }
@@ -80,7 +93,7 @@ fn words_of(alloc: Global, text: &[u8]) -> Result<Option<Vec<Token>>, HandingFau
 fn text_handed<R: AllocGlobal + Files>(
     rt: &R,
     book: BookOption<'_>,
-    handing: &Handing<'_>,
+    handing: &Asked<'_>,
     text: Vec<u8>,
 ) -> Result<Vec<u8>, HandingFault> {
     let alloc = rt.alloc();
@@ -104,7 +117,7 @@ fn text_handed<R: AllocGlobal + Files>(
 fn push_handed<'a, R: AllocGlobal + Files>(
     rt: &R,
     book: BookOption<'a>,
-    handing: &Handing<'_>,
+    handing: &Asked<'_>,
     text: Vec<u8>,
     out: &mut Vec<HandedBook<'a>>,
 ) -> Result<(), HandingFault>
@@ -134,7 +147,7 @@ fn read_of<R: AllocGlobal + Files>(rt: &R, book: BookOption<'_>) -> Result<Vec<u
 fn hand_one<'a, R: AllocGlobal + Files>(
     rt: &R,
     path: &'a str,
-    handing: &Handing<'a>,
+    handing: &Asked<'a>,
 ) -> Result<Vec<HandedBook<'a>>, HandingFault>
     ensures { IfErr result LacksHanding }
 {
@@ -143,7 +156,7 @@ fn hand_one<'a, R: AllocGlobal + Files>(
         role: Role::In,
         found_at: LISTED_BOOK,
         path,
-        record: handing.record,
+        record: handing.options.record,
     };
     let text = match read_of(rt, book) {
         Ok(text) => text,
@@ -159,7 +172,7 @@ fn hand_both<'a, R: AllocGlobal + Files>(
     rt: &R,
     in_path: &'a str,
     out_path: &'a str,
-    handing: &Handing<'a>,
+    handing: &Asked<'a>,
 ) -> Result<Vec<HandedBook<'a>>, HandingFault>
     ensures { IfErr result LacksHanding }
 {
@@ -168,14 +181,14 @@ fn hand_both<'a, R: AllocGlobal + Files>(
         role: Role::In,
         found_at: IN_BOOK,
         path: in_path,
-        record: handing.in_record,
+        record: handing.options.in_record,
     };
     let out_book = BookOption {
         file: FileName::OutBook,
         role: Role::Out,
         found_at: OUT_BOOK,
         path: out_path,
-        record: handing.out_record,
+        record: handing.options.out_record,
     };
     let in_text = match read_of(rt, in_book) {
         Ok(text) => text,
@@ -204,9 +217,13 @@ pub fn hand_over<'a, R: AllocGlobal + Files>(
     ensures lacks { IfErr result LacksHanding }
     ensures books { IfErr result (λ _. HasBooks line.now) }
 {
+    let asked = Asked {
+        options: *handing,
+        outputs: Outputs::of(rt, line),
+    };
     match books_of(line) {
         None => Ok(Vec::new(rt.alloc())),
-        Some(BookFiles::One(book)) => hand_one(rt, book, handing),
-        Some(BookFiles::Both(in_book, out_book)) => hand_both(rt, in_book, out_book, handing),
+        Some(BookFiles::One(book)) => hand_one(rt, book, &asked),
+        Some(BookFiles::Both(in_book, out_book)) => hand_both(rt, in_book, out_book, &asked),
     }
 }

@@ -27,6 +27,7 @@ mod files;
 mod folders;
 mod handing;
 mod judging;
+mod outputs;
 mod runtime;
 mod told;
 
@@ -35,4 +36,5 @@ pub use fault::{HandingFault, tell_unhanded};
 pub use files::HandedFile;
 pub use folders::Folders;
 pub use handing::hand_over;
+pub use outputs::Outputs;
 pub use runtime::HandedRuntime;
