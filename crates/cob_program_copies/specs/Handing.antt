@@ -2,6 +2,8 @@
 use Rattle.std.specs.Prelude.{◌⊎◌, ⊤}
 use Rattle.cob_convert.specs.declared.status.Status.{Status}
 use Rattle.cob_convert.specs.declared.status.Status.TheVariants as status
+use Rattle.cob_program_copies.specs.declared.fault.BookRefusal.{BookRefusal}
+use Rattle.cob_program_copies.specs.declared.fault.BookRefusal.TheVariants as refusal
 use Rattle.cob_program_copies.specs.declared.fault.HandingFault.{HandingFault}
 use Rattle.cob_program_copies.specs.declared.fault.HandingFault.TheVariants as fault
 use Rattle.cob_program_faults.specs.Faults.{status_of}
@@ -17,17 +19,20 @@ HasBooks line.Completion = ⊥
 HasBooks line.Manual = ⊥
 HasBooks said = ⊤
 
--- The copybooks of a command are not handed over: the file of one was not read; one is refused, or a text that it copies was not read,
--- or stands in a file that is written; or words of the command line say no exchange; or memory was refused.
+-- The copybooks of a command are not handed over: the file of one was not read; or one that was read is refused, or a text that it copies is or was not read.
 abbrev pub LacksHanding : HandingFault → Type 0
 LacksHanding (fault.File told) = LacksText name.InBook told ⊎ LacksText name.OutBook told ⊎ LacksText name.Book told
-LacksHanding other = ⊤
+LacksHanding (fault.Book refusal) = ⊤
 
--- with which status the command ends then
+-- with which status the command ends where a copybook that was read is not handed over
+abbrev pub status_of_refusal : BookRefusal → Status
+status_of_refusal (refusal.Refused words) = status.Refused
+status_of_refusal (refusal.NotRead words) = status.Device
+status_of_refusal (refusal.OneFile book output) = status.Malformed
+status_of_refusal refusal.BadReplace = status.Malformed
+status_of_refusal refusal.Memory = status.Memory
+
+-- with which status the command ends whose copybooks are not handed over
 abbrev pub status_of_handing : HandingFault → Status
 status_of_handing (fault.File told) = status_of told
-status_of_handing (fault.Refused words) = status.Refused
-status_of_handing (fault.NotRead words) = status.Device
-status_of_handing (fault.OneFile book output) = status.Malformed
-status_of_handing fault.BadReplace = status.Malformed
-status_of_handing fault.Memory = status.Memory
+status_of_handing (fault.Book why) = status_of_refusal why

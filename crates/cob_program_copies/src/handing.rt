@@ -6,7 +6,7 @@ ghost use Rattle.cob_program_faults.specs.Texts.{LacksText};
 
 use crate::books::{BookFiles, HandedBook, IN_BOOK, LISTED_BOOK, OUT_BOOK, books_of};
 use crate::exchanges::exchanges_of;
-use crate::fault::HandingFault;
+use crate::fault::{BookRefusal, HandingFault};
 use crate::folders::Folders;
 use crate::judging::judged;
 use crate::outputs::Outputs;
@@ -44,23 +44,13 @@ struct Asked<'a> {
     outputs: Outputs,
 }
 
-/// A fault that is none of a copybook's file.
-fn beside_file(fault: HandingFault) -> HandingFault
-    ensures { LacksHanding result }
-{
-    match fault {
-        HandingFault::File(_) => HandingFault::Memory,
-        other => other,
-    }
-}
-
 /// The texts that these words copy, or the exchanges in them, as the options say.
 fn copying_of<R: AllocGlobal + Files>(
     rt: &R,
     file: FileName,
     handing: &Asked<'_>,
     words: &[Token],
-) -> Result<Copying, HandingFault> {
+) -> Result<Copying, BookRefusal> {
     let alloc = rt.alloc();
     if let Some(said) = handing.options.replace {
         return Ok(Copying::Replaced(exchanges_of(alloc, said)?));
@@ -71,7 +61,7 @@ fn copying_of<R: AllocGlobal + Files>(
     let mut shelf = Folders::new(rt, folders, handing.outputs);
     match fetch(alloc, &mut shelf, words) {
         Ok(library) => match shelf.lost() {
-            Some(output) => Err(HandingFault::OneFile(file, output)),
+            Some(output) => Err(BookRefusal::OneFile(file, output)),
             None => Ok(Copying::CarriedOut(library)),
         },
         Err(fault) => Err(of_fetching(alloc, file, &fault)?),
@@ -79,11 +69,11 @@ fn copying_of<R: AllocGlobal + Files>(
 }
 
 /// The words of a text, if it breaks no rule of the reference format.
-fn words_of(alloc: Global, text: &[u8]) -> Result<Option<Vec<Token>>, HandingFault> {
+fn words_of(alloc: Global, text: &[u8]) -> Result<Option<Vec<Token>>, BookRefusal> {
     match tokens(alloc, text) {
         Ok(words) => Ok(Some(words)),
         Err(fault) => match fault.rule {
-            SourceRule::Memory => Err(HandingFault::Memory),
+            SourceRule::Memory => Err(BookRefusal::Memory),
             _ => Ok(None),
         },
     }
@@ -95,7 +85,7 @@ fn text_handed<R: AllocGlobal + Files>(
     book: BookOption<'_>,
     handing: &Asked<'_>,
     text: Vec<u8>,
-) -> Result<Vec<u8>, HandingFault> {
+) -> Result<Vec<u8>, BookRefusal> {
     let alloc = rt.alloc();
     let Some(words) = words_of(alloc, text.as_slice())? else {
         return Ok(text);
@@ -123,17 +113,13 @@ fn push_handed<'a, R: AllocGlobal + Files>(
 ) -> Result<(), HandingFault>
     ensures { IfErr result LacksHanding }
 {
-    match text_handed(rt, book, handing, text) {
-        Ok(text) => {
-            out.push(HandedBook {
-                found_at: book.found_at,
-                path: book.path,
-                text,
-            })?;
-            Ok(())
-        }
-        Err(fault) => Err(beside_file(fault)),
-    }
+    let text = text_handed(rt, book, handing, text)?;
+    out.push(HandedBook {
+        found_at: book.found_at,
+        path: book.path,
+        text,
+    })?;
+    Ok(())
 }
 
 /// The text in the file of a copybook.

@@ -1,6 +1,6 @@
 //! A text that was made, read once before it is handed on.
 
-use crate::fault::HandingFault;
+use crate::fault::BookRefusal;
 use crate::told::of_book;
 use cob_copybook::{Book, BookFault, BookRule, Role};
 use cob_copybook_text::{Copying, RecordText};
@@ -30,12 +30,12 @@ pub(crate) fn judged(
     role: Role,
     how: &Copying,
     made: RecordText,
-) -> Result<Vec<u8>, HandingFault> {
+) -> Result<Vec<u8>, BookRefusal> {
     let RecordText { text, lines } = made;
     match Book::read(alloc, role, text.as_slice()) {
         Ok(_) => Ok(text),
         Err(fault) => match fault.rule {
-            BookRule::Memory => Err(HandingFault::Memory),
+            BookRule::Memory => Err(BookRefusal::Memory),
             _ => Err(of_book(alloc, file, how, made_for(fault, lines.as_slice()))?),
         },
     }

@@ -32,7 +32,7 @@ mod runtime;
 mod told;
 
 pub use books::{HandedBook, IN_BOOK, LISTED_BOOK, OUT_BOOK};
-pub use fault::{HandingFault, tell_unhanded};
+pub use fault::{BookRefusal, HandingFault, tell_unhanded};
 pub use files::HandedFile;
 pub use folders::Folders;
 pub use handing::hand_over;

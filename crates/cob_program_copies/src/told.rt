@@ -1,6 +1,6 @@
 //! Faults of texts that are copied, in words.
 
-use crate::fault::HandingFault;
+use crate::fault::BookRefusal;
 use cob_copybook::BookFault;
 use cob_copybook_text::{Copying, RecordTextFault};
 use cob_program_faults::FileName;
@@ -49,10 +49,10 @@ pub(crate) fn of_book(
     file: FileName,
     how: &Copying,
     fault: BookFault,
-) -> Result<HandingFault, AllocError> {
+) -> Result<BookRefusal, AllocError> {
     let line = words_of_line(alloc, how, fault.line)?;
     let rule = fault.rule;
-    Ok(HandingFault::Refused(format!(in alloc; "{file} {rule} {line}")?))
+    Ok(BookRefusal::Refused(format!(in alloc; "{file} {rule} {line}")?))
 }
 
 /// What is told where no text is made of a copybook.
@@ -62,9 +62,9 @@ pub(crate) fn of_text(
     how: &Copying,
     name: &str,
     fault: RecordTextFault,
-) -> Result<HandingFault, AllocError> {
+) -> Result<BookRefusal, AllocError> {
     let words = match fault {
-        RecordTextFault::Memory => return Ok(HandingFault::Memory),
+        RecordTextFault::Memory => return Ok(BookRefusal::Memory),
         RecordTextFault::Record(_) => format!(in alloc; "{file} B16 {name}")?,
         RecordTextFault::TooLong => format!(in alloc; "{file} B17 C4")?,
         RecordTextFault::Copy(CopyFault { rule, line }) => {
@@ -72,7 +72,7 @@ pub(crate) fn of_text(
             format!(in alloc; "{file} B17 {rule} {line}")?
         }
     };
-    Ok(HandingFault::Refused(words))
+    Ok(BookRefusal::Refused(words))
 }
 
 /// What is told of a text that breaks a rule of the reference format.
@@ -81,13 +81,13 @@ fn of_source(
     file: FileName,
     named: &TextName,
     fault: SourceFault,
-) -> Result<HandingFault, AllocError> {
+) -> Result<BookRefusal, AllocError> {
     if let SourceRule::Memory = fault.rule {
-        return Ok(HandingFault::Memory);
+        return Ok(BookRefusal::Memory);
     }
     let name = words_of_name(alloc, named)?;
     let SourceFault { rule, line } = fault;
-    Ok(HandingFault::Refused(format!(in alloc; "{file} {rule} line {line} of {name}")?))
+    Ok(BookRefusal::Refused(format!(in alloc; "{file} {rule} line {line} of {name}")?))
 }
 
 /// What is told of a text that breaks a rule of COPY.
@@ -96,14 +96,14 @@ fn of_copy(
     file: FileName,
     named: &TextName,
     fault: CopyFault,
-) -> Result<HandingFault, AllocError> {
+) -> Result<BookRefusal, AllocError> {
     let CopyFault { rule, line } = fault;
     if rule == CopyRule::Memory || line == 0 {
-        return Ok(HandingFault::Memory);
+        return Ok(BookRefusal::Memory);
     }
     let name = words_of_name(alloc, named)?;
     let line = line_numbered(line).line;
-    Ok(HandingFault::Refused(format!(in alloc; "{file} B17 {rule} line {line} of {name}")?))
+    Ok(BookRefusal::Refused(format!(in alloc; "{file} B17 {rule} line {line} of {name}")?))
 }
 
 /// What is told of a text that is not there, or not where it may be copied.
@@ -112,9 +112,9 @@ fn of_place(
     file: FileName,
     code: &str,
     named: &TextName,
-) -> Result<HandingFault, AllocError> {
+) -> Result<BookRefusal, AllocError> {
     let name = words_of_name(alloc, named)?;
-    Ok(HandingFault::Refused(format!(in alloc; "{file} B17 {code} {name}")?))
+    Ok(BookRefusal::Refused(format!(in alloc; "{file} B17 {code} {name}")?))
 }
 
 /// What is told where the texts that a copybook copies are not fetched.
@@ -122,7 +122,7 @@ pub(crate) fn of_fetching(
     alloc: Global,
     file: FileName,
     fault: &FetchFault,
-) -> Result<HandingFault, AllocError> {
+) -> Result<BookRefusal, AllocError> {
     match fault {
         FetchFault::Source(named, fault) => of_source(alloc, file, named, *fault),
         FetchFault::Copy(named, fault) => of_copy(alloc, file, named, *fault),
@@ -132,8 +132,8 @@ pub(crate) fn of_fetching(
         FetchFault::TooManyTexts(named) => of_place(alloc, file, "C7", named),
         FetchFault::Shelf(named, ShelfFault::Unreadable) => {
             let name = words_of_name(alloc, named)?;
-            Ok(HandingFault::NotRead(format!(in alloc; "cannot read {name} of {file}")?))
+            Ok(BookRefusal::NotRead(format!(in alloc; "cannot read {name} of {file}")?))
         }
-        FetchFault::Shelf(_, ShelfFault::Memory) | FetchFault::Memory => Ok(HandingFault::Memory),
+        FetchFault::Shelf(_, ShelfFault::Memory) | FetchFault::Memory => Ok(BookRefusal::Memory),
     }
 }

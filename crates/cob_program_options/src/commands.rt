@@ -52,6 +52,8 @@ In a copybook:
   B13  a name that isn't one, or is reserved
   B14  a record of over 32,752 bytes
   B15  over 2,000 entries
+  B16  no record, or several, of the name that is chosen
+  B17  a text that is copied, by C1 to C7
 In a paragraph:
   M1   the grammar of statements
   M2   no entry has this name with these qualifiers
