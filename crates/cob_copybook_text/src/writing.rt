@@ -24,6 +24,9 @@ const AREA: usize = 65;
 /// How many of them a line has that goes on with the line before it: none of area A.
 const CONTINUED_AREA: usize = 61;
 
+/// How many of them a piece of a literal has at most that has room for one more character, perhaps a quote that is doubled.
+const PIECE: usize = 58;
+
 impl RecordText {
     /// Puts so many spaces behind the text.
     fn push_spaces(&mut self, count: usize) -> Result<(), AllocError> {
@@ -79,7 +82,7 @@ impl RecordText {
         let mut piece = Vec::from_slice(alloc, &[QUOTE])?;
         let mut indicator = b' ';
         for character in text {
-            if piece.len() > CONTINUED_AREA - 3 {
+            if piece.len() > PIECE {
                 let spaces = AREA.saturating_sub(piece.len());
                 self.push_line(indicator, spaces, piece.as_slice(), line)?;
                 piece = Vec::from_slice(alloc, &[QUOTE])?;
