@@ -9,6 +9,7 @@ use Rattle.cob_program_options.specs.Looks.{Look, is_flagged}
 use Rattle.cob_program_line.specs.Named.{NamesBlock, NamesBound, NamesLrecl, NamesNumber, letter_of, sized_by, word_of, word_of_listing}
 pub use Rattle.cob_program_line.specs.Faults.{IsFaultOf, is_answer_kind}
 use Rattle.cob_program_line.specs.declared.line.CommandLine.{CommandLine}
+use Rattle.cob_program_line.specs.declared.line.Handing.{Handing}
 use Rattle.cob_program_line.specs.declared.line.Line.{Line}
 use Rattle.cob_program_line.specs.declared.line.Line.TheVariants as line
 use Rattle.cob_program_line.specs.declared.line.TextFiles.{TextFiles}
@@ -143,10 +144,21 @@ IsCommand name look (line.Map options) = (name ≡ codes "map") × IsMap look op
 IsCommand name look line.Completion = name ≡ codes "completion"
 IsCommand name look line.Manual = name ≡ codes "manual"
 
--- The name of a command and its options say the command's line, and by a flag that is no option of the line whether its faults are explained.
+-- Options say how copybooks are handed over: where the texts are that they copy, what is replaced in them, and which of their records are meant. Each of
+-- these may be left out.
+pub record NameHanding (look : Look) (handing : Handing) : Type 0 where
+  pub copy_dirs : look (codes "copy-dir") ≡ option_map (λ dirs. dirs.now) handing.copy_dirs
+  pub replace : look (codes "replace") ≡ option_map (λ exchanges. exchanges.now) handing.replace
+  pub in_record : look (codes "in-record") ≡ option_map (λ name. name.now) handing.in_record
+  pub out_record : look (codes "out-record") ≡ option_map (λ name. name.now) handing.out_record
+  pub one_record : look (codes "record-name") ≡ option_map (λ name. name.now) handing.record
+
+-- The name of a command and its options say the command's line, and by options that are none of the line whether its faults are explained, and how its
+-- copybooks are handed over.
 pub record SaysCommand (name : Text) (look : Look) (said : CommandLine) : Type 0 where
   pub command : IsCommand name look said.line
   pub explain : is_flagged (codes "explain") look ≡ said.explain
+  pub handing : NameHanding look said.handing
 
 -- the blocks of a line's forms may have their greatest sizes, and a number of pieces or that of a record is one at least
 abbrev pub HasBlocks : Line → Type 0

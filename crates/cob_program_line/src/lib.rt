@@ -35,7 +35,7 @@
 //!
 //! The clauses `options`, `lacks`, `fault` and `blocks` of `convert_line`, `show_line` and the functions beside them: the line of each command is what
 //! its options name, and a refusal tells the first that names nothing (`IsFaultIn`); the clauses `options`, `refused` and `fault` of `line_of`: also that
-//! faults are explained exactly where the flag is given (`SaysCommand`).
+//! faults are explained exactly where the flag is given, and that copybooks are handed over as their options say (`SaysCommand`).
 #![tactic(auto)]
 
 mod commands;
@@ -51,7 +51,7 @@ pub use commands::{
 };
 pub use fault::LineFault;
 pub use line::{
-    CheckLine, CommandLine, ConvertLine, DraftLine, ExplainLine, Forms, LayoutLine, Line, Listing,
-    LosslessLine, MapLine, PiecesLine, ShowLine, TextFiles,
+    CheckLine, CommandLine, ConvertLine, DraftLine, ExplainLine, Forms, Handing, LayoutLine, Line,
+    Listing, LosslessLine, MapLine, PiecesLine, ShowLine, TextFiles,
 };
 pub use read::line_of;

@@ -100,6 +100,36 @@ pub struct CommandLine<'a> {
     pub line: Line<'a>,
     /// Whether it is told behind a fault what is wrong, and why.
     pub explain: bool,
+    /// How its copybooks are handed over.
+    pub handing: Handing<'a>,
+}
+
+/// How copybooks are handed over: where the texts are that they copy, what is replaced in them, and which of their records are meant.
+#[derive(Clone, Copy)]
+pub struct Handing<'a> {
+    /// The folders with the texts that COPY names, parted by colons.
+    pub copy_dirs: Option<&'a str>,
+    /// What is replaced, `x=y`, parted by semicolons.
+    pub replace: Option<&'a str>,
+    /// The record of the input's copybook that is meant.
+    pub in_record: Option<&'a str>,
+    /// The record of the output's copybook that is meant.
+    pub out_record: Option<&'a str>,
+    /// The record of a listing's copybook that is meant.
+    pub record: Option<&'a str>,
+}
+
+impl Handing<'_> {
+    /// No option says anything.
+    pub fn plain() -> Handing<'static> {
+        Handing {
+            copy_dirs: None,
+            replace: None,
+            in_record: None,
+            out_record: None,
+            record: None,
+        }
+    }
 }
 
 /// How the values of records are listed.

@@ -3,7 +3,7 @@
 ghost use Rattle.std.specs.Prelude.{◌≡◌, ◌<◌, ◌≤◌, ℕ, IfErr, IfOk, None, Option, Some, codes, is_some, true};
 ghost use Rattle.cob_program_options.specs.Commands.{choice_options, forms_options, piece_options, texts_options};
 ghost use Rattle.cob_program_line.specs.Faults.{HasListing, HasPiece, HasPieces, IsFaultIn, LacksBound, LacksForm, LacksListing, LacksNumber, LacksReading, LacksSize};
-ghost use Rattle.cob_program_line.specs.Lines.{NameChoice, NameForms, NameNoForms, NamePiece, NameTexts};
+ghost use Rattle.cob_program_line.specs.Lines.{NameChoice, NameForms, NameNoForms, NameHanding, NamePiece, NameTexts};
 ghost use Rattle.cob_program_options.specs.Looks.{AreNamed, look_of};
 ghost use Rattle.cob_program_line.specs.Named.{NamesBlock, NamesBound, NamesLrecl, NamesNumber, form_by_letter, letter_of, listing_by_word, reading_by_word, sized_by, word_of, word_of_listing};
 ghost use Rattle.cob_program_line.specs.Numbers.{SaysNumber};
@@ -13,7 +13,7 @@ ghost use Rattle.cob_records.specs.Blocks.{IsBlockSize};
 ghost use Rattle.cob_records.specs.Forms.{HasBlockSize};
 
 use crate::fault::LineFault;
-use crate::line::{Forms, Listing, TextFiles};
+use crate::line::{Forms, Handing, Listing, TextFiles};
 use crate::number::number_of;
 use clap::ArgMatches;
 use cob_codec::Reading;
@@ -293,4 +293,17 @@ pub(crate) fn choice_of(options: &ArgMatches<'_>) -> Result<ChosenRecords, LineF
     let skip = number(options, "skip", 0, LineFault::Number)?;
     let records = bound(options, "records", LineFault::Number)?;
     Ok(ChosenRecords { skip, records })
+}
+
+// How the options hand copybooks over.
+pub(crate) fn handing_of<'a>(options: &ArgMatches<'a>) -> Handing<'a>
+    ensures { NameHanding (look_of options.now) result }
+{
+    Handing {
+        copy_dirs: named_if_there(options, "copy-dir"),
+        replace: named_if_there(options, "replace"),
+        in_record: named_if_there(options, "in-record"),
+        out_record: named_if_there(options, "out-record"),
+        record: named_if_there(options, "record-name"),
+    }
 }

@@ -21,6 +21,13 @@ pub(crate) const PROGRESS_HELP: &str = "Tell on standard error how far it is";
 pub(crate) const LRECL_HELP: &str =
     "The input's LRECL, which the copybook has to fit: f, its\nrecords' length; v and b, the greatest with its RDW";
 
+// What `--copy-dir` and `--replace` name.
+pub(crate) const COPY_DIR_HELP: &str =
+    "Folders with the texts that COPY names, parted by\ncolons; the first one that has it";
+
+pub(crate) const REPLACE_HELP: &str =
+    "Put Y for each X in the copybooks; several of these\nare parted by semicolons";
+
 // What `--strict` does.
 pub(crate) const STRICT_HELP: &str =
     "List these, and end with status 1 where bytes are not\nfilled or a move may lose something";

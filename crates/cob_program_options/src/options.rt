@@ -2,8 +2,8 @@
 
 use crate::definition::{OptionDefinition, Standing};
 use crate::help::{
-    ATOMIC_HELP, BINARY_HELP, EXPLAINED_HELP, EXPLAINED_RUN_HELP, FORM_HELP, LISTING_HELP,
-    LRECL_HELP, PROGRESS_HELP, STRICT_HELP,
+    ATOMIC_HELP, BINARY_HELP, COPY_DIR_HELP, EXPLAINED_HELP, EXPLAINED_RUN_HELP, FORM_HELP,
+    LISTING_HELP, LRECL_HELP, PROGRESS_HELP, REPLACE_HELP, STRICT_HELP,
 };
 
 // How an option stands for a form, which is f where it is not there, and for the greatest size of blocks.
@@ -256,6 +256,41 @@ pub(crate) const RECORD: [OptionDefinition<'static>; 1] = [OptionDefinition {
     name: "record",
     standing: Standing::Default("R", "1"),
     help: "The number of the record",
+}];
+
+// What copybooks copy, and what is replaced in them.
+pub(crate) const COPIES: [OptionDefinition<'static>; 2] = [
+    OptionDefinition {
+        name: "copy-dir",
+        standing: Standing::Optional("DIRS"),
+        help: COPY_DIR_HELP,
+    },
+    OptionDefinition {
+        name: "replace",
+        standing: Standing::Optional("X=Y"),
+        help: REPLACE_HELP,
+    },
+];
+
+// Which records of both copybooks are meant.
+pub(crate) const BOTH_RECORDS: [OptionDefinition<'static>; 2] = [
+    OptionDefinition {
+        name: "in-record",
+        standing: Standing::Optional("NAME"),
+        help: "The record that is meant, of several in --in-book",
+    },
+    OptionDefinition {
+        name: "out-record",
+        standing: Standing::Optional("NAME"),
+        help: "The record that is meant, of several in --out-book",
+    },
+];
+
+// Which record of the copybook of a listing is meant.
+pub(crate) const ONE_RECORD: [OptionDefinition<'static>; 1] = [OptionDefinition {
+    name: "record-name",
+    standing: Standing::Optional("NAME"),
+    help: "The record that is meant, of several in --book",
 }];
 
 // What each command with files has beside the request for help.
