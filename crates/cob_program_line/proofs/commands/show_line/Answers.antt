@@ -6,7 +6,7 @@ use Rattle.cob_program_line.proofs.commands.show_line.Goals as goal
 pub lrecl_of-requires : goal.lrecl_of-requires
 lrecl_of-requires c =
     let look : Look = look_of c.args.options.now in
-    chosen_alone look _ _ c.in_ok-choice.ensures.named (c.requires.only (codes "most-rejects") refl) (c.requires.only (codes "pieces") refl)
+    chosen_alone look _ _ c.in_ok-choice.ensures.named (c.requires.only (codes "most-rejects") refl) (c.requires.only (codes "most") refl) (c.requires.only (codes "pieces") refl)
     (show_listing look _ _ c.requires.only c.in_ok-form.ensures.named c.in_ok-listing.ensures.named)
 
 pub returns-in_err-lrecl-clause-lacks : goal.returns-in_err-lrecl-clause-lacks
