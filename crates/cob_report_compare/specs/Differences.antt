@@ -1,26 +1,35 @@
 -- The elements in which two records of one layout differ.
-use Rattle.std.specs.Prelude.{◌≡◌, ℕ, zero, suc, min, ◌⊎◌, List, [], ◌∷◌, ◌++◌, length, map, take}
+use Rattle.std.specs.Prelude.{◌≡◌, ℕ, zero, suc, ◌+◌, ◌≤◌, min, ◌⊎◌, Bool, true, false, List, [], ◌∷◌, ◌++◌, length, map, take, Option, Some, option_map}
+use Rattle.std.specs.Borrow.{Bor}
+use Rattle.cob_limits.specs.Limits.{most_dimensions}
+use Rattle.cob_copybook_tree.specs.Lengths.{item_size}
+use Rattle.cob_report_show.specs.declared.named.ListedItem.{ListedItem}
+use Rattle.cob_report_compare.specs.Bytes.{AreFirstBytes, most_told}
 use Rattle.cob_layout.specs.declared.fields.Place.{Place}
 use Rattle.cob_layout.specs.Fields.{field_of}
 use Rattle.cob_layout.specs.Ways.{spot_at}
 use Rattle.cob_records.specs.Device.{greatest_count}
-use Rattle.cob_report_show.specs.Elements.{ElementStandsAt, NamedItem, Printed}
+use Rattle.cob_report_show.specs.Elements.{ElementStandsAt, NamedItem, Printed, named_item}
 use Rattle.cob_report_compare.specs.declared.differences.Difference.{Difference}
 use Rattle.cob_report_compare.specs.declared.differences.FirstDifferences.{FirstDifferences}
 use Rattle.cob_report_compare.specs.declared.records.Comparison.{Comparison}
-use Rattle.cob_report_compare.specs.declared.records.Comparison.TheVariants.{Same, Equal, Differ}
+use Rattle.cob_report_compare.specs.declared.records.Comparison.TheVariants.{Same, Equal, Differ, Unlike}
 use Rattle.cob_report_compare.specs.Equal.{EqualByValue, IsSameElement, SameValue}
 
--- an element that differs: the number of its entry, its subscripts, and where it stands in either record
+-- an element that differs: its item, its subscripts, and where it stands in either record
 pub record PlainDifference : Type 0 where
-  pub number : ℕ
+  pub item : Option NamedItem
   pub subscripts : List ℕ
   pub left : Place
   pub right : Place
 
+-- the item that is listed, where there is one
+abbrev pub listed_item : Option (Bor ListedItem) → Option NamedItem
+listed_item item = option_map (λ (x : Bor ListedItem). named_item x.now) item
+
 -- the same, as it is told
 abbrev pub plain_difference : Difference → PlainDifference
-plain_difference d = record { number = d.number; subscripts = d.subscripts.items; left = d.left; right = d.right }
+plain_difference d = record { item = listed_item d.item; subscripts = d.subscripts.items; left = d.left; right = d.right }
 
 -- how often these tables occur in both records: as often as in the one in which they occur less often
 abbrev pub shared_times : Printed → Printed → List ℕ → List ℕ
@@ -28,10 +37,15 @@ shared_times l r tables = map (λ t. min (spot_at l.places.spots t).times (spot_
 
 -- this is the element of an item with these subscripts, which both records have, and it does not hold one value in both
 pub record IsDifference (l r : Printed) (x : NamedItem) (subscripts : List ℕ) (d : PlainDifference) : Type 0 where
-  pub number : d.number ≡ x.number
+  pub item_is : d.item ≡ Some x
   pub subscripts_are : d.subscripts ≡ subscripts
+  pub few : length d.subscripts ≤ most_dimensions
   pub left_at : ElementStandsAt l x subscripts d.left
   pub right_at : ElementStandsAt r x subscripts d.right
+  pub left_within : d.left.offset + d.left.length ≤ length l.bytes
+  pub right_within : d.right.offset + d.right.length ≤ length r.bytes
+  pub left_sized : d.left.length ≡ item_size x.item
+  pub right_sized : d.right.length ≡ item_size x.item
   pub differs : SameValue x.item (field_of d.left l.bytes) (field_of d.right r.bytes) → ⊥
 
 -- what is told of an element: nothing where it holds one value in both records, and else the element
@@ -59,10 +73,6 @@ AreItemsTold l r (x ∷ xs) told =
     (front : List PlainDifference) × (rest : List PlainDifference) × AreElementsTold l r x (shared_times l r x.tables) [] front
     × AreItemsTold l r xs rest × (told ≡ front ++ rest)
 
--- so many of the differences of a record are told at most
-abbrev pub most_told : ℕ
-most_told = 20
-
 -- of all these differences the first are told, and their number up to the greatest count
 pub record AreFirstOf (all : List PlainDifference) (told : FirstDifferences) : Type 0 where
   pub first : map plain_difference told.first.items ≡ take most_told all
@@ -84,3 +94,16 @@ abbrev pub IsComparison : List NamedItem → Printed → Printed → Comparison 
 IsComparison xs l r Same = (l.bytes ≡ r.bytes) × EqualByValue xs l r
 IsComparison xs l r Equal = (l.bytes ≡ r.bytes → ⊥) × EqualByValue xs l r
 IsComparison xs l r (Differ told) = (EqualByValue xs l r → ⊥) × AreFirstDifferences xs l r told
+IsComparison xs l r (Unlike told) = ⊥
+
+-- How two records compare by their bytes: they have the same; or they have not, and these are the first of those that differ.
+abbrev pub IsBytesComparison : List ℕ → List ℕ → Comparison → Type 0
+IsBytesComparison l r Same = l ≡ r
+IsBytesComparison l r Equal = ⊥
+IsBytesComparison l r (Differ told) = ⊥
+IsBytesComparison l r (Unlike told) = (l ≡ r → ⊥) × AreFirstBytes l r told
+
+-- how two records compare by value in these items, or by their bytes
+abbrev pub IsMeasured : (by_bytes : Bool) → List NamedItem → Printed → Printed → Comparison → Type 0
+IsMeasured false xs l r c = IsComparison xs l r c
+IsMeasured true xs l r c = IsBytesComparison l.bytes r.bytes c

@@ -6,14 +6,16 @@ use Rattle.cob_copybook_tree.specs.Nodes.{Resolved}
 use Rattle.cob_layout.specs.Standing.{Standing}
 use Rattle.cob_layout.specs.Storage.{greatest_length}
 use Rattle.cob_records.specs.declared.records.Form.{Form}
-use Rattle.cob_records.specs.Device.{Told}
+use Rattle.cob_records.specs.Device.{Told, Took}
 use Rattle.cob_records.specs.Forms.{Come}
 use Rattle.cob_records.specs.Frame.{IsRecord}
 use Rattle.cob_move_data.specs.declared.operands.Side.TheVariants.{In}
 use Rattle.cob_convert_stream.specs.declared.fault.Cause.{Cause}
 use Rattle.cob_convert_stream.specs.declared.fault.Cause.TheVariants.{Limit}
 use Rattle.cob_convert_stream.specs.declared.fault.Reason.{Reason}
+use Rattle.cob_convert_stream.specs.Reasons.{is_write_cause}
 use Rattle.cob_report_show.specs.Runs.{IsLegible, StopsReading, most_shown}
+use Rattle.cob_report_compare.specs.Lines.{AreAloneLines}
 use Rattle.cob_report_compare.specs.declared.files.CompareStop.{CompareStop}
 use Rattle.cob_report_compare.specs.declared.files.FileSide.{FileSide}
 use Rattle.cob_report_compare.specs.declared.files.FileSide.TheVariants.{Left, Right}
@@ -53,23 +55,27 @@ abbrev pub CameSoFar : Form → List (List ℕ) → (opened : ℕ) → Option (L
 CameSoFar form bodies opened before now = Told before now (λ bytes rest. Come form 0 bodies bytes opened rest)
 
 -- What the answer to a call that counts the records which stand alone in a file says of these records, behind `first` others of the file: they are so many,
--- and no byte is left behind them; or the one behind them stops it.
+-- and no byte is left behind them; or the one behind them stops it, or the line of the last of them could not be printed.
 abbrev pub CountsAlone : FileSide → Form → Forest Resolved → (first : ℕ) → (came : List (List ℕ)) → Option (List ℕ) → Option (List ℕ) → Result ℕ CompareStop → List (List ℕ) → Type 0
 CountsAlone side form tree first came before now (Ok n) bodies = (n ≡ length bodies) × Told before now (CameBefore form (came ++ bodies) IsFileEnd)
 CountsAlone side form tree first came before now (Err stop) bodies =
-    (stop.side ≡ side) × (stop.number ≡ first + length bodies + 1)
-    × Told before now (CameBefore form (came ++ bodies) (IsFileStop form tree (first + length bodies) stop.reason))
-
--- There are such records, each whole and legible, whatever records came before the call, behind which the open block holds so many bytes.
-abbrev pub AreAlone : FileSide → Form → Forest Resolved → (first opened : ℕ) → Option (List ℕ) → Option (List ℕ) → Result ℕ CompareStop → Type 0
-AreAlone side form tree first opened old new answer =
-    (bodies : List (List ℕ)) × AllByRecursion (IsWholeRecord form tree) bodies
-    × ((before : Option (List ℕ)) (came : List (List ℕ)) → CameSoFar form came opened before old → CountsAlone side form tree first came before new answer bodies)
+    (stop.side ≡ side)
+    × (((is_write_cause stop.reason.cause ≡ false) × (stop.number ≡ first + length bodies + 1)
+    × Told before now (CameBefore form (came ++ bodies) (IsFileStop form tree (first + length bodies) stop.reason)))
+    ⊎ ((is_write_cause stop.reason.cause ≡ true) × (stop.number ≡ first + length bodies) × Told before now (CameBefore form (came ++ bodies) IsNotRead)))
 
 -- a record stops it, for a cause of this kind
 abbrev pub is_stopped_for : {X : Type 0} → (Cause → Bool) → Result X CompareStop → Bool
 is_stopped_for is (Ok x) = false
 is_stopped_for is (Err stop) = is stop.reason.cause
+
+-- There are such records, each whole and legible, whatever records came before the call, behind which the open block holds so many bytes; and where no line
+-- failed, just their lines were printed, where so many records were told before.
+abbrev pub AreAlone : FileSide → Form → Forest Resolved → (most told first opened : ℕ) → (old new w0 w1 : Option (List ℕ)) → Result ℕ CompareStop → Type 0
+AreAlone side form tree most told first opened old new w0 w1 answer =
+    (bodies : List (List ℕ)) × AllByRecursion (IsWholeRecord form tree) bodies
+    × (is_stopped_for is_write_cause answer ≡ false → Took w0 w1 (AreAloneLines side most told first (length bodies)))
+    × ((before : Option (List ℕ)) (came : List (List ℕ)) → CameSoFar form came opened before old → CountsAlone side form tree first came before new answer bodies)
 
 -- it is the file on the left
 abbrev pub on_left : FileSide → Bool

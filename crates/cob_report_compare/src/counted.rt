@@ -56,7 +56,7 @@ impl PairCounts {
                 equal: self.equal + 1,
                 ..self
             },
-            Comparison::Differ(_) => PairCounts {
+            Comparison::Differ(_) | Comparison::Unlike(_) => PairCounts {
                 differ: self.differ + 1,
                 ..self
             },

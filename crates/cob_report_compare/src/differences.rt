@@ -6,15 +6,16 @@ ghost use Rattle.cob_report_compare.specs.Differences.{Adds, AreFirstOf, PlainDi
 use arrayvec::ArrayVec;
 use cob_layout::Place;
 use cob_limits::MAX_SUBSCRIPTS;
+use cob_report_show::ListedItem;
 
 /// How many differences of a record are told at most.
 pub const MOST_TOLD: usize = 20;
 
 /// An element of an item that does not hold one value in two records.
 #[derive(Drop)]
-pub struct Difference {
-    /// The number of the item's entry.
-    pub number: usize,
+pub struct Difference<'a> {
+    /// The item.
+    pub item: Option<&'a ListedItem>,
     /// For each table that holds it or that it is, the outermost first, the number of the element, from 1.
     pub subscripts: ArrayVec<u32, MAX_SUBSCRIPTS>,
     /// Where it stands in the record on the left.
@@ -23,14 +24,14 @@ pub struct Difference {
     pub right: Place,
 }
 
-impl Default for Difference {
-    fn default() -> Difference {
+impl Default for Difference<'_> {
+    fn default() -> Self {
         let nowhere = Place {
             offset: 0,
             length: 0,
         };
         Difference {
-            number: 0,
+            item: None,
             subscripts: ArrayVec::new(),
             left: nowhere,
             right: nowhere,
@@ -40,16 +41,16 @@ impl Default for Difference {
 
 /// The first differences of two records, and how many there are.
 #[derive(Drop)]
-pub struct FirstDifferences {
+pub struct FirstDifferences<'a> {
     /// The first of them.
-    pub first: ArrayVec<Difference, MOST_TOLD>,
+    pub first: ArrayVec<Difference<'a>, MOST_TOLD>,
     /// How many there are, also of those that are not told.
     pub count: u64,
 }
 
-impl FirstDifferences {
+impl<'a> FirstDifferences<'a> {
     /// None.
-    pub(crate) fn new() -> FirstDifferences
+    pub(crate) fn new() -> FirstDifferences<'a>
         ensures { AreFirstOf [] result }
     {
         FirstDifferences {
@@ -59,7 +60,7 @@ impl FirstDifferences {
     }
 
     /// Adds a difference behind those so far.
-    pub(crate) fn add(&mut self, difference: Difference)
+    pub(crate) fn add(&mut self, difference: Difference<'a>)
         ensures { Adds (λ added. added ≡ plain_difference difference ∷ []) self.old self.new }
     {
         self.count = self.count.saturating_add(1);

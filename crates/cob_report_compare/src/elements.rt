@@ -1,11 +1,11 @@
 //! The elements of items in two records.
 
-ghost use Rattle.std.specs.Prelude.{◌≡◌, ◌≤◌, ◌+◌, length, map, min};
+ghost use Rattle.std.specs.Prelude.{◌≡◌, ◌≤◌, ◌+◌, Some, length, map, min};
 ghost use Rattle.cob_limits.specs.Limits.{most_dimensions};
 ghost use Rattle.cob_copybook_tree.specs.Lengths.{item_size};
 ghost use Rattle.cob_layout.specs.Ways.{spot_at};
 ghost use Rattle.cob_report_show.specs.Elements.{ElementStandsAt, IsLaidOut, StandsWithin, named_item};
-ghost use Rattle.cob_report_compare.specs.Differences.{Adds, AreElementsTold, AreItemsTold, IsElementTold, shared_times};
+ghost use Rattle.cob_report_compare.specs.Differences.{Adds, AreElementsTold, AreItemsTold, IsElementTold, listed_item, shared_times};
 ghost use Rattle.cob_report_compare.specs.Equal.{printed_of};
 ghost use Rattle.cob_report_compare.specs.Shared.{AllShared, ItemsShared};
 
@@ -44,9 +44,14 @@ fn place_of(compared: ComparedRecord, item: &ListedItem, reference: &Ref) -> Pla
 }
 
 /// The difference that an element is which stands there in both records.
-fn difference_at(reference: &Ref, left: Place, right: Place) -> Difference
+fn difference_at<'a>(
+    item: &'a ListedItem,
+    reference: &Ref,
+    left: Place,
+    right: Place,
+) -> Difference<'a>
     requires many { length reference.now.subscripts.items ≤ most_dimensions }
-    ensures number { result.number ≡ reference.now.node }
+    ensures item { listed_item result.item ≡ Some (named_item item.now) }
     ensures subscripts { result.subscripts.items ≡ reference.now.subscripts.items }
     ensures left { result.left ≡ left }
     ensures right { result.right ≡ right }
@@ -56,7 +61,7 @@ fn difference_at(reference: &Ref, left: Place, right: Place) -> Difference
         .try_extend_from_slice(reference.subscripts.as_slice())
         .unwrap();
     Difference {
-        number: reference.node,
+        item: Some(item),
         subscripts,
         left,
         right,
@@ -64,12 +69,12 @@ fn difference_at(reference: &Ref, left: Place, right: Place) -> Difference
 }
 
 /// Adds an element of an item to the differences where it does not hold one value in both records.
-fn add_element(
+fn add_element<'a>(
     left: ComparedRecord,
     right: ComparedRecord,
-    item: &ListedItem,
+    item: &'a ListedItem,
     reference: &Ref,
-    told: &mut FirstDifferences,
+    told: &mut FirstDifferences<'a>,
 )
     requires left_laid { IsLaidOut (printed_of left) }
     requires right_laid { IsLaidOut (printed_of right) }
@@ -89,7 +94,7 @@ fn add_element(
         field(left.bytes, left_place),
         field(right.bytes, right_place),
     ) {
-        told.add(difference_at(reference, left_place, right_place));
+        told.add(difference_at(item, reference, left_place, right_place));
     }
 }
 
@@ -105,13 +110,13 @@ pub(crate) fn times_in(places: &Counts, table: usize) -> u32
 
 /// Adds the elements of an item that do not hold one value in both records, the last subscript the fastest: those under the subscripts of the reference,
 /// which are those of the tables outside, and each one of the tables that are left.
-fn add_elements(
+fn add_elements<'a>(
     left: ComparedRecord,
     right: ComparedRecord,
-    item: &ListedItem,
+    item: &'a ListedItem,
     tables: &[usize],
     reference: &mut Ref,
-    told: &mut FirstDifferences,
+    told: &mut FirstDifferences<'a>,
 )
     requires left_laid { IsLaidOut (printed_of left) }
     requires right_laid { IsLaidOut (printed_of right) }
@@ -139,11 +144,11 @@ fn add_elements(
 }
 
 /// Adds the elements of items that do not hold one value in both records, one item behind another.
-pub(crate) fn add_items(
+pub(crate) fn add_items<'a>(
     left: ComparedRecord,
     right: ComparedRecord,
-    items: &[ListedItem],
-    told: &mut FirstDifferences,
+    items: &'a [ListedItem],
+    told: &mut FirstDifferences<'a>,
 )
     requires left_laid { IsLaidOut (printed_of left) }
     requires right_laid { IsLaidOut (printed_of right) }

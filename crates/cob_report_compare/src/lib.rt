@@ -31,6 +31,7 @@
 //! law `same_bytes_are_equal`.
 #![tactic(auto)]
 
+mod bytes;
 mod chosen;
 mod counted;
 mod differences;
@@ -38,15 +39,17 @@ mod elements;
 mod files;
 mod in_order;
 mod laws;
+mod lines;
 mod records;
 mod runs;
 mod values;
 
+pub use bytes::{ByteDifference, FirstBytes};
 pub use chosen::compared_items;
 pub use counted::PairCounts;
 pub use differences::{Difference, FirstDifferences, MOST_TOLD};
 pub use elements::ComparedRecord;
 pub use files::{CompareStop, FileSide};
 pub use laws::same_bytes_are_equal;
-pub use records::{Comparison, compare_records};
-pub use runs::{CompareFault, compare_files};
+pub use records::{Comparison, compare_bytes, compare_records};
+pub use runs::{CompareFault, CompareOptions, compare_files};

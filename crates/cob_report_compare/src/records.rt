@@ -4,9 +4,10 @@ ghost use Rattle.std.specs.Prelude.{◌≡◌, length, map, IsTrue, IsFalse};
 ghost use Rattle.cob_report_show.specs.Elements.{named_item};
 ghost use Rattle.cob_report_show.specs.Records.{HoldsRecord};
 ghost use Rattle.cob_report_compare.specs.Chosen.{AreCompared};
-ghost use Rattle.cob_report_compare.specs.Differences.{AreFirstDifferences, IsComparison};
+ghost use Rattle.cob_report_compare.specs.Differences.{AreFirstDifferences, IsBytesComparison, IsComparison};
 ghost use Rattle.cob_report_compare.specs.Equal.{IsComplete, OccurAlike, printed_of};
 
+use crate::bytes::{FirstBytes, byte_differences};
 use crate::differences::FirstDifferences;
 use crate::elements::{ComparedRecord, add_items, times_in};
 use crate::laws::same_bytes_are_equal;
@@ -15,13 +16,15 @@ use cob_report_show::ListedItem;
 
 /// How two records of one layout compare.
 #[derive(Drop)]
-pub enum Comparison {
+pub enum Comparison<'a> {
     /// They have the same bytes.
     Same,
     /// They are equal by value, and have not the same bytes.
     Equal,
     /// They are not equal by value.
-    Differ(FirstDifferences),
+    Differ(FirstDifferences<'a>),
+    /// They have not the same bytes, where these are what is compared.
+    Unlike(FirstBytes),
 }
 
 /// Whether each entry occurs as often in one record as in the other.
@@ -40,11 +43,11 @@ fn occur_alike(left: ComparedRecord, right: ComparedRecord) -> bool
 }
 
 /// The differences of two records of one layout in these items, of which the first are told.
-fn differences(
+fn differences<'a>(
     left: ComparedRecord,
     right: ComparedRecord,
-    items: &[ListedItem],
-) -> FirstDifferences
+    items: &'a [ListedItem],
+) -> FirstDifferences<'a>
     requires one { left.layout.now ≡ right.layout.now }
     requires left { HoldsRecord left.layout.now left.places.now (length left.bytes.now) }
     requires right { HoldsRecord right.layout.now right.places.now (length right.bytes.now) }
@@ -62,11 +65,11 @@ fn differences(
 }
 
 /// Compares two records of one layout in these items, which are those of [`compared_items`](crate::compared_items). It takes no memory.
-pub fn compare_records(
+pub fn compare_records<'a>(
     left: ComparedRecord,
     right: ComparedRecord,
-    items: &[ListedItem],
-) -> Comparison
+    items: &'a [ListedItem],
+) -> Comparison<'a>
     requires one { left.layout.now ≡ right.layout.now }
     requires left { IsComplete (printed_of left) }
     requires right { IsComplete (printed_of right) }
@@ -86,4 +89,14 @@ pub fn compare_records(
         return Comparison::Equal;
     }
     Comparison::Differ(told)
+}
+
+/// Compares two records by their bytes.
+pub fn compare_bytes<'a>(left: &[u8], right: &[u8]) -> Comparison<'a>
+    ensures is { IsBytesComparison left.now right.now result }
+{
+    if left == right {
+        return Comparison::Same;
+    }
+    Comparison::Unlike(byte_differences(left, right))
 }

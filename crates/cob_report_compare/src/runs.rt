@@ -8,15 +8,17 @@ ghost use Rattle.cob_records.specs.Device.{counted};
 ghost use Rattle.cob_records.specs.Forms.{HasBlockSize};
 ghost use Rattle.cob_report_show.specs.Elements.{named_item};
 ghost use Rattle.cob_report_compare.specs.Chosen.{compared_in};
-ghost use Rattle.cob_report_compare.specs.Runs.{ComparesFiles, fault_of, files_of, is_stopped_at};
+ghost use Rattle.cob_report_compare.specs.InOrder.{AreFew};
+ghost use Rattle.cob_report_compare.specs.Runs.{ComparesFiles, CountsUp, files_of, is_stopped_at, is_uncounted, is_unprinted};
 ghost use Rattle.cob_report_compare.specs.declared.runs.CompareFault.TheVariants.{Memory};
 
 use crate::chosen::compared_items;
 use crate::counted::PairCounts;
 use crate::files::{CompareStop, FileSide};
 use crate::in_order::{ComparedFiles, compare_in_order};
+use crate::lines::put_counts;
 use cob_layout::{Counts, Layout};
-use cob_records::{Form, Source};
+use cob_records::{Form, Sink, Source};
 use cob_report_show::ListedItem;
 use std::alloc::{AllocError, Global};
 
@@ -25,8 +27,10 @@ use std::alloc::{AllocError, Global};
 pub enum CompareFault {
     /// Memory was refused, before a record was read.
     Memory,
-    /// A record stopped it.
+    /// A record stopped it, or its lines could not be printed.
     Stop(CompareStop),
+    /// All records were compared, and the line with the counts could not be printed.
+    Uncounted,
 }
 
 impl From<AllocError> for CompareFault {
@@ -37,12 +41,36 @@ impl From<AllocError> for CompareFault {
     }
 }
 
-/// An answer, whose stop is a fault.
-fn answer_of(answer: Result<PairCounts, CompareStop>) -> Result<PairCounts, CompareFault>
-    ensures { result ≡ fault_of answer }
+/// How two files are compared.
+#[derive(Clone, Copy)]
+pub struct CompareOptions<'a> {
+    /// The entries that are ignored, by their numbers.
+    pub ignored: &'a [usize],
+    /// Whether the bytes of records are compared in the place of their values.
+    pub by_bytes: bool,
+    /// How many records that differ or stand alone are told at most.
+    pub most: u64,
+    /// How the records stand in the file on the left.
+    pub left_form: Form,
+    /// How the records stand in the file on the right.
+    pub right_form: Form,
+}
+
+/// Prints the line with the counts of a comparison that came to its end.
+fn count_up<W: Sink>(
+    sink: &mut W,
+    answer: Result<PairCounts, CompareStop>,
+) -> Result<PairCounts, CompareFault>
+    requires { IfOk answer AreFew }
+    ensures counts { CountsUp (W.taken sink.old) (W.taken sink.new) answer result }
+    ensures writes { W.failures sink.new ≡ counted
+        (is_uncounted result) (W.failures sink.old) }
 {
     match answer {
-        Ok(counts) => Ok(counts),
+        Ok(counts) => match put_counts(sink, counts) {
+            Ok(()) => Ok(counts),
+            Err(_) => Err(CompareFault::Uncounted),
+        },
         Err(stop) => Err(CompareFault::Stop(stop)),
     }
 }
@@ -80,47 +108,55 @@ fn room_for(alloc: Global, layout: &Layout, ignored: &[usize]) -> Result<Compare
     })
 }
 
-/// Compares the records of two files of one layout in the order in which they come, by the values of their items, but for the entries that are ignored, which
-/// are told by their numbers. The answer is how many pairs there are of each kind, and how many records stand alone behind them.
+/// Compares the records of two files of one layout in the order in which they come, by the values of their items, but for the entries that are ignored, or by
+/// their bytes. It prints the differences of each pair that differs, up to 20, and each record that stands alone, of at most so many records; and at the end a
+/// line with the counts. The answer is how many pairs there are of each kind, and how many records stand alone behind them. What was printed may wait in the
+/// sink: the caller flushes it.
 ///
 /// # Errors
 ///
-/// [`CompareFault::Stop`] for the first record that can't be read, whose counts are not all valid, or that is not as long as they say.
-/// [`CompareFault::Memory`].
-pub fn compare_files<L: Source, R: Source>(
+/// [`CompareFault::Stop`] for the first record that can't be read, whose counts are not all valid, or that is not as long as they say, or whose lines can't be
+/// printed. [`CompareFault::Uncounted`], [`CompareFault::Memory`].
+pub fn compare_files<L: Source, R: Source, W: Sink>(
     alloc: Global,
     layout: &Layout,
-    ignored: &[usize],
-    left_form: Form,
+    options: CompareOptions,
     left: &mut L,
-    right_form: Form,
     right: &mut R,
+    sink: &mut W,
 ) -> Result<PairCounts, CompareFault>
-    requires left_block { HasBlockSize left_form }
-    requires right_block { HasBlockSize right_form }
-    // Which pairs came, how each compares, which records stand alone, and how it ended.
-    ensures compares { ComparesFiles (files_of layout.now ignored.now left_form right_form)
-        (L.coming left.old) (L.coming left.new) (R.coming right.old) (R.coming right.new) result }
+    requires left_block { HasBlockSize options.left_form }
+    requires right_block { HasBlockSize options.right_form }
+    // Which pairs came, how each compares, which records stand alone, what was printed, and how it ended.
+    ensures compares { ComparesFiles (files_of layout.now options.entry) (L.coming left.old)
+        (L.coming left.new) (R.coming right.old) (R.coming right.new) (W.taken sink.old)
+        (W.taken sink.new) result }
     // A read failed exactly where the answer says so.
     ensures left_reads { L.failures left.new ≡ counted
         (is_stopped_at FileSide.Left is_read_cause result) (L.failures left.old) }
     ensures right_reads { R.failures right.new ≡ counted
         (is_stopped_at FileSide.Right is_read_cause result) (R.failures right.old) }
+    // A write failed exactly where the answer says so.
+    ensures writes { W.failures sink.new ≡ counted (is_unprinted result) (W.failures sink.old) }
 {
-    let mut room = room_for(alloc, layout, ignored)?;
+    let mut room = room_for(alloc, layout, options.ignored)?;
     let files = ComparedFiles {
         layout,
         items: &room.items,
-        left_form,
-        right_form,
+        by_bytes: options.by_bytes,
+        most: options.most,
+        left_form: options.left_form,
+        right_form: options.right_form,
     };
-    answer_of(compare_in_order(
+    let answer = compare_in_order(
         files,
+        sink,
         left,
         &mut room.left_bytes,
         &mut room.left_places,
         right,
         &mut room.right_bytes,
         &mut room.right_places,
-    ))
+    );
+    count_up(sink, answer)
 }
