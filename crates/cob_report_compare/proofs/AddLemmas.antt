@@ -9,7 +9,8 @@ use Rattle.cob_records.specs.Device.{greatest_count}
 use Rattle.cob_report_show.specs.Elements.{ElementStandsAt, NamedItem, Printed}
 use Rattle.cob_report_compare.specs.declared.differences.Difference.{Difference}
 use Rattle.cob_report_compare.specs.declared.differences.FirstDifferences.{FirstDifferences}
-use Rattle.cob_report_compare.specs.Differences.{Adds, AreElementsTold, AreFirstOf, AreItemsTold, AreToldInTurn, IsElementTold, PlainDifference, most_told, plain_difference, shared_times}
+use Rattle.cob_report_compare.specs.Differences.{Adds, AreElementsTold, AreFirstOf, AreItemsTold, AreToldInTurn, IsElementTold, PlainDifference, plain_difference, shared_times}
+use Rattle.cob_report_compare.specs.Bytes.{most_told}
 use Rattle.cob_report_compare.specs.Equal.{SameValue}
 use Rattle.cob_report_compare.proofs.ToldLemmas.{inner_told}
 

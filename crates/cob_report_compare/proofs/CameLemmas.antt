@@ -1,5 +1,5 @@
 -- The records of one file that came so far, one more, and the end.
-use Rattle.std.proofs.Common.{◌≡◌, ℕ, ◌+◌, List, [], ◌∷◌, ◌++◌, length, take, refl, sym, subst, ◌∙◌, append_assoc, append-nil, arith, inl, inr, None, Some, Option, Ok, Err}
+use Rattle.std.proofs.Common.{◌≡◌, ℕ, zero, suc, true, false, true≢false, ap, ◌+◌, List, [], ◌∷◌, ◌++◌, length, take, refl, sym, subst, ◌∙◌, append_assoc, append-nil, arith, inl, inr, None, Some, Option, Ok, Err}
 use Rattle.std.specs.List.{AllByRecursion}
 use Rattle.std.proofs.lemmas.List.{length-append}
 use Rattle.cob_copybook_tree.specs.Forests.{Forest}
@@ -8,14 +8,17 @@ use Rattle.cob_layout.specs.Standing.{Standing}
 use Rattle.cob_layout.specs.Storage.{greatest_length}
 use Rattle.cob_records.specs.declared.records.Form.{Form}
 use Rattle.cob_records.specs.declared.records.Form.TheVariants.{Fixed, Variable, Blocked}
-use Rattle.cob_records.specs.Device.{Told}
+use Rattle.cob_records.specs.Device.{Told, Took}
 use Rattle.cob_records.specs.Forms.{Come, ComesFirst, ReadsInForm}
 use Rattle.cob_records.specs.Frame.{IsRecord}
 use Rattle.cob_convert_stream.specs.declared.fault.Reason.{Reason}
 use Rattle.cob_report_show.specs.Runs.{IsLegible, ReadsNext, most_shown}
+use Rattle.cob_convert_stream.specs.Reasons.{is_write_cause}
 use Rattle.cob_report_show.proofs.ElementLemmas.{all_append}
+use Rattle.cob_report_show.proofs.SentLemmas.{took_both}
 use Rattle.cob_report_compare.specs.declared.files.FileSide.{FileSide}
 use Rattle.cob_report_compare.specs.Files.{AreAlone, CameBefore, CameSoFar, IsFileEnd, IsFileStop, IsNotRead, IsWholeRecord, limit}
+use Rattle.cob_report_compare.specs.Lines.{AreAloneLines, IfTold, alone_line}
 
 -- ---- one reading behind another
 
@@ -116,36 +119,90 @@ one_alone form tree n m start opened after count slot s r0 r1 r2 so_far is next 
           (came_more form tree (came ++ so_far.bodies) opened after count slot before r1 r2 (so_far.behind before came came_so_far) next);
     }
 
-pub alone_end : (side : FileSide) (form : Form) (tree : Forest Resolved) (first n start opened after : ℕ) (slot : List ℕ) (r0 r1 r2 : Option (List ℕ)) → AloneSoFar form tree n start opened r0 r1
-    → Told r1 r2 (ReadsNext form tree opened slot (Ok None) after) → AreAlone side form tree first start r0 r2 (Ok n)
-alone_end side form tree first n start opened after slot r0 r1 r2 so_far next = (
+-- ---- what is printed of them
+
+-- the line of a record that stands alone, by equal numbers
+pub line_moved : (side : FileSide) (most a b m n : ℕ) (text : List ℕ) → a ≡ b → m ≡ n → IfTold most a (λ line. line ≡ alone_line side m) text
+    → IfTold most b (λ line. line ≡ alone_line side n) text
+line_moved side most a b m n text same is told =
+    subst (λ (k : ℕ). IfTold most k (λ line. line ≡ alone_line side n) text) same (subst (λ (k : ℕ). IfTold most a (λ line. line ≡ alone_line side k) text) is told)
+
+-- one line more
+pub one_line : (side : FileSide) (most told first n m t number : ℕ) (w0 w1 w2 : Option (List ℕ)) → Took w0 w1 (AreAloneLines side most told first n)
+    → Took w1 w2 (IfTold most t (λ line. line ≡ alone_line side number)) → t ≡ told + n → number ≡ first + n + 1 → m ≡ n + 1 → Took w0 w2 (AreAloneLines side most told first m)
+one_line side most told first n m t number w0 w1 w2 before one same is next =
+    took_both w0 w1 w2 (AreAloneLines side most told first n) (IfTold most t (λ line. line ≡ alone_line side number)) (AreAloneLines side most told first m) before one
+    (λ front last lines line. subst (λ (k : ℕ). AreAloneLines side most told first k (front ++ last)) (omega (arith, next))
+    (front, last, lines, line_moved side most t (told + n) number (first + n + 1) last same is line, refl))
+
+-- the line of a record before those of others
+pub line_first : (side : FileSide) (most told first : ℕ) (k : ℕ) (a b : List ℕ) → IfTold most told (λ line. line ≡ alone_line side (first + 1)) a
+    → AreAloneLines side most (told + 1) (first + 1) k b → AreAloneLines side most told first (suc k) (a ++ b)
+line_first side most told first zero a b one none =
+    ([], a, refl, line_moved side most told (told + 0) (first + 1) (first + 0 + 1) a (omega arith) (omega arith) one, ap (λ (t : List ℕ). a ++ t) none ∙ append-nil a)
+line_first side most told first (suc k) a b one (front, last, lines, line, e) = (
+  a ++ front,
+  last,
+  line_first side most told first k a front one lines,
+  line_moved side most (told + 1 + k) (told + suc k) (first + 1 + k + 1) (first + suc k + 1) last (omega arith) (omega arith) line,
+  ap (λ (t : List ℕ). a ++ t) e ∙ sym (append_assoc a front last),
+)
+
+-- ---- their end
+
+pub alone_end : (side : FileSide) (form : Form) (tree : Forest Resolved) (most told first n start opened after : ℕ) (slot : List ℕ) (r0 r1 r2 w0 w1 : Option (List ℕ)) → AloneSoFar form tree n start opened r0 r1
+    → Told r1 r2 (ReadsNext form tree opened slot (Ok None) after) → Took w0 w1 (AreAloneLines side most told first n) → AreAlone side form tree most told first start r0 r2 w0 w1 (Ok n)
+alone_end side form tree most told first n start opened after slot r0 r1 r2 w0 w1 so_far next lines = (
   so_far.bodies,
   so_far.whole,
+  λ none. subst (λ (k : ℕ). Took w0 w1 (AreAloneLines side most told first k)) (sym so_far.count) lines,
   λ before came came_so_far. (sym so_far.count, came_end form tree (came ++ so_far.bodies) opened after slot before r1 r2 (so_far.behind before came came_so_far) next),
 )
 
-pub alone_stop : (side : FileSide) (form : Form) (tree : Forest Resolved) (first n number start opened after : ℕ) (why : Reason) (slot : List ℕ) (r0 r1 r2 : Option (List ℕ))
-    → AloneSoFar form tree n start opened r0 r1 → number ≡ first + n + 1 → Told r1 r2 (ReadsNext form tree opened slot (Err why) after)
-    → AreAlone side form tree first start r0 r2 (Err (record { side = side; number = number; reason = why }))
-alone_stop side form tree first n number start opened after why slot r0 r1 r2 so_far is next = (
+pub alone_stop : (side : FileSide) (form : Form) (tree : Forest Resolved) (most told first n number start opened after : ℕ) (why : Reason) (slot : List ℕ) (r0 r1 r2 w0 w1 : Option (List ℕ))
+    → AloneSoFar form tree n start opened r0 r1 → number ≡ first + n + 1 → is_write_cause why.cause ≡ false → Told r1 r2 (ReadsNext form tree opened slot (Err why) after)
+    → Took w0 w1 (AreAloneLines side most told first n) → AreAlone side form tree most told first start r0 r2 w0 w1 (Err (record { side = side; number = number; reason = why }))
+alone_stop side form tree most told first n number start opened after why slot r0 r1 r2 w0 w1 so_far is reading next lines = (
   so_far.bodies,
   so_far.whole,
+  λ none. subst (λ (k : ℕ). Took w0 w1 (AreAloneLines side most told first k)) (sym so_far.count) lines,
   λ before came came_so_far. (
     refl,
-    omega (arith, is, so_far.count),
-    came_stop form tree (came ++ so_far.bodies) (first + length so_far.bodies) opened after why slot before r1 r2 (so_far.behind before came came_so_far) next,
+    inl (
+      reading,
+      omega (arith, is, so_far.count),
+      came_stop form tree (came ++ so_far.bodies) (first + length so_far.bodies) opened after why slot before r1 r2 (so_far.behind before came came_so_far) next,
+    ),
   ),
 )
 
-pub alone_limit : (side : FileSide) (form : Form) (tree : Forest Resolved) (first n number start opened : ℕ) (r0 r1 : Option (List ℕ))
-    → AloneSoFar form tree n start opened r0 r1 → number ≡ first + n + 1 → first + n ≡ most_shown
-    → AreAlone side form tree first start r0 r1 (Err (record { side = side; number = number; reason = limit }))
-alone_limit side form tree first n number start opened r0 r1 so_far is most = (
+pub alone_limit : (side : FileSide) (form : Form) (tree : Forest Resolved) (most told first n number start opened : ℕ) (r0 r1 w0 w1 : Option (List ℕ))
+    → AloneSoFar form tree n start opened r0 r1 → number ≡ first + n + 1 → first + n ≡ most_shown → Took w0 w1 (AreAloneLines side most told first n)
+    → AreAlone side form tree most told first start r0 r1 w0 w1 (Err (record { side = side; number = number; reason = limit }))
+alone_limit side form tree most told first n number start opened r0 r1 w0 w1 so_far is all lines = (
   so_far.bodies,
   so_far.whole,
+  λ none. subst (λ (k : ℕ). Took w0 w1 (AreAloneLines side most told first k)) (sym so_far.count) lines,
   λ before came came_so_far. (
     refl,
-    omega (arith, is, so_far.count),
-    came_limit form tree (came ++ so_far.bodies) (first + length so_far.bodies) opened before r1 (so_far.behind before came came_so_far) (omega (arith, most, so_far.count)),
+    inl (
+      refl,
+      omega (arith, is, so_far.count),
+      came_limit form tree (came ++ so_far.bodies) (first + length so_far.bodies) opened before r1 (so_far.behind before came came_so_far) (omega (arith, all, so_far.count)),
+    ),
+  ),
+)
+
+-- the line of the last one could not be printed
+pub alone_unprinted : (side : FileSide) (form : Form) (tree : Forest Resolved) (most told first n number start opened : ℕ) (why : Reason) (r0 r1 w0 w1 : Option (List ℕ))
+    → AloneSoFar form tree n start opened r0 r1 → number ≡ first + n → is_write_cause why.cause ≡ true
+    → AreAlone side form tree most told first start r0 r1 w0 w1 (Err (record { side = side; number = number; reason = why }))
+alone_unprinted side form tree most told first n number start opened why r0 r1 w0 w1 so_far is writing = (
+  so_far.bodies,
+  so_far.whole,
+  λ none. absurd (true≢false (sym writing ∙ none)),
+  λ before came came_so_far. (
+    refl,
+    inr (writing, omega (arith, is, so_far.count), came_here form (came ++ so_far.bodies) opened before r1 (so_far.behind before came came_so_far)),
   ),
 )
