@@ -1,7 +1,7 @@
 //! Bytes that differ, of which the first are told.
 
-ghost use Rattle.std.specs.Prelude.{◌≡◌, ◌∷◌, ◌++◌, ◌+◌, ◌<◌, ◌^◌, [], length, take};
-ghost use Rattle.cob_report_compare.specs.Bytes.{AreFirstBytes, AreFirstOfBytes};
+ghost use Rattle.std.specs.Prelude.{◌≡◌, ◌∷◌, ◌++◌, ◌+◌, ◌<◌, ◌≤◌, ◌^◌, List, []};
+ghost use Rattle.cob_report_compare.specs.Bytes.{AreFirstBytes, AreFirstOfBytes, bytes_at};
 
 use crate::differences::MOST_TOLD;
 use arrayvec::ArrayVec;
@@ -39,12 +39,25 @@ pub struct FirstBytes {
 /// Adds a byte behind those so far.
 fn add_byte(told: &mut FirstBytes, byte: ByteDifference)
     requires { told.old.count + 1 < 2 ^ 64 }
-    ensures { (all : List ByteDifference) → AreFirstOfBytes all told.old
+    ensures told { (all : List ByteDifference) → AreFirstOfBytes all told.old
         → AreFirstOfBytes (all ++ byte ∷ []) told.new }
+    ensures few { told.new.count ≡ told.old.count + 1 }
 {
     told.count += 1;
     if !told.first.is_full() {
         told.first.push(byte);
+    }
+}
+
+/// Adds a byte behind those so far, where it differs.
+fn note_byte(told: &mut FirstBytes, byte: ByteDifference)
+    requires { told.old.count + 1 < 2 ^ 64 }
+    ensures told { (all : List ByteDifference) → AreFirstOfBytes all told.old
+        → AreFirstOfBytes (all ++ bytes_at byte) told.new }
+    ensures few { told.new.count ≤ told.old.count + 1 }
+{
+    if byte.left != byte.right {
+        add_byte(told, byte);
     }
 }
 
@@ -57,16 +70,14 @@ pub(crate) fn byte_differences(left: &[u8], right: &[u8]) -> FirstBytes
         count: 0,
     };
     for offset in 0..left.len().min(right.len()) {
-        if left[offset] != right[offset] {
-            add_byte(
-                &mut told,
-                ByteDifference {
-                    offset,
-                    left: left[offset],
-                    right: right[offset],
-                },
-            );
-        }
+        note_byte(
+            &mut told,
+            ByteDifference {
+                offset,
+                left: left[offset],
+                right: right[offset],
+            },
+        );
     }
     told
 }

@@ -8,7 +8,8 @@ ghost use Rattle.cob_records.specs.Device.{counted, Took};
 ghost use Rattle.cob_records.specs.Frame.{is_write_fault};
 ghost use Rattle.cob_report_show.specs.Elements.{named_item};
 ghost use Rattle.cob_report_show.specs.Runs.{most_shown};
-ghost use Rattle.cob_report_show.specs.Values.{AreQuoted, AreUnknown, IsNumberShown, IsNumberValue, IsValueShown};
+ghost use Rattle.cob_report_show.specs.declared.values.Notation.TheVariants.{Characters, Digits};
+ghost use Rattle.cob_report_show.specs.Values.{ArePieces, AreQuoted, AreUnknown, IsNumberShown, IsNumberValue, IsValueShown};
 ghost use Rattle.cob_report_compare.specs.Differences.{plain_difference};
 ghost use Rattle.cob_report_compare.specs.Lines.{AreDifferenceLines, AreElementLines, AreRecordLines, AreValues, IfTold, IsDifferenceLine, alone_line, byte_line, counts_line, header_line, lengths_text, more_line, place_text, unlike_lines};
 ghost use Rattle.cob_report_compare.specs.Printable.{ArePrintable, IsPrintable, IsTellable};
@@ -37,30 +38,53 @@ fn put_text<W: Sink>(sink: &mut W, text: &[u8]) -> Result<(), RecordFault>
     put_record(sink, Form::Fixed, text)
 }
 
+/// Prints bytes as characters.
+fn put_shown<W: Sink>(sink: &mut W, bytes: &[u8]) -> Result<(), RecordFault>
+    ensures text { OnOk result (Took (W.taken sink.old) (W.taken sink.new)
+        (ArePieces Characters bytes.now)) }
+    ensures kind { IfErr result (λ fault. is_write_fault fault ≡ true) }
+    ensures cause { W.failures sink.new ≡ counted (is_err result) (W.failures sink.old) }
+{
+    for byte in bytes {
+        put_text(sink, shown_byte(*byte).as_slice())?;
+    }
+    Ok(())
+}
+
+/// Prints bytes as hexadecimal digits.
+fn put_digits<W: Sink>(sink: &mut W, bytes: &[u8]) -> Result<(), RecordFault>
+    ensures text { OnOk result (Took (W.taken sink.old) (W.taken sink.new)
+        (ArePieces Digits bytes.now)) }
+    ensures kind { IfErr result (λ fault. is_write_fault fault ≡ true) }
+    ensures cause { W.failures sink.new ≡ counted (is_err result) (W.failures sink.old) }
+{
+    for byte in bytes {
+        put_text(sink, digits_of(*byte).as_slice())?;
+    }
+    Ok(())
+}
+
 /// Prints bytes as characters in quotation marks.
 fn put_characters<W: Sink>(sink: &mut W, bytes: &[u8]) -> Result<(), RecordFault>
-    ensures text { OnOk result (Took (W.taken sink.old) (W.taken sink.new) (AreQuoted bytes.now)) }
+    ensures text { OnOk result (Took (W.taken sink.old) (W.taken sink.new)
+        (AreQuoted bytes.now)) }
     ensures kind { IfErr result (λ fault. is_write_fault fault ≡ true) }
     ensures cause { W.failures sink.new ≡ counted (is_err result) (W.failures sink.old) }
 {
     put_text(sink, b"\"")?;
-    for byte in bytes {
-        put_text(sink, shown_byte(*byte).as_slice())?;
-    }
+    put_shown(sink, bytes)?;
     put_text(sink, b"\"")
 }
 
 /// Prints bytes that represent no number: a question mark and their hexadecimal digits.
 fn put_unknown<W: Sink>(sink: &mut W, bytes: &[u8]) -> Result<(), RecordFault>
-    ensures text { OnOk result (Took (W.taken sink.old) (W.taken sink.new) (AreUnknown bytes.now)) }
+    ensures text { OnOk result (Took (W.taken sink.old) (W.taken sink.new)
+        (AreUnknown bytes.now)) }
     ensures kind { IfErr result (λ fault. is_write_fault fault ≡ true) }
     ensures cause { W.failures sink.new ≡ counted (is_err result) (W.failures sink.old) }
 {
     put_text(sink, b"?")?;
-    for byte in bytes {
-        put_text(sink, digits_of(*byte).as_slice())?;
-    }
-    Ok(())
+    put_digits(sink, bytes)
 }
 
 /// Prints the value of a number item.
