@@ -216,7 +216,7 @@ pub(crate) const COMPARISON: [OptionDefinition<'static>; 4] = [
     OptionDefinition {
         name: "right-form",
         standing: Standing::Optional("FORM"),
-        help: "How the records on the right stand, where not as on the left",
+        help: "How the records on the right stand, where otherwise",
     },
     OptionDefinition {
         name: "ignore",
@@ -226,7 +226,7 @@ pub(crate) const COMPARISON: [OptionDefinition<'static>; 4] = [
     OptionDefinition {
         name: "most",
         standing: Standing::Default("N", "100"),
-        help: "Tell of N records at most, and count the others",
+        help: "Tell of at most N records",
     },
     OptionDefinition {
         name: "by",

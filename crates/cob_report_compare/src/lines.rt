@@ -345,7 +345,7 @@ fn put_unlike<W: Sink>(
 }
 
 /// Prints the lines of two records of one number that were compared: none where they are equal.
-pub(crate) fn put_comparison<W: Sink>(
+fn put_comparison<W: Sink>(
     sink: &mut W,
     number: u64,
     left: &[u8],
@@ -366,27 +366,47 @@ pub(crate) fn put_comparison<W: Sink>(
     }
 }
 
-/// Prints the line of a record that stands alone.
-pub(crate) fn put_alone<W: Sink>(
-    sink: &mut W,
-    side: FileSide,
-    number: u64,
-) -> Result<(), RecordFault>
+/// Prints the line of a record that stands alone on the left.
+fn put_left_alone<W: Sink>(sink: &mut W, number: u64) -> Result<(), RecordFault>
     ensures text { OnOk result (Took (W.taken sink.old) (W.taken sink.new)
-        (λ part. part ≡ alone_line side number)) }
+        (λ part. part ≡ alone_line FileSide.Left number)) }
     ensures kind { IfErr result (λ fault. is_write_fault fault ≡ true) }
     ensures cause { W.failures sink.new ≡ counted (is_err result) (W.failures sink.old) }
 {
     let mut buffer = Buffer::new();
     let mut line = ListingLine::new();
-    let (front, end): (&[u8], &[u8]) = match side {
-        FileSide::Left => (b"record ", b": left alone\n"),
-        FileSide::Right => (b"record | ", b": right alone\n"),
-    };
-    push_text(&mut line, front);
+    push_text(&mut line, b"record ");
     push_text(&mut line, buffer.format(number).as_bytes());
-    push_text(&mut line, end);
+    push_text(&mut line, b": left alone\n");
     put_text(sink, line.as_slice())
+}
+
+/// Prints the line of a record that stands alone on the right.
+fn put_right_alone<W: Sink>(sink: &mut W, number: u64) -> Result<(), RecordFault>
+    ensures text { OnOk result (Took (W.taken sink.old) (W.taken sink.new)
+        (λ part. part ≡ alone_line FileSide.Right number)) }
+    ensures kind { IfErr result (λ fault. is_write_fault fault ≡ true) }
+    ensures cause { W.failures sink.new ≡ counted (is_err result) (W.failures sink.old) }
+{
+    let mut buffer = Buffer::new();
+    let mut line = ListingLine::new();
+    push_text(&mut line, b"record | ");
+    push_text(&mut line, buffer.format(number).as_bytes());
+    push_text(&mut line, b": right alone\n");
+    put_text(sink, line.as_slice())
+}
+
+/// Prints the line of a record that stands alone.
+fn put_alone<W: Sink>(sink: &mut W, side: FileSide, number: u64) -> Result<(), RecordFault>
+    ensures text { OnOk result (Took (W.taken sink.old) (W.taken sink.new)
+        (λ part. part ≡ alone_line side number)) }
+    ensures kind { IfErr result (λ fault. is_write_fault fault ≡ true) }
+    ensures cause { W.failures sink.new ≡ counted (is_err result) (W.failures sink.old) }
+{
+    match side {
+        FileSide::Left => put_left_alone(sink, number),
+        FileSide::Right => put_right_alone(sink, number),
+    }
 }
 
 /// Prints the lines of two records that were compared, where fewer were told before than at most.

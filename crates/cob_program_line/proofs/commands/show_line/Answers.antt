@@ -13,3 +13,8 @@ pub returns-in_err-lrecl-clause-lacks : goal.returns-in_err-lrecl-clause-lacks
 returns-in_err-lrecl-clause-lacks c =
     told c.from_residual-in_err-lrecl.result _ _ (λ fault is line says. c.in_err-lrecl.ensures.lacks line.lrecl says.lrecl)
     c.from_residual-in_err-lrecl.ensures.1
+
+pub returns-in_err-choice-clause-lacks : goal.returns-in_err-choice-clause-lacks
+returns-in_err-choice-clause-lacks c =
+    told c.from_residual-in_err-choice.result _ _ (λ fault is line says. c.in_err-choice.ensures.lacks line.skip line.records says.choice)
+    c.from_residual-in_err-choice.ensures.1
