@@ -16,6 +16,7 @@ use Rattle.cob_program_faults.specs.Ends.{EndsAmong, EndsAs, EndsAside, EndsAtRe
 use Rattle.cob_program_texts.specs.CheckEnds.{EndsCheck}
 use Rattle.cob_program_convert.specs.Ends.{MayEndAside, MayEndConvert}
 use Rattle.cob_program_texts.specs.DraftEnds.{MayEndDraft}
+use Rattle.cob_program_compare.specs.Ends.{EndsCompare}
 use Rattle.cob_program_list.specs.Ends.{MayEndLayout, MayEndListing}
 use Rattle.cob_program_texts.specs.LosslessEnds.{MayEndLossless}
 use Rattle.cob_program_manual.specs.Ends.{MayEndPrinting}
@@ -33,6 +34,7 @@ EndsLine (line.Convert options) end = EndsConvert options.rejects options.atomic
 EndsLine (line.Check options) end = EndsCheck options.strict end
 EndsLine (line.Layout options) end = EndsAmong MayEndLayout end
 EndsLine (line.Show options) end = EndsAmong MayEndListing end
+EndsLine (line.Compare options) end = EndsCompare end
 EndsLine (line.Pieces options) end = EndsAmong MayEndListing end
 EndsLine (line.Lossless options) end = EndsAmong MayEndLossless end
 EndsLine (line.Explain options) end = EndsAtRecord end
@@ -65,6 +67,7 @@ status_of_refusal refusal.Number = status.Malformed
 status_of_refusal refusal.Pieces = status.Malformed
 status_of_refusal refusal.Listing = status.Malformed
 status_of_refusal refusal.Lrecl = status.Malformed
+status_of_refusal refusal.Measure = status.Malformed
 status_of_refusal refusal.NotText = status.Malformed
 status_of_refusal refusal.Memory = status.Memory
 

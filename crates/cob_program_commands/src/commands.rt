@@ -6,6 +6,7 @@ ghost use Rattle.cob_program_commands.specs.Commands.{EndsConvert, IsEndOfLine, 
 
 use crate::handed::with_handed_books;
 use cob_convert::Status;
+use cob_program_compare::do_compare;
 use cob_program_convert::{do_convert, do_convert_aside};
 use cob_program_copies::{HandedRuntime, hand_over, tell_unhanded};
 use cob_program_explain::do_explain;
@@ -99,6 +100,7 @@ fn perform_line<R: AllocGlobal + Files + Input + Print + Eprint + Clock>(
         Line::Check(line) => do_checking(rt, line).code(),
         Line::Layout(line) => do_layout(rt, line).code(),
         Line::Show(line) => do_show(rt, line).code(),
+        Line::Compare(line) => do_compare(rt, line).code(),
         Line::Pieces(line) => do_pieces(rt, line).code(),
         Line::Lossless(line) => do_lossless(rt, line).code(),
         Line::Explain(line) => do_explain(rt, line).code(),

@@ -6,8 +6,8 @@ ghost use Rattle.cob_program_commands.specs.Commands.{IsEndOfLine};
 
 use cob_program_copies::{IN_BOOK, LISTED_BOOK, OUT_BOOK};
 use cob_program_line::{
-    CheckLine, ConvertLine, DraftLine, ExplainLine, LayoutLine, Line, LosslessLine, MapLine,
-    PiecesLine, ShowLine, TextFiles,
+    CheckLine, CompareLine, ConvertLine, DraftLine, ExplainLine, LayoutLine, Line, LosslessLine,
+    MapLine, PiecesLine, ShowLine, TextFiles,
 };
 
 /// The files of three texts, whose copybooks are handed over.
@@ -53,6 +53,10 @@ pub(crate) fn with_handed_books<'a>(line: &Line<'a>) -> Line<'a>
         }),
         Line::Layout(_) => Line::Layout(LayoutLine { book: LISTED_BOOK }),
         Line::Show(line) => Line::Show(ShowLine {
+            book: LISTED_BOOK,
+            ..*line
+        }),
+        Line::Compare(line) => Line::Compare(CompareLine {
             book: LISTED_BOOK,
             ..*line
         }),

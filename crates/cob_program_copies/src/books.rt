@@ -43,6 +43,7 @@ pub(crate) fn books_of<'a>(line: &Line<'a>) -> Option<BookFiles<'a>>
         Line::Job | Line::Completion | Line::Manual => None,
         Line::Layout(line) => Some(BookFiles::One(line.book)),
         Line::Show(line) => Some(BookFiles::One(line.book)),
+        Line::Compare(line) => Some(BookFiles::One(line.book)),
         Line::Pieces(line) => Some(BookFiles::One(line.book)),
         Line::Convert(line) => Some(BookFiles::Both(line.texts.in_book, line.texts.out_book)),
         Line::Check(line) => Some(BookFiles::Both(line.texts.in_book, line.texts.out_book)),

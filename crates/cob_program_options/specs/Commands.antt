@@ -82,6 +82,12 @@ layout_options = (codes "book", Required) ∷ book_handing ++ shared_options
 abbrev pub show_options : Options
 show_options = records_options ++ (codes "as", Default (codes "text")) ∷ (codes "progress", Alone) ∷ choice_options ++ book_handing ++ shared_options
 
+-- the options of `compare`
+abbrev pub compare_options : Options
+compare_options = (codes "book", Required) ∷ (codes "left", Required) ∷ (codes "right", Required) ∷ (codes "form", Default (codes "f"))
+    ∷ (codes "right-form", Optional) ∷ (codes "ignore", Optional) ∷ (codes "most", Default (codes "100")) ∷ (codes "by", Default (codes "value"))
+    ∷ book_handing ++ shared_options
+
 -- the options of `pieces`
 abbrev pub pieces_options : Options
 pieces_options = records_options ++ (codes "pieces", Required) ∷ book_handing ++ shared_options
@@ -109,7 +115,7 @@ Commands = List (Text × Options)
 -- the program's commands
 abbrev pub commands : Commands
 commands = (codes "convert", convert_options) ∷ (codes "check", check_options) ∷ (codes "layout", layout_options) ∷ (codes "show", show_options)
-    ∷ (codes "pieces", pieces_options) ∷ (codes "lossless", lossless_options)
+    ∷ (codes "compare", compare_options) ∷ (codes "pieces", pieces_options) ∷ (codes "lossless", lossless_options)
     ∷ (codes "explain", explain_options) ∷ (codes "draft", draft_options) ∷ (codes "map", map_options)
     ∷ (codes "completion", help_options) ∷ (codes "manual", help_options) ∷ []
 

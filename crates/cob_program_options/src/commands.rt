@@ -10,8 +10,8 @@ ghost use Rattle.cob_program_options.specs.Program.{Makes, bare_app, program_app
 use crate::adding::with_groups;
 use crate::definition::CommandDefinition;
 use crate::options::{
-    ATOMIC, BOOK, BOOKS, BOTH_RECORDS, BOTH_WAYS, CHOICE, COPIES, COVER, CUT, ENDS,
-    EXPLAINED_RECORDS, FORM, FORMS, LISTING, LRECL, MAPPED_RECORDS, MOVES, ONE_RECORD, PIECE,
+    ATOMIC, BOOK, BOOKS, BOTH_RECORDS, BOTH_WAYS, CHOICE, COMPARED, COMPARISON, COPIES, COVER, CUT,
+    ENDS, EXPLAINED_RECORDS, FORM, FORMS, LISTING, LRECL, MAPPED_RECORDS, MOVES, ONE_RECORD, PIECE,
     PIECES, PROGRESS, RECORD, REJECTS, SHARED, SHARED_RUN, SHOWN,
 };
 use crate::release::VERSION;
@@ -102,6 +102,14 @@ Example:
   cobconv explain --in-book old.cpy --out-book new.cpy --moves moves.cbl \\
     --in old.dat --record 17";
 
+// What `compare` prints.
+const COMPARE_NOTES: &str =
+    "The records of both files in order, pair by pair: each named item that differs,
+with both values, and the counts at the end. A number is compared as a number,
+whatever its sign code. The statuses are 0 where all are equal, 1 where not.
+
+Example: cobconv compare --book new.cpy --left ours.dat --right theirs.dat";
+
 const DRAFT_NOTES: &str =
     "A MOVE for each item of the output record that has a partner of its name, where
 there is such a move and nothing is cut; what is left stands as comments.
@@ -115,7 +123,7 @@ Example:
     --in old.dat --record 17 > map.html";
 
 // The commands that help tells of.
-const COMMANDS: [CommandDefinition<'static>; 9] = [
+const COMMANDS: [CommandDefinition<'static>; 10] = [
     CommandDefinition {
         name: "convert",
         about: "Convert a file of records by two copybooks and a paragraph",
@@ -167,6 +175,13 @@ const COMMANDS: [CommandDefinition<'static>; 9] = [
             &ONE_RECORD,
             &SHARED,
         ],
+    },
+    CommandDefinition {
+        name: "compare",
+        about: "Compare the records of two files of one layout by their values",
+        usage: None,
+        notes: COMPARE_NOTES,
+        groups: &[&COMPARED, &FORM, &COMPARISON, &COPIES, &ONE_RECORD, &SHARED],
     },
     CommandDefinition {
         name: "pieces",

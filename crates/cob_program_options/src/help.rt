@@ -12,6 +12,13 @@ pub(crate) const BINARY_HELP: &str =
 pub(crate) const LISTING_HELP: &str =
     "How values are listed: text, a line for each;\njson or csv, a line for each record";
 
+// What `--ignore` and `--by` name.
+pub(crate) const IGNORE_HELP: &str =
+    "Items and groups that are not compared, with commas\nbetween them: A, B OF C";
+
+pub(crate) const MEASURE_HELP: &str =
+    "What is compared: value, the values of named items;\nor bytes, all bytes";
+
 // What `--atomic` and `--progress` do.
 pub(crate) const ATOMIC_HELP: &str = "Write OUT.part first, and rename it when all is done";
 

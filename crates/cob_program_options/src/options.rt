@@ -3,7 +3,7 @@
 use crate::definition::{OptionDefinition, Standing};
 use crate::help::{
     ATOMIC_HELP, BINARY_HELP, COPY_DIR_HELP, EXPLAINED_HELP, EXPLAINED_RUN_HELP, FORM_HELP,
-    LISTING_HELP, LRECL_HELP, PROGRESS_HELP, REPLACE_HELP, STRICT_HELP,
+    IGNORE_HELP, LISTING_HELP, LRECL_HELP, MEASURE_HELP, PROGRESS_HELP, REPLACE_HELP, STRICT_HELP,
 };
 
 // How an option stands for a form, which is f where it is not there, and for the greatest size of blocks.
@@ -189,6 +189,49 @@ pub(crate) const CUT: [OptionDefinition<'static>; 2] = [
         name: "in",
         standing: Standing::Required("FILE"),
         help: "The records",
+    },
+];
+
+// The files that are compared, and the copybook of their records.
+pub(crate) const COMPARED: [OptionDefinition<'static>; 3] = [
+    OptionDefinition {
+        name: "book",
+        standing: Standing::Required("FILE"),
+        help: "The copybook of the records",
+    },
+    OptionDefinition {
+        name: "left",
+        standing: Standing::Required("FILE"),
+        help: "The records on the left; - is standard input",
+    },
+    OptionDefinition {
+        name: "right",
+        standing: Standing::Required("FILE"),
+        help: "The records on the right; - is standard input",
+    },
+];
+
+// How the files are compared.
+pub(crate) const COMPARISON: [OptionDefinition<'static>; 4] = [
+    OptionDefinition {
+        name: "right-form",
+        standing: Standing::Optional("FORM"),
+        help: "How the records on the right stand, where otherwise",
+    },
+    OptionDefinition {
+        name: "ignore",
+        standing: Standing::Optional("NAMES"),
+        help: IGNORE_HELP,
+    },
+    OptionDefinition {
+        name: "most",
+        standing: Standing::Default("N", "100"),
+        help: "Tell of at most N records",
+    },
+    OptionDefinition {
+        name: "by",
+        standing: Standing::Default("MEASURE", "value"),
+        help: MEASURE_HELP,
     },
 ];
 
