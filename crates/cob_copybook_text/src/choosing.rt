@@ -14,11 +14,11 @@ use cob_source::Token;
 ///
 /// Why the words have none of the name.
 pub(crate) fn chosen<'a>(words: &'a [Token], name: Option<&[u8]>) -> Result<&'a [Token], NoRecord>
-    ensures found { IfOk result (λ own. AreOfRecord (option_map (λ n. n.now) name)
+    ensures found { IfOk result (λ own. AreOfRecord (option_map (λ n. n.now) name.entry)
         (lexemes words.now) (lexemes own.now)) }
-    ensures only { (own : List Lexeme) → AreOfRecord (option_map (λ n. n.now) name) (lexemes words.now) own
+    ensures only { (own : List Lexeme) → AreOfRecord (option_map (λ n. n.now) name.entry) (lexemes words.now) own
         → IsOkAnd result (λ r. lexemes r.now ≡ own) }
-    ensures fault { IfErr result (λ why. IsUnchosen why (option_map (λ n. n.now) name) (lexemes words.now)) }
+    ensures fault { IfErr result (λ why. IsUnchosen why (option_map (λ n. n.now) name.entry) (lexemes words.now)) }
 {
     match name {
         Some(name) => record_words(words, name),

@@ -31,7 +31,7 @@ fn is_copy(token: &Token) -> bool
         TokenKind::Word => true,
         TokenKind::Literal | TokenKind::Stop => false,
     };
-    is_word && token.text.as_slice() == b"COPY"
+    is_word && token.text.as_slice() == b"COPY".as_slice()
 }
 
 /// The line of the first word COPY, if there is one.

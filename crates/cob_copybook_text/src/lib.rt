@@ -24,12 +24,12 @@ mod choosing;
 mod copying;
 mod fault;
 mod laws;
-mod record_text;
+mod making;
 mod writing;
 
 pub use cob_copybook_record::NoRecord;
 pub use copying::Copying;
 pub use fault::RecordTextFault;
 pub use laws::meant_words_are_one;
-pub use record_text::record_text;
+pub use making::record_text;
 pub use writing::RecordText;

@@ -59,15 +59,10 @@ impl RecordText {
             return self.push_line(b' ', 0, characters, line);
         };
         self.push_line(b' ', 0, first, line)?;
-        let mut rest = behind;
-        while let Some((front, more)) = rest.split_at_checked(CONTINUED_AREA) {
-            self.push_line(CONTINUED, 4, front, line)?;
-            rest = more;
+        for piece in behind.chunks(CONTINUED_AREA) {
+            self.push_line(CONTINUED, 4, piece, line)?;
         }
-        if rest.is_empty() {
-            return Ok(());
-        }
-        self.push_line(CONTINUED, 4, rest, line)
+        Ok(())
     }
 
     /// Puts a word behind the text. The comma separates it from the next one, so that a sign at its own end is part of it.

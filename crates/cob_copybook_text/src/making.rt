@@ -100,14 +100,14 @@ pub fn record_text(
 ) -> Result<Option<RecordText>, RecordTextFault>
     // What is answered says the words that are meant.
     ensures found { IfOk result (λ r. (own : List Lexeme)
-        × AreMeant how.now (option_map (λ n. n.now) name) (lexemes words.now) own
+        × AreMeant how.now (option_map (λ n. n.now) name.entry) (lexemes words.now) own
         × IsTextFor r (lexemes words.now) own) }
     // Where words are meant they are written, but for want of room in one text or of memory.
     ensures only { (own : List Lexeme)
-        → AreMeant how.now (option_map (λ n. n.now) name) (lexemes words.now) own
+        → AreMeant how.now (option_map (λ n. n.now) name.entry) (lexemes words.now) own
         → IfErr result IsWant }
     // A refusal names a rule that is broken.
-    ensures fault { IfErr result (λ f. IsTextRefusal f how.now (option_map (λ n. n.now) name) (lexemes words.now)) }
+    ensures fault { IfErr result (λ f. IsTextRefusal f how.now (option_map (λ n. n.now) name.entry) (lexemes words.now)) }
 {
     let all = match how.all_words(alloc, words) {
         Ok(all) => all,
