@@ -60,7 +60,7 @@ fn words_of<'a>(alloc: Global, text: &'a [u8]) -> Result<Vec<&'a [u8]>, AllocErr
 
 /// Whether a word is a comma.
 fn is_comma(word: &[u8]) -> bool {
-    word == b","
+    word == b",".as_slice()
 }
 
 /// The words of qualifiers: OF or IN and a name, again and again.
@@ -79,11 +79,16 @@ impl Qualifiers for QualifierTexts<'_> {
     }
 }
 
+/// Whether a word stands between a name and a qualifier.
+fn is_linking(word: &[u8]) -> bool {
+    word == b"OF".as_slice() || word == b"IN".as_slice()
+}
+
 /// Whether words are qualifiers: OF or IN and a name, again and again.
 fn are_qualifiers(words: &[&[u8]]) -> bool {
     let mut wants_name = false;
     for word in words {
-        if is_comma(word) || wants_name == (*word == b"OF" || *word == b"IN") {
+        if is_comma(word) || wants_name == is_linking(word) {
             return false;
         }
         wants_name = !wants_name;
@@ -121,6 +126,12 @@ fn words_before_comma(words: &[&[u8]]) -> usize
     words.len()
 }
 
+/// Adds a number.
+fn push_number(numbers: &mut Vec<usize>, number: usize) -> Result<(), AllocError> {
+    numbers.push(number)?;
+    Ok(())
+}
+
 /// Adds the numbers of the entries that these words name: names with their qualifiers, with commas between them.
 fn add_numbers<'a>(
     directory: &Directory<'a, usize>,
@@ -128,7 +139,7 @@ fn add_numbers<'a>(
     numbers: &mut Vec<usize>,
 ) -> Result<(), ComparisonFault> {
     let (reference, behind) = words.split_at(words_before_comma(words));
-    numbers.push(number_of(directory, reference)?)?;
+    push_number(numbers, number_of(directory, reference)?)?;
     match behind.split_first() {
         Some((_, further)) => add_numbers(directory, further, numbers),
         None => Ok(()),

@@ -7,14 +7,14 @@ use Rattle.cob_copybook_tree.specs.declared.node.Item.{Item}
 use Rattle.cob_layout.specs.Fields.{field_of}
 use Rattle.cob_report_show.specs.Elements.{NamedItem}
 use Rattle.cob_report_show.specs.Lines.{subscripts_text}
-use Rattle.cob_report_show.specs.Values.{ArePieces, AreQuoted, IsValueShown}
-use Rattle.cob_report_show.specs.declared.values.Notation.TheVariants.{Characters}
+use Rattle.cob_report_show.specs.Values.{AreQuoted, AreUnknown, IsByteShown, IsValueShown}
 use Rattle.cob_records.specs.declared.records.RecordFault.{RecordFault}
 use Rattle.cob_records.specs.Device.{Took}
 use Rattle.cob_records.specs.Frame.{Puts}
+use Rattle.cob_records.specs.Hex.{byte_text}
 use Rattle.cob_report_show.proofs.SentLemmas.{append_none, append_twice, took_as, took_both}
 use Rattle.cob_report_compare.specs.Differences.{PlainDifference, plain_difference}
-use Rattle.cob_report_compare.specs.Lines.{AreDifferenceLines, AreElementLines, AreValues, IsDifferenceLine, byte_line, header_line, more_line, place_text, unlike_lines}
+use Rattle.cob_report_compare.specs.Lines.{AreDifferenceLines, AreElementLines, AreShown, AreValues, IsDifferenceLine, byte_line, header_line, more_line, place_text, unlike_lines}
 use Rattle.cob_report_compare.specs.Printable.{ArePrintable, IsPrintable}
 use Rattle.cob_report_compare.specs.declared.bytes.ByteDifference.{ByteDifference}
 use Rattle.cob_report_compare.specs.declared.bytes.FirstBytes.{FirstBytes}
@@ -83,12 +83,52 @@ took_is is a b w0 w1 same so took = took_as w0 w1 (λ part. part ≡ a) is took 
 pub took_so : (is so : List ℕ → Type 0) (w0 w1 : Option (List ℕ)) → ((part : List ℕ) → is part → so part) → Took w0 w1 is → Took w0 w1 so
 took_so is so w0 w1 become took = took_as w0 w1 is so took become
 
-pub quoted : (bytes : List ℕ) (w0 w1 w2 w3 : Option (List ℕ)) → Took w0 w1 (λ part. part ≡ 34 ∷ []) → Took w1 w2 (ArePieces Characters bytes) → Took w2 w3 (λ part. part ≡ 34 ∷ [])
+-- bytes that are shown one behind another, in quotation marks
+quoted_more : (b : ℕ) (bytes first rest : List ℕ) → IsByteShown b first → AreQuoted bytes (34 ∷ (rest ++ 34 ∷ [])) → AreQuoted (b ∷ bytes) (34 ∷ ((first ++ rest) ++ 34 ∷ []))
+quoted_more b bytes first rest is (inner, pieces, e) = (
+  first ++ inner,
+  (first, inner, is, pieces, refl),
+  ap (λ (t : List ℕ). 34 ∷ t) (append_assoc first rest (34 ∷ []) ∙ ap (λ (t : List ℕ). first ++ t) (ap behind_first e) ∙ sym (append_assoc first inner (34 ∷ []))),
+)
+  where
+    behind_first : List ℕ → List ℕ
+    behind_first [] = []
+    behind_first (x ∷ xs) = xs
+
+shown_quoted : (bytes inner : List ℕ) → AreShown bytes inner → AreQuoted bytes (34 ∷ (inner ++ 34 ∷ []))
+shown_quoted [] inner none = (inner, none, refl)
+shown_quoted (b ∷ bytes) inner (first, rest, is, are, e) =
+    subst (λ (t : List ℕ). AreQuoted (b ∷ bytes) (34 ∷ (t ++ 34 ∷ []))) (sym e) (quoted_more b bytes first rest is (shown_quoted bytes rest are))
+
+pub quoted : (bytes : List ℕ) (w0 w1 w2 w3 : Option (List ℕ)) → Took w0 w1 (λ part. part ≡ 34 ∷ []) → Took w1 w2 (AreShown bytes) → Took w2 w3 (λ part. part ≡ 34 ∷ [])
     → Took w0 w3 (AreQuoted bytes)
 quoted bytes w0 w1 w2 w3 front pieces last =
-    took_front (34 ∷ []) (λ text. (inner : List ℕ) × ArePieces Characters bytes inner × (text ≡ inner ++ 34 ∷ [])) (AreQuoted bytes) w0 w1 w3
-    (λ q is. (is.0, is.1, ap (λ (t : List ℕ). 34 ∷ t) is.2)) front
-    (took_end (34 ∷ []) (ArePieces Characters bytes) (λ text. (inner : List ℕ) × ArePieces Characters bytes inner × (text ≡ inner ++ 34 ∷ [])) w1 w2 w3 (λ p are. (p, are, refl)) pieces last)
+    took_front (34 ∷ []) (λ text. (inner : List ℕ) × AreShown bytes inner × (text ≡ inner ++ 34 ∷ [])) (AreQuoted bytes) w0 w1 w3
+    (λ q is. subst (λ (t : List ℕ). AreQuoted bytes (34 ∷ t)) (sym is.2) (shown_quoted bytes is.0 is.1)) front
+    (took_end (34 ∷ []) (AreShown bytes) (λ text. (inner : List ℕ) × AreShown bytes inner × (text ≡ inner ++ 34 ∷ [])) w1 w2 w3 (λ p are. (p, are, refl)) pieces last)
+
+-- the digits of bytes
+abbrev pub digit_lines : List ℕ → List ℕ → Type 0
+digit_lines bytes text = text ≡ flat_map byte_text bytes
+
+pub digits_more : (b : ℕ) (bytes piece rest : List ℕ) → piece ≡ byte_text b → rest ≡ flat_map byte_text bytes → piece ++ rest ≡ flat_map byte_text (b ∷ bytes)
+digits_more b bytes piece rest is are = ap (λ (t : List ℕ). t ++ rest) is ∙ ap (λ (t : List ℕ). byte_text b ++ t) are
+
+digits_unknown : (bytes : List ℕ) → AreUnknown bytes (63 ∷ flat_map byte_text bytes)
+digits_unknown [] = ([], refl, refl)
+digits_unknown (b ∷ bytes) = more (digits_unknown bytes)
+  where
+    behind_first : List ℕ → List ℕ
+    behind_first [] = []
+    behind_first (x ∷ xs) = xs
+
+    more : AreUnknown bytes (63 ∷ flat_map byte_text bytes) → AreUnknown (b ∷ bytes) (63 ∷ (byte_text b ++ flat_map byte_text bytes))
+    more (inner, pieces, e) = (byte_text b ++ inner, (byte_text b, inner, refl, pieces, refl), ap (λ (t : List ℕ). 63 ∷ (byte_text b ++ t)) (ap behind_first e))
+
+pub unknown : (bytes : List ℕ) (w0 w1 w2 : Option (List ℕ)) → Took w0 w1 (λ part. part ≡ 63 ∷ []) → Took w1 w2 (λ part. part ≡ flat_map byte_text bytes) → Took w0 w2 (AreUnknown bytes)
+unknown bytes w0 w1 w2 mark digits =
+    took_front (63 ∷ []) (λ part. part ≡ flat_map byte_text bytes) (AreUnknown bytes) w0 w1 w2
+    (λ q is. subst (λ (t : List ℕ). AreUnknown bytes (63 ∷ t)) (sym is) (digits_unknown bytes)) mark digits
 
 pub both_values : (i : Item) (l r : List ℕ) (w0 w1 w2 w3 w4 : Option (List ℕ)) → Took w0 w1 (IsValueShown i l) → Took w1 w2 (λ part. part ≡ codes " | ") → Took w2 w3 (IsValueShown i r)
     → Took w3 w4 (λ part. part ≡ 10 ∷ []) → Took w0 w4 (AreValues i l r)

@@ -5,7 +5,7 @@ use Rattle.cob_layout.specs.Fields.{field_of}
 use Rattle.cob_records.specs.Hex.{byte_text}
 use Rattle.cob_report_show.specs.Elements.{NamedItem}
 use Rattle.cob_report_show.specs.Lines.{subscripts_text}
-use Rattle.cob_report_show.specs.Values.{IsValueShown}
+use Rattle.cob_report_show.specs.Values.{IsByteShown, IsValueShown}
 use Rattle.cob_report_compare.specs.Differences.{PlainDifference, plain_difference}
 use Rattle.cob_report_compare.specs.declared.bytes.ByteDifference.{ByteDifference}
 use Rattle.cob_report_compare.specs.declared.bytes.FirstBytes.{FirstBytes}
@@ -15,6 +15,11 @@ use Rattle.cob_report_compare.specs.declared.files.FileSide.{FileSide}
 use Rattle.cob_report_compare.specs.declared.files.FileSide.TheVariants.{Left, Right}
 use Rattle.cob_report_compare.specs.declared.records.Comparison.{Comparison}
 use Rattle.cob_report_compare.specs.declared.records.Comparison.TheVariants.{Same, Equal, Differ, Unlike}
+
+-- bytes as characters, one behind another
+abbrev pub AreShown : List ℕ → List ℕ → Type 0
+AreShown [] text = text ≡ []
+AreShown (byte ∷ bytes) text = (first : List ℕ) × (rest : List ℕ) × IsByteShown byte first × AreShown bytes rest × (text ≡ first ++ rest)
 
 -- the lengths of two records, where they have not one length
 abbrev pub lengths_text : (left right : ℕ) → List ℕ

@@ -56,7 +56,11 @@ impl PairCounts {
                 equal: self.equal + 1,
                 ..self
             },
-            Comparison::Differ(_) | Comparison::Unlike(_) => PairCounts {
+            Comparison::Differ(_) => PairCounts {
+                differ: self.differ + 1,
+                ..self
+            },
+            Comparison::Unlike(_) => PairCounts {
                 differ: self.differ + 1,
                 ..self
             },

@@ -61,7 +61,7 @@ impl<'a> FirstDifferences<'a> {
 
     /// Adds a difference behind those so far.
     pub(crate) fn add(&mut self, difference: Difference<'a>)
-        ensures { Adds (λ added. added ≡ plain_difference difference ∷ []) self.old self.new }
+        ensures { Adds (λ added. added ≡ plain_difference difference.entry ∷ []) self.old self.new }
     {
         self.count = self.count.saturating_add(1);
         if !self.first.is_full() {

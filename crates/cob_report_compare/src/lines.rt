@@ -6,12 +6,12 @@ ghost use Rattle.cob_copybook_tree.specs.Lengths.{item_size};
 ghost use Rattle.cob_limits.specs.Limits.{longest_name, longest_record, most_dimensions};
 ghost use Rattle.cob_records.specs.Device.{counted, Took};
 ghost use Rattle.cob_records.specs.Frame.{is_write_fault};
+ghost use Rattle.cob_records.specs.Hex.{byte_text};
 ghost use Rattle.cob_report_show.specs.Elements.{named_item};
 ghost use Rattle.cob_report_show.specs.Runs.{most_shown};
-ghost use Rattle.cob_report_show.specs.declared.values.Notation.TheVariants.{Characters, Digits};
-ghost use Rattle.cob_report_show.specs.Values.{ArePieces, AreQuoted, AreUnknown, IsNumberShown, IsNumberValue, IsValueShown};
+ghost use Rattle.cob_report_show.specs.Values.{AreQuoted, AreUnknown, IsNumberShown, IsNumberValue, IsValueShown};
 ghost use Rattle.cob_report_compare.specs.Differences.{plain_difference};
-ghost use Rattle.cob_report_compare.specs.Lines.{AreDifferenceLines, AreElementLines, AreRecordLines, AreValues, IfTold, IsDifferenceLine, alone_line, byte_line, counts_line, header_line, lengths_text, more_line, place_text, unlike_lines};
+ghost use Rattle.cob_report_compare.specs.Lines.{AreDifferenceLines, AreElementLines, AreRecordLines, AreShown, AreValues, IfTold, IsDifferenceLine, alone_line, byte_line, counts_line, header_line, lengths_text, more_line, place_text, unlike_lines};
 ghost use Rattle.cob_report_compare.specs.Printable.{ArePrintable, IsPrintable, IsTellable};
 
 use crate::bytes::{ByteDifference, FirstBytes};
@@ -41,7 +41,7 @@ fn put_text<W: Sink>(sink: &mut W, text: &[u8]) -> Result<(), RecordFault>
 /// Prints bytes as characters.
 fn put_shown<W: Sink>(sink: &mut W, bytes: &[u8]) -> Result<(), RecordFault>
     ensures text { OnOk result (Took (W.taken sink.old) (W.taken sink.new)
-        (ArePieces Characters bytes.now)) }
+        (AreShown bytes.now)) }
     ensures kind { IfErr result (λ fault. is_write_fault fault ≡ true) }
     ensures cause { W.failures sink.new ≡ counted (is_err result) (W.failures sink.old) }
 {
@@ -54,7 +54,7 @@ fn put_shown<W: Sink>(sink: &mut W, bytes: &[u8]) -> Result<(), RecordFault>
 /// Prints bytes as hexadecimal digits.
 fn put_digits<W: Sink>(sink: &mut W, bytes: &[u8]) -> Result<(), RecordFault>
     ensures text { OnOk result (Took (W.taken sink.old) (W.taken sink.new)
-        (ArePieces Digits bytes.now)) }
+        (λ part. part ≡ flat_map byte_text bytes.now)) }
     ensures kind { IfErr result (λ fault. is_write_fault fault ≡ true) }
     ensures cause { W.failures sink.new ≡ counted (is_err result) (W.failures sink.old) }
 {
