@@ -1,5 +1,5 @@
 -- The words of one record in a text that describes several.
-use Rattle.std.specs.Prelude.{◌≡◌, ◌≢◌, Bool, true, false, ◌&&◌, ◌||◌, bytes_eq, codes, if◌then◌else◌, ℕ, List, [], ◌∷◌}
+use Rattle.std.specs.Prelude.{◌≡◌, ◌≢◌, ◌⊎◌, Bool, true, false, ◌&&◌, ◌||◌, bytes_eq, codes, if◌then◌else◌, ℕ, List, [], ◌∷◌}
 use Rattle.cob_source.specs.declared.token.TokenKind.{TokenKind}
 use Rattle.cob_source.specs.declared.token.TokenKind.TheVariants as kind
 use Rattle.cob_source.specs.Tokens.{Lexeme}
@@ -92,3 +92,7 @@ behind_file ws = if describes_file ws then words_behind_part Renamings false ws 
 pub record AreSoleEntries (words own : List Lexeme) : Type 0 where
   pub own_are : own ≡ words_of_part Entries false words
   pub renamings : AreRenamings true (words_behind_part Entries false words)
+
+-- The words that are meant where no record is named: the entries of the one record of a text; or all behind the description of a file, where it has more.
+abbrev pub AreSoleWords : List Lexeme → List Lexeme → Type 0
+AreSoleWords words own = AreSoleEntries (behind_file words) own ⊎ (((entries : List Lexeme) → AreSoleEntries (behind_file words) entries → ⊥) × (own ≡ behind_file words))

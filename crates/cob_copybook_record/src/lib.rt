@@ -14,7 +14,7 @@
 //!
 //! # Where it is proved
 //!
-//! The clauses `found`, `only`, `fault` of `record_words`, `sole`, `others` of `sole_words`; the laws `sole_words_stay`, `found_is_not_refused`.
+//! The clauses `found`, `only`, `fault` of `record_words`, `meant`, `sole`, `others` of `sole_words`; the laws `sole_words_stay`, `found_is_not_refused`.
 #![tactic(auto)]
 
 mod laws;

@@ -3,7 +3,7 @@
 ghost use Rattle.std.specs.Prelude.{◌≡◌, List, [], true, false, IfErr, IfNone, IfOk, IfSome, IsOkAnd};
 ghost use Rattle.cob_source.specs.Tokens.{Lexeme, lexemes};
 ghost use Rattle.cob_copybook_record.specs.declared.level.RecordPart.TheVariants.{Entries, Renamings};
-ghost use Rattle.cob_copybook_record.specs.OneRecord.{AreEntriesBefore, AreRenamings, AreSoleEntries, AreWordsOfRecord, behind_file, describes_file, words_behind_part, words_of_part};
+ghost use Rattle.cob_copybook_record.specs.OneRecord.{AreEntriesBefore, AreRenamings, AreSoleEntries, AreSoleWords, AreWordsOfRecord, behind_file, describes_file, words_behind_part, words_of_part};
 ghost use Rattle.cob_copybook_record.specs.Refusals.{IsNoRecord};
 
 use crate::level::{RecordPart, is_text_of};
@@ -85,6 +85,7 @@ fn behind_file(words: &[Token]) -> &[Token]
 /// The words of the one record that a text describes. The description of a file before it and level 66 entries at the end are left out. A text that
 /// describes more, or has others behind level 66 entries, keeps all that is behind the description of a file.
 pub fn sole_words(words: &[Token]) -> &[Token]
+    ensures meant { AreSoleWords (lexemes words.now) (lexemes result.now) }
     ensures sole { (own : List Lexeme) → AreSoleEntries (behind_file (lexemes words.now)) own
         → lexemes result.now ≡ own }
     ensures others { ((own : List Lexeme) → AreSoleEntries (behind_file (lexemes words.now)) own → ⊥)

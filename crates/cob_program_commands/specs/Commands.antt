@@ -10,10 +10,13 @@ use Rattle.cob_program_line.specs.declared.fault.LineFault.TheVariants as refusa
 use Rattle.cob_convert.specs.Statuses.{code_of}
 use Rattle.cob_convert.specs.declared.status.Status.{Status}
 use Rattle.cob_convert.specs.declared.status.Status.TheVariants as status
+use Rattle.cob_program_copies.specs.Handing.{HasBooks, LacksHanding, status_of_handing}
+use Rattle.cob_program_copies.specs.declared.fault.HandingFault.{HandingFault}
 use Rattle.cob_program_faults.specs.Ends.{EndsAmong, EndsAs, EndsAside, EndsAtRecord}
 use Rattle.cob_program_texts.specs.CheckEnds.{EndsCheck}
 use Rattle.cob_program_convert.specs.Ends.{MayEndAside, MayEndConvert}
 use Rattle.cob_program_texts.specs.DraftEnds.{MayEndDraft}
+use Rattle.cob_program_compare.specs.Ends.{EndsCompare}
 use Rattle.cob_program_list.specs.Ends.{MayEndLayout, MayEndListing}
 use Rattle.cob_program_texts.specs.LosslessEnds.{MayEndLossless}
 use Rattle.cob_program_manual.specs.Ends.{MayEndPrinting}
@@ -31,6 +34,7 @@ EndsLine (line.Convert options) end = EndsConvert options.rejects options.atomic
 EndsLine (line.Check options) end = EndsCheck options.strict end
 EndsLine (line.Layout options) end = EndsAmong MayEndLayout end
 EndsLine (line.Show options) end = EndsAmong MayEndListing end
+EndsLine (line.Compare options) end = EndsCompare end
 EndsLine (line.Pieces options) end = EndsAmong MayEndListing end
 EndsLine (line.Lossless options) end = EndsAmong MayEndLossless end
 EndsLine (line.Explain options) end = EndsAtRecord end
@@ -42,6 +46,14 @@ EndsLine (line.Map options) end = EndsAtRecord end
 -- the number of a status with which this command line ends
 abbrev pub IsEndOfLine : Line → ℕ → Type 0
 IsEndOfLine said code = (end : Status) × EndsLine said end × (code ≡ code_of end)
+
+-- the number of a status with which a command line ends whose copybooks are not handed over, and which reads some
+abbrev pub IsEndOfUnhanded : Line → ℕ → Type 0
+IsEndOfUnhanded said code = HasBooks said × (fault : HandingFault) × (end : Status) × LacksHanding fault × EndsAs (status_of_handing fault) end × (code ≡ code_of end)
+
+-- the number of a status with which a command line ends: that of its command, or that of copybooks which were not handed over to it
+abbrev pub IsEndOfSaid : Line → ℕ → Type 0
+IsEndOfSaid said code = IsEndOfLine said code ⊎ IsEndOfUnhanded said code
 
 -- The status of words that are refused: help and the version are all that such words ask for; want of memory is told as that; other words are
 -- malformed.
@@ -55,6 +67,7 @@ status_of_refusal refusal.Number = status.Malformed
 status_of_refusal refusal.Pieces = status.Malformed
 status_of_refusal refusal.Listing = status.Malformed
 status_of_refusal refusal.Lrecl = status.Malformed
+status_of_refusal refusal.Measure = status.Malformed
 status_of_refusal refusal.NotText = status.Malformed
 status_of_refusal refusal.Memory = status.Memory
 
@@ -68,5 +81,5 @@ RefusesWords words fault = (fault ≡ refusal.Memory) ⊎ (((said : CommandLine)
 
 -- The program ends with this number, called with these words: a command line is carried out, and other words are refused.
 pub data IsEndOfWords (words : List Text) (code : ℕ) : Type 0 where
-  CarriedOut : (said : CommandLine) → IsCommandLineOf words said → IsEndOfLine said.line code → IsEndOfWords words code
+  CarriedOut : (said : CommandLine) → IsCommandLineOf words said → IsEndOfSaid said.line code → IsEndOfWords words code
   Refused : (fault : LineFault) → RefusesWords words fault → IsEndOfRefusal fault code → IsEndOfWords words code

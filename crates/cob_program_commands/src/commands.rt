@@ -2,17 +2,20 @@ ghost use Rattle.std.specs.Prelude.{◌≡◌, map};
 ghost use Rattle.cob_program_line.specs.Lines.{HasBlocks};
 ghost use Rattle.cob_records.specs.Forms.{HasBlockSize};
 ghost use Rattle.cob_program_texts.specs.CheckEnds.{EndsCheck};
-ghost use Rattle.cob_program_commands.specs.Commands.{EndsConvert, IsEndOfLine, IsEndOfRefusal, IsEndOfWords, status_of_refusal};
+ghost use Rattle.cob_program_commands.specs.Commands.{EndsConvert, IsEndOfLine, IsEndOfRefusal, IsEndOfSaid, IsEndOfWords, status_of_refusal};
 
+use crate::handed::with_handed_books;
 use cob_convert::Status;
+use cob_program_compare::do_compare;
 use cob_program_convert::{do_convert, do_convert_aside};
+use cob_program_copies::{HandedRuntime, hand_over, tell_unhanded};
 use cob_program_explain::do_explain;
 use cob_program_explained::{
     do_convert_aside_explained, do_convert_explained, files_of, tell_file_error,
 };
 use cob_program_faults::printed;
 use cob_program_job::do_job;
-use cob_program_line::{CheckLine, CommandLine, ConvertLine, Line, LineFault, line_of};
+use cob_program_line::{CheckLine, CommandLine, ConvertLine, Handing, Line, LineFault, line_of};
 use cob_program_list::{do_layout, do_pieces, do_show};
 use cob_program_manual::{do_completion, do_manual};
 use cob_program_map::do_map;
@@ -97,6 +100,7 @@ fn perform_line<R: AllocGlobal + Files + Input + Print + Eprint + Clock>(
         Line::Check(line) => do_checking(rt, line).code(),
         Line::Layout(line) => do_layout(rt, line).code(),
         Line::Show(line) => do_show(rt, line).code(),
+        Line::Compare(line) => do_compare(rt, line).code(),
         Line::Pieces(line) => do_pieces(rt, line).code(),
         Line::Lossless(line) => do_lossless(rt, line).code(),
         Line::Explain(line) => do_explain(rt, line).code(),
@@ -107,21 +111,41 @@ fn perform_line<R: AllocGlobal + Files + Input + Print + Eprint + Clock>(
     }
 }
 
+/// Carries out what a line asks for, with its copybooks as the options hand them over, prints what comes of it, and answers the program's status.
+fn perform_handed<R: AllocGlobal + Files + Input + Print + Eprint + Clock>(
+    rt: &R,
+    line: &Line<'_>,
+    handing: &Handing<'_>,
+    explain: bool,
+) -> u8
+    requires { HasBlocks line.now }
+    ensures { IsEndOfSaid line.now result }
+{
+    match hand_over(rt, line, handing) {
+        Ok(books) => {
+            let handed = HandedRuntime::new(rt, books.as_slice());
+            perform_line(&handed, &with_handed_books(line), explain)
+        }
+        Err(fault) => tell_unhanded(rt, &fault).code(),
+    }
+}
+
 /// Carries out what a line asks for, over a runtime that keeps the last error of the files that its options name, and prints behind a device that failed
 /// why it did. Where memory for these files is refused, that is not told.
 fn perform_explained<R: AllocGlobal + Files + Input + Print + Eprint + Clock>(
     rt: &R,
     line: &Line<'_>,
+    handing: &Handing<'_>,
 ) -> u8
     requires { HasBlocks line.now }
-    ensures { IsEndOfLine line.now result }
+    ensures { IsEndOfSaid line.now result }
 {
     let Ok(files) = files_of(rt.alloc(), line) else {
-        return perform_line(rt, line, true);
+        return perform_handed(rt, line, handing, true);
     };
     let last = Cell::new(None);
     let noted = Noted::new(rt, &files, &last);
-    let code = perform_line(&noted, line, true);
+    let code = perform_handed(&noted, line, handing, true);
     if code == Status::Device.code() {
         tell_file_error(rt, noted.last());
     }
@@ -134,12 +158,12 @@ pub fn perform<R: AllocGlobal + Files + Input + Print + Eprint + Clock>(
     said: &CommandLine<'_>,
 ) -> u8
     requires { HasBlocks said.now.line }
-    ensures { IsEndOfLine said.now.line result }
+    ensures { IsEndOfSaid said.now.line result }
 {
     if said.explain {
-        perform_explained(rt, &said.line)
+        perform_explained(rt, &said.line, &said.handing)
     } else {
-        perform_line(rt, &said.line, false)
+        perform_handed(rt, &said.line, &said.handing, false)
     }
 }
 

@@ -17,5 +17,6 @@
 #![tactic(auto)]
 
 mod commands;
+mod handed;
 
 pub use commands::{answer, perform, refuse};

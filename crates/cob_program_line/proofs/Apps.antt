@@ -4,10 +4,10 @@ use Rattle.std.specs.Prelude.{is_some, unwrap_or}
 use Rattle.std.proofs.lemmas.Bool.Decides.{nat_tests}
 use Rattle.clap.specs.Words.{Text}
 use Rattle.cob_program_line.specs.Numbers.{SaysNumber}
-use Rattle.cob_program_options.specs.Commands.{pieces_options, show_options}
+use Rattle.cob_program_options.specs.Commands.{compare_options, pieces_options, show_options}
 use Rattle.cob_program_options.specs.Looks.{AreAll, Look}
-use Rattle.cob_program_line.specs.Named.{NamesBlock, NamesBound, NamesNumber, form_by_letter, letter_of, listing_by_word, reading_by_word, sized_by, word_of, word_of_listing}
-use Rattle.cob_program_line.specs.Faults.{HasCounts, HasForms, HasListing, HasPiece, HasPieces, HasSizes, IsFaultIn, LacksABlock, LacksBlock, LacksBound, LacksCount, LacksForm, LacksListing, LacksNumber, LacksPiece, LacksReading, LacksSize}
+use Rattle.cob_program_line.specs.Named.{NamesBlock, NamesBound, NamesNumber, NamesRightForm, form_by_letter, letter_of, listing_by_word, measure_by_word, reading_by_word, sized_by, word_of, word_of_listing, word_of_measure}
+use Rattle.cob_program_line.specs.Faults.{HasCounts, HasForms, HasListing, HasLrecl, HasPiece, HasPieces, HasSizes, IsFaultIn, LacksABlock, LacksBlock, LacksBound, LacksCount, LacksForm, LacksListing, LacksNumber, LacksPiece, LacksReading, LacksSize}
 use Rattle.cob_program_line.specs.Lines.{NameChoice, NameForms, NamePiece}
 use Rattle.cob_program_line.specs.declared.line.Forms.{Forms}
 use Rattle.cob_program_line.specs.declared.line.Listing.{Listing}
@@ -51,15 +51,20 @@ pub no_form : (look : Look) (name : Text) → look name ≡ None → LacksForm l
 no_form look name none lacks = absent look name lacks.0 none lacks.1
 
 -- none of the options for a form lacks one
-pub has_forms : (look : Look) → (LacksForm look (codes "form") → ⊥) → (LacksForm look (codes "in-form") → ⊥) → (LacksForm look (codes "out-form") → ⊥) → HasForms look
-has_forms look one two three (name, is, lacks) = elim is [
+pub has_forms : (look : Look) → (LacksForm look (codes "form") → ⊥) → (LacksForm look (codes "in-form") → ⊥) → (LacksForm look (codes "out-form") → ⊥)
+    → (LacksForm look (codes "right-form") → ⊥) → HasForms look
+has_forms look one two three four (name, is, lacks) = elim is [
   | inl e ↦ one (subst (LacksForm look) e lacks)
   | inr (inl e) ↦ two (subst (LacksForm look) e lacks)
-  | inr (inr e) ↦ three (subst (LacksForm look) e lacks)
+  | inr (inr (inl e)) ↦ three (subst (LacksForm look) e lacks)
+  | inr (inr (inr e)) ↦ four (subst (LacksForm look) e lacks)
 ]
 
-pub both_forms : (look : Look) (f g : Form) → look (codes "form") ≡ None → look (codes "in-form") ≡ Some (letter_of f) → look (codes "out-form") ≡ Some (letter_of g) → HasForms look
-both_forms look f g none from to = has_forms look (no_form look (codes "form") none) (has_form look (codes "in-form") f from) (has_form look (codes "out-form") g to)
+pub both_forms : (look : Look) (f g : Form) → look (codes "form") ≡ None → look (codes "right-form") ≡ None → look (codes "in-form") ≡ Some (letter_of f)
+    → look (codes "out-form") ≡ Some (letter_of g) → HasForms look
+both_forms look f g none neither from to =
+    has_forms look (no_form look (codes "form") none) (has_form look (codes "in-form") f from) (has_form look (codes "out-form") g to)
+    (no_form look (codes "right-form") neither)
 
 -- the option for the reading that names one does not lack one
 pub has_reading : (look : Look) (r : Reading) → look (codes "binary") ≡ Some (word_of r) → LacksReading look → ⊥
@@ -152,9 +157,9 @@ has_piece look from bytes first h (inr (inl lacks)) = has_bound look (codes "byt
 has_piece look from bytes first h (inr (inr lacks)) = has_number look (codes "record") 1 first h.number lacks
 
 -- where the forms of both files are named, nothing is wrong before a listing
-pub before_listing : (look : Look) (forms : Forms) → look (codes "form") ≡ None → NameForms look forms → HasSizes look
-before_listing look forms none h = (
-  (both_forms look forms.input forms.output none h.in_letter h.out_letter, has_reading look forms.reading h.word),
+pub before_listing : (look : Look) (forms : Forms) → look (codes "form") ≡ None → look (codes "right-form") ≡ None → NameForms look forms → HasSizes look
+before_listing look forms none neither h = (
+  (both_forms look forms.input forms.output none neither h.in_letter h.out_letter, has_reading look forms.reading h.word),
   have_blocks look forms.input forms.output forms.in_block forms.out_block h.in_letter h.out_letter h.in_size h.out_size,
 )
 
@@ -167,10 +172,10 @@ before_counts look from bytes first h before = (before, has_piece look from byte
 
 -- nor where one form is named, and the options before are not there
 one_form : (look : Look) (f : Form) → look (codes "form") ≡ Some (letter_of f) → look (codes "in-form") ≡ None → look (codes "out-form") ≡ None
-    → look (codes "binary") ≡ None → HasSizes look
-one_form look f named from to binary = (
+    → (LacksForm look (codes "right-form") → ⊥) → look (codes "binary") ≡ None → HasSizes look
+one_form look f named from to right binary = (
   (
-    has_forms look (has_form look (codes "form") f named) (no_form look (codes "in-form") from) (no_form look (codes "out-form") to),
+    has_forms look (has_form look (codes "form") f named) (no_form look (codes "in-form") from) (no_form look (codes "out-form") to) right,
     λ lacks. absent look (codes "binary") lacks.0 binary lacks.1,
   ),
   λ lacks. elim lacks [
@@ -184,13 +189,21 @@ no_piece look from bytes first (inl lacks) = absent look (codes "from") lacks.0 
 no_piece look from bytes first (inr (inl lacks)) = absent look (codes "bytes") lacks.0 bytes lacks.1
 no_piece look from bytes first (inr (inr lacks)) = absent look (codes "record") lacks.0 first lacks.1
 
-no_count : (look : Look) → look (codes "skip") ≡ None → look (codes "records") ≡ None → look (codes "most-rejects") ≡ None → LacksCount look → ⊥
-no_count look skip records most (inl lacks) = absent look (codes "skip") lacks.0 skip lacks.1
-no_count look skip records most (inr (inl lacks)) = absent look (codes "records") lacks.0 records lacks.1
-no_count look skip records most (inr (inr lacks)) = absent look (codes "most-rejects") lacks.0 most lacks.1
+no_count : (look : Look) → look (codes "skip") ≡ None → look (codes "records") ≡ None → look (codes "most-rejects") ≡ None → (LacksBound look (codes "most") → ⊥)
+    → LacksCount look → ⊥
+no_count look skip records most told (inl lacks) = absent look (codes "skip") lacks.0 skip lacks.1
+no_count look skip records most told (inr (inl lacks)) = absent look (codes "records") lacks.0 records lacks.1
+no_count look skip records most told (inr (inr (inl lacks))) = absent look (codes "most-rejects") lacks.0 most lacks.1
+no_count look skip records most told (inr (inr (inr lacks))) = told lacks
+
+-- an option that names nothing lacks no bound
+pub no_bound : (look : Look) (name : Text) → look name ≡ None → LacksBound look name → ⊥
+no_bound look name none lacks = absent look name lacks.0 none lacks.1
 
 pub show_form : (look : Look) (f : Form) → AreAll show_options look → look (codes "form") ≡ Some (letter_of f) → HasSizes look
-show_form look f all named = one_form look f named (all (codes "in-form") refl) (all (codes "out-form") refl) (all (codes "binary") refl)
+show_form look f all named =
+    one_form look f named (all (codes "in-form") refl) (all (codes "out-form") refl) (no_form look (codes "right-form") (all (codes "right-form") refl))
+    (all (codes "binary") refl)
 
 pub show_listing : (look : Look) (f : Form) (l : Listing) → AreAll show_options look → look (codes "form") ≡ Some (letter_of f) → look (codes "as") ≡ Some (word_of_listing l)
     → HasPiece look
@@ -202,38 +215,67 @@ show_listing look f l all named listed = (
 pub pieces_form : (look : Look) (f : Form) → AreAll pieces_options look → look (codes "form") ≡ Some (letter_of f) → HasCounts look
 pieces_form look f all named = (
   (
-    before_piece look (all (codes "as") refl) (one_form look f named (all (codes "in-form") refl) (all (codes "out-form") refl) (all (codes "binary") refl)),
+    before_piece look (all (codes "as") refl) (one_form look f named (all (codes "in-form") refl) (all (codes "out-form") refl)
+        (no_form look (codes "right-form") (all (codes "right-form") refl)) (all (codes "binary") refl)),
     no_piece look (all (codes "from") refl) (all (codes "bytes") refl) (all (codes "record") refl),
   ),
-  no_count look (all (codes "skip") refl) (all (codes "records") refl) (all (codes "most-rejects") refl),
+  no_count look (all (codes "skip") refl) (all (codes "records") refl) (all (codes "most-rejects") refl) (no_bound look (codes "most") (all (codes "most") refl)),
+)
+
+-- where the forms of a comparison are named, no form is wrong, and nothing before a number of records
+pub compared_forms : (look : Look) (f g : Form) → AreAll compare_options look → look (codes "form") ≡ Some (letter_of f) → NamesRightForm look f g → HasPiece look
+compared_forms look f g all named right = (
+  before_piece look (all (codes "as") refl)
+      (one_form look f named (all (codes "in-form") refl) (all (codes "out-form") refl) (has_right right) (all (codes "binary") refl)),
+  no_piece look (all (codes "from") refl) (all (codes "bytes") refl) (all (codes "record") refl),
+)
+  where
+    has_right : NamesRightForm look f g → LacksForm look (codes "right-form") → ⊥
+    has_right (inl names) lacks = no_form look (codes "right-form") names.0 lacks
+    has_right (inr names) lacks = has_form look (codes "right-form") g names.0 lacks
+
+-- nor a record length, where it is named how many are told
+pub compared_most : (look : Look) (most : Option ℕ) → AreAll compare_options look → NamesBound look (codes "most") most → HasPiece look → HasLrecl look
+compared_most look most all named before = (
+  (
+    (
+      before,
+      no_count look (all (codes "skip") refl) (all (codes "records") refl) (all (codes "most-rejects") refl) (has_bound look (codes "most") most named),
+    ),
+    λ lacks. absent look (codes "pieces") lacks.0 (all (codes "pieces") refl) lacks.1,
+  ),
+  λ lacks. absent look (codes "lrecl") lacks.0 (all (codes "lrecl") refl) lacks.1,
 )
 
 -- nothing is wrong before a record length where there is no number of pieces, nor where there are no numbers of records either
 no_pieces : (look : Look) → look (codes "pieces") ≡ None → HasCounts look → HasPieces look
 no_pieces look none before = (before, λ lacks. absent look (codes "pieces") lacks.0 none lacks.1)
 
-pub chosen : (look : Look) (skip : ℕ) (records most : Option ℕ) → NameChoice look skip records → NamesBound look (codes "most-rejects") most → look (codes "pieces") ≡ None
-    → HasPiece look → HasPieces look
-chosen look skip records most choice bound pieces before = no_pieces look pieces (before, has_counts)
+pub chosen : (look : Look) (skip : ℕ) (records most : Option ℕ) → NameChoice look skip records → NamesBound look (codes "most-rejects") most → look (codes "most") ≡ None
+    → look (codes "pieces") ≡ None → HasPiece look → HasPieces look
+chosen look skip records most choice bound told pieces before = no_pieces look pieces (before, has_counts)
   where
     has_counts : LacksCount look → ⊥
     has_counts (inl lacks) = has_number look (codes "skip") 0 skip choice.passed lacks
     has_counts (inr (inl lacks)) = has_bound look (codes "records") records choice.most lacks
-    has_counts (inr (inr lacks)) = has_bound look (codes "most-rejects") most bound lacks
+    has_counts (inr (inr (inl lacks))) = has_bound look (codes "most-rejects") most bound lacks
+    has_counts (inr (inr (inr lacks))) = no_bound look (codes "most") told lacks
 
-pub chosen_alone : (look : Look) (skip : ℕ) (records : Option ℕ) → NameChoice look skip records → look (codes "most-rejects") ≡ None → look (codes "pieces") ≡ None
-    → HasPiece look → HasPieces look
-chosen_alone look skip records choice most pieces before = no_pieces look pieces (before, has_counts)
+pub chosen_alone : (look : Look) (skip : ℕ) (records : Option ℕ) → NameChoice look skip records → look (codes "most-rejects") ≡ None → look (codes "most") ≡ None
+    → look (codes "pieces") ≡ None → HasPiece look → HasPieces look
+chosen_alone look skip records choice most told pieces before = no_pieces look pieces (before, has_counts)
   where
     has_counts : LacksCount look → ⊥
     has_counts (inl lacks) = has_number look (codes "skip") 0 skip choice.passed lacks
     has_counts (inr (inl lacks)) = has_bound look (codes "records") records choice.most lacks
-    has_counts (inr (inr lacks)) = absent look (codes "most-rejects") lacks.0 most lacks.1
+    has_counts (inr (inr (inl lacks))) = no_bound look (codes "most-rejects") most lacks
+    has_counts (inr (inr (inr lacks))) = no_bound look (codes "most") told lacks
 
 pub one_record : (look : Look) (number : ℕ) → NamesNumber look (codes "record") 1 number → look (codes "from") ≡ None → look (codes "bytes") ≡ None
-    → look (codes "skip") ≡ None → look (codes "records") ≡ None → look (codes "most-rejects") ≡ None → look (codes "pieces") ≡ None
-    → HasListing look → HasPieces look
-one_record look number named from bytes skip records most pieces before = no_pieces look pieces ((before, has_piece), no_count look skip records most)
+    → look (codes "skip") ≡ None → look (codes "records") ≡ None → look (codes "most-rejects") ≡ None → look (codes "most") ≡ None
+    → look (codes "pieces") ≡ None → HasListing look → HasPieces look
+one_record look number named from bytes skip records most told pieces before =
+    no_pieces look pieces ((before, has_piece), no_count look skip records most (no_bound look (codes "most") told))
   where
     has_piece : LacksPiece look → ⊥
     has_piece (inl lacks) = absent look (codes "from") lacks.0 from lacks.1

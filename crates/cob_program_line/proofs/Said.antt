@@ -9,9 +9,9 @@ use Rattle.clap.specs.declared.error.Error.{Error}
 use Rattle.clap.specs.declared.error.kind.ErrorKind.{ErrorKind}
 use Rattle.clap.specs.declared.error.kind.ErrorKind.TheVariants as kind
 use Rattle.cob_program_line.specs.declared.fault.LineFault.{LineFault}
-use Rattle.cob_program_line.specs.declared.fault.LineFault.TheVariants.{Block, Form, Listing, Lrecl, Memory, NotText, Number, Piece, Pieces, Reading, Words}
+use Rattle.cob_program_line.specs.declared.fault.LineFault.TheVariants.{Block, Form, Listing, Lrecl, Measure, Memory, NotText, Number, Piece, Pieces, Reading, Words}
 use Rattle.cob_program_options.specs.Options.{Given, Options, found_at, taken}
-use Rattle.cob_program_options.specs.Commands.{Spells, check_options, commands, convert_options, draft_options, explain_options, help_options, layout_options, lossless_options, map_options, pieces_options, show_options}
+use Rattle.cob_program_options.specs.Commands.{Spells, check_options, commands, compare_options, convert_options, draft_options, explain_options, help_options, layout_options, lossless_options, map_options, pieces_options, show_options}
 use Rattle.cob_program_options.specs.Looks.{Look}
 use Rattle.cob_program_line.specs.Faults.{IsFaultIn, IsFaultOf, fault_by_kind, words_fault}
 use Rattle.cob_program_line.specs.Lines.{IsCommand, IsCommandLineOf, SaysCommand}
@@ -40,6 +40,7 @@ option_fault words name rows fault f h = go fault (subst (λ (look : Look). IsFa
     go Number h = (f.os, f.given, f.spells, h)
     go Pieces h = (f.os, f.given, f.spells, h)
     go Lrecl h = (f.os, f.given, f.spells, h)
+    go Measure h = (f.os, f.given, f.spells, h)
     go NotText h = absurd h
     go Memory h = absurd h
 
@@ -66,6 +67,8 @@ asked_by w os look (line.Layout o) is (same, h) = subst (λ (x : Options). AreAs
     (ap is_some h.book, tt)
 asked_by w os look (line.Show o) is (same, h) = subst (λ (x : Options). AreAsked x look) (named_options w (codes "show") os show_options is same refl)
     (ap is_some h.book, (ap is_some h.input, tt))
+asked_by w os look (line.Compare o) is (same, h) = subst (λ (x : Options). AreAsked x look) (named_options w (codes "compare") os compare_options is same refl)
+    (ap is_some h.book, (ap is_some h.left, (ap is_some h.right, tt)))
 asked_by w os look (line.Pieces o) is (same, h) = subst (λ (x : Options). AreAsked x look) (named_options w (codes "pieces") os pieces_options is same refl)
     (ap is_some h.book, (ap is_some h.input, (ap is_some h.pieces.1, tt)))
 asked_by w os look (line.Lossless o) is (same, h) = subst (λ (x : Options). AreAsked x look) (named_options w (codes "lossless") os lossless_options is same refl)

@@ -11,7 +11,7 @@ use Rattle.cob_program_options.specs.Options.{Given, Options, taken}
 use Rattle.cob_program_options.specs.Commands.{Spells}
 use Rattle.cob_program_line.specs.Numbers.{SaysNumber}
 use Rattle.cob_program_options.specs.Looks.{Look}
-use Rattle.cob_program_line.specs.Named.{form_by_letter, letter_of, listing_by_word, reading_by_word}
+use Rattle.cob_program_line.specs.Named.{form_by_letter, letter_of, listing_by_word, measure_by_word, reading_by_word}
 use Rattle.cob_program_options.specs.Program.{program_app}
 use Rattle.cob_program_line.specs.declared.fault.LineFault.{LineFault}
 use Rattle.cob_program_line.specs.declared.fault.LineFault.TheVariants as fault
@@ -38,7 +38,7 @@ is_answer _ = false
 
 -- the name is that of an option for a form
 abbrev pub IsFormName : Text → Type 0
-IsFormName name = (name ≡ codes "form") ⊎ (name ≡ codes "in-form") ⊎ (name ≡ codes "out-form")
+IsFormName name = (name ≡ codes "form") ⊎ (name ≡ codes "in-form") ⊎ (name ≡ codes "out-form") ⊎ (name ≡ codes "right-form")
 
 -- an option of this name has a letter that is none of a form
 abbrev pub LacksForm : Look → Text → Type 0
@@ -82,9 +82,9 @@ LacksBound look name = (word : Text) × (look name ≡ Some word) × (word ≡ c
 abbrev pub LacksPiece : Look → Type 0
 LacksPiece look = LacksNumber look (codes "from") 0 ⊎ LacksBound look (codes "bytes") ⊎ LacksNumber look (codes "record") 1
 
--- one of the options that choose among records, or bound those that are set aside, has a word that says no number
+-- one of the options that choose among records, or bound those that are set aside or told, has a word that says no number
 abbrev pub LacksCount : Look → Type 0
-LacksCount look = LacksNumber look (codes "skip") 0 ⊎ LacksBound look (codes "records") ⊎ LacksBound look (codes "most-rejects")
+LacksCount look = LacksNumber look (codes "skip") 0 ⊎ LacksBound look (codes "records") ⊎ LacksBound look (codes "most-rejects") ⊎ LacksBound look (codes "most")
 
 -- the option for a number of pieces has a word that says none, or 0
 abbrev pub LacksPieces : Look → Type 0
@@ -93,6 +93,10 @@ LacksPieces look = LacksNumber look (codes "pieces") 1
 -- the option for the record length of the input has a word that says none, or 0
 abbrev pub LacksLrecl : Look → Type 0
 LacksLrecl look = LacksNumber look (codes "lrecl") 1
+
+-- the option for the measure of a comparison has a word that is none of a measure
+abbrev pub LacksMeasure : Look → Type 0
+LacksMeasure look = (word : Text) × (look (codes "by") ≡ Some word) × (measure_by_word word ≡ None)
 
 -- no option for a form names none
 abbrev pub HasForms : Look → Type 0
@@ -122,8 +126,12 @@ HasCounts look = HasPiece look × (LacksCount look → ⊥)
 abbrev pub HasPieces : Look → Type 0
 HasPieces look = HasCounts look × (LacksPieces look → ⊥)
 
+-- and none a record length
+abbrev pub HasLrecl : Look → Type 0
+HasLrecl look = HasPieces look × (LacksLrecl look → ⊥)
+
 -- An option names what is none, and none names that which is told before: a form first, then a reading, a size of blocks, a listing, a piece of the
--- input, a number of records, a number of pieces, and a record length.
+-- input, a number of records, a number of pieces, a record length, and a measure.
 abbrev pub IsFaultIn : Look → LineFault → Type 0
 IsFaultIn look (fault.Words error) = ⊥
 IsFaultIn look fault.Form = LacksAForm look
@@ -134,6 +142,7 @@ IsFaultIn look fault.Piece = HasListing look × LacksPiece look
 IsFaultIn look fault.Number = HasPiece look × LacksCount look
 IsFaultIn look fault.Pieces = HasCounts look × LacksPieces look
 IsFaultIn look fault.Lrecl = HasPieces look × LacksLrecl look
+IsFaultIn look fault.Measure = HasLrecl look × LacksMeasure look
 IsFaultIn look fault.NotText = ⊥
 IsFaultIn look fault.Memory = ⊥
 

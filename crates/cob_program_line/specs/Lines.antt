@@ -6,9 +6,10 @@ use Rattle.cob_limits.specs.Limits.{longest_block}
 use Rattle.cob_program_options.specs.Options.{AreOptions, Given, Options, found_at, taken}
 use Rattle.cob_program_options.specs.Commands.{commands}
 use Rattle.cob_program_options.specs.Looks.{Look, is_flagged}
-use Rattle.cob_program_line.specs.Named.{NamesBlock, NamesBound, NamesLrecl, NamesNumber, letter_of, sized_by, word_of, word_of_listing}
+use Rattle.cob_program_line.specs.Named.{NamesBlock, NamesBound, NamesLrecl, NamesNumber, NamesRightForm, letter_of, sized_by, word_of, word_of_listing, word_of_measure}
 pub use Rattle.cob_program_line.specs.Faults.{IsFaultOf, is_answer_kind}
 use Rattle.cob_program_line.specs.declared.line.CommandLine.{CommandLine}
+use Rattle.cob_program_line.specs.declared.line.Handing.{Handing}
 use Rattle.cob_program_line.specs.declared.line.Line.{Line}
 use Rattle.cob_program_line.specs.declared.line.Line.TheVariants as line
 use Rattle.cob_program_line.specs.declared.line.TextFiles.{TextFiles}
@@ -17,6 +18,7 @@ use Rattle.cob_program_line.specs.declared.line.ConvertLine.{ConvertLine}
 use Rattle.cob_program_line.specs.declared.line.CheckLine.{CheckLine}
 use Rattle.cob_program_line.specs.declared.line.LayoutLine.{LayoutLine}
 use Rattle.cob_program_line.specs.declared.line.ShowLine.{ShowLine}
+use Rattle.cob_program_line.specs.declared.line.CompareLine.{CompareLine}
 use Rattle.cob_program_line.specs.declared.line.PiecesLine.{PiecesLine}
 use Rattle.cob_program_line.specs.declared.line.LosslessLine.{LosslessLine}
 use Rattle.cob_program_line.specs.declared.line.ExplainLine.{ExplainLine}
@@ -91,6 +93,19 @@ pub record IsShow (look : Look) (line : ShowLine) : Type 0 where
   pub progress : is_flagged (codes "progress") look ≡ line.progress
   pub choice : NameChoice look line.skip line.records
 
+-- The options of `compare` name the line's files, its forms, whose blocks may be the longest, what is not compared, how many records are told, and by what
+-- they are compared.
+pub record IsCompare (look : Look) (line : CompareLine) : Type 0 where
+  pub book : look (codes "book") ≡ Some line.book.now
+  pub left : look (codes "left") ≡ Some line.left.now
+  pub right : look (codes "right") ≡ Some line.right.now
+  pub form : look (codes "form") ≡ Some (letter_of line.left_form)
+  pub sized : line.left_form ≡ sized_by longest_block line.left_form
+  pub right_form : NamesRightForm look line.left_form line.right_form
+  pub ignored : look (codes "ignore") ≡ option_map (λ names. names.now) line.ignored
+  pub most : NamesBound look (codes "most") line.most
+  pub measure : look (codes "by") ≡ Some (word_of_measure line.measure)
+
 -- The options of `pieces` name the line's files, its form, whose blocks may be the longest, its record length, and how many pieces there may be.
 pub record IsPieces (look : Look) (line : PiecesLine) : Type 0 where
   pub book : look (codes "book") ≡ Some line.book.now
@@ -135,6 +150,7 @@ IsCommand name look (line.Convert options) = (name ≡ codes "convert") × IsCon
 IsCommand name look (line.Check options) = (name ≡ codes "check") × IsCheck look options
 IsCommand name look (line.Layout options) = (name ≡ codes "layout") × IsLayout look options
 IsCommand name look (line.Show options) = (name ≡ codes "show") × IsShow look options
+IsCommand name look (line.Compare options) = (name ≡ codes "compare") × IsCompare look options
 IsCommand name look (line.Pieces options) = (name ≡ codes "pieces") × IsPieces look options
 IsCommand name look (line.Lossless options) = (name ≡ codes "lossless") × IsLosslessLine look options
 IsCommand name look (line.Explain options) = (name ≡ codes "explain") × IsExplain look options
@@ -143,10 +159,21 @@ IsCommand name look (line.Map options) = (name ≡ codes "map") × IsMap look op
 IsCommand name look line.Completion = name ≡ codes "completion"
 IsCommand name look line.Manual = name ≡ codes "manual"
 
--- The name of a command and its options say the command's line, and by a flag that is no option of the line whether its faults are explained.
+-- Options say how copybooks are handed over: where the texts are that they copy, what is replaced in them, and which of their records are meant. Each of
+-- these may be left out.
+pub record NameHanding (look : Look) (handing : Handing) : Type 0 where
+  pub copy_dirs : look (codes "copy-dir") ≡ option_map (λ dirs. dirs.now) handing.copy_dirs
+  pub replace : look (codes "replace") ≡ option_map (λ exchanges. exchanges.now) handing.replace
+  pub in_record : look (codes "in-record") ≡ option_map (λ name. name.now) handing.in_record
+  pub out_record : look (codes "out-record") ≡ option_map (λ name. name.now) handing.out_record
+  pub one_record : look (codes "record-name") ≡ option_map (λ name. name.now) handing.record
+
+-- The name of a command and its options say the command's line, and by options that are none of the line whether its faults are explained, and how its
+-- copybooks are handed over.
 pub record SaysCommand (name : Text) (look : Look) (said : CommandLine) : Type 0 where
   pub command : IsCommand name look said.line
   pub explain : is_flagged (codes "explain") look ≡ said.explain
+  pub handing : NameHanding look said.handing
 
 -- the blocks of a line's forms may have their greatest sizes, and a number of pieces or that of a record is one at least
 abbrev pub HasBlocks : Line → Type 0
@@ -155,6 +182,7 @@ HasBlocks (line.Convert options) = HasBlockSize options.forms.input × HasBlockS
 HasBlocks (line.Check options) = ⊤
 HasBlocks (line.Layout options) = ⊤
 HasBlocks (line.Show options) = HasBlockSize options.form
+HasBlocks (line.Compare options) = HasBlockSize options.left_form × HasBlockSize options.right_form
 HasBlocks (line.Pieces options) = HasBlockSize options.form × (0 < options.pieces)
 HasBlocks (line.Lossless options) = ⊤
 HasBlocks (line.Explain options) = HasBlockSize options.forms.input × HasBlockSize options.forms.output × (0 < options.record)

@@ -1,5 +1,5 @@
 -- What options name.
-use Rattle.std.specs.Prelude.{◌≡◌, ◌≤◌, ℕ, Some, None, Option, if◌then◌else◌, codes}
+use Rattle.std.specs.Prelude.{◌≡◌, ◌⊎◌, ◌≤◌, ℕ, Some, None, Option, if◌then◌else◌, codes}
 use Rattle.std.specs.Str.{bytes_eq}
 use Rattle.clap.specs.Words.{Text}
 use Rattle.cob_codec.specs.declared.reading.Reading.{Reading}
@@ -12,6 +12,8 @@ use Rattle.cob_program_options.specs.Looks.{Look}
 use Rattle.cob_program_line.specs.Numbers.{SaysNumber}
 use Rattle.cob_program_line.specs.declared.line.Listing.{Listing}
 use Rattle.cob_program_line.specs.declared.line.Listing.TheVariants as listing
+use Rattle.cob_program_line.specs.declared.line.Measure.{Measure}
+use Rattle.cob_program_line.specs.declared.line.Measure.TheVariants as measure
 
 -- the letter of a form
 abbrev pub letter_of : Form → Text
@@ -52,6 +54,22 @@ abbrev pub listing_by_word : Text → Option Listing
 listing_by_word word = if bytes_eq word (codes "text") then Some listing.Text
     else (if bytes_eq word (codes "json") then Some listing.Json
     else (if bytes_eq word (codes "csv") then Some listing.Csv else None))
+
+-- the word of a measure of a comparison
+abbrev pub word_of_measure : Measure → Text
+word_of_measure measure.Value = codes "value"
+word_of_measure measure.Bytes = codes "bytes"
+
+-- the measure of a word
+abbrev pub measure_by_word : Text → Option Measure
+measure_by_word word = if bytes_eq word (codes "value") then Some measure.Value
+    else (if bytes_eq word (codes "bytes") then Some measure.Bytes else None)
+
+-- The option for the form of the records on the right names it, whose blocks may be the longest; where it is not there, these stand as those on the left.
+abbrev pub NamesRightForm : Look → (left right : Form) → Type 0
+NamesRightForm look left right =
+    ((look (codes "right-form") ≡ None) × (right ≡ left))
+    ⊎ ((look (codes "right-form") ≡ Some (letter_of right)) × (right ≡ sized_by longest_block right))
 
 -- An option names the greatest size of blocks, where the form has blocks; beside another form its word isn't read, and the size is the longest.
 abbrev pub NamesBlock : Look → Text → Form → ℕ → Type 0

@@ -1,19 +1,20 @@
 //! The lines of the commands that have options.
 
 ghost use Rattle.std.specs.Prelude.{◌<◌, IfErr, IfOk};
-ghost use Rattle.cob_program_options.specs.Commands.{IsComplete, check_options, convert_options, draft_options, explain_options, layout_options, lossless_options, map_options, pieces_options, show_options};
+ghost use Rattle.cob_program_options.specs.Commands.{IsComplete, check_options, compare_options, convert_options, draft_options, explain_options, layout_options, lossless_options, map_options, pieces_options, show_options};
 ghost use Rattle.cob_program_line.specs.Faults.{IsFaultIn};
-ghost use Rattle.cob_program_line.specs.Lines.{HasBlocks, IsCheck, IsCommand, IsConvert, IsDraft, IsExplain, IsLayout, IsLosslessLine, IsMap, IsPieces, IsShow};
+ghost use Rattle.cob_program_line.specs.Lines.{HasBlocks, IsCheck, IsCommand, IsCompare, IsConvert, IsDraft, IsExplain, IsLayout, IsLosslessLine, IsMap, IsPieces, IsShow};
 ghost use Rattle.cob_program_options.specs.Looks.{AreAll, AreNamed, look_of};
 ghost use Rattle.cob_records.specs.Forms.{HasBlockSize};
 
 use crate::fault::LineFault;
 use crate::line::{
-    CheckLine, ConvertLine, DraftLine, ExplainLine, LayoutLine, Line, LosslessLine, MapLine,
-    PiecesLine, ShowLine,
+    CheckLine, CompareLine, ConvertLine, DraftLine, ExplainLine, LayoutLine, Line, LosslessLine,
+    MapLine, PiecesLine, ShowLine,
 };
 use crate::values::{
-    bound, choice_of, form, forms_of, listing, lrecl_of, number, piece_of, record_of, texts_of,
+    bound, choice_of, form, forms_of, listing, lrecl_of, measure, number, piece_of, record_of,
+    right_form, texts_of,
 };
 use clap::ArgMatches;
 use cob_program_options::{flag, named, named_if_there};
@@ -32,6 +33,7 @@ pub(crate) fn command_line<'a>(name: &str, options: &ArgMatches<'a>) -> Result<L
         "check" => Ok(Line::Check(check_line(options))),
         "layout" => Ok(Line::Layout(layout_line(options))),
         "show" => Ok(Line::Show(show_line(options)?)),
+        "compare" => Ok(Line::Compare(compare_line(options)?)),
         "pieces" => Ok(Line::Pieces(pieces_line(options)?)),
         "lossless" => Ok(Line::Lossless(lossless_line(options))),
         "explain" => Ok(Line::Explain(explain_line(options)?)),
@@ -130,6 +132,37 @@ pub fn show_line<'a>(options: &ArgMatches<'a>) -> Result<ShowLine<'a>, LineFault
         progress: flag(options, "progress"),
         skip: choice.skip,
         records: choice.records,
+    })
+}
+
+/// What the options of `compare` name.
+///
+/// # Errors
+///
+/// The first of [`LineFault`] that an option has (`IsFaultIn` of specs/Faults.antt).
+pub fn compare_line<'a>(options: &ArgMatches<'a>) -> Result<CompareLine<'a>, LineFault>
+    requires named { AreNamed compare_options (look_of options.now) }
+    requires only { AreAll compare_options (look_of options.now) }
+    ensures options { IfOk result (IsCompare (look_of options.now)) }
+    ensures lacks { IfErr result (λ _. (line : CompareLine)
+        → IsCompare (look_of options.now) line → ⊥) }
+    ensures fault { IfErr result (IsFaultIn (look_of options.now)) }
+    ensures blocks { IfOk result
+        (λ line. HasBlockSize line.left_form × HasBlockSize line.right_form) }
+{
+    let left_form = form(options, "form")?;
+    let right_form = right_form(options, left_form)?;
+    let most = bound(options, "most", LineFault::Number)?;
+    let measure = measure(options)?;
+    Ok(CompareLine {
+        book: named(options, "book"),
+        left: named(options, "left"),
+        right: named(options, "right"),
+        left_form,
+        right_form,
+        ignored: named_if_there(options, "ignore"),
+        most,
+        measure,
     })
 }
 

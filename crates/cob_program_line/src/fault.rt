@@ -38,6 +38,9 @@ pub enum LineFault {
     /// A record length of the input that is none, or 0.
     #[error("bad lrecl")]
     Lrecl,
+    /// A measure of a comparison that is neither value nor bytes.
+    #[error("bad measure")]
+    Measure,
     /// A word is no text in UTF-8, so that no option can take it.
     #[error("a word is not text in UTF-8")]
     NotText,
@@ -80,6 +83,7 @@ impl LineFault {
             | LineFault::Pieces
             | LineFault::Listing
             | LineFault::Lrecl
+            | LineFault::Measure
             | LineFault::NotText
             | LineFault::Memory => false,
         }

@@ -7,8 +7,8 @@
 //! A [`CommandLine`] is what words ask for; [`line_of`] reads it. A function for each command that has options reads its line from what the
 //! parser found, as [`convert_line`]: each field is the value that its option names, by specs/Lines.antt over the tables of `cob_program_options`
 //! (`options`). A form is f, v, or b with the greatest size of its blocks, a reading of binary items is pictured or whole, a listing of values text,
-//! json or csv. It refuses options exactly where there is no such line (`lacks`), and says which names what is none, of those that are told first: an
-//! option names no form, no reading, no size of blocks, no listing, no piece of the input, no number of records, no number of pieces, or no record length
+//! json or csv, a measure of a comparison value or bytes. It refuses options exactly where there is no such line (`lacks`), and says which names what is none, of those that are told first: an
+//! option names no form, no reading, no size of blocks, no listing, no piece of the input, no number of records, no number of pieces, no record length, or no measure
 //! (`fault`, by `IsFaultIn` of specs/Faults.antt).
 //!
 //! [`Line::files`] are the files that the options of a line name, in the order in which they are opened: each line's stand beside its fields.
@@ -35,7 +35,7 @@
 //!
 //! The clauses `options`, `lacks`, `fault` and `blocks` of `convert_line`, `show_line` and the functions beside them: the line of each command is what
 //! its options name, and a refusal tells the first that names nothing (`IsFaultIn`); the clauses `options`, `refused` and `fault` of `line_of`: also that
-//! faults are explained exactly where the flag is given (`SaysCommand`).
+//! faults are explained exactly where the flag is given, and that copybooks are handed over as their options say (`SaysCommand`).
 #![tactic(auto)]
 
 mod commands;
@@ -46,12 +46,12 @@ mod read;
 mod values;
 
 pub use commands::{
-    check_line, convert_line, draft_line, explain_line, layout_line, lossless_line, map_line,
-    pieces_line, show_line,
+    check_line, compare_line, convert_line, draft_line, explain_line, layout_line, lossless_line,
+    map_line, pieces_line, show_line,
 };
 pub use fault::LineFault;
 pub use line::{
-    CheckLine, CommandLine, ConvertLine, DraftLine, ExplainLine, Forms, LayoutLine, Line, Listing,
-    LosslessLine, MapLine, PiecesLine, ShowLine, TextFiles,
+    CheckLine, CommandLine, CompareLine, ConvertLine, DraftLine, ExplainLine, Forms, Handing,
+    LayoutLine, Line, Listing, LosslessLine, MapLine, Measure, PiecesLine, ShowLine, TextFiles,
 };
 pub use read::line_of;

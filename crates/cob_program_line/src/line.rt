@@ -18,6 +18,8 @@ pub enum Line<'a> {
     Layout(LayoutLine<'a>),
     /// Lists the values of a file of records.
     Show(ShowLine<'a>),
+    /// Compares the records of two files.
+    Compare(CompareLine<'a>),
     /// Lists the pieces that a file of records may be cut in.
     Pieces(PiecesLine<'a>),
     /// Says whether a second paragraph brings back all that a first one takes.
@@ -42,6 +44,7 @@ impl<'a> Line<'a> {
             Line::Check(line) => line.texts.add_files(files),
             Line::Layout(line) => add_read(files, "book", line.book),
             Line::Show(line) => line.add_files(files),
+            Line::Compare(line) => line.add_files(files),
             Line::Pieces(line) => line.add_files(files),
             Line::Lossless(line) => line.add_files(files),
             Line::Explain(line) => line.add_files(files),
@@ -100,6 +103,36 @@ pub struct CommandLine<'a> {
     pub line: Line<'a>,
     /// Whether it is told behind a fault what is wrong, and why.
     pub explain: bool,
+    /// How its copybooks are handed over.
+    pub handing: Handing<'a>,
+}
+
+/// How copybooks are handed over: where the texts are that they copy, what is replaced in them, and which of their records are meant.
+#[derive(Clone, Copy)]
+pub struct Handing<'a> {
+    /// The folders with the texts that COPY names, parted by colons.
+    pub copy_dirs: Option<&'a str>,
+    /// What is replaced, `x=y`, parted by semicolons.
+    pub replace: Option<&'a str>,
+    /// The record of the input's copybook that is meant.
+    pub in_record: Option<&'a str>,
+    /// The record of the output's copybook that is meant.
+    pub out_record: Option<&'a str>,
+    /// The record of a listing's copybook that is meant.
+    pub record: Option<&'a str>,
+}
+
+impl Handing<'_> {
+    /// No option says anything.
+    pub fn plain() -> Handing<'static> {
+        Handing {
+            copy_dirs: None,
+            replace: None,
+            in_record: None,
+            out_record: None,
+            record: None,
+        }
+    }
 }
 
 /// How the values of records are listed.
@@ -111,6 +144,15 @@ pub enum Listing {
     Json,
     /// A line for each record, of values that commas part, behind a line of their names.
     Csv,
+}
+
+/// By what records are compared.
+#[derive(Clone, Copy, PartialEq, Eq)]
+pub enum Measure {
+    /// By the values of their named items.
+    Value,
+    /// By all their bytes.
+    Bytes,
 }
 
 /// The files of the three texts of a conversion.
@@ -237,6 +279,36 @@ impl<'a> ShowLine<'a> {
     fn add_files(&self, files: &mut Vec<NamedFile<'a>>) -> Result<(), AllocError> {
         add_read(files, "book", self.book)?;
         add_read(files, "in", self.input)
+    }
+}
+
+/// The options of `compare`.
+#[derive(Clone, Copy)]
+pub struct CompareLine<'a> {
+    /// The file with the copybook of the records.
+    pub book: &'a str,
+    /// The file with the records on the left; `-` is standard input.
+    pub left: &'a str,
+    /// The file with the records on the right; `-` is standard input.
+    pub right: &'a str,
+    /// How the records on the left stand.
+    pub left_form: Form,
+    /// How the records on the right stand.
+    pub right_form: Form,
+    /// The names of what is not compared, with commas between them, where there are some.
+    pub ignored: Option<&'a str>,
+    /// How many records that differ or stand alone are told, where it is not all.
+    pub most: Option<u64>,
+    /// By what the records are compared.
+    pub measure: Measure,
+}
+
+impl<'a> CompareLine<'a> {
+    /// Adds the files of the copybook and of the records.
+    fn add_files(&self, files: &mut Vec<NamedFile<'a>>) -> Result<(), AllocError> {
+        add_read(files, "book", self.book)?;
+        add_read(files, "left", self.left)?;
+        add_read(files, "right", self.right)
     }
 }
 

@@ -9,7 +9,8 @@ ghost use Rattle.cob_program_options.specs.Commands.{IsComplete};
 
 use crate::commands::command_line;
 use crate::fault::LineFault;
-use crate::line::{CommandLine, Line};
+use crate::line::{CommandLine, Handing, Line};
+use crate::values::handing_of;
 use clap::ArgMatches;
 use cob_program_options::{flag, program};
 use std::alloc::Global;
@@ -28,6 +29,7 @@ fn whole_line<'a>(name: &str, options: &ArgMatches<'a>) -> Result<CommandLine<'a
     Ok(CommandLine {
         line,
         explain: flag(options, "explain"),
+        handing: handing_of(options),
     })
 }
 
@@ -53,6 +55,7 @@ pub fn line_of<'a, S: AsStr>(alloc: Global, words: &'a [S]) -> Result<CommandLin
         return Ok(CommandLine {
             line: Line::Job,
             explain: false,
+            handing: Handing::plain(),
         });
     }
     let matches = program(alloc)?.try_get_matches_from(words)?;

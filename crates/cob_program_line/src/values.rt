@@ -2,10 +2,10 @@
 
 ghost use Rattle.std.specs.Prelude.{◌≡◌, ◌<◌, ◌≤◌, ℕ, IfErr, IfOk, None, Option, Some, codes, is_some, true};
 ghost use Rattle.cob_program_options.specs.Commands.{choice_options, forms_options, piece_options, texts_options};
-ghost use Rattle.cob_program_line.specs.Faults.{HasListing, HasPiece, HasPieces, IsFaultIn, LacksBound, LacksForm, LacksListing, LacksNumber, LacksReading, LacksSize};
-ghost use Rattle.cob_program_line.specs.Lines.{NameChoice, NameForms, NameNoForms, NamePiece, NameTexts};
+ghost use Rattle.cob_program_line.specs.Faults.{HasListing, HasPiece, HasPieces, IsFaultIn, LacksBound, LacksForm, LacksListing, LacksMeasure, LacksNumber, LacksReading, LacksSize};
+ghost use Rattle.cob_program_line.specs.Lines.{NameChoice, NameForms, NameNoForms, NameHanding, NamePiece, NameTexts};
 ghost use Rattle.cob_program_options.specs.Looks.{AreNamed, look_of};
-ghost use Rattle.cob_program_line.specs.Named.{NamesBlock, NamesBound, NamesLrecl, NamesNumber, form_by_letter, letter_of, listing_by_word, reading_by_word, sized_by, word_of, word_of_listing};
+ghost use Rattle.cob_program_line.specs.Named.{NamesBlock, NamesBound, NamesLrecl, NamesNumber, NamesRightForm, form_by_letter, letter_of, listing_by_word, measure_by_word, reading_by_word, sized_by, word_of, word_of_listing, word_of_measure};
 ghost use Rattle.cob_program_line.specs.Numbers.{SaysNumber};
 ghost use Rattle.cob_program_line.specs.declared.fault.LineFault.TheVariants.{Lrecl};
 ghost use Rattle.cob_limits.specs.Limits.{longest_block};
@@ -13,7 +13,7 @@ ghost use Rattle.cob_records.specs.Blocks.{IsBlockSize};
 ghost use Rattle.cob_records.specs.Forms.{HasBlockSize};
 
 use crate::fault::LineFault;
-use crate::line::{Forms, Listing, TextFiles};
+use crate::line::{Forms, Handing, Listing, Measure, TextFiles};
 use crate::number::number_of;
 use clap::ArgMatches;
 use cob_codec::Reading;
@@ -56,6 +56,17 @@ fn listing_named(word: &str) -> Option<Listing>
     }
 }
 
+// The measure of a comparison that a word names.
+fn measure_named(word: &str) -> Option<Measure>
+    ensures { result ≡ measure_by_word word.now }
+{
+    match word {
+        "value" => Some(Measure::Value),
+        "bytes" => Some(Measure::Bytes),
+        _ => None,
+    }
+}
+
 // The form that an option names, which has a value.
 pub(crate) fn form(options: &ArgMatches<'_>, name: &str) -> Result<Form, LineFault>
     requires { is_some (look_of options.now name.now) ≡ true }
@@ -94,6 +105,35 @@ pub(crate) fn listing(options: &ArgMatches<'_>) -> Result<Listing, LineFault>
         × LacksListing (look_of options.now)) }
 {
     listing_named(named(options, "as")).ok_or(LineFault::Listing)
+}
+
+// The measure of a comparison that its option names, which has a value.
+pub(crate) fn measure(options: &ArgMatches<'_>) -> Result<Measure, LineFault>
+    requires { is_some (look_of options.now (codes "by")) ≡ true }
+    ensures named { IfOk result (λ measure.
+        look_of options.now (codes "by") ≡ Some (word_of_measure measure)) }
+    ensures lacks { IfErr result (λ _. (measure : Measure)
+        → look_of options.now (codes "by") ≡ Some (word_of_measure measure) → ⊥) }
+    ensures fault { IfErr result (λ fault. (fault ≡ LineFault.Measure)
+        × LacksMeasure (look_of options.now)) }
+{
+    measure_named(named(options, "by")).ok_or(LineFault::Measure)
+}
+
+// The form of the records on the right, which its option names, or which is that on the left.
+pub(crate) fn right_form(options: &ArgMatches<'_>, left: Form) -> Result<Form, LineFault>
+    requires { HasBlockSize left }
+    ensures named { IfOk result (NamesRightForm (look_of options.now) left) }
+    ensures lacks { IfErr result (λ _. (right : Form)
+        → NamesRightForm (look_of options.now) left right → ⊥) }
+    ensures fault { IfErr result (λ fault. (fault ≡ LineFault.Form)
+        × LacksForm (look_of options.now) (codes "right-form")) }
+    ensures block { IfOk result HasBlockSize }
+{
+    match named_if_there(options, "right-form") {
+        None => Ok(left),
+        Some(letter) => form_named(letter).ok_or(LineFault::Form),
+    }
 }
 
 // The greatest size of blocks that an option says, which has a value, where the form has blocks.
@@ -218,6 +258,7 @@ pub(crate) fn texts_of<'a>(options: &ArgMatches<'a>) -> TextFiles<'a>
 pub(crate) fn forms_of(options: &ArgMatches<'_>) -> Result<Forms, LineFault>
     requires named { AreNamed forms_options (look_of options.now) }
     requires only { look_of options.now (codes "form") ≡ None }
+    requires neither { look_of options.now (codes "right-form") ≡ None }
     ensures named { IfOk result (NameForms (look_of options.now)) }
     ensures lacks { IfErr result (λ _. NameNoForms (look_of options.now)) }
     ensures fault { IfErr result (IsFaultIn (look_of options.now)) }
@@ -293,4 +334,17 @@ pub(crate) fn choice_of(options: &ArgMatches<'_>) -> Result<ChosenRecords, LineF
     let skip = number(options, "skip", 0, LineFault::Number)?;
     let records = bound(options, "records", LineFault::Number)?;
     Ok(ChosenRecords { skip, records })
+}
+
+// How the options hand copybooks over.
+pub(crate) fn handing_of<'a>(options: &ArgMatches<'a>) -> Handing<'a>
+    ensures { NameHanding (look_of options.now) result }
+{
+    Handing {
+        copy_dirs: named_if_there(options, "copy-dir"),
+        replace: named_if_there(options, "replace"),
+        in_record: named_if_there(options, "in-record"),
+        out_record: named_if_there(options, "out-record"),
+        record: named_if_there(options, "record-name"),
+    }
 }

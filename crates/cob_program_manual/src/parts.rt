@@ -26,6 +26,7 @@ fn values_for<'a>(value: &str, default: Option<&'a str>) -> Values<'a> {
         "<FORM>" => Values::Words("f v b"),
         "<READING>" => Values::Words("pictured whole"),
         "<LISTING>" => Values::Words("text json csv"),
+        "<MEASURE>" => Values::Words("value bytes"),
         _ => Values::Words(default.unwrap_or("")),
     }
 }

@@ -45,6 +45,18 @@ choice_options = (codes "skip", Default (codes "0")) ∷ (codes "records", Defau
 abbrev pub rejects_options : Options
 rejects_options = (codes "rejects", Optional) ∷ (codes "most-rejects", Default (codes "all")) ∷ []
 
+-- the options for what copybooks copy, and for what is replaced in them
+abbrev pub copies_options : Options
+copies_options = (codes "copy-dir", Optional) ∷ (codes "replace", Optional) ∷ []
+
+-- the options for how both copybooks are handed over: these, and the records of theirs that are meant
+abbrev pub books_handing : Options
+books_handing = copies_options ++ (codes "in-record", Optional) ∷ (codes "out-record", Optional) ∷ []
+
+-- the options for how the copybook of a listing is handed over
+abbrev pub book_handing : Options
+book_handing = copies_options ++ (codes "record-name", Optional) ∷ []
+
 -- the request for help, which each command has
 abbrev pub help_options : Options
 help_options = (codes "help", Request) ∷ []
@@ -56,39 +68,45 @@ shared_options = (codes "explain", Alone) ∷ help_options
 -- the options of `convert`
 abbrev pub convert_options : Options
 convert_options = texts_options ++ ends_options ++ forms_options ++ lrecl_options ++ ((codes "atomic", Alone) ∷ (codes "progress", Alone) ∷ [])
-    ++ piece_options ++ choice_options ++ rejects_options ++ shared_options
+    ++ piece_options ++ choice_options ++ rejects_options ++ books_handing ++ shared_options
 
 -- the options of `check`
 abbrev pub check_options : Options
-check_options = texts_options ++ (codes "cover", Alone) ∷ (codes "strict", Alone) ∷ shared_options
+check_options = texts_options ++ (codes "cover", Alone) ∷ (codes "strict", Alone) ∷ books_handing ++ shared_options
 
 -- the option of `layout`
 abbrev pub layout_options : Options
-layout_options = (codes "book", Required) ∷ shared_options
+layout_options = (codes "book", Required) ∷ book_handing ++ shared_options
 
 -- the options of `show`
 abbrev pub show_options : Options
-show_options = records_options ++ (codes "as", Default (codes "text")) ∷ (codes "progress", Alone) ∷ choice_options ++ shared_options
+show_options = records_options ++ (codes "as", Default (codes "text")) ∷ (codes "progress", Alone) ∷ choice_options ++ book_handing ++ shared_options
+
+-- the options of `compare`
+abbrev pub compare_options : Options
+compare_options = (codes "book", Required) ∷ (codes "left", Required) ∷ (codes "right", Required) ∷ (codes "form", Default (codes "f"))
+    ∷ (codes "right-form", Optional) ∷ (codes "ignore", Optional) ∷ (codes "most", Default (codes "100")) ∷ (codes "by", Default (codes "value"))
+    ∷ book_handing ++ shared_options
 
 -- the options of `pieces`
 abbrev pub pieces_options : Options
-pieces_options = records_options ++ (codes "pieces", Required) ∷ shared_options
+pieces_options = records_options ++ (codes "pieces", Required) ∷ book_handing ++ shared_options
 
 -- the options of `lossless`
 abbrev pub lossless_options : Options
-lossless_options = (codes "in-book", Required) ∷ (codes "out-book", Required) ∷ (codes "there", Required) ∷ (codes "back", Required) ∷ shared_options
+lossless_options = (codes "in-book", Required) ∷ (codes "out-book", Required) ∷ (codes "there", Required) ∷ (codes "back", Required) ∷ books_handing ++ shared_options
 
 -- the options of `explain`
 abbrev pub explain_options : Options
-explain_options = texts_options ++ (codes "in", Required) ∷ forms_options ++ lrecl_options ++ record_options ++ shared_options
+explain_options = texts_options ++ (codes "in", Required) ∷ forms_options ++ lrecl_options ++ record_options ++ books_handing ++ shared_options
 
 -- the options of `draft`
 abbrev pub draft_options : Options
-draft_options = books_options ++ shared_options
+draft_options = books_options ++ books_handing ++ shared_options
 
 -- the options of `map`
 abbrev pub map_options : Options
-map_options = texts_options ++ (codes "in", Optional) ∷ forms_options ++ lrecl_options ++ record_options ++ shared_options
+map_options = texts_options ++ (codes "in", Optional) ∷ forms_options ++ lrecl_options ++ record_options ++ books_handing ++ shared_options
 
 -- commands by their names, each with its options
 abbrev pub Commands : Type 0
@@ -97,7 +115,7 @@ Commands = List (Text × Options)
 -- the program's commands
 abbrev pub commands : Commands
 commands = (codes "convert", convert_options) ∷ (codes "check", check_options) ∷ (codes "layout", layout_options) ∷ (codes "show", show_options)
-    ∷ (codes "pieces", pieces_options) ∷ (codes "lossless", lossless_options)
+    ∷ (codes "compare", compare_options) ∷ (codes "pieces", pieces_options) ∷ (codes "lossless", lossless_options)
     ∷ (codes "explain", explain_options) ∷ (codes "draft", draft_options) ∷ (codes "map", map_options)
     ∷ (codes "completion", help_options) ∷ (codes "manual", help_options) ∷ []
 

@@ -10,9 +10,9 @@ ghost use Rattle.cob_program_options.specs.Program.{Makes, bare_app, program_app
 use crate::adding::with_groups;
 use crate::definition::CommandDefinition;
 use crate::options::{
-    ATOMIC, BOOK, BOOKS, BOTH_WAYS, CHOICE, COVER, CUT, ENDS, EXPLAINED_RECORDS, FORM, FORMS,
-    LISTING, LRECL, MAPPED_RECORDS, MOVES, PIECE, PIECES, PROGRESS, RECORD, REJECTS, SHARED,
-    SHARED_RUN, SHOWN,
+    ATOMIC, BOOK, BOOKS, BOTH_RECORDS, BOTH_WAYS, CHOICE, COMPARED, COMPARISON, COPIES, COVER, CUT,
+    ENDS, EXPLAINED_RECORDS, FORM, FORMS, LISTING, LRECL, MAPPED_RECORDS, MOVES, ONE_RECORD, PIECE,
+    PIECES, PROGRESS, RECORD, REJECTS, SHARED, SHARED_RUN, SHOWN,
 };
 use crate::release::VERSION;
 use clap::Command;
@@ -52,6 +52,8 @@ In a copybook:
   B13  a name that isn't one, or is reserved
   B14  a record of over 32,752 bytes
   B15  over 2,000 entries
+  B16  no record, or several, of the name that is chosen
+  B17  a text that is copied, by C1 to C7
 In a paragraph:
   M1   the grammar of statements
   M2   no entry has this name with these qualifiers
@@ -100,6 +102,14 @@ Example:
   cobconv explain --in-book old.cpy --out-book new.cpy --moves moves.cbl \\
     --in old.dat --record 17";
 
+// What `compare` prints.
+const COMPARE_NOTES: &str =
+    "The records of both files in order, pair by pair: each named item that differs,
+with both values, and the counts at the end. A number is compared as a number,
+whatever its sign code. The statuses are 0 where all are equal, 1 where not.
+
+Example: cobconv compare --book new.cpy --left ours.dat --right theirs.dat";
+
 const DRAFT_NOTES: &str =
     "A MOVE for each item of the output record that has a partner of its name, where
 there is such a move and nothing is cut; what is left stands as comments.
@@ -113,7 +123,7 @@ Example:
     --in old.dat --record 17 > map.html";
 
 // The commands that help tells of.
-const COMMANDS: [CommandDefinition<'static>; 9] = [
+const COMMANDS: [CommandDefinition<'static>; 10] = [
     CommandDefinition {
         name: "convert",
         about: "Convert a file of records by two copybooks and a paragraph",
@@ -130,6 +140,8 @@ const COMMANDS: [CommandDefinition<'static>; 9] = [
             &PIECE,
             &CHOICE,
             &REJECTS,
+            &COPIES,
+            &BOTH_RECORDS,
             &SHARED_RUN,
         ],
     },
@@ -138,35 +150,52 @@ const COMMANDS: [CommandDefinition<'static>; 9] = [
         about: "Read the three texts, and print both lengths and the number of moves",
         usage: None,
         notes: CHECK_NOTES,
-        groups: &[&BOOKS, &MOVES, &COVER, &SHARED],
+        groups: &[&BOOKS, &MOVES, &COVER, &COPIES, &BOTH_RECORDS, &SHARED],
     },
     CommandDefinition {
         name: "layout",
         about: "Print a copybook's entries with their offsets, lengths and kinds",
         usage: None,
         notes: "Example: cobconv layout --book old.cpy",
-        groups: &[&BOOK, &SHARED],
+        groups: &[&BOOK, &COPIES, &ONE_RECORD, &SHARED],
     },
     CommandDefinition {
         name: "show",
         about: "Print the value of each named item of each record of a file",
         usage: None,
         notes: "Example: cobconv show --book old.cpy --in old.dat --form v",
-        groups: &[&SHOWN, &FORM, &LRECL, &LISTING, &PROGRESS, &CHOICE, &SHARED],
+        groups: &[
+            &SHOWN,
+            &FORM,
+            &LRECL,
+            &LISTING,
+            &PROGRESS,
+            &CHOICE,
+            &COPIES,
+            &ONE_RECORD,
+            &SHARED,
+        ],
+    },
+    CommandDefinition {
+        name: "compare",
+        about: "Compare the records of two files of one layout by their values",
+        usage: None,
+        notes: COMPARE_NOTES,
+        groups: &[&COMPARED, &FORM, &COMPARISON, &COPIES, &ONE_RECORD, &SHARED],
     },
     CommandDefinition {
         name: "pieces",
         about: "Print where the pieces of a file of records begin",
         usage: None,
         notes: PIECES_NOTES,
-        groups: &[&CUT, &FORM, &LRECL, &PIECES, &SHARED],
+        groups: &[&CUT, &FORM, &LRECL, &PIECES, &COPIES, &ONE_RECORD, &SHARED],
     },
     CommandDefinition {
         name: "lossless",
         about: "Print whether one paragraph brings back all that another one moves",
         usage: Some(LOSSLESS_USAGE),
         notes: LOSSLESS_NOTES,
-        groups: &[&BOTH_WAYS, &SHARED],
+        groups: &[&BOTH_WAYS, &COPIES, &BOTH_RECORDS, &SHARED],
     },
     CommandDefinition {
         name: "explain",
@@ -180,6 +209,8 @@ const COMMANDS: [CommandDefinition<'static>; 9] = [
             &FORMS,
             &LRECL,
             &RECORD,
+            &COPIES,
+            &BOTH_RECORDS,
             &SHARED,
         ],
     },
@@ -188,7 +219,7 @@ const COMMANDS: [CommandDefinition<'static>; 9] = [
         about: "Print a paragraph to begin with, of moves between items of one name",
         usage: None,
         notes: DRAFT_NOTES,
-        groups: &[&BOOKS, &SHARED],
+        groups: &[&BOOKS, &COPIES, &BOTH_RECORDS, &SHARED],
     },
     CommandDefinition {
         name: "map",
@@ -202,6 +233,8 @@ const COMMANDS: [CommandDefinition<'static>; 9] = [
             &FORMS,
             &LRECL,
             &RECORD,
+            &COPIES,
+            &BOTH_RECORDS,
             &SHARED,
         ],
     },

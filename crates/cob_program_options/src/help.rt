@@ -12,6 +12,13 @@ pub(crate) const BINARY_HELP: &str =
 pub(crate) const LISTING_HELP: &str =
     "How values are listed: text, a line for each;\njson or csv, a line for each record";
 
+// What `--ignore` and `--by` name.
+pub(crate) const IGNORE_HELP: &str =
+    "Items and groups that are not compared, with commas\nbetween them: A, B OF C";
+
+pub(crate) const MEASURE_HELP: &str =
+    "What is compared: value, the values of named items;\nor bytes, all bytes";
+
 // What `--atomic` and `--progress` do.
 pub(crate) const ATOMIC_HELP: &str = "Write OUT.part first, and rename it when all is done";
 
@@ -20,6 +27,13 @@ pub(crate) const PROGRESS_HELP: &str = "Tell on standard error how far it is";
 // What `--lrecl` names.
 pub(crate) const LRECL_HELP: &str =
     "The input's LRECL, which the copybook has to fit: f, its\nrecords' length; v and b, the greatest with its RDW";
+
+// What `--copy-dir` and `--replace` name.
+pub(crate) const COPY_DIR_HELP: &str =
+    "Folders with the texts that COPY names, parted by\ncolons; the first one that has it";
+
+pub(crate) const REPLACE_HELP: &str =
+    "Put Y for each X in the copybooks; several of these\nare parted by semicolons";
 
 // What `--strict` does.
 pub(crate) const STRICT_HELP: &str =

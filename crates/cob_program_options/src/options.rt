@@ -2,8 +2,8 @@
 
 use crate::definition::{OptionDefinition, Standing};
 use crate::help::{
-    ATOMIC_HELP, BINARY_HELP, EXPLAINED_HELP, EXPLAINED_RUN_HELP, FORM_HELP, LISTING_HELP,
-    LRECL_HELP, PROGRESS_HELP, STRICT_HELP,
+    ATOMIC_HELP, BINARY_HELP, COPY_DIR_HELP, EXPLAINED_HELP, EXPLAINED_RUN_HELP, FORM_HELP,
+    IGNORE_HELP, LISTING_HELP, LRECL_HELP, MEASURE_HELP, PROGRESS_HELP, REPLACE_HELP, STRICT_HELP,
 };
 
 // How an option stands for a form, which is f where it is not there, and for the greatest size of blocks.
@@ -192,6 +192,49 @@ pub(crate) const CUT: [OptionDefinition<'static>; 2] = [
     },
 ];
 
+// The files that are compared, and the copybook of their records.
+pub(crate) const COMPARED: [OptionDefinition<'static>; 3] = [
+    OptionDefinition {
+        name: "book",
+        standing: Standing::Required("FILE"),
+        help: "The copybook of the records",
+    },
+    OptionDefinition {
+        name: "left",
+        standing: Standing::Required("FILE"),
+        help: "The records on the left; - is standard input",
+    },
+    OptionDefinition {
+        name: "right",
+        standing: Standing::Required("FILE"),
+        help: "The records on the right; - is standard input",
+    },
+];
+
+// How the files are compared.
+pub(crate) const COMPARISON: [OptionDefinition<'static>; 4] = [
+    OptionDefinition {
+        name: "right-form",
+        standing: Standing::Optional("FORM"),
+        help: "How the records on the right stand, where otherwise",
+    },
+    OptionDefinition {
+        name: "ignore",
+        standing: Standing::Optional("NAMES"),
+        help: IGNORE_HELP,
+    },
+    OptionDefinition {
+        name: "most",
+        standing: Standing::Default("N", "100"),
+        help: "Tell of at most N records",
+    },
+    OptionDefinition {
+        name: "by",
+        standing: Standing::Default("MEASURE", "value"),
+        help: MEASURE_HELP,
+    },
+];
+
 // The form of records of one layout.
 pub(crate) const FORM: [OptionDefinition<'static>; 1] = [OptionDefinition {
     name: "form",
@@ -256,6 +299,41 @@ pub(crate) const RECORD: [OptionDefinition<'static>; 1] = [OptionDefinition {
     name: "record",
     standing: Standing::Default("R", "1"),
     help: "The number of the record",
+}];
+
+// What copybooks copy, and what is replaced in them.
+pub(crate) const COPIES: [OptionDefinition<'static>; 2] = [
+    OptionDefinition {
+        name: "copy-dir",
+        standing: Standing::Optional("DIRS"),
+        help: COPY_DIR_HELP,
+    },
+    OptionDefinition {
+        name: "replace",
+        standing: Standing::Optional("X=Y"),
+        help: REPLACE_HELP,
+    },
+];
+
+// Which records of both copybooks are meant.
+pub(crate) const BOTH_RECORDS: [OptionDefinition<'static>; 2] = [
+    OptionDefinition {
+        name: "in-record",
+        standing: Standing::Optional("NAME"),
+        help: "The record that is meant, of several in --in-book",
+    },
+    OptionDefinition {
+        name: "out-record",
+        standing: Standing::Optional("NAME"),
+        help: "The record that is meant, of several in --out-book",
+    },
+];
+
+// Which record of the copybook of a listing is meant.
+pub(crate) const ONE_RECORD: [OptionDefinition<'static>; 1] = [OptionDefinition {
+    name: "record-name",
+    standing: Standing::Optional("NAME"),
+    help: "The record that is meant, of several in --book",
 }];
 
 // What each command with files has beside the request for help.

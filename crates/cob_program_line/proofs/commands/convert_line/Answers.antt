@@ -1,4 +1,4 @@
-use Rattle.std.proofs.Common.{codes, inr, refl, ◌∙◌}
+use Rattle.std.proofs.Common.{codes, inl, inr, refl, ◌∙◌}
 use Rattle.cob_program_line.specs.Faults.{HasPiece}
 use Rattle.cob_program_options.specs.Looks.{Look, look_of}
 use Rattle.cob_program_line.specs.declared.fault.LineFault.TheVariants.{Number}
@@ -14,7 +14,7 @@ pub choice_of-requires-clause-before : goal.choice_of-requires-clause-before
 choice_of-requires-clause-before c =
     let look : Look = look_of c.args.options.now in
     before_counts look _ _ _ c.in_ok-piece.ensures.named
-    (before_piece look (c.requires.only (codes "as") refl) (before_listing look _ (c.requires.only (codes "form") refl) c.in_ok-forms.ensures.named))
+    (before_piece look (c.requires.only (codes "as") refl) (before_listing look _ (c.requires.only (codes "form") refl) (c.requires.only (codes "right-form") refl) c.in_ok-forms.ensures.named))
 
 pub returns-in_err-choice-clause-lacks : goal.returns-in_err-choice-clause-lacks
 returns-in_err-choice-clause-lacks c =
@@ -25,17 +25,17 @@ pub returns-in_err-most_rejects-clause-fault : goal.returns-in_err-most_rejects-
 returns-in_err-most_rejects-clause-fault c =
     let look : Look = look_of c.args.options.now in
     let before : HasPiece look = before_counts look _ _ _ c.in_ok-piece.ensures.named
-    (before_piece look (c.requires.only (codes "as") refl) (before_listing look _ (c.requires.only (codes "form") refl) c.in_ok-forms.ensures.named)) in
+    (before_piece look (c.requires.only (codes "as") refl) (before_listing look _ (c.requires.only (codes "form") refl) (c.requires.only (codes "right-form") refl) c.in_ok-forms.ensures.named)) in
     told c.from_residual-in_err-most_rejects.result _ _
-    (λ fault is. fault_is look fault Number (is ∙ c.in_err-most_rejects.ensures.fault.0) (before, inr (inr c.in_err-most_rejects.ensures.fault.1)))
+    (λ fault is. fault_is look fault Number (is ∙ c.in_err-most_rejects.ensures.fault.0) (before, inr (inr (inl c.in_err-most_rejects.ensures.fault.1))))
     c.from_residual-in_err-most_rejects.ensures.1
 
 pub lrecl_of-requires : goal.lrecl_of-requires
 lrecl_of-requires c =
     let look : Look = look_of c.args.options.now in
-    chosen look _ _ _ c.in_ok-choice.ensures.named c.in_ok-most_rejects.ensures.named (c.requires.only (codes "pieces") refl)
+    chosen look _ _ _ c.in_ok-choice.ensures.named c.in_ok-most_rejects.ensures.named (c.requires.only (codes "most") refl) (c.requires.only (codes "pieces") refl)
     (before_counts look _ _ _ c.in_ok-piece.ensures.named
-    (before_piece look (c.requires.only (codes "as") refl) (before_listing look _ (c.requires.only (codes "form") refl) c.in_ok-forms.ensures.named)))
+    (before_piece look (c.requires.only (codes "as") refl) (before_listing look _ (c.requires.only (codes "form") refl) (c.requires.only (codes "right-form") refl) c.in_ok-forms.ensures.named)))
 
 pub returns-in_err-lrecl-clause-lacks : goal.returns-in_err-lrecl-clause-lacks
 returns-in_err-lrecl-clause-lacks c =

@@ -6,7 +6,7 @@ use Rattle.cob_program_line.proofs.commands.explain_line.Goals as goal
 pub record_of-requires-clause-before : goal.record_of-requires-clause-before
 record_of-requires-clause-before c =
     let look : Look = look_of c.args.options.now in
-    before_piece look (c.requires.only (codes "as") refl) (before_listing look _ (c.requires.only (codes "form") refl) c.in_ok-forms.ensures.named)
+    before_piece look (c.requires.only (codes "as") refl) (before_listing look _ (c.requires.only (codes "form") refl) (c.requires.only (codes "right-form") refl) c.in_ok-forms.ensures.named)
 
 pub returns-in_err-record-clause-lacks : goal.returns-in_err-record-clause-lacks
 returns-in_err-record-clause-lacks c =
@@ -17,8 +17,8 @@ pub lrecl_of-requires : goal.lrecl_of-requires
 lrecl_of-requires c =
     let look : Look = look_of c.args.options.now in
     one_record look _ c.in_ok-record.ensures.named (c.requires.only (codes "from") refl) (c.requires.only (codes "bytes") refl)
-    (c.requires.only (codes "skip") refl) (c.requires.only (codes "records") refl) (c.requires.only (codes "most-rejects") refl) (c.requires.only (codes "pieces") refl)
-    (before_piece look (c.requires.only (codes "as") refl) (before_listing look _ (c.requires.only (codes "form") refl) c.in_ok-forms.ensures.named))
+    (c.requires.only (codes "skip") refl) (c.requires.only (codes "records") refl) (c.requires.only (codes "most-rejects") refl) (c.requires.only (codes "most") refl) (c.requires.only (codes "pieces") refl)
+    (before_piece look (c.requires.only (codes "as") refl) (before_listing look _ (c.requires.only (codes "form") refl) (c.requires.only (codes "right-form") refl) c.in_ok-forms.ensures.named))
 
 pub returns-in_err-lrecl-clause-lacks : goal.returns-in_err-lrecl-clause-lacks
 returns-in_err-lrecl-clause-lacks c =

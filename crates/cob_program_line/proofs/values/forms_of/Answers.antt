@@ -15,7 +15,7 @@ pub returns-in_err-out_form-clause-fault : goal.returns-in_err-out_form-clause-f
 returns-in_err-out_form-clause-fault c =
     let look : Look = look_of c.args.options.now in
     told c.from_residual-in_err-out_form.result _ _
-    (λ fault is. fault_is look fault Form (is ∙ c.in_err-out_form.ensures.fault.0) (codes "out-form", inr (inr refl), c.in_err-out_form.ensures.fault.1))
+    (λ fault is. fault_is look fault Form (is ∙ c.in_err-out_form.ensures.fault.0) (codes "out-form", inr (inr (inl refl)), c.in_err-out_form.ensures.fault.1))
     c.from_residual-in_err-out_form.ensures.1
 
 pub returns-in_err-reading-clause-fault : goal.returns-in_err-reading-clause-fault
@@ -23,7 +23,7 @@ returns-in_err-reading-clause-fault c =
     let look : Look = look_of c.args.options.now in
     told c.from_residual-in_err-reading.result _ _
     (λ fault is. fault_is look fault Reading (is ∙ c.in_err-reading.ensures.fault.0)
-    (both_forms look _ _ c.requires.only c.in_ok-in_form.ensures.named c.in_ok-out_form.ensures.named, c.in_err-reading.ensures.fault.1))
+    (both_forms look _ _ c.requires.only c.requires.neither c.in_ok-in_form.ensures.named c.in_ok-out_form.ensures.named, c.in_err-reading.ensures.fault.1))
     c.from_residual-in_err-reading.ensures.1
 
 pub returns-in_err-in_block-clause-fault : goal.returns-in_err-in_block-clause-fault
@@ -31,7 +31,7 @@ returns-in_err-in_block-clause-fault c =
     let look : Look = look_of c.args.options.now in
     told c.from_residual-in_err-in_block.result _ _
     (λ fault is. fault_is look fault Block (is ∙ c.in_err-in_block.ensures.fault.0) (
-      (both_forms look _ _ c.requires.only c.in_ok-in_form.ensures.named c.in_ok-out_form.ensures.named, has_reading look _ c.in_ok-reading.ensures.named),
+      (both_forms look _ _ c.requires.only c.requires.neither c.in_ok-in_form.ensures.named c.in_ok-out_form.ensures.named, has_reading look _ c.in_ok-reading.ensures.named),
       inl (c.in_ok-in_form.in_form, c.in_ok-in_form.ensures.named, c.in_err-in_block.ensures.fault.1),
     ))
     c.from_residual-in_err-in_block.ensures.1
@@ -41,7 +41,7 @@ returns-in_err-out_block-clause-fault c =
     let look : Look = look_of c.args.options.now in
     told c.from_residual-in_err-out_block.result _ _
     (λ fault is. fault_is look fault Block (is ∙ c.in_err-out_block.ensures.fault.0) (
-      (both_forms look _ _ c.requires.only c.in_ok-in_form.ensures.named c.in_ok-out_form.ensures.named, has_reading look _ c.in_ok-reading.ensures.named),
+      (both_forms look _ _ c.requires.only c.requires.neither c.in_ok-in_form.ensures.named c.in_ok-out_form.ensures.named, has_reading look _ c.in_ok-reading.ensures.named),
       inr (c.in_ok-out_form.out_form, c.in_ok-out_form.ensures.named, c.in_err-out_block.ensures.fault.1),
     ))
     c.from_residual-in_err-out_block.ensures.1

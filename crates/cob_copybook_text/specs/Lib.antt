@@ -1,0 +1,4 @@
+pub mod Meant
+pub mod Written
+pub mod Refusals
+pub mod Laws

@@ -1,0 +1,31 @@
+-- How a comparison ends.
+use Rattle.std.specs.Prelude.{◌==◌, ◌&&◌, Bool, Result, Ok, Err, if◌then◌else◌}
+use Rattle.cob_convert.specs.Statuses.{status_of_stop}
+use Rattle.cob_convert.specs.declared.status.Status.{Status}
+use Rattle.cob_convert.specs.declared.status.Status.TheVariants as status
+use Rattle.cob_program_faults.specs.Ends.{EndsAs}
+use Rattle.cob_program_faults.specs.Faults.{status_of}
+use Rattle.cob_report_compare.specs.declared.counted.PairCounts.{PairCounts}
+use Rattle.cob_program_compare.specs.declared.fault.ComparisonFault.{ComparisonFault}
+use Rattle.cob_program_compare.specs.declared.fault.ComparisonFault.TheVariants as fault
+
+-- all records are in pairs that are equal
+abbrev pub are_equal : PairCounts → Bool
+are_equal counts = counts.differ == 0 && counts.left_alone == 0 && counts.right_alone == 0
+
+-- the status of a fault: a record that stops a comparison is told as one that stops a conversion
+abbrev pub status_of_fault : ComparisonFault → Status
+status_of_fault (fault.Command told) = status_of told
+status_of_fault fault.OneStream = status.Malformed
+status_of_fault (fault.CannotOpen side) = status.Device
+status_of_fault (fault.Ignore rule) = status.Refused
+status_of_fault (fault.Stopped stop) = status_of_stop stop.reason.cause
+
+-- the status of what a comparison came to: done where all are equal, and else as where a record stops a run
+abbrev pub status_of_comparison : Result PairCounts ComparisonFault → Status
+status_of_comparison (Ok counts) = if are_equal counts then status.Done else status.Stopped
+status_of_comparison (Err told) = status_of_fault told
+
+-- A comparison came to something, and ends with its status, or as where a device failed if its last line could not be printed.
+abbrev pub EndsCompare : Status → Type 0
+EndsCompare end = (outcome : Result PairCounts ComparisonFault) × EndsAs (status_of_comparison outcome) end

@@ -1,0 +1,165 @@
+//! The comparison of two files.
+
+ghost use Rattle.std.specs.Prelude.{◌≡◌, [], None, IfOk, OnOk};
+ghost use Rattle.std.specs.Io.Buffered.{writer_buffer};
+ghost use Rattle.cob_records.specs.Forms.{HasBlockSize};
+ghost use Rattle.cob_records.specs.Streams.{sink_writer};
+ghost use Rattle.cob_report_compare.specs.Runs.{ComparesFiles, files_of};
+ghost use Rattle.cob_program_compare.specs.Ends.{EndsCompare};
+
+use crate::ends::end_of;
+use crate::fault::ComparisonFault;
+use crate::ignored::ignored_entries;
+use cob_convert::Status;
+use cob_convert_stream::Cause;
+use cob_layout::{Book, Layout, Role};
+use cob_program_faults::{CommandFault, FileName, text_of};
+use cob_program_line::{CompareLine, Measure};
+use cob_records::{
+    DeviceFault, OpenFault, RecordFault, Sink, Source, WriteSink, create_sink, open_source,
+};
+use cob_report_compare::{CompareFault, CompareOptions, FileSide, PairCounts, compare_files};
+use std::alloc::Global;
+use std::io::{BufWriter, Eprint, Input, Print, Write};
+use std::rt::Files;
+
+/// Compares the records of two files, and hands all that is printed to the device, whatever the comparison came to.
+fn compare_to_end<L: Source, R: Source, W: Write + Drop>(
+    alloc: Global,
+    layout: &Layout,
+    options: CompareOptions,
+    left: &mut L,
+    right: &mut R,
+    sink: &mut WriteSink<BufWriter<W>>,
+) -> Result<Result<PairCounts, CompareFault>, DeviceFault>
+    requires left_block { HasBlockSize options.left_form }
+    requires right_block { HasBlockSize options.right_form }
+    // What was compared; what a device took is not told.
+    ensures compares { IfOk result (λ answer. ComparesFiles (files_of layout.now options.entry)
+        (L.coming left.old) (L.coming left.new) (R.coming right.old) (R.coming right.new)
+        None None answer) }
+    ensures flushed { OnOk result (writer_buffer (sink_writer sink.new) ≡ []) }
+{
+    let answer = compare_files(alloc, layout, options, left, right, sink);
+    sink.flush()?;
+    Ok(answer)
+}
+
+/// The fault of a comparison.
+fn fault_of(fault: CompareFault) -> ComparisonFault {
+    match fault {
+        CompareFault::Memory => ComparisonFault::Command(CommandFault::Memory),
+        CompareFault::Uncounted => ComparisonFault::Command(CommandFault::Unprinted),
+        CompareFault::Stop(stop) => match stop.reason.cause {
+            Cause::Record(RecordFault::WriteFailed { .. } | RecordFault::TookNothing { .. }) => {
+                ComparisonFault::Command(CommandFault::Unprinted)
+            }
+            _ => ComparisonFault::Stopped(stop),
+        },
+    }
+}
+
+/// What a comparison comes to whose lines were handed to the device, or were not.
+fn outcome_of(
+    handed: Result<Result<PairCounts, CompareFault>, DeviceFault>,
+) -> Result<PairCounts, ComparisonFault> {
+    match handed {
+        Ok(Ok(counts)) => Ok(counts),
+        Ok(Err(fault)) => Err(fault_of(fault)),
+        Err(DeviceFault) => Err(ComparisonFault::Command(CommandFault::Unprinted)),
+    }
+}
+
+/// The fault of a file that is not opened.
+fn unopened(fault: OpenFault, side: FileSide) -> ComparisonFault {
+    match fault {
+        OpenFault::NotOpened => ComparisonFault::CannotOpen(side),
+        OpenFault::Memory => ComparisonFault::Command(CommandFault::Memory),
+    }
+}
+
+/// How the files of this line are compared, where these entries are ignored.
+fn options_of<'a>(line: &CompareLine<'_>, ignored: &'a [usize]) -> CompareOptions<'a>
+    ensures left { result.left_form ≡ line.now.left_form }
+    ensures right { result.right_form ≡ line.now.right_form }
+{
+    CompareOptions {
+        ignored,
+        by_bytes: line.measure == Measure::Bytes,
+        most: line.most.unwrap_or(u64::MAX),
+        left_form: line.left_form,
+        right_form: line.right_form,
+    }
+}
+
+/// The layout of the records, of the copybook that `--book` names.
+fn layout_of<R: AllocGlobal + Files>(rt: &R, path: &str) -> Result<Layout, CommandFault> {
+    let text = text_of(rt, path, FileName::Book)?;
+    let book = Book::read(rt.alloc(), Role::In, &text)?;
+    Ok(Layout::of(rt.alloc(), &book)?)
+}
+
+/// Compares the files that `--left` and `--right` name, of records of this layout, prints what differs, and answers how many pairs of records there are of
+/// each kind.
+fn compare_by<R: AllocGlobal + Files + Input + Print + Eprint>(
+    rt: &R,
+    line: &CompareLine<'_>,
+    layout: &Layout,
+) -> Result<PairCounts, ComparisonFault>
+    requires left_block { HasBlockSize line.now.left_form }
+    requires right_block { HasBlockSize line.now.right_form }
+{
+    let ignored = ignored_entries(rt.alloc(), layout, line.ignored)?;
+    let mut left = match open_source(rt, line.left) {
+        Ok(left) => left,
+        Err(fault) => return Err(unopened(fault, FileSide::Left)),
+    };
+    let mut right = match open_source(rt, line.right) {
+        Ok(right) => right,
+        Err(fault) => return Err(unopened(fault, FileSide::Right)),
+    };
+    let Ok(mut sink) = create_sink(rt, "-") else {
+        return Err(ComparisonFault::Command(CommandFault::Memory));
+    };
+    let options = options_of(line, &ignored);
+    outcome_of(compare_to_end(
+        rt.alloc(),
+        layout,
+        options,
+        &mut left,
+        &mut right,
+        &mut sink,
+    ))
+}
+
+/// Compares the files that a line names, prints what differs, and answers how many pairs of records there are of each kind.
+///
+/// # Errors
+///
+/// Two names of standard input; a file that is not opened or not read, a copybook that is refused, names that name no entry alone, a record that stops the
+/// comparison, a line that is not printed, want of memory.
+pub fn compare_records_of<R: AllocGlobal + Files + Input + Print + Eprint>(
+    rt: &R,
+    line: &CompareLine<'_>,
+) -> Result<PairCounts, ComparisonFault>
+    requires left_block { HasBlockSize line.now.left_form }
+    requires right_block { HasBlockSize line.now.right_form }
+{
+    if line.left == "-" && line.right == "-" {
+        return Err(ComparisonFault::OneStream);
+    }
+    let layout = layout_of(rt, line.book)?;
+    compare_by(rt, line, &layout)
+}
+
+/// Compares the files that a line names, prints what differs or what is at fault, and answers how the program ends.
+pub fn do_compare<R: AllocGlobal + Files + Input + Print + Eprint>(
+    rt: &R,
+    line: &CompareLine<'_>,
+) -> Status
+    requires left_block { HasBlockSize line.now.left_form }
+    requires right_block { HasBlockSize line.now.right_form }
+    ensures { EndsCompare result }
+{
+    end_of(rt, compare_records_of(rt, line))
+}

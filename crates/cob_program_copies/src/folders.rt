@@ -1,0 +1,158 @@
+//! Texts that stand in folders.
+
+use crate::outputs::Outputs;
+use cob_program_faults::{FileIdentity, FileName, TextFault, read_text};
+use cob_source_copies::{Shelf, ShelfFault, TextName};
+use std::alloc::{AllocError, Global};
+use std::rt::Files;
+use std::str;
+
+/// What may stand behind the name of a text in the name of its file.
+const SUFFIXES: [&str; 3] = ["", ".cpy", ".cbl"];
+
+/// Folders, parted by colons, that texts are looked for in.
+#[derive(Clone, Copy)]
+pub struct Folders<'a, R> {
+    rt: &'a R,
+    folders: &'a str,
+    /// The files that the command writes.
+    outputs: Outputs,
+    /// The first of these that a text came from.
+    lost: Option<FileName>,
+}
+
+impl<'a, R> Folders<'a, R> {
+    /// These folders, parted by colons, for a command that writes these files.
+    pub fn new(rt: &'a R, folders: &'a str, outputs: Outputs) -> Folders<'a, R> {
+        Folders {
+            rt,
+            folders,
+            outputs,
+            lost: None,
+        }
+    }
+
+    /// A file that the command writes and that a text came from, which would be lost.
+    pub fn lost(&self) -> Option<FileName> {
+        self.lost
+    }
+}
+
+/// The name of a file or a folder, if these characters can be one: they don't lead elsewhere.
+fn file_name(characters: &[u8]) -> Option<&str> {
+    match str::from_utf8(characters) {
+        Ok(name) if !name.is_empty() && !name.contains('/') && !name.starts_with('.') => Some(name),
+        _ => None,
+    }
+}
+
+/// A folder, and where a library is named that of its name beneath it.
+fn folder_of(
+    alloc: Global,
+    folder: &str,
+    library: Option<&str>,
+    is_small: bool,
+) -> Result<String, AllocError> {
+    match library {
+        Some(library) if is_small => {
+            let small = library.to_ascii_lowercase(alloc)?;
+            format!(in alloc; "{folder}/{small}")
+        }
+        Some(library) => format!(in alloc; "{folder}/{library}"),
+        None => format!(in alloc; "{folder}"),
+    }
+}
+
+/// A text, and the identity of its file.
+#[derive(Drop)]
+struct Found {
+    text: Vec<u8>,
+    identity: Option<FileIdentity>,
+}
+
+/// The text in the first file in a folder that may have it: of the name with nothing, `.cpy` or `.cbl` behind it.
+fn text_in<R: AllocGlobal + Files>(
+    rt: &R,
+    folder: &str,
+    name: &str,
+) -> Result<Option<Found>, ShelfFault> {
+    for suffix in &SUFFIXES {
+        let Ok(path) = format!(in rt.alloc(); "{folder}/{name}{suffix}") else {
+            return Err(ShelfFault::Memory);
+        };
+        match read_text(rt, &path) {
+            Ok(text) => {
+                let identity = FileIdentity::of(rt, &path);
+                return Ok(Some(Found { text, identity }));
+            }
+            Err(TextFault::NotOpened) => {}
+            Err(TextFault::NotRead) => return Err(ShelfFault::Unreadable),
+            Err(TextFault::Memory) => return Err(ShelfFault::Memory),
+        }
+    }
+    Ok(None)
+}
+
+/// The text in the first file that may have it, its name in capitals, or else in small letters.
+fn text_named<R: AllocGlobal + Files>(
+    rt: &R,
+    folder: &str,
+    library: Option<&str>,
+    name: &str,
+) -> Result<Option<Found>, ShelfFault> {
+    let alloc = rt.alloc();
+    let Ok(beneath) = folder_of(alloc, folder, library, false) else {
+        return Err(ShelfFault::Memory);
+    };
+    if let Some(found) = text_in(rt, &beneath, name)? {
+        return Ok(Some(found));
+    }
+    let Ok(small_beneath) = folder_of(alloc, folder, library, true) else {
+        return Err(ShelfFault::Memory);
+    };
+    let Ok(small) = name.to_ascii_lowercase(alloc) else {
+        return Err(ShelfFault::Memory);
+    };
+    text_in(rt, &small_beneath, &small)
+}
+
+impl<R: AllocGlobal + Files> Folders<'_, R> {
+    /// The text of this name in the first folder that has it.
+    fn found(&self, library: Option<&str>, name: &str) -> Result<Option<Found>, ShelfFault> {
+        for folder in self.folders.split(':') {
+            if let Some(found) = text_named(self.rt, folder, library, name)? {
+                return Ok(Some(found));
+            }
+        }
+        Ok(None)
+    }
+}
+
+/// The name of a library as that of a folder, where one is named; `Err` where it can be none.
+fn library_name(named: &TextName) -> Result<Option<&str>, ()> {
+    match &named.library {
+        Some(library) => match file_name(library.as_slice()) {
+            Some(library) => Ok(Some(library)),
+            None => Err(()),
+        },
+        None => Ok(None),
+    }
+}
+
+impl<R: AllocGlobal + Files> Shelf for Folders<'_, R> {
+    fn text(&mut self, _alloc: Global, named: &TextName) -> Result<Option<Vec<u8>>, ShelfFault> {
+        let Some(name) = file_name(named.name.as_slice()) else {
+            return Ok(None);
+        };
+        let Ok(library) = library_name(named) else {
+            return Ok(None);
+        };
+        let Some(found) = self.found(library, name)? else {
+            return Ok(None);
+        };
+        if self.lost.is_none() {
+            self.lost = self.outputs.lost_with(found.identity);
+        }
+        Ok(Some(found.text))
+    }
+}

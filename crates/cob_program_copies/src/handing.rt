@@ -1,0 +1,215 @@
+//! Copybooks handed over.
+
+ghost use Rattle.std.specs.Prelude.{IfErr};
+ghost use Rattle.cob_program_copies.specs.Handing.{HasBooks, LacksHanding};
+ghost use Rattle.cob_program_faults.specs.Texts.{LacksText};
+
+use crate::books::{BookFiles, HandedBook, IN_BOOK, LISTED_BOOK, OUT_BOOK, books_of};
+use crate::exchanges::exchanges_of;
+use crate::fault::{BookRefusal, HandingFault};
+use crate::folders::Folders;
+use crate::judging::judged;
+use crate::outputs::Outputs;
+use crate::told::{of_fetching, of_text};
+use cob_copybook::Role;
+use cob_copybook_text::{Copying, record_text};
+use cob_program_faults::{CommandFault, FileName, text_of};
+use cob_program_line::{Handing, Line};
+use cob_source::{SourceRule, Token, tokens};
+use cob_source_copies::fetch;
+use std::alloc::Global;
+use std::rt::Files;
+
+/// A copybook of a command.
+#[derive(Clone, Copy)]
+struct BookOption<'a> {
+    /// The option that names its file.
+    file: FileName,
+    /// What it describes.
+    role: Role,
+    /// Where its command finds it.
+    found_at: &'static str,
+    /// Its file.
+    path: &'a str,
+    /// The record of it that is meant, where one is named.
+    record: Option<&'a str>,
+}
+
+/// What is asked of all copybooks of a line.
+#[derive(Clone, Copy)]
+struct Asked<'a> {
+    /// What the options say.
+    options: Handing<'a>,
+    /// The files that the command writes.
+    outputs: Outputs,
+}
+
+/// The texts that these words copy, or the exchanges in them, as the options say.
+fn copying_of<R: AllocGlobal + Files>(
+    rt: &R,
+    file: FileName,
+    handing: &Asked<'_>,
+    words: &[Token],
+) -> Result<Copying, BookRefusal> {
+    let alloc = rt.alloc();
+    if let Some(said) = handing.options.replace {
+        return Ok(Copying::Replaced(exchanges_of(alloc, said)?));
+    }
+    let Some(folders) = handing.options.copy_dirs else {
+        return Ok(Copying::Left);
+    };
+    let mut shelf = Folders::new(rt, folders, handing.outputs);
+    match fetch(alloc, &mut shelf, words) {
+        Ok(library) => match shelf.lost() {
+            Some(output) => Err(BookRefusal::OneFile(file, output)),
+            None => Ok(Copying::CarriedOut(library)),
+        },
+        Err(fault) => Err(of_fetching(alloc, file, &fault)?),
+    }
+}
+
+/// The words of a text, if it breaks no rule of the reference format.
+fn words_of(alloc: Global, text: &[u8]) -> Result<Option<Vec<Token>>, BookRefusal> {
+    match tokens(alloc, text) {
+        Ok(words) => Ok(Some(words)),
+        Err(fault) => match fault.rule {
+            SourceRule::Memory => Err(BookRefusal::Memory),
+            _ => Ok(None),
+        },
+    }
+}
+
+/// The text of a copybook as it is handed over: itself, where nothing is done to it, or where it breaks a rule of the reference format, which its command tells.
+fn text_handed<R: AllocGlobal + Files>(
+    rt: &R,
+    book: BookOption<'_>,
+    handing: &Asked<'_>,
+    text: Vec<u8>,
+) -> Result<Vec<u8>, BookRefusal> {
+    let alloc = rt.alloc();
+    let Some(words) = words_of(alloc, text.as_slice())? else {
+        return Ok(text);
+    };
+    let how = copying_of(rt, book.file, handing, words.as_slice())?;
+    let name = book.record.unwrap_or("").to_ascii_uppercase(alloc)?;
+    let chosen = match book.record {
+        Some(_) => Some(name.as_bytes()),
+        None => None,
+    };
+    match record_text(alloc, &how, chosen, words.as_slice()) {
+        Ok(None) => Ok(text),
+        Ok(Some(made)) => judged(alloc, book.file, book.role, &how, made),
+        Err(fault) => Err(of_text(alloc, book.file, &how, &name, fault)?),
+    }
+}
+
+/// Puts a copybook behind those that are handed over.
+fn push_handed<'a, R: AllocGlobal + Files>(
+    rt: &R,
+    book: BookOption<'a>,
+    handing: &Asked<'_>,
+    text: Vec<u8>,
+    out: &mut Vec<HandedBook<'a>>,
+) -> Result<(), HandingFault>
+    ensures { IfErr result LacksHanding }
+{
+    let text = text_handed(rt, book, handing, text)?;
+    out.push(HandedBook {
+        found_at: book.found_at,
+        path: book.path,
+        text,
+    })?;
+    Ok(())
+}
+
+/// The text in the file of a copybook.
+fn read_of<R: AllocGlobal + Files>(rt: &R, book: BookOption<'_>) -> Result<Vec<u8>, CommandFault>
+    ensures { IfErr result (LacksText book.file) }
+{
+    text_of(rt, book.path, book.file)
+}
+
+/// Hands the copybook of a listing over.
+fn hand_one<'a, R: AllocGlobal + Files>(
+    rt: &R,
+    path: &'a str,
+    handing: &Asked<'a>,
+) -> Result<Vec<HandedBook<'a>>, HandingFault>
+    ensures { IfErr result LacksHanding }
+{
+    let book = BookOption {
+        file: FileName::Book,
+        role: Role::In,
+        found_at: LISTED_BOOK,
+        path,
+        record: handing.options.record,
+    };
+    let text = match read_of(rt, book) {
+        Ok(text) => text,
+        Err(fault) => return Err(HandingFault::File(fault)),
+    };
+    let mut out = Vec::new(rt.alloc());
+    push_handed(rt, book, handing, text, &mut out)?;
+    Ok(out)
+}
+
+/// Hands the copybooks of the input record and of the output record over. Both files are read first.
+fn hand_both<'a, R: AllocGlobal + Files>(
+    rt: &R,
+    in_path: &'a str,
+    out_path: &'a str,
+    handing: &Asked<'a>,
+) -> Result<Vec<HandedBook<'a>>, HandingFault>
+    ensures { IfErr result LacksHanding }
+{
+    let in_book = BookOption {
+        file: FileName::InBook,
+        role: Role::In,
+        found_at: IN_BOOK,
+        path: in_path,
+        record: handing.options.in_record,
+    };
+    let out_book = BookOption {
+        file: FileName::OutBook,
+        role: Role::Out,
+        found_at: OUT_BOOK,
+        path: out_path,
+        record: handing.options.out_record,
+    };
+    let in_text = match read_of(rt, in_book) {
+        Ok(text) => text,
+        Err(fault) => return Err(HandingFault::File(fault)),
+    };
+    let out_text = match read_of(rt, out_book) {
+        Ok(text) => text,
+        Err(fault) => return Err(HandingFault::File(fault)),
+    };
+    let mut out = Vec::new(rt.alloc());
+    push_handed(rt, in_book, handing, in_text, &mut out)?;
+    push_handed(rt, out_book, handing, out_text, &mut out)?;
+    Ok(out)
+}
+
+/// The copybooks of a line as they are handed over to its command: none, where it reads none.
+///
+/// # Errors
+///
+/// A file that is not opened or not read; a copybook that is refused, or a text that it copies; an exchange that is none; want of memory.
+pub fn hand_over<'a, R: AllocGlobal + Files>(
+    rt: &R,
+    line: &Line<'a>,
+    handing: &Handing<'a>,
+) -> Result<Vec<HandedBook<'a>>, HandingFault>
+    ensures lacks { IfErr result LacksHanding }
+    ensures books { IfErr result (λ _. HasBooks line.now) }
+{
+    let asked = Asked {
+        options: *handing,
+        outputs: Outputs::of(rt, line),
+    };
+    match books_of(line) {
+        None => Ok(Vec::new(rt.alloc())),
+        Some(BookFiles::One(book)) => hand_one(rt, book, &asked),
+        Some(BookFiles::Both(in_book, out_book)) => hand_both(rt, in_book, out_book, &asked),
+    }
+}

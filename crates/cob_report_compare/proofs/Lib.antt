@@ -1,0 +1,9 @@
+pub mod ToldLemmas
+pub mod AddLemmas
+pub mod SharedLemmas
+pub mod PrintLemmas
+pub mod PrintableLemmas
+pub mod BytesLemmas
+pub mod CameLemmas
+pub mod PairLemmas
+pub mod RunLemmas

@@ -1,0 +1,18 @@
+use Rattle.std.proofs.Common.{rules, refl, ap, ◌∙◌, ◌++◌, List, ℕ}
+use Rattle.std.specs.Prelude.{flat_map}
+use Rattle.cob_report_compare.specs.Lines.{byte_line}
+use Rattle.cob_report_compare.proofs.PrintLemmas.{all_printed, byte_lines, line_more, none_printed, one_printed}
+use Rattle.cob_report_compare.proofs.lines.put_bytes.Goals as goal
+
+pub loop-byte-init : goal.loop-byte-init
+loop-byte-init g c = record { so_far = none_printed byte_lines c.args.bytes.now (g.W.Sink.taken c.args.sink.now); writes = search rules }
+
+pub loop-byte-preserved : goal.loop-byte-preserved
+loop-byte-preserved g c = record {
+  so_far = one_printed byte_lines _ c.args.bytes.now c.args.bytes.now c.loop-byte.byte-index c.byte-byte.result _ (g.W.Sink.taken c.loop-byte.sink) _ c.loop-byte-test.true
+      (λ piece rest is are. line_more _ _ _ piece rest c.byte-byte.is (is ∙ c.as_slice.ensures.value ∙ c.line_of_byte.ensures.text) are) c.loop-byte.invariant.so_far c.in_ok-put_text.ensures.text;
+  writes = search rules;
+}
+
+pub returns-clause-text : goal.returns-clause-text
+returns-clause-text g c = all_printed byte_lines c.args.bytes.now c.args.bytes.now c.loop-byte.byte-index _ _ c.loop-byte-test.false refl c.loop-byte.invariant.so_far

@@ -1,0 +1,10 @@
+-- The lines so far were printed.
+use Rattle.std.proofs.Common.{◌≡◌, drop}
+use Rattle.cob_report_compare.proofs.PrintLemmas.{PrintedSoFar, byte_lines}
+use Rattle.cob_report_compare.proofs.lines.put_bytes.Given as goal
+
+abbrev pub invariant-loop-byte : goal.invariant-loop-byte
+invariant-loop-byte g l = record {
+  so_far : PrintedSoFar byte_lines l.bytes (drop l.byte-index l.bytes) (g.W.Sink.taken l.fn.sink) (g.W.Sink.taken l.sink);
+  writes : g.W.Sink.failures l.sink ≡ g.W.Sink.failures l.fn.sink;
+}

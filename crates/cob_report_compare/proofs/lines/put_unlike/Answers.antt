@@ -1,0 +1,8 @@
+use Rattle.cob_report_compare.proofs.PrintLemmas.{on_ok, unlike_is}
+use Rattle.cob_report_compare.proofs.lines.put_unlike.Goals as goal
+
+pub returns-clause-text : goal.returns-clause-text
+returns-clause-text g c =
+    on_ok c.put_more.result _ _
+    (λ last. unlike_is c.args.number c.args.left.now c.args.right.now c.args.told.now _ _ _ _ c.in_ok-put_header.ensures.text c.in_ok-put_bytes.ensures.text last)
+    c.put_more.ensures.text

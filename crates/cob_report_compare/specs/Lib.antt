@@ -1,0 +1,11 @@
+pub mod Chosen
+pub mod Equal
+pub mod Bytes
+pub mod Differences
+pub mod Shared
+pub mod Laws
+pub mod Lines
+pub mod Printable
+pub mod Files
+pub mod InOrder
+pub mod Runs

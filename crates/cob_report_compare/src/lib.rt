@@ -1,0 +1,63 @@
+//! Two files of one layout, compared record by record by the values of their items or by their bytes: whether two records are equal, and which elements differ,
+//! as lines of text.
+//!
+//! - [`compared_items`] are the items of a record that are compared: its named elementary items that stand in no redefinition and in no entry that is
+//!   ignored, and all that count a table.
+//! - [`compare_records`] compares two records of one layout. It looks at their bytes first, and at items only where these are not the same. It takes no
+//!   memory.
+//! - [`compare_bytes`] compares two records by their bytes.
+//! - [`compare_files`] compares the records of two files in the order in which they come, prints what differs, and counts them. It asks for memory before the
+//!   first record alone.
+//!
+//! What is promised of [`compare_records`] (its clause `is`, by `IsComparison` of specs/Differences.antt):
+//!
+//! - it answers that two records are equal exactly where they are equal by value: each entry occurs as often in both, and each element of each item that is
+//!   compared holds one value in both (`EqualByValue` of specs/Equal.antt);
+//! - one value are the same bytes, and of a number also bytes that represent the same number, whatever their sign codes; minus zero is zero. Bytes that
+//!   represent no number are one value with the same bytes alone (`SameValue`);
+//! - else it hands out the elements that differ, each that both records have and that does not hold one value, in the order of the entries, the last
+//!   subscript the fastest: the first [`MOST_TOLD`] of them, and how many there are (`AreFirstDifferences`).
+//!
+//! That records with the same bytes are equal by value is the law [`same_bytes_are_equal`]. Of [`compare_bytes`] it is promised that it answers that two records
+//! are the same exactly where their bytes are, and else hands out the first bytes that differ (`IsBytesComparison`).
+//!
+//! What is promised of [`compare_files`] (its clause `compares`, by `ComparesInOrder` of specs/InOrder.antt):
+//!
+//! - the records that came are pairs, each the next of either file, whole and legible as [`show`](cob_report_show::show) reads them, each compared as above;
+//!   behind them records stand alone on one side at most, and both files are at their end;
+//! - the answer says how many pairs there are of each kind, and how many records stand alone (`ArePairCounts`);
+//! - what is printed are the lines of the pairs that differ and of the records that stand alone, in their order, of at most so many records (`AreLines`), and
+//!   behind them the line with the counts (`counts_line`). The lines of a pair are its number, and each difference that is handed out with both values, as
+//!   [`show`](cob_report_show::show) prints them (`AreRecordLines` of specs/Lines.antt);
+//! - or it names the first record that stops it, by its file, its number and the reason, and the definition says what was read of the other file (`StopsOn`).
+//!   Where it is the printing of a record's lines that failed, what the sink took is not told (`StopsPrinting`);
+//! - a read or a write failed exactly where the answer says so (`left_reads`, `right_reads`, `writes`), and where memory is refused nothing was read or printed.
+//!
+//! # Where it is proved
+//!
+//! The clauses `compares`, `left_reads`, `right_reads`, `writes` of `compare_files`; the clauses `is` of `compare_records` and `compare_bytes`; the clause `items`
+//! of `compared_items`; the law `same_bytes_are_equal`.
+#![tactic(auto)]
+
+mod bytes;
+mod chosen;
+mod counted;
+mod differences;
+mod elements;
+mod files;
+mod in_order;
+mod laws;
+mod lines;
+mod records;
+mod runs;
+mod values;
+
+pub use bytes::{ByteDifference, FirstBytes};
+pub use chosen::compared_items;
+pub use counted::PairCounts;
+pub use differences::{Difference, FirstDifferences, MOST_TOLD};
+pub use elements::ComparedRecord;
+pub use files::{CompareStop, FileSide};
+pub use laws::same_bytes_are_equal;
+pub use records::{Comparison, compare_bytes, compare_records};
+pub use runs::{CompareFault, CompareOptions, compare_files};

@@ -1,0 +1,486 @@
+//! The lines that are printed of two files that are compared.
+
+ghost use Rattle.std.specs.Prelude.{◌≡◌, ◌≤◌, ◌<◌, ◌+◌, ◌-◌, ◌++◌, ◌∷◌, ◌^◌, Some, length, map, decimal, flat_map, is_err, true, codes, IfErr, OnOk};
+ghost use Rattle.cob_copybook_tree.specs.Items.{IsNumberItem};
+ghost use Rattle.cob_copybook_tree.specs.Lengths.{item_size};
+ghost use Rattle.cob_limits.specs.Limits.{longest_name, longest_record, most_dimensions};
+ghost use Rattle.cob_records.specs.Device.{counted, Took};
+ghost use Rattle.cob_records.specs.Frame.{is_write_fault};
+ghost use Rattle.cob_records.specs.Hex.{byte_text};
+ghost use Rattle.cob_report_show.specs.Elements.{named_item};
+ghost use Rattle.cob_report_show.specs.Runs.{most_shown};
+ghost use Rattle.cob_report_show.specs.Values.{AreQuoted, AreUnknown, IsNumberShown, IsNumberValue, IsValueShown};
+ghost use Rattle.cob_report_compare.specs.Differences.{plain_difference};
+ghost use Rattle.cob_report_compare.specs.Lines.{AreDifferenceLines, AreElementLines, AreRecordLines, AreShown, AreValues, IfTold, IsDifferenceLine, alone_line, byte_line, counts_line, header_line, lengths_text, more_line, place_text, unlike_lines};
+ghost use Rattle.cob_report_compare.specs.Printable.{ArePrintable, IsPrintable, IsTellable};
+
+use crate::bytes::{ByteDifference, FirstBytes};
+use crate::counted::PairCounts;
+use crate::differences::{Difference, FirstDifferences};
+use crate::files::FileSide;
+use crate::records::Comparison;
+use arrayvec::ArrayVec;
+use cob_layout::{Item, field, is_number_item};
+use cob_records::{Form, RecordFault, Sink, put_record};
+use cob_report_show::{
+    ListedItem, ListingLine, digits_of, number_text, push_subscripts, push_text, shown_byte,
+};
+use itoa::Buffer;
+
+/// Prints a text.
+fn put_text<W: Sink>(sink: &mut W, text: &[u8]) -> Result<(), RecordFault>
+    requires some { 0 < length text.now }
+    requires most { length text.now ≤ longest_record }
+    ensures text { OnOk result (Took (W.taken sink.old) (W.taken sink.new) (λ part. part ≡ text.now)) }
+    ensures kind { IfErr result (λ fault. is_write_fault fault ≡ true) }
+    ensures cause { W.failures sink.new ≡ counted (is_err result) (W.failures sink.old) }
+{
+    put_record(sink, Form::Fixed, text)
+}
+
+/// Prints bytes as characters.
+fn put_shown<W: Sink>(sink: &mut W, bytes: &[u8]) -> Result<(), RecordFault>
+    ensures text { OnOk result (Took (W.taken sink.old) (W.taken sink.new)
+        (AreShown bytes.now)) }
+    ensures kind { IfErr result (λ fault. is_write_fault fault ≡ true) }
+    ensures cause { W.failures sink.new ≡ counted (is_err result) (W.failures sink.old) }
+{
+    for byte in bytes {
+        put_text(sink, shown_byte(*byte).as_slice())?;
+    }
+    Ok(())
+}
+
+/// Prints bytes as hexadecimal digits.
+fn put_digits<W: Sink>(sink: &mut W, bytes: &[u8]) -> Result<(), RecordFault>
+    ensures text { OnOk result (Took (W.taken sink.old) (W.taken sink.new)
+        (λ part. part ≡ flat_map byte_text bytes.now)) }
+    ensures kind { IfErr result (λ fault. is_write_fault fault ≡ true) }
+    ensures cause { W.failures sink.new ≡ counted (is_err result) (W.failures sink.old) }
+{
+    for byte in bytes {
+        put_text(sink, digits_of(*byte).as_slice())?;
+    }
+    Ok(())
+}
+
+/// Prints bytes as characters in quotation marks.
+fn put_characters<W: Sink>(sink: &mut W, bytes: &[u8]) -> Result<(), RecordFault>
+    ensures text { OnOk result (Took (W.taken sink.old) (W.taken sink.new)
+        (AreQuoted bytes.now)) }
+    ensures kind { IfErr result (λ fault. is_write_fault fault ≡ true) }
+    ensures cause { W.failures sink.new ≡ counted (is_err result) (W.failures sink.old) }
+{
+    put_text(sink, b"\"")?;
+    put_shown(sink, bytes)?;
+    put_text(sink, b"\"")
+}
+
+/// Prints bytes that represent no number: a question mark and their hexadecimal digits.
+fn put_unknown<W: Sink>(sink: &mut W, bytes: &[u8]) -> Result<(), RecordFault>
+    ensures text { OnOk result (Took (W.taken sink.old) (W.taken sink.new)
+        (AreUnknown bytes.now)) }
+    ensures kind { IfErr result (λ fault. is_write_fault fault ≡ true) }
+    ensures cause { W.failures sink.new ≡ counted (is_err result) (W.failures sink.old) }
+{
+    put_text(sink, b"?")?;
+    put_digits(sink, bytes)
+}
+
+/// Prints the value of a number item.
+fn put_number<W: Sink>(sink: &mut W, item: &Item, bytes: &[u8]) -> Result<(), RecordFault>
+    requires number { IsNumberItem item.now }
+    requires long { length bytes.now ≡ item_size item.now }
+    ensures text { OnOk result (Took (W.taken sink.old) (W.taken sink.new) (IsNumberValue item.now bytes.now)) }
+    ensures kind { IfErr result (λ fault. is_write_fault fault ≡ true) }
+    ensures cause { W.failures sink.new ≡ counted (is_err result) (W.failures sink.old) }
+{
+    match number_text(item, bytes) {
+        Some(text) => put_text(sink, text.as_slice()),
+        None => put_unknown(sink, bytes),
+    }
+}
+
+/// Prints the value of an item.
+fn put_value<W: Sink>(sink: &mut W, item: &Item, bytes: &[u8]) -> Result<(), RecordFault>
+    requires long { length bytes.now ≡ item_size item.now }
+    ensures text { OnOk result (Took (W.taken sink.old) (W.taken sink.new) (IsValueShown item.now bytes.now)) }
+    ensures kind { IfErr result (λ fault. is_write_fault fault ≡ true) }
+    ensures cause { W.failures sink.new ≡ counted (is_err result) (W.failures sink.old) }
+{
+    if is_number_item(item) {
+        put_number(sink, item, bytes)
+    } else {
+        put_characters(sink, bytes)
+    }
+}
+
+/// What stands of an element before its values: its name with its subscripts, and its offset on the left.
+fn place_of(name: &[u8], subscripts: &[u32], offset: u32) -> ListingLine
+    requires name { length name.now ≤ longest_name }
+    requires many { length subscripts.now ≤ most_dimensions }
+    ensures text { result.items ≡ place_text name.now subscripts.now offset }
+    ensures some { 0 < length result.items }
+{
+    let mut line = ArrayVec::new();
+    let mut buffer = Buffer::new();
+    push_text(&mut line, name);
+    push_subscripts(&mut line, subscripts);
+    line.push(b' ');
+    push_text(&mut line, buffer.format(offset).as_bytes());
+    push_text(&mut line, b": ");
+    line
+}
+
+/// Prints both values of an element of an item, with a bar between them, and ends their line.
+fn put_values<W: Sink>(
+    sink: &mut W,
+    item: &Item,
+    left: &[u8],
+    right: &[u8],
+) -> Result<(), RecordFault>
+    requires left { length left.now ≡ item_size item.now }
+    requires right { length right.now ≡ item_size item.now }
+    ensures text { OnOk result (Took (W.taken sink.old) (W.taken sink.new)
+        (AreValues item.now left.now right.now)) }
+    ensures kind { IfErr result (λ fault. is_write_fault fault ≡ true) }
+    ensures cause { W.failures sink.new ≡ counted (is_err result) (W.failures sink.old) }
+{
+    put_value(sink, item, left)?;
+    put_text(sink, b" | ")?;
+    put_value(sink, item, right)?;
+    put_text(sink, b"\n")
+}
+
+/// Prints the line of an element of this item that differs.
+fn put_element<W: Sink>(
+    sink: &mut W,
+    left: &[u8],
+    right: &[u8],
+    item: &ListedItem,
+    difference: &Difference,
+) -> Result<(), RecordFault>
+    requires item { (plain_difference difference.now).item ≡ Some (named_item item.now) }
+    requires some { IsPrintable left.now right.now (plain_difference difference.now) }
+    ensures text { OnOk result (Took (W.taken sink.old) (W.taken sink.new)
+        (IsDifferenceLine left.now right.now (plain_difference difference.now))) }
+    ensures kind { IfErr result (λ fault. is_write_fault fault ≡ true) }
+    ensures cause { W.failures sink.new ≡ counted (is_err result) (W.failures sink.old) }
+{
+    let place = place_of(
+        item.name.as_bytes(),
+        difference.subscripts.as_slice(),
+        difference.left.offset,
+    );
+    put_text(sink, b"  ")?;
+    put_text(sink, place.as_slice())?;
+    put_values(
+        sink,
+        &item.item,
+        field(left, difference.left),
+        field(right, difference.right),
+    )
+}
+
+/// Prints the line of an element that differs.
+fn put_difference<W: Sink>(
+    sink: &mut W,
+    left: &[u8],
+    right: &[u8],
+    difference: &Difference,
+) -> Result<(), RecordFault>
+    requires { IsPrintable left.now right.now (plain_difference difference.now) }
+    ensures text { OnOk result (Took (W.taken sink.old) (W.taken sink.new)
+        (IsDifferenceLine left.now right.now (plain_difference difference.now))) }
+    ensures kind { IfErr result (λ fault. is_write_fault fault ≡ true) }
+    ensures cause { W.failures sink.new ≡ counted (is_err result) (W.failures sink.old) }
+{
+    match difference.item {
+        Some(item) => put_element(sink, left, right, item, difference),
+        None => unreachable!(),
+    }
+}
+
+/// Prints the lines of elements that differ.
+fn put_differences<W: Sink>(
+    sink: &mut W,
+    left: &[u8],
+    right: &[u8],
+    differences: &[Difference],
+) -> Result<(), RecordFault>
+    requires { ArePrintable left.now right.now (map plain_difference differences.now) }
+    ensures text { OnOk result (Took (W.taken sink.old) (W.taken sink.new)
+        (AreDifferenceLines left.now right.now (map plain_difference differences.now))) }
+    ensures kind { IfErr result (λ fault. is_write_fault fault ≡ true) }
+    ensures cause { W.failures sink.new ≡ counted (is_err result) (W.failures sink.old) }
+{
+    for difference in differences {
+        put_difference(sink, left, right, difference)?;
+    }
+    Ok(())
+}
+
+/// Adds the lengths of two records to a line, where they have not one length.
+fn push_lengths(line: &mut ListingLine, left: usize, right: usize)
+    requires room { length line.old.items + 60 ≤ 256 }
+    ensures text { line.new.items ≡ line.old.items ++ lengths_text left right }
+    ensures long { length line.new.items ≤ length line.old.items + 60 }
+{
+    if left == right {
+        return;
+    }
+    let mut buffer = Buffer::new();
+    push_text(line, b": length ");
+    push_text(line, buffer.format(left as u64).as_bytes());
+    push_text(line, b" | ");
+    push_text(line, buffer.format(right as u64).as_bytes());
+}
+
+/// Prints the line before the differences of two records of one number and of these lengths.
+fn put_header<W: Sink>(
+    sink: &mut W,
+    number: u64,
+    left: usize,
+    right: usize,
+) -> Result<(), RecordFault>
+    ensures text { OnOk result (Took (W.taken sink.old) (W.taken sink.new)
+        (λ part. part ≡ header_line number left right)) }
+    ensures kind { IfErr result (λ fault. is_write_fault fault ≡ true) }
+    ensures cause { W.failures sink.new ≡ counted (is_err result) (W.failures sink.old) }
+{
+    let mut buffer = Buffer::new();
+    let mut line = ListingLine::new();
+    push_text(&mut line, b"record ");
+    push_text(&mut line, buffer.format(number).as_bytes());
+    push_lengths(&mut line, left, right);
+    line.push(b'\n');
+    put_text(sink, line.as_slice())
+}
+
+/// Prints how many differences of two records are not told, where there are such.
+fn put_more<W: Sink>(sink: &mut W, more: u64) -> Result<(), RecordFault>
+    ensures text { OnOk result (Took (W.taken sink.old) (W.taken sink.new)
+        (λ part. part ≡ more_line more)) }
+    ensures kind { IfErr result (λ fault. is_write_fault fault ≡ true) }
+    ensures cause { W.failures sink.new ≡ counted (is_err result) (W.failures sink.old) }
+{
+    if more == 0 {
+        return Ok(());
+    }
+    let mut buffer = Buffer::new();
+    let mut line = ListingLine::new();
+    push_text(&mut line, b"  and ");
+    push_text(&mut line, buffer.format(more).as_bytes());
+    push_text(&mut line, b" more\n");
+    put_text(sink, line.as_slice())
+}
+
+/// The line of a byte that differs.
+fn line_of_byte(byte: ByteDifference) -> ListingLine
+    ensures text { result.items ≡ byte_line byte }
+    ensures some { 0 < length result.items }
+{
+    let mut buffer = Buffer::new();
+    let mut line = ListingLine::new();
+    push_text(&mut line, b"  byte ");
+    push_text(&mut line, buffer.format(byte.offset as u64).as_bytes());
+    push_text(&mut line, b": ");
+    push_text(&mut line, digits_of(byte.left).as_slice());
+    push_text(&mut line, b" | ");
+    push_text(&mut line, digits_of(byte.right).as_slice());
+    line.push(b'\n');
+    line
+}
+
+/// Prints the lines of bytes that differ.
+fn put_bytes<W: Sink>(sink: &mut W, bytes: &[ByteDifference]) -> Result<(), RecordFault>
+    ensures text { OnOk result (Took (W.taken sink.old) (W.taken sink.new)
+        (λ part. part ≡ flat_map byte_line bytes.now)) }
+    ensures kind { IfErr result (λ fault. is_write_fault fault ≡ true) }
+    ensures cause { W.failures sink.new ≡ counted (is_err result) (W.failures sink.old) }
+{
+    for byte in bytes {
+        put_text(sink, line_of_byte(*byte).as_slice())?;
+    }
+    Ok(())
+}
+
+/// Prints the lines of two records of one number that are not equal by value.
+fn put_elements<W: Sink>(
+    sink: &mut W,
+    number: u64,
+    left: &[u8],
+    right: &[u8],
+    told: &FirstDifferences,
+) -> Result<(), RecordFault>
+    requires { ArePrintable left.now right.now (map plain_difference told.now.first.items) }
+    ensures text { OnOk result (Took (W.taken sink.old) (W.taken sink.new)
+        (AreElementLines number left.now right.now told.now)) }
+    ensures kind { IfErr result (λ fault. is_write_fault fault ≡ true) }
+    ensures cause { W.failures sink.new ≡ counted (is_err result) (W.failures sink.old) }
+{
+    let differences = told.first.as_slice();
+    put_header(sink, number, left.len(), right.len())?;
+    put_differences(sink, left, right, differences)?;
+    put_more(sink, told.count.saturating_sub(differences.len() as u64))
+}
+
+/// Prints the lines of two records of one number that have not the same bytes.
+fn put_unlike<W: Sink>(
+    sink: &mut W,
+    number: u64,
+    left: &[u8],
+    right: &[u8],
+    told: &FirstBytes,
+) -> Result<(), RecordFault>
+    ensures text { OnOk result (Took (W.taken sink.old) (W.taken sink.new)
+        (λ part. part ≡ unlike_lines number left.now right.now told.now)) }
+    ensures kind { IfErr result (λ fault. is_write_fault fault ≡ true) }
+    ensures cause { W.failures sink.new ≡ counted (is_err result) (W.failures sink.old) }
+{
+    let bytes = told.first.as_slice();
+    put_header(sink, number, left.len(), right.len())?;
+    put_bytes(sink, bytes)?;
+    put_more(sink, told.count.saturating_sub(bytes.len()) as u64)
+}
+
+/// Prints the lines of two records of one number that were compared: none where they are equal.
+fn put_comparison<W: Sink>(
+    sink: &mut W,
+    number: u64,
+    left: &[u8],
+    right: &[u8],
+    comparison: &Comparison,
+) -> Result<(), RecordFault>
+    requires { IsTellable left.now right.now comparison.now }
+    ensures text { OnOk result (Took (W.taken sink.old) (W.taken sink.new)
+        (AreRecordLines number left.now right.now comparison.now)) }
+    ensures kind { IfErr result (λ fault. is_write_fault fault ≡ true) }
+    ensures cause { W.failures sink.new ≡ counted (is_err result) (W.failures sink.old) }
+{
+    match comparison {
+        Comparison::Same => Ok(()),
+        Comparison::Equal => Ok(()),
+        Comparison::Differ(told) => put_elements(sink, number, left, right, told),
+        Comparison::Unlike(told) => put_unlike(sink, number, left, right, told),
+    }
+}
+
+/// Prints the line of a record that stands alone on the left.
+fn put_left_alone<W: Sink>(sink: &mut W, number: u64) -> Result<(), RecordFault>
+    ensures text { OnOk result (Took (W.taken sink.old) (W.taken sink.new)
+        (λ part. part ≡ alone_line FileSide.Left number)) }
+    ensures kind { IfErr result (λ fault. is_write_fault fault ≡ true) }
+    ensures cause { W.failures sink.new ≡ counted (is_err result) (W.failures sink.old) }
+{
+    let mut buffer = Buffer::new();
+    let mut line = ListingLine::new();
+    push_text(&mut line, b"record ");
+    push_text(&mut line, buffer.format(number).as_bytes());
+    push_text(&mut line, b": left alone\n");
+    put_text(sink, line.as_slice())
+}
+
+/// Prints the line of a record that stands alone on the right.
+fn put_right_alone<W: Sink>(sink: &mut W, number: u64) -> Result<(), RecordFault>
+    ensures text { OnOk result (Took (W.taken sink.old) (W.taken sink.new)
+        (λ part. part ≡ alone_line FileSide.Right number)) }
+    ensures kind { IfErr result (λ fault. is_write_fault fault ≡ true) }
+    ensures cause { W.failures sink.new ≡ counted (is_err result) (W.failures sink.old) }
+{
+    let mut buffer = Buffer::new();
+    let mut line = ListingLine::new();
+    push_text(&mut line, b"record | ");
+    push_text(&mut line, buffer.format(number).as_bytes());
+    push_text(&mut line, b": right alone\n");
+    put_text(sink, line.as_slice())
+}
+
+/// Prints the line of a record that stands alone.
+fn put_alone<W: Sink>(sink: &mut W, side: FileSide, number: u64) -> Result<(), RecordFault>
+    ensures text { OnOk result (Took (W.taken sink.old) (W.taken sink.new)
+        (λ part. part ≡ alone_line side number)) }
+    ensures kind { IfErr result (λ fault. is_write_fault fault ≡ true) }
+    ensures cause { W.failures sink.new ≡ counted (is_err result) (W.failures sink.old) }
+{
+    match side {
+        FileSide::Left => put_left_alone(sink, number),
+        FileSide::Right => put_right_alone(sink, number),
+    }
+}
+
+/// Prints the lines of two records that were compared, where fewer were told before than at most.
+pub(crate) fn tell_comparison<W: Sink>(
+    sink: &mut W,
+    most: u64,
+    told: u64,
+    number: u64,
+    left: &[u8],
+    right: &[u8],
+    comparison: &Comparison,
+) -> Result<(), RecordFault>
+    requires { IsTellable left.now right.now comparison.now }
+    ensures text { OnOk result (Took (W.taken sink.old) (W.taken sink.new)
+        (IfTold most told (AreRecordLines number left.now right.now comparison.now))) }
+    ensures kind { IfErr result (λ fault. is_write_fault fault ≡ true) }
+    ensures cause { W.failures sink.new ≡ counted (is_err result) (W.failures sink.old) }
+{
+    if told < most {
+        put_comparison(sink, number, left, right, comparison)
+    } else {
+        Ok(())
+    }
+}
+
+/// Prints the line of a record that stands alone, where fewer were told before than at most.
+pub(crate) fn tell_alone<W: Sink>(
+    sink: &mut W,
+    most: u64,
+    told: u64,
+    side: FileSide,
+    number: u64,
+) -> Result<(), RecordFault>
+    ensures text { OnOk result (Took (W.taken sink.old) (W.taken sink.new)
+        (IfTold most told (λ line. line ≡ alone_line side number))) }
+    ensures kind { IfErr result (λ fault. is_write_fault fault ≡ true) }
+    ensures cause { W.failures sink.new ≡ counted (is_err result) (W.failures sink.old) }
+{
+    if told < most {
+        put_alone(sink, side, number)
+    } else {
+        Ok(())
+    }
+}
+
+/// Adds words and a number.
+fn push_count(line: &mut ListingLine, words: &[u8], number: u64)
+    requires room { length line.old.items + length words.now + 20 ≤ 256 }
+    ensures text { line.new.items ≡ line.old.items ++ (words.now ++ decimal number) }
+    ensures long { length line.new.items ≤ length line.old.items + length words.now + 20 }
+{
+    let mut buffer = Buffer::new();
+    push_text(line, words);
+    push_text(line, buffer.format(number).as_bytes());
+}
+
+/// Prints the line with the counts.
+pub(crate) fn put_counts<W: Sink>(sink: &mut W, counts: PairCounts) -> Result<(), RecordFault>
+    requires left { counts.same + counts.equal + counts.differ + counts.left_alone ≤ most_shown }
+    requires right { counts.same + counts.equal + counts.differ + counts.right_alone ≤ most_shown }
+    ensures text { OnOk result (Took (W.taken sink.old) (W.taken sink.new)
+        (λ part. part ≡ counts_line counts)) }
+    ensures kind { IfErr result (λ fault. is_write_fault fault ≡ true) }
+    ensures cause { W.failures sink.new ≡ counted (is_err result) (W.failures sink.old) }
+{
+    let pairs = counts.same + counts.equal + counts.differ;
+    let mut line = ListingLine::new();
+    push_count(&mut line, b"left ", pairs + counts.left_alone);
+    push_count(&mut line, b" right ", pairs + counts.right_alone);
+    push_count(&mut line, b": equal ", counts.same + counts.equal);
+    push_count(&mut line, b", of which ", counts.equal);
+    push_count(&mut line, b" not byte for byte; differ ", counts.differ);
+    push_count(&mut line, b"; left alone ", counts.left_alone);
+    push_count(&mut line, b"; right alone ", counts.right_alone);
+    line.push(b'\n');
+    put_text(sink, line.as_slice())
+}
