@@ -4,8 +4,8 @@ use Rattle.cob_source.specs.Tokens.{Lexeme}
 use Rattle.cob_source_copies.specs.Laws.{OneExpansion}
 use Rattle.cob_source_copies.specs.Texts.{copied_text}
 use Rattle.cob_copybook_text.specs.Laws.{MeantWordsAreOne}
-use Rattle.cob_copybook_text.specs.Meant.{AreMeant, AreOfRecord, ComeTo}
-use Rattle.cob_copybook_text.specs.Refusals.{IsTextRefusal, IsWant}
+use Rattle.cob_copybook_text.specs.Meant.{AreMeantWords, AreOfRecord, ComeTo}
+use Rattle.cob_copybook_text.specs.Refusals.{IsRecordTextRefusal, IsWant}
 use Rattle.cob_copybook_text.specs.declared.copying.Copying.{Copying}
 use Rattle.cob_copybook_text.specs.declared.copying.Copying.TheVariants as copying
 use Rattle.cob_copybook_text.specs.declared.fault.RecordTextFault.{RecordTextFault}
@@ -31,7 +31,7 @@ meant_words_are_one one how name ws a b h k =
     one_record name k.all a b (subst (λ (v : List Lexeme). AreOfRecord name v a) all h.chosen) k.chosen
 
 -- want of room or memory is told of words that are meant
-pub wanted : (f : RecordTextFault) (how : Copying) (name : Option (List ℕ)) (ws own : List Lexeme) → AreMeant how name ws own → IsWant f → IsTextRefusal f how name ws
+pub wanted : (f : RecordTextFault) (how : Copying) (name : Option (List ℕ)) (ws own : List Lexeme) → AreMeantWords how name ws own → IsWant f → IsRecordTextRefusal f how name ws
 wanted (fault.Copy g) how name ws own meant want = absurd want
 wanted (fault.Record why) how name ws own meant want = absurd want
 wanted fault.TooLong how name ws own meant want = (own, meant)

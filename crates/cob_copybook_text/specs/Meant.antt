@@ -20,7 +20,7 @@ AreOfRecord None all own = AreSoleWords all own
 AreOfRecord (Some name) all own = AreWordsOfRecord name all own
 
 -- The words of a copybook that are meant: what its words come to, and of that the words of one record.
-pub record AreMeant (how : Copying) (name : Option (List ℕ)) (words own : List Lexeme) : Type 0 where
+pub record AreMeantWords (how : Copying) (name : Option (List ℕ)) (words own : List Lexeme) : Type 0 where
   pub all : List Lexeme
   pub come : ComeTo how words all
   pub chosen : AreOfRecord name all own

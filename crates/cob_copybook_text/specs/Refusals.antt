@@ -8,7 +8,7 @@ use Rattle.cob_source_copies.specs.declared.fault.CopyRule.{CopyRule}
 use Rattle.cob_source_copies.specs.declared.fault.CopyRule.TheVariants as rule
 use Rattle.cob_copybook_record.specs.Refusals.{IsNoRecord}
 use Rattle.cob_copybook_record.specs.declared.record.NoRecord.{NoRecord}
-use Rattle.cob_copybook_text.specs.Meant.{AreMeant, ComeTo}
+use Rattle.cob_copybook_text.specs.Meant.{AreMeantWords, ComeTo}
 use Rattle.cob_copybook_text.specs.declared.copying.Copying.{Copying}
 use Rattle.cob_copybook_text.specs.declared.copying.Copying.TheVariants as copying
 use Rattle.cob_copybook_text.specs.declared.fault.RecordTextFault.{RecordTextFault}
@@ -47,11 +47,11 @@ IsUnchosen why (Some name) all = IsNoRecord why name all
 
 -- A refusal names a rule of COPY that is broken, or why no record is chosen of what the words come to; or the words that are meant have no room in one text; or
 -- memory was refused.
-abbrev pub IsTextRefusal : RecordTextFault → Copying → Option (List ℕ) → List Lexeme → Type 0
-IsTextRefusal (fault.Copy f) how name words = IsCopyingRefusal how f.rule f.line words
-IsTextRefusal (fault.Record why) how name words = (all : List Lexeme) × ComeTo how words all × IsUnchosen why name all
-IsTextRefusal fault.TooLong how name words = (own : List Lexeme) × AreMeant how name words own
-IsTextRefusal fault.Memory how name words = ⊤
+abbrev pub IsRecordTextRefusal : RecordTextFault → Copying → Option (List ℕ) → List Lexeme → Type 0
+IsRecordTextRefusal (fault.Copy f) how name words = IsCopyingRefusal how f.rule f.line words
+IsRecordTextRefusal (fault.Record why) how name words = (all : List Lexeme) × ComeTo how words all × IsUnchosen why name all
+IsRecordTextRefusal fault.TooLong how name words = (own : List Lexeme) × AreMeantWords how name words own
+IsRecordTextRefusal fault.Memory how name words = ⊤
 
 -- it is no rule of the copybook that is named, but want of room in one text or of memory
 abbrev pub IsWant : RecordTextFault → Type 0

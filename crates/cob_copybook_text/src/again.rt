@@ -3,7 +3,7 @@
 ghost use Rattle.std.specs.Prelude.{◌≡◌, ◌-◌, true, slice_index_or, IfOk, IfSome, IsTrue, OnOk};
 ghost use Rattle.cob_source.specs.Tokens.{lexeme, lexemes};
 ghost use Rattle.cob_source.specs.Words.{AreWordsOf};
-ghost use Rattle.cob_copybook_text.specs.Written.{SaysWords, are_alike, is_alike};
+ghost use Rattle.cob_copybook_text.specs.Written.{SaysWords, say_alike, is_alike};
 ghost use Rattle.cob_source_copies.specs.Exchanges.{is_one_kind};
 
 use crate::writing::{RecordText, written};
@@ -41,8 +41,8 @@ fn is_alike(lines: &[u32], word: &Token, own: &Token) -> bool
 }
 
 /// Whether each word of a text says what one of as many says.
-fn are_alike(lines: &[u32], words: &[Token], own: &[Token]) -> bool
-    ensures { result ≡ are_alike lines.now (lexemes words.now) (lexemes own.now) }
+fn say_alike(lines: &[u32], words: &[Token], own: &[Token]) -> bool
+    ensures { result ≡ say_alike lines.now (lexemes words.now) (lexemes own.now) }
 {
     let mut left = words;
     let mut rest = own;
@@ -88,7 +88,7 @@ pub(crate) fn text_saying(alloc: Global, own: &[Token]) -> Result<Option<RecordT
     let Some(words) = words_of(alloc, made.text.as_slice())? else {
         return Ok(None);
     };
-    if are_alike(made.lines.as_slice(), words.as_slice(), own) {
+    if say_alike(made.lines.as_slice(), words.as_slice(), own) {
         Ok(Some(made))
     } else {
         Ok(None)

@@ -2,9 +2,9 @@
 
 ghost use Rattle.std.specs.Prelude.{◌≡◌, ℕ, List, Option, true, option_map, IfErr, IfOk, IsTrue};
 ghost use Rattle.cob_source.specs.Tokens.{Lexeme, lexeme, lexemes};
-ghost use Rattle.cob_copybook_text.specs.Meant.{AreMeant};
-ghost use Rattle.cob_copybook_text.specs.Refusals.{IsCopyingRefusal, IsTextRefusal, IsWant};
-ghost use Rattle.cob_copybook_text.specs.Written.{IsTextFor};
+ghost use Rattle.cob_copybook_text.specs.Meant.{AreMeantWords};
+ghost use Rattle.cob_copybook_text.specs.Refusals.{IsCopyingRefusal, IsRecordTextRefusal, IsWant};
+ghost use Rattle.cob_copybook_text.specs.Written.{IsTextForBook};
 ghost use Rattle.cob_source_copies.specs.declared.fault.CopyRule.TheVariants.{Memory};
 ghost use Rattle.cob_copybook_text.specs.declared.copying.Copying.{Copying};
 
@@ -33,7 +33,7 @@ fn is_same(word: &Token, other: &Token) -> bool
 }
 
 /// Whether words are the same at the same places.
-fn are_same(words: &[Token], others: &[Token]) -> bool
+fn are_same_words(words: &[Token], others: &[Token]) -> bool
     ensures { IsTrue result → lexemes words.now ≡ lexemes others.now }
 {
     let mut left = words;
@@ -55,7 +55,7 @@ fn are_same(words: &[Token], others: &[Token]) -> bool
 fn copy_refusal(fault: CopyFault) -> RecordTextFault
     ensures want { fault.rule ≡ Memory → IsWant result }
     ensures refused { (how : Copying) (name : Option (List ℕ)) (words : List Lexeme)
-        → IsCopyingRefusal how fault.rule fault.line words → IsTextRefusal result how name words }
+        → IsCopyingRefusal how fault.rule fault.line words → IsRecordTextRefusal result how name words }
 {
     if fault.rule == CopyRule::Memory {
         RecordTextFault::Memory
@@ -74,10 +74,10 @@ fn text_for(
     words: &[Token],
     own: &[Token],
 ) -> Result<Option<RecordText>, RecordTextFault>
-    ensures found { IfOk result (λ r. IsTextFor r (lexemes words.now) (lexemes own.now)) }
+    ensures found { IfOk result (λ r. IsTextForBook r (lexemes words.now) (lexemes own.now)) }
     ensures want { IfErr result IsWant }
 {
-    if are_same(own, words) {
+    if are_same_words(own, words) {
         return Ok(None);
     }
     match text_saying(alloc, own)? {
@@ -100,14 +100,14 @@ pub fn record_text(
 ) -> Result<Option<RecordText>, RecordTextFault>
     // What is answered says the words that are meant.
     ensures found { IfOk result (λ r. (own : List Lexeme)
-        × AreMeant how.now (option_map (λ n. n.now) name.entry) (lexemes words.now) own
-        × IsTextFor r (lexemes words.now) own) }
+        × AreMeantWords how.now (option_map (λ n. n.now) name.entry) (lexemes words.now) own
+        × IsTextForBook r (lexemes words.now) own) }
     // Where words are meant they are written, but for want of room in one text or of memory.
     ensures only { (own : List Lexeme)
-        → AreMeant how.now (option_map (λ n. n.now) name.entry) (lexemes words.now) own
+        → AreMeantWords how.now (option_map (λ n. n.now) name.entry) (lexemes words.now) own
         → IfErr result IsWant }
     // A refusal names a rule that is broken.
-    ensures fault { IfErr result (λ f. IsTextRefusal f how.now (option_map (λ n. n.now) name.entry) (lexemes words.now)) }
+    ensures fault { IfErr result (λ f. IsRecordTextRefusal f how.now (option_map (λ n. n.now) name.entry) (lexemes words.now)) }
 {
     let all = match how.all_words(alloc, words) {
         Ok(all) => all,

@@ -5,6 +5,7 @@ ghost use Rattle.cob_program_texts.specs.CheckEnds.{EndsCheck};
 ghost use Rattle.cob_program_commands.specs.Commands.{EndsConvert, IsEndOfLine, IsEndOfRefusal, IsEndOfSaid, IsEndOfWords, status_of_refusal};
 
 use crate::handed::with_handed_books;
+use crate::release::VERSION;
 use cob_convert::Status;
 use cob_program_compare::do_compare;
 use cob_program_convert::{do_convert, do_convert_aside};
@@ -192,7 +193,7 @@ pub fn answer<R: AllocGlobal + Files + Input + Print + Eprint + Clock, S: AsStr>
 ) -> u8
     ensures { IsEndOfWords (map S.text words.now) result }
 {
-    match line_of(rt.alloc(), words) {
+    match line_of(rt.alloc(), words, VERSION) {
         Ok(said) => perform(rt, &said),
         Err(fault) => refuse(rt, &fault),
     }

@@ -18,5 +18,6 @@
 
 mod commands;
 mod handed;
+mod release;
 
 pub use commands::{answer, perform, refuse};

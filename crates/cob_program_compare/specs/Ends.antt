@@ -14,17 +14,17 @@ abbrev pub are_equal : PairCounts → Bool
 are_equal counts = counts.differ == 0 && counts.left_alone == 0 && counts.right_alone == 0
 
 -- the status of a fault: a record that stops a comparison is told as one that stops a conversion
-abbrev pub status_of_fault : ComparisonFault → Status
-status_of_fault (fault.Command told) = status_of told
-status_of_fault fault.OneStream = status.Malformed
-status_of_fault (fault.CannotOpen side) = status.Device
-status_of_fault (fault.Ignore rule) = status.Refused
-status_of_fault (fault.Stopped stop) = status_of_stop stop.reason.cause
+abbrev pub status_of_comparison_fault : ComparisonFault → Status
+status_of_comparison_fault (fault.Command told) = status_of told
+status_of_comparison_fault fault.OneStream = status.Malformed
+status_of_comparison_fault (fault.CannotOpen side) = status.Device
+status_of_comparison_fault (fault.Ignore rule) = status.Refused
+status_of_comparison_fault (fault.Stopped stop) = status_of_stop stop.reason.cause
 
 -- the status of what a comparison came to: done where all are equal, and else as where a record stops a run
 abbrev pub status_of_comparison : Result PairCounts ComparisonFault → Status
 status_of_comparison (Ok counts) = if are_equal counts then status.Done else status.Stopped
-status_of_comparison (Err told) = status_of_fault told
+status_of_comparison (Err told) = status_of_comparison_fault told
 
 -- A comparison came to something, and ends with its status, or as where a device failed if its last line could not be printed.
 abbrev pub EndsCompare : Status → Type 0

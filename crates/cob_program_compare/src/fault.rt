@@ -1,7 +1,7 @@
 //! Why a comparison is not done.
 
 ghost use Rattle.std.specs.Prelude.{◌≡◌};
-ghost use Rattle.cob_program_compare.specs.Ends.{status_of_fault};
+ghost use Rattle.cob_program_compare.specs.Ends.{status_of_comparison_fault};
 ghost use Rattle.cob_program_faults.specs.declared.fault.CommandFault.TheVariants.{Memory};
 ghost use Rattle.cob_program_compare.specs.declared.fault.ComparisonFault.TheVariants.{Command};
 
@@ -94,7 +94,7 @@ impl fmt::Display for ComparisonFault {
 impl ComparisonFault {
     /// How the program ends.
     pub fn status(self) -> Status
-        ensures { result ≡ status_of_fault self }
+        ensures { result ≡ status_of_comparison_fault self }
     {
         match self {
             ComparisonFault::Command(fault) => fault.status(),

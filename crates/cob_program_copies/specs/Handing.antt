@@ -25,14 +25,14 @@ LacksHanding (fault.File told) = LacksText name.InBook told ⊎ LacksText name.O
 LacksHanding (fault.Book refusal) = ⊤
 
 -- with which status the command ends where a copybook that was read is not handed over
-abbrev pub status_of_refusal : BookRefusal → Status
-status_of_refusal (refusal.Refused words) = status.Refused
-status_of_refusal (refusal.NotRead words) = status.Device
-status_of_refusal (refusal.OneFile book output) = status.Malformed
-status_of_refusal refusal.BadReplace = status.Malformed
-status_of_refusal refusal.Memory = status.Memory
+abbrev pub status_of_unhanded : BookRefusal → Status
+status_of_unhanded (refusal.Refused words) = status.Refused
+status_of_unhanded (refusal.NotRead words) = status.Device
+status_of_unhanded (refusal.OneFile book output) = status.Malformed
+status_of_unhanded refusal.BadReplace = status.Malformed
+status_of_unhanded refusal.Memory = status.Memory
 
 -- with which status the command ends whose copybooks are not handed over
 abbrev pub status_of_handing : HandingFault → Status
 status_of_handing (fault.File told) = status_of told
-status_of_handing (fault.Book why) = status_of_refusal why
+status_of_handing (fault.Book why) = status_of_unhanded why

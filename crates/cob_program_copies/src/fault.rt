@@ -1,7 +1,7 @@
 //! Why copybooks are not handed over, and how that is told.
 
 ghost use Rattle.std.specs.Prelude.{◌≡◌};
-ghost use Rattle.cob_program_copies.specs.Handing.{status_of_handing, status_of_refusal};
+ghost use Rattle.cob_program_copies.specs.Handing.{status_of_handing, status_of_unhanded};
 ghost use Rattle.cob_program_copies.specs.declared.fault.HandingFault.TheVariants.{Book};
 ghost use Rattle.cob_program_copies.specs.declared.fault.BookRefusal.TheVariants.{Memory};
 ghost use Rattle.cob_program_faults.specs.Ends.{EndsAs};
@@ -69,7 +69,7 @@ impl<T: Drop> From<AllocFailed<T>> for HandingFault {
 
 /// Prints why a copybook that was read is not handed over, and answers how the command ends.
 fn tell_refusal<R: Eprint>(rt: &R, refusal: &BookRefusal) -> Status
-    ensures { EndsAs (status_of_refusal refusal.now) result }
+    ensures { EndsAs (status_of_unhanded refusal.now) result }
 {
     match refusal {
         BookRefusal::Refused(words) => printed(eprintln!(rt; "{words}"), Status::Refused),

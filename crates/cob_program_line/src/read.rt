@@ -33,7 +33,8 @@ fn whole_line<'a>(name: &str, options: &ArgMatches<'a>) -> Result<CommandLine<'a
     })
 }
 
-/// Reads the words after the program's name: which command they ask for, and what its options name. No words at all ask for a job.
+/// Reads the words after the program's name: which command they ask for, and what its options name. No words at all ask for a job. The version is what
+/// `--version` prints.
 ///
 /// # Errors
 ///
@@ -42,7 +43,11 @@ fn whole_line<'a>(name: &str, options: &ArgMatches<'a>) -> Result<CommandLine<'a
 /// the size of blocks says none beside the letter b ([`LineFault::Block`]), the one for a listing names none ([`LineFault::Listing`]), one for a
 /// piece of the input says no number ([`LineFault::Piece`]), one for a number of records says none ([`LineFault::Number`]), the one for a number of
 /// pieces says none from 1 on ([`LineFault::Pieces`]), the one for a record length says none from 1 on ([`LineFault::Lrecl`]).
-pub fn line_of<'a, S: AsStr>(alloc: Global, words: &'a [S]) -> Result<CommandLine<'a>, LineFault>
+pub fn line_of<'a, S: AsStr>(
+    alloc: Global,
+    words: &'a [S],
+    version: &'a str,
+) -> Result<CommandLine<'a>, LineFault>
     ensures options { IfOk result (IsCommandLineOf (map S.text words.entry.now)) }
     ensures refused { IfErr result (λ fault. (fault ≡ Memory)
         ⊎ ((said : CommandLine) → IsCommandLineOf (map S.text words.entry.now) said → ⊥)) }
@@ -58,7 +63,7 @@ pub fn line_of<'a, S: AsStr>(alloc: Global, words: &'a [S]) -> Result<CommandLin
             handing: Handing::plain(),
         });
     }
-    let matches = program(alloc)?.try_get_matches_from(words)?;
+    let matches = program(alloc, version)?.try_get_matches_from(words)?;
     match matches.subcommand() {
         Some((name, options)) => whole_line(name, options),
         None => unreachable!(),

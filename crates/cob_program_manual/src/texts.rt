@@ -21,9 +21,12 @@ fn text_for(alloc: Global, program: &Command<'_>, asked: Generated) -> Result<St
     Ok(text)
 }
 
+// Neither text tells a version.
+const NO_VERSION: &str = "";
+
 /// What is asked for of the program.
 fn text_of(alloc: Global, asked: Generated) -> Result<String, AllocError> {
-    match program(alloc) {
+    match program(alloc, NO_VERSION) {
         Ok(program) => text_for(alloc, &program, asked),
         Err(fault) => Err(fault),
     }

@@ -14,7 +14,6 @@ use crate::options::{
     ENDS, EXPLAINED_RECORDS, FORM, FORMS, LISTING, LRECL, MAPPED_RECORDS, MOVES, ONE_RECORD, PIECE,
     PIECES, PROGRESS, RECORD, REJECTS, SHARED, SHARED_RUN, SHOWN,
 };
-use crate::release::VERSION;
 use clap::Command;
 use std::alloc::{AllocError, Global};
 
@@ -313,24 +312,24 @@ fn titled<'a>(alloc: Global) -> Command<'a>
 }
 
 // The program without its commands: one has to be named, and the words that it parses are those after its name.
-fn bare<'a>(alloc: Global) -> Result<Command<'a>, AllocError>
+fn bare<'a>(alloc: Global, version: &'a str) -> Result<Command<'a>, AllocError>
     ensures { Makes bare_app result }
 {
     Ok(
         titled(alloc)
             .bin_name("cobconv")?
-            .version(VERSION)
+            .version(version)
             .no_binary_name(true)
             .subcommand_required(true)
             .disable_help_subcommand(true),
     )
 }
 
-/// The program and its commands, as `clap` takes them; the words it parses are those after the program's name.
-pub fn program<'a>(alloc: Global) -> Result<Command<'a>, AllocError>
+/// The program and its commands, as `clap` takes them; the words it parses are those after the program's name, and `--version` prints this version.
+pub fn program<'a>(alloc: Global, version: &'a str) -> Result<Command<'a>, AllocError>
     ensures { Makes program_app result }
 {
-    let program = with_commands(alloc, bare(alloc)?, &COMMANDS)?;
+    let program = with_commands(alloc, bare(alloc, version)?, &COMMANDS)?;
     let program = with_hidden(alloc, program, "completion")?;
     with_hidden(alloc, program, "manual")
 }

@@ -35,7 +35,6 @@ mod definition;
 mod found;
 mod help;
 mod options;
-mod release;
 
 pub use arguments::{alone, defaulted, optional, required};
 pub use commands::program;

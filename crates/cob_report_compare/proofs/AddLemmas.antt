@@ -9,7 +9,7 @@ use Rattle.cob_records.specs.Device.{greatest_count}
 use Rattle.cob_report_show.specs.Elements.{ElementStandsAt, NamedItem, Printed}
 use Rattle.cob_report_compare.specs.declared.differences.Difference.{Difference}
 use Rattle.cob_report_compare.specs.declared.differences.FirstDifferences.{FirstDifferences}
-use Rattle.cob_report_compare.specs.Differences.{Adds, AreElementsTold, AreFirstOf, AreItemsTold, AreToldInTurn, IsElementTold, PlainDifference, plain_difference, shared_times}
+use Rattle.cob_report_compare.specs.Differences.{AddsDifference, AreElementsTold, AreFirstOf, AreItemsTold, AreToldInTurn, IsElementTold, PlainDifference, plain_difference, shared_times}
 use Rattle.cob_report_compare.specs.Bytes.{most_told}
 use Rattle.cob_report_compare.specs.Equal.{SameValue}
 use Rattle.cob_report_compare.proofs.ToldLemmas.{inner_told}
@@ -33,7 +33,7 @@ one_more : (all : List PlainDifference) (x : PlainDifference) (count : ℕ) → 
 one_more all x count is = omega (arith, is, length-append all (x ∷ []))
 
 pub added_last : (d : Difference) (a b : FirstDifferences) → length a.first.items < most_told → b.first.items ≡ a.first.items ++ d ∷ [] → b.count ≡ min (a.count + 1) greatest_count
-    → Adds (λ added. added ≡ plain_difference d ∷ []) a b
+    → AddsDifference (λ added. added ≡ plain_difference d ∷ []) a b
 added_last d a b room items count = (
   plain_difference d ∷ [],
   refl,
@@ -45,7 +45,7 @@ added_last d a b room items count = (
 )
 
 pub added_none : (d : Difference) (a b : FirstDifferences) → length a.first.items ≡ most_told → b.first.items ≡ a.first.items → b.count ≡ min (a.count + 1) greatest_count
-    → Adds (λ added. added ≡ plain_difference d ∷ []) a b
+    → AddsDifference (λ added. added ≡ plain_difference d ∷ []) a b
 added_none d a b full items count = (
   plain_difference d ∷ [],
   refl,
@@ -58,13 +58,13 @@ added_none d a b full items count = (
 
 -- ---- none, and those of several calls
 
-pub adds_none : (is : List PlainDifference → Type 0) (a : FirstDifferences) → is [] → Adds is a a
+pub adds_none : (is : List PlainDifference → Type 0) (a : FirstDifferences) → is [] → AddsDifference is a a
 adds_none is a none = ([], none, λ all first. subst (λ (ds : List PlainDifference). AreFirstOf ds a) (sym (append-nil all)) first)
 
-pub adds_as : (is so : List PlainDifference → Type 0) (a b : FirstDifferences) → ((added : List PlainDifference) → is added → so added) → Adds is a b → Adds so a b
+pub adds_as : (is so : List PlainDifference → Type 0) (a b : FirstDifferences) → ((added : List PlainDifference) → is added → so added) → AddsDifference is a b → AddsDifference so a b
 adds_as is so a b become (added, one, first) = (added, become added one, first)
 
-pub one_turn : (is : ℕ → List PlainDifference → Type 0) (n : ℕ) (a b c : FirstDifferences) → Adds (AreToldInTurn is n) a b → Adds (is (suc n)) b c → Adds (AreToldInTurn is (n + 1)) a c
+pub one_turn : (is : ℕ → List PlainDifference → Type 0) (n : ℕ) (a b c : FirstDifferences) → AddsDifference (AreToldInTurn is n) a b → AddsDifference (is (suc n)) b c → AddsDifference (AreToldInTurn is (n + 1)) a c
 one_turn is n a b c (front, turns, first) (last, one, next) =
     let more : suc n ≡ n + 1 = omega arith in (
       front ++ last,
@@ -72,8 +72,8 @@ one_turn is n a b c (front, turns, first) (last, one, next) =
       λ all before. subst (λ (ds : List PlainDifference). AreFirstOf ds c) (append_assoc all front last) (next (all ++ front) (first all before)),
     )
 
-pub all_turns : (is : ℕ → List PlainDifference → Type 0) (k n : ℕ) (a b : FirstDifferences) → Adds (AreToldInTurn is k) a b → k ≡ n → Adds (AreToldInTurn is n) a b
-all_turns is k n a b so_far end = subst (λ (m : ℕ). Adds (AreToldInTurn is m) a b) end so_far
+pub all_turns : (is : ℕ → List PlainDifference → Type 0) (k n : ℕ) (a b : FirstDifferences) → AddsDifference (AreToldInTurn is k) a b → k ≡ n → AddsDifference (AreToldInTurn is n) a b
+all_turns is k n a b so_far end = subst (λ (m : ℕ). AddsDifference (AreToldInTurn is m) a b) end so_far
 
 -- ---- items
 
@@ -91,7 +91,7 @@ no_item l r all a = record {
 }
 
 pub one_item : (l r : Printed) (all left further : List NamedItem) (x : NamedItem) (a b c : FirstDifferences) → ItemsSoFar l r all left a b → left ≡ x ∷ further
-    → Adds (AreElementsTold l r x (shared_times l r x.tables) []) b c → ItemsSoFar l r all further a c
+    → AddsDifference (AreElementsTold l r x (shared_times l r x.tables) []) b c → ItemsSoFar l r all further a c
 one_item l r all left further x a b c so_far is (p, one, next) = record {
   added = so_far.added ++ p;
   whole = λ rest are. subst (AreItemsTold l r all) (sym (append_assoc so_far.added p rest))
@@ -99,7 +99,7 @@ one_item l r all left further x a b c so_far is (p, one, next) = record {
   first = λ ds before. subst (λ (es : List PlainDifference). AreFirstOf es c) (append_assoc ds so_far.added p) (next (ds ++ so_far.added) (so_far.first ds before));
 }
 
-pub all_items : (l r : Printed) (all left : List NamedItem) (a b : FirstDifferences) → ItemsSoFar l r all left a b → left ≡ [] → Adds (AreItemsTold l r all) a b
+pub all_items : (l r : Printed) (all left : List NamedItem) (a b : FirstDifferences) → ItemsSoFar l r all left a b → left ≡ [] → AddsDifference (AreItemsTold l r all) a b
 all_items l r all left a b so_far none = (
   so_far.added,
   subst (AreItemsTold l r all) (append-nil so_far.added) (so_far.whole [] (subst (λ (xs : List NamedItem). AreItemsTold l r xs []) (sym none) refl)),
@@ -109,43 +109,43 @@ all_items l r all left a b so_far none = (
 -- ---- the tables of an item
 
 -- where no table is left, what is added is the element
-pub alone_adds : (l r : Printed) (x : NamedItem) (tables subscripts : List ℕ) (a b : FirstDifferences) → length tables ≡ 0 → Adds (IsElementTold l r x subscripts) a b
-    → Adds (AreElementsTold l r x (shared_times l r tables) subscripts) a b
+pub alone_adds : (l r : Printed) (x : NamedItem) (tables subscripts : List ℕ) (a b : FirstDifferences) → length tables ≡ 0 → AddsDifference (IsElementTold l r x subscripts) a b
+    → AddsDifference (AreElementsTold l r x (shared_times l r tables) subscripts) a b
 alone_adds l r x [] subscripts a b none one = one
 alone_adds l r x (t ∷ tables) subscripts a b none one = absurd (omega (arith, none))
 
 -- and else those of the elements of the first table in turn, as often as both records have it
 pub table_adds : (l r : Printed) (x : NamedItem) (tables inner subscripts : List ℕ) (table n : ℕ) (a b : FirstDifferences)
     → tables ≡ table ∷ inner → n ≡ min (spot_at l.places.spots table).times (spot_at r.places.spots table).times
-    → Adds (AreToldInTurn (inner_told l r x (shared_times l r inner) subscripts) n) a b
-    → Adds (AreElementsTold l r x (shared_times l r tables) subscripts) a b
+    → AddsDifference (AreToldInTurn (inner_told l r x (shared_times l r inner) subscripts) n) a b
+    → AddsDifference (AreElementsTold l r x (shared_times l r tables) subscripts) a b
 table_adds l r x tables inner subscripts table n a b cut often adds =
-    subst (λ (ts : List ℕ). Adds (AreElementsTold l r x (shared_times l r ts) subscripts) a b) (sym cut)
-    (subst (λ (m : ℕ). Adds (AreElementsTold l r x (m ∷ shared_times l r inner) subscripts) a b) often adds)
+    subst (λ (ts : List ℕ). AddsDifference (AreElementsTold l r x (shared_times l r ts) subscripts) a b) (sym cut)
+    (subst (λ (m : ℕ). AddsDifference (AreElementsTold l r x (m ∷ shared_times l r inner) subscripts) a b) often adds)
 
 -- what is added under the subscripts of a reference, where these are one more than the outer ones
 pub under_next : (l r : Printed) (x : NamedItem) (inner outer now pushed : List ℕ) (k : ℕ) (a b : FirstDifferences)
     → now ≡ outer → pushed ≡ now ++ (k + 1) ∷ []
-    → Adds (AreElementsTold l r x (shared_times l r inner) pushed) a b
-    → Adds (inner_told l r x (shared_times l r inner) outer (suc k)) a b
+    → AddsDifference (AreElementsTold l r x (shared_times l r inner) pushed) a b
+    → AddsDifference (inner_told l r x (shared_times l r inner) outer (suc k)) a b
 under_next l r x inner outer now pushed k a b same push adds =
     let next : k + 1 ≡ suc k = omega arith in
     let is : pushed ≡ outer ++ suc k ∷ [] = push ∙ ap (λ (xs : List ℕ). xs ++ (k + 1) ∷ []) same ∙ ap (λ (m : ℕ). outer ++ m ∷ []) next in
-    subst (λ (ss : List ℕ). Adds (AreElementsTold l r x (shared_times l r inner) ss) a b) is adds
+    subst (λ (ss : List ℕ). AddsDifference (AreElementsTold l r x (shared_times l r inner) ss) a b) is adds
 
 -- what is added under no subscript yet, of the tables of an item
 pub fresh_adds : (l r : Printed) (x : NamedItem) (tables now : List ℕ) (a b : FirstDifferences) → tables ≡ x.tables → now ≡ []
-    → Adds (AreElementsTold l r x (shared_times l r tables) now) a b → Adds (AreElementsTold l r x (shared_times l r x.tables) []) a b
+    → AddsDifference (AreElementsTold l r x (shared_times l r tables) now) a b → AddsDifference (AreElementsTold l r x (shared_times l r x.tables) []) a b
 fresh_adds l r x tables now a b of none adds =
-    subst (λ (ts : List ℕ). Adds (AreElementsTold l r x (shared_times l r ts) []) a b) of
-    (subst (λ (ss : List ℕ). Adds (AreElementsTold l r x (shared_times l r tables) ss) a b) none adds)
+    subst (λ (ts : List ℕ). AddsDifference (AreElementsTold l r x (shared_times l r ts) []) a b) of
+    (subst (λ (ss : List ℕ). AddsDifference (AreElementsTold l r x (shared_times l r tables) ss) a b) none adds)
 
 -- ---- one element
 
 -- one that holds one value adds nothing
 pub same_adds : (l r : Printed) (x : NamedItem) (subscripts : List ℕ) (left right : Place) (here there : List ℕ) (a : FirstDifferences)
     → ElementStandsAt l x subscripts left → ElementStandsAt r x subscripts right → here ≡ field_of left l.bytes → there ≡ field_of right r.bytes → SameValue x.item here there
-    → Adds (IsElementTold l r x subscripts) a a
+    → AddsDifference (IsElementTold l r x subscripts) a a
 same_adds l r x subscripts left right here there a left_at right_at one other same =
     adds_none (IsElementTold l r x subscripts) a (inl (
       record {

@@ -2,7 +2,7 @@
 use Rattle.std.proofs.Common.{◌≡◌, ◌∙◌, ℕ, ◌+◌, ◌<◌, ◌≤◌, ◌==◌, min, Bool, true, false, List, [], ◌∷◌, ◌++◌, length, drop, take, get_or, refl, sym, ap, subst, append_assoc, append-nil, arith, inl, inr, ◌⊎◌}
 use Rattle.std.proofs.lemmas.List.{drop_all, drop_more, length-append, length-take, take-append-le, take_all}
 use Rattle.std.proofs.lemmas.Bool.{cases_lt}
-use Rattle.cob_report_compare.specs.Bytes.{AreFirstOfBytes, bytes_at, bytes_from, most_told}
+use Rattle.cob_report_compare.specs.Bytes.{AreFirstOfBytes, difference_at_byte, bytes_from, most_told}
 use Rattle.cob_report_compare.specs.declared.bytes.ByteDifference.{ByteDifference}
 use Rattle.cob_report_compare.specs.declared.bytes.FirstBytes.{FirstBytes}
 
@@ -34,10 +34,10 @@ byte_none x a b full items count all is = record {
 
 -- a byte that differs, and one that does not
 pub noted : (x : ByteDifference) (a b : FirstBytes) → (x.left == x.right) ≡ false → ((all : List ByteDifference) → AreFirstOfBytes all a → AreFirstOfBytes (all ++ x ∷ []) b)
-    → (all : List ByteDifference) → AreFirstOfBytes all a → AreFirstOfBytes (all ++ bytes_at x) b
+    → (all : List ByteDifference) → AreFirstOfBytes all a → AreFirstOfBytes (all ++ difference_at_byte x) b
 noted x a b differ add all is = rw differ (add all is)
 
-pub not_noted : (x : ByteDifference) (a : FirstBytes) → (x.left == x.right) ≡ true → (all : List ByteDifference) → AreFirstOfBytes all a → AreFirstOfBytes (all ++ bytes_at x) a
+pub not_noted : (x : ByteDifference) (a : FirstBytes) → (x.left == x.right) ≡ true → (all : List ByteDifference) → AreFirstOfBytes all a → AreFirstOfBytes (all ++ difference_at_byte x) a
 not_noted x a same all is = rw same (subst (λ (bs : List ByteDifference). AreFirstOfBytes bs a) (sym (append-nil all)) is)
 
 -- the bytes that differ so far are told, and those that are left come behind them
@@ -50,18 +50,18 @@ pub no_byte : (l r : List ℕ) (told : FirstBytes) → told.first.items ≡ [] �
 no_byte l r told items count = record { before = []; first = record { first = items; count = count }; whole = refl }
 
 pub byte_more : (l r : List ℕ) (offset d e : ℕ) (a b : FirstBytes) → offset < length l → offset < length r
-    → ((all : List ByteDifference) → AreFirstOfBytes all a → AreFirstOfBytes (all ++ bytes_at (record { offset = offset; left = get_or l offset d; right = get_or r offset e })) b)
+    → ((all : List ByteDifference) → AreFirstOfBytes all a → AreFirstOfBytes (all ++ difference_at_byte (record { offset = offset; left = get_or l offset d; right = get_or r offset e })) b)
     → BytesSoFar l r offset a → BytesSoFar l r (offset + 1) b
 byte_more l r offset d e a b left right add so_far =
     let x : ByteDifference = record { offset = offset; left = get_or l offset d; right = get_or r offset e } in
     let ls = drop (offset + 1) l in
     let rs = drop (offset + 1) r in
-    let cut : bytes_from offset (drop offset l) (drop offset r) ≡ bytes_at x ++ bytes_from (offset + 1) ls rs =
+    let cut : bytes_from offset (drop offset l) (drop offset r) ≡ difference_at_byte x ++ bytes_from (offset + 1) ls rs =
     ap (λ (xs : List ℕ). bytes_from offset xs (drop offset r)) (drop_more l offset d left) ∙ ap (λ (ys : List ℕ). bytes_from offset (get_or l offset d ∷ ls) ys) (drop_more r offset e right) in
     record {
-      before = so_far.before ++ bytes_at x;
+      before = so_far.before ++ difference_at_byte x;
       first = add so_far.before so_far.first;
-      whole = append_assoc so_far.before (bytes_at x) (bytes_from (offset + 1) ls rs) ∙ sym (ap (λ (bs : List ByteDifference). so_far.before ++ bs) cut) ∙ so_far.whole;
+      whole = append_assoc so_far.before (difference_at_byte x) (bytes_from (offset + 1) ls rs) ∙ sym (ap (λ (bs : List ByteDifference). so_far.before ++ bs) cut) ∙ so_far.whole;
     }
 
 none_behind : (offset : ℕ) (ls : List ℕ) → bytes_from offset ls [] ≡ []

@@ -17,7 +17,7 @@ use Rattle.cob_convert_stream.specs.Reasons.{is_write_cause}
 use Rattle.cob_report_show.proofs.ElementLemmas.{all_append}
 use Rattle.cob_report_show.proofs.SentLemmas.{took_both}
 use Rattle.cob_report_compare.specs.declared.files.FileSide.{FileSide}
-use Rattle.cob_report_compare.specs.Files.{AreAlone, CameBefore, CameSoFar, IsFileEnd, IsFileStop, IsNotRead, IsWholeRecord, limit}
+use Rattle.cob_report_compare.specs.Files.{AreAlone, CameBefore, CameSoFar, IsFileEnd, IsFileStop, IsNotRead, IsWholeComparedRecord, limit_of_pairs}
 use Rattle.cob_report_compare.specs.Lines.{AreAloneLines, IfTold, alone_line}
 
 -- ---- one reading behind another
@@ -80,9 +80,9 @@ came_stop form tree bodies n opened after why slot r0 r1 r2 so_far next =
     (λ bytes left rest come p. record { opened = opened; left = left; come = come; behind = inl (after, p) })
 
 pub came_limit : (form : Form) (tree : Forest Resolved) (bodies : List (List ℕ)) (n opened : ℕ) (r0 r1 : Option (List ℕ)) → CameSoFar form bodies opened r0 r1 → n ≡ most_shown
-    → Told r0 r1 (CameBefore form bodies (IsFileStop form tree n limit))
+    → Told r0 r1 (CameBefore form bodies (IsFileStop form tree n limit_of_pairs))
 came_limit form tree bodies n opened r0 r1 so_far most =
-    told_as r0 r1 _ (CameBefore form bodies (IsFileStop form tree n limit)) so_far
+    told_as r0 r1 _ (CameBefore form bodies (IsFileStop form tree n limit_of_pairs)) so_far
     (λ bytes rest come. record { opened = opened; left = rest; come = come; behind = inr (refl, most, refl) })
 
 pub came_here : (form : Form) (bodies : List (List ℕ)) (opened : ℕ) (r0 r1 : Option (List ℕ)) → CameSoFar form bodies opened r0 r1 → Told r0 r1 (CameBefore form bodies IsNotRead)
@@ -94,7 +94,7 @@ came_here form bodies opened r0 r1 so_far =
 -- so many records that stand alone came, whatever came before them
 pub record AloneSoFar (form : Form) (tree : Forest Resolved) (n start opened : ℕ) (old now : Option (List ℕ)) : Type 0 where
   pub bodies : List (List ℕ)
-  pub whole : AllByRecursion (IsWholeRecord form tree) bodies
+  pub whole : AllByRecursion (IsWholeComparedRecord form tree) bodies
   pub count : length bodies ≡ n
   pub behind : (before : Option (List ℕ)) (came : List (List ℕ)) → CameSoFar form came start before old → CameSoFar form (came ++ bodies) opened before now
 
@@ -113,7 +113,7 @@ one_alone form tree n m start opened after count slot s r0 r1 r2 so_far is next 
     let body = take count slot in
     record {
       bodies = so_far.bodies ++ body ∷ [];
-      whole = all_append (IsWholeRecord form tree) so_far.bodies (body ∷ []) so_far.whole (record { whole = whole; places = s; legible = legible }, tt);
+      whole = all_append (IsWholeComparedRecord form tree) so_far.bodies (body ∷ []) so_far.whole (record { whole = whole; places = s; legible = legible }, tt);
       count = omega (arith, length-append so_far.bodies (body ∷ []), so_far.count, is);
       behind = λ before came came_so_far. subst (λ (bodies : List (List ℕ)). CameSoFar form bodies after before r2) (append_assoc came so_far.bodies (body ∷ []))
           (came_more form tree (came ++ so_far.bodies) opened after count slot before r1 r2 (so_far.behind before came came_so_far) next);
@@ -178,7 +178,7 @@ alone_stop side form tree most told first n number start opened after why slot r
 
 pub alone_limit : (side : FileSide) (form : Form) (tree : Forest Resolved) (most told first n number start opened : ℕ) (r0 r1 w0 w1 : Option (List ℕ))
     → AloneSoFar form tree n start opened r0 r1 → number ≡ first + n + 1 → first + n ≡ most_shown → Took w0 w1 (AreAloneLines side most told first n)
-    → AreAlone side form tree most told first start r0 r1 w0 w1 (Err (record { side = side; number = number; reason = limit }))
+    → AreAlone side form tree most told first start r0 r1 w0 w1 (Err (record { side = side; number = number; reason = limit_of_pairs }))
 alone_limit side form tree most told first n number start opened r0 r1 w0 w1 so_far is all lines = (
   so_far.bodies,
   so_far.whole,

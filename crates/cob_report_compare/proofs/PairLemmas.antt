@@ -19,9 +19,9 @@ use Rattle.cob_report_compare.specs.declared.records.Comparison.{Comparison}
 use Rattle.cob_report_compare.specs.declared.records.Comparison.TheVariants.{Same, Equal, Differ, Unlike}
 use Rattle.cob_convert_stream.specs.Reasons.{is_write_cause}
 use Rattle.cob_report_show.proofs.SentLemmas.{append_none, took_as, took_both}
-use Rattle.cob_report_compare.specs.Lines.{AreAloneLines, AreRecordLines, IfTold, alone_line}
+use Rattle.cob_report_compare.specs.Lines.{AreAloneLines, AreComparedRecordLines, IfTold, alone_line}
 use Rattle.cob_report_compare.specs.Differences.{IsMeasured}
-use Rattle.cob_report_compare.specs.Files.{AreAlone, CameBefore, CameSoFar, CountsAlone, IsFileEnd, IsFileStop, IsNotRead, IsWholeRecord, is_stopped_for, is_stopped_on, limit, on_left}
+use Rattle.cob_report_compare.specs.Files.{AreAlone, CameBefore, CameSoFar, CountsAlone, IsFileEnd, IsFileStop, IsNotRead, IsWholeComparedRecord, is_stopped_for, is_stopped_on, limit_of_pairs, on_left}
 use Rattle.cob_report_compare.specs.InOrder.{AreFew, AreLines, ArePairCounts, ArePairLines, ArePairs, ComparesInOrder, FilePair, IsPair, StopsOn, does_differ, is_equal, is_same, lefts, rights, with_comparison, with_left_alone, with_right_alone}
 use Rattle.cob_report_compare.proofs.CameLemmas.{came_end, came_here, came_limit, came_more, came_none, came_stop, line_first}
 
@@ -129,15 +129,15 @@ one_come files n left_opened right_opened left_after right_after left_count righ
 
 -- ---- what is printed of them
 
-record_moved : (most a b m n : ℕ) (l r : List ℕ) (c : Comparison) (text : List ℕ) → a ≡ b → m ≡ n → IfTold most a (AreRecordLines m l r c) text → IfTold most b (AreRecordLines n l r c) text
+record_moved : (most a b m n : ℕ) (l r : List ℕ) (c : Comparison) (text : List ℕ) → a ≡ b → m ≡ n → IfTold most a (AreComparedRecordLines m l r c) text → IfTold most b (AreComparedRecordLines n l r c) text
 record_moved most a b m n l r c text same is told =
-    subst (λ (k : ℕ). IfTold most k (AreRecordLines n l r c) text) same (subst (λ (k : ℕ). IfTold most a (AreRecordLines k l r c) text) is told)
+    subst (λ (k : ℕ). IfTold most k (AreComparedRecordLines n l r c) text) same (subst (λ (k : ℕ). IfTold most a (AreComparedRecordLines k l r c) text) is told)
 
 differ_first : (d : Comparison) (cs : List Comparison) → count_by does_differ (d ∷ cs) ≡ count_by does_differ (d ∷ []) + count_by does_differ cs
 differ_first d cs = sum_by-append (λ (x : Comparison). cond (does_differ x) 1 0) (d ∷ []) cs
 
 lines_more : (files : FilePair) (most n told : ℕ) (pairs : List (List ℕ × List ℕ)) (cs : List Comparison) (p : List ℕ × List ℕ) (c : Comparison) (text t : List ℕ) → ArePairs files pairs cs
-    → ArePairLines most n told pairs cs text → IfTold most (told + count_by does_differ cs) (AreRecordLines (n + length pairs + 1) p.0 p.1 c) t
+    → ArePairLines most n told pairs cs text → IfTold most (told + count_by does_differ cs) (AreComparedRecordLines (n + length pairs + 1) p.0 p.1 c) t
     → ArePairLines most n told (pairs ++ p ∷ []) (cs ++ c ∷ []) (text ++ t)
 lines_more files most n told [] [] p c text t each none one = (
   t,
@@ -173,7 +173,7 @@ pub one_paired : (files : FilePair) (n left_opened right_opened left_after right
     → IsRecord files.left_form (greatest_length files.tree) (take left_count left_slot) → IsRecord files.right_form (greatest_length files.tree) (take right_count right_slot)
     → IsLegible files.left_form files.tree (take left_count left_slot) s → IsLegible files.right_form files.tree (take right_count right_slot) t
     → IsMeasured files.by_bytes files.items (record { tree = files.tree; places = s; bytes = take left_count left_slot }) (record { tree = files.tree; places = t; bytes = take right_count right_slot }) c
-    → Took w1 w2 (IfTold files.most counts.differ (AreRecordLines (n + 1) (take left_count left_slot) (take right_count right_slot) c))
+    → Took w1 w2 (IfTold files.most counts.differ (AreComparedRecordLines (n + 1) (take left_count left_slot) (take right_count right_slot) c))
     → PairsSoFar files (n + 1) left_after right_after (with_comparison counts c) l0 l2 r0 r2 w0 w2
 one_paired files n left_opened right_opened left_after right_after left_count right_count counts c left_slot right_slot s t l0 l1 l2 r0 r1 r2 w0 w1 w2 so_far left right left_whole right_whole left_legible right_legible is told =
     let a = take left_count left_slot in
@@ -181,7 +181,7 @@ one_paired files n left_opened right_opened left_after right_after left_count ri
     let come = so_far.come in
     record {
       come = one_come files n left_opened right_opened left_after right_after left_count right_count counts c left_slot right_slot s t l0 l1 l2 r0 r1 r2 come left right left_whole right_whole left_legible right_legible is;
-      printed = took_both w0 w1 w2 (ArePairLines files.most 0 0 come.pairs come.comparisons) (IfTold files.most counts.differ (AreRecordLines (n + 1) a b c))
+      printed = took_both w0 w1 w2 (ArePairLines files.most 0 0 come.pairs come.comparisons) (IfTold files.most counts.differ (AreComparedRecordLines (n + 1) a b c))
           (ArePairLines files.most 0 0 (come.pairs ++ (a, b) ∷ []) (come.comparisons ++ c ∷ [])) so_far.printed told
           (λ front last lines one. lines_more files files.most 0 0 come.pairs come.comparisons (a, b) c front last come.each lines
           (record_moved files.most counts.differ (0 + count_by does_differ come.comparisons) (n + 1) (0 + length come.pairs + 1) a b c last (omega (arith, come.counted.differ)) (omega (arith, come.count)) one));
@@ -316,7 +316,7 @@ right_over files n left_opened right_opened left_after right_after count counts 
     over_all : Told r0 r2 (CameBefore files.right_form (rights come.pairs ++ []) IsFileEnd)
     over_all = subst (λ (bs : List (List ℕ)). Told r0 r2 (CameBefore files.right_form bs IsFileEnd)) (sym (append-nil (rights come.pairs))) over
 
-    one : IsWholeRecord files.left_form files.tree body
+    one : IsWholeComparedRecord files.left_form files.tree body
     one = record { whole = whole_one; places = s; legible = legible }
 
     all : Took w2 w3 (AreAloneLines Left files.most (counts.differ + 1) (n + 1) (length bodies)) → Took w0 w3 (AreLines files.most come.pairs come.comparisons (length (body ∷ bodies)) 0)
@@ -496,7 +496,7 @@ right_stops files n left_opened right_opened left_after right_after count counts
 -- as many pairs as at most were compared
 pub pairs_limit : (files : FilePair) (n number left_opened right_opened : ℕ) (counts : PairCounts) (l0 l1 r0 r1 w0 w1 : Option (List ℕ))
     → PairsSoFar files n left_opened right_opened counts l0 l1 r0 r1 w0 w1 → n ≡ most_shown → number ≡ n + 1
-    → ComparesInOrder files l0 l1 r0 r1 w0 w1 (Err (record { side = Left; number = number; reason = limit }))
+    → ComparesInOrder files l0 l1 r0 r1 w0 w1 (Err (record { side = Left; number = number; reason = limit_of_pairs }))
 pairs_limit files n number left_opened right_opened counts l0 l1 r0 r1 w0 w1 so_far all is =
     let come = so_far.come in
     record {
@@ -512,7 +512,7 @@ pairs_limit files n number left_opened right_opened counts l0 l1 r0 r1 w0 w1 so_
         (
           refl,
           omega (arith, come.count, is),
-          subst (λ (bs : List (List ℕ)). Told l0 l1 (CameBefore files.left_form bs (IsFileStop files.left_form files.tree (length come.pairs + 0) limit))) (sym (append-nil (lefts come.pairs)))
+          subst (λ (bs : List (List ℕ)). Told l0 l1 (CameBefore files.left_form bs (IsFileStop files.left_form files.tree (length come.pairs + 0) limit_of_pairs))) (sym (append-nil (lefts come.pairs)))
               (came_limit files.left_form files.tree (lefts come.pairs) (length come.pairs + 0) left_opened l0 l1 come.left (omega (arith, come.count, all))),
           inl (refl, came_here files.right_form (rights come.pairs) right_opened r0 r1 come.right),
           with_none files.most come.pairs come.comparisons w0 w1 so_far.printed,

@@ -14,7 +14,7 @@ use Rattle.cob_records.specs.Frame.{Puts}
 use Rattle.cob_records.specs.Hex.{byte_text}
 use Rattle.cob_report_show.proofs.SentLemmas.{append_none, append_twice, took_as, took_both}
 use Rattle.cob_report_compare.specs.Differences.{PlainDifference, plain_difference}
-use Rattle.cob_report_compare.specs.Lines.{AreDifferenceLines, AreElementLines, AreShown, AreValues, IsDifferenceLine, byte_line, header_line, more_line, place_text, unlike_lines}
+use Rattle.cob_report_compare.specs.Lines.{AreDifferenceLines, AreComparedElementLines, AreBytesShown, AreValuesShown, IsDifferenceLine, byte_line, header_line, more_line, place_text, unlike_lines}
 use Rattle.cob_report_compare.specs.Printable.{ArePrintable, IsPrintable}
 use Rattle.cob_report_compare.specs.declared.bytes.ByteDifference.{ByteDifference}
 use Rattle.cob_report_compare.specs.declared.bytes.FirstBytes.{FirstBytes}
@@ -95,17 +95,17 @@ quoted_more b bytes first rest is (inner, pieces, e) = (
     behind_first [] = []
     behind_first (x ∷ xs) = xs
 
-shown_quoted : (bytes inner : List ℕ) → AreShown bytes inner → AreQuoted bytes (34 ∷ (inner ++ 34 ∷ []))
+shown_quoted : (bytes inner : List ℕ) → AreBytesShown bytes inner → AreQuoted bytes (34 ∷ (inner ++ 34 ∷ []))
 shown_quoted [] inner none = (inner, none, refl)
 shown_quoted (b ∷ bytes) inner (first, rest, is, are, e) =
     subst (λ (t : List ℕ). AreQuoted (b ∷ bytes) (34 ∷ (t ++ 34 ∷ []))) (sym e) (quoted_more b bytes first rest is (shown_quoted bytes rest are))
 
-pub quoted : (bytes : List ℕ) (w0 w1 w2 w3 : Option (List ℕ)) → Took w0 w1 (λ part. part ≡ 34 ∷ []) → Took w1 w2 (AreShown bytes) → Took w2 w3 (λ part. part ≡ 34 ∷ [])
+pub quoted : (bytes : List ℕ) (w0 w1 w2 w3 : Option (List ℕ)) → Took w0 w1 (λ part. part ≡ 34 ∷ []) → Took w1 w2 (AreBytesShown bytes) → Took w2 w3 (λ part. part ≡ 34 ∷ [])
     → Took w0 w3 (AreQuoted bytes)
 quoted bytes w0 w1 w2 w3 front pieces last =
-    took_front (34 ∷ []) (λ text. (inner : List ℕ) × AreShown bytes inner × (text ≡ inner ++ 34 ∷ [])) (AreQuoted bytes) w0 w1 w3
+    took_front (34 ∷ []) (λ text. (inner : List ℕ) × AreBytesShown bytes inner × (text ≡ inner ++ 34 ∷ [])) (AreQuoted bytes) w0 w1 w3
     (λ q is. subst (λ (t : List ℕ). AreQuoted bytes (34 ∷ t)) (sym is.2) (shown_quoted bytes is.0 is.1)) front
-    (took_end (34 ∷ []) (AreShown bytes) (λ text. (inner : List ℕ) × AreShown bytes inner × (text ≡ inner ++ 34 ∷ [])) w1 w2 w3 (λ p are. (p, are, refl)) pieces last)
+    (took_end (34 ∷ []) (AreBytesShown bytes) (λ text. (inner : List ℕ) × AreBytesShown bytes inner × (text ≡ inner ++ 34 ∷ [])) w1 w2 w3 (λ p are. (p, are, refl)) pieces last)
 
 -- the digits of bytes
 abbrev pub digit_lines : List ℕ → List ℕ → Type 0
@@ -131,9 +131,9 @@ unknown bytes w0 w1 w2 mark digits =
     (λ q is. subst (λ (t : List ℕ). AreUnknown bytes (63 ∷ t)) (sym is) (digits_unknown bytes)) mark digits
 
 pub both_values : (i : Item) (l r : List ℕ) (w0 w1 w2 w3 w4 : Option (List ℕ)) → Took w0 w1 (IsValueShown i l) → Took w1 w2 (λ part. part ≡ codes " | ") → Took w2 w3 (IsValueShown i r)
-    → Took w3 w4 (λ part. part ≡ 10 ∷ []) → Took w0 w4 (AreValues i l r)
+    → Took w3 w4 (λ part. part ≡ 10 ∷ []) → Took w0 w4 (AreValuesShown i l r)
 both_values i l r w0 w1 w2 w3 w4 one bar other last =
-    took_both w0 w1 w4 (IsValueShown i l) (λ text. (right : List ℕ) × IsValueShown i r right × (text ≡ codes " | " ++ (right ++ 10 ∷ []))) (AreValues i l r) one
+    took_both w0 w1 w4 (IsValueShown i l) (λ text. (right : List ℕ) × IsValueShown i r right × (text ≡ codes " | " ++ (right ++ 10 ∷ []))) (AreValuesShown i l r) one
     (took_front (codes " | ") (λ text. (right : List ℕ) × IsValueShown i r right × (text ≡ right ++ 10 ∷ [])) (λ text. (right : List ℕ) × IsValueShown i r right × (text ≡ codes " | " ++ (right ++ 10 ∷ [])))
     w1 w2 w4 (λ q is. (is.0, is.1, ap (λ (t : List ℕ). codes " | " ++ t) is.2)) bar
     (took_end (10 ∷ []) (IsValueShown i r) (λ text. (right : List ℕ) × IsValueShown i r right × (text ≡ right ++ 10 ∷ [])) w2 w3 w4 (λ p is. (p, is, refl)) other last))
@@ -143,13 +143,13 @@ both_values i l r w0 w1 w2 w3 w4 one bar other last =
 
 pub difference_line : (l r : List ℕ) (d : PlainDifference) (x : NamedItem) (place here there : List ℕ) (w0 w1 w2 w3 : Option (List ℕ)) → d.item ≡ Some x
     → place ≡ place_text x.name d.subscripts d.left.offset → here ≡ field_of d.left l → there ≡ field_of d.right r → Took w0 w1 (λ part. part ≡ codes "  ") → Took w1 w2 (λ part. part ≡ place)
-    → Took w2 w3 (AreValues x.item here there) → Took w0 w3 (IsDifferenceLine l r d)
+    → Took w2 w3 (AreValuesShown x.item here there) → Took w0 w3 (IsDifferenceLine l r d)
 difference_line l r d x place here there w0 w1 w2 w3 item is left right front middle values =
-    let are : Took w2 w3 (AreValues x.item (field_of d.left l) (field_of d.right r)) =
-    subst (λ (bs : List ℕ). Took w2 w3 (AreValues x.item bs (field_of d.right r))) left (subst (λ (bs : List ℕ). Took w2 w3 (AreValues x.item here bs)) right values) in
-    took_front (codes "  ") (λ text. (values : List ℕ) × AreValues x.item (field_of d.left l) (field_of d.right r) values × (text ≡ place ++ values)) (IsDifferenceLine l r d) w0 w1 w3
+    let are : Took w2 w3 (AreValuesShown x.item (field_of d.left l) (field_of d.right r)) =
+    subst (λ (bs : List ℕ). Took w2 w3 (AreValuesShown x.item bs (field_of d.right r))) left (subst (λ (bs : List ℕ). Took w2 w3 (AreValuesShown x.item here bs)) right values) in
+    took_front (codes "  ") (λ text. (values : List ℕ) × AreValuesShown x.item (field_of d.left l) (field_of d.right r) values × (text ≡ place ++ values)) (IsDifferenceLine l r d) w0 w1 w3
     (λ q so. (x, so.0, item, so.1, ap (λ (t : List ℕ). codes "  " ++ t) (so.2 ∙ ap (λ (t : List ℕ). t ++ so.0) is))) front
-    (took_front place (AreValues x.item (field_of d.left l) (field_of d.right r)) (λ text. (values : List ℕ) × AreValues x.item (field_of d.left l) (field_of d.right r) values × (text ≡ place ++ values))
+    (took_front place (AreValuesShown x.item (field_of d.left l) (field_of d.right r)) (λ text. (values : List ℕ) × AreValuesShown x.item (field_of d.left l) (field_of d.right r) values × (text ≡ place ++ values))
     w1 w2 w3 (λ q so. (q, so, refl)) middle are)
 
 -- a difference that can be printed has its item
@@ -184,11 +184,11 @@ more_some n text is e = rw is e
 
 pub element_lines : (number : ℕ) (l r : List ℕ) (told : FirstDifferences) (w0 w1 w2 w3 : Option (List ℕ)) → Took w0 w1 (λ part. part ≡ header_line number (length l) (length r))
     → Took w1 w2 (AreDifferenceLines l r (map plain_difference told.first.items)) → Took w2 w3 (λ part. part ≡ more_line (told.count - length told.first.items))
-    → Took w0 w3 (AreElementLines number l r told)
+    → Took w0 w3 (AreComparedElementLines number l r told)
 element_lines number l r told w0 w1 w2 w3 header lines more =
     let end = more_line (told.count - length told.first.items) in
     let ds = map plain_difference told.first.items in
-    took_front (header_line number (length l) (length r)) (λ text. (lines : List ℕ) × AreDifferenceLines l r ds lines × (text ≡ lines ++ end)) (AreElementLines number l r told) w0 w1 w3
+    took_front (header_line number (length l) (length r)) (λ text. (lines : List ℕ) × AreDifferenceLines l r ds lines × (text ≡ lines ++ end)) (AreComparedElementLines number l r told) w0 w1 w3
     (λ q is. (is.0, is.1, ap (λ (t : List ℕ). header_line number (length l) (length r) ++ t) is.2)) header
     (took_end end (AreDifferenceLines l r ds) (λ text. (lines : List ℕ) × AreDifferenceLines l r ds lines × (text ≡ lines ++ end)) w1 w2 w3 (λ p are. (p, are, refl)) lines more)
 

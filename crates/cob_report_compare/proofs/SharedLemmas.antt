@@ -23,7 +23,7 @@ use Rattle.cob_report_show.specs.Records.{HoldsRecord}
 use Rattle.cob_report_show.proofs.ElementLemmas.{all_append, all_become, items_stand}
 use Rattle.cob_report_compare.specs.Chosen.{AreCompared, compared_among, compared_own, counts_of_tables, is_exempt, is_one_of}
 use Rattle.cob_report_compare.specs.Differences.{shared_times}
-use Rattle.cob_report_compare.specs.Equal.{EqualByValue, IsComplete, IsSameItem}
+use Rattle.cob_report_compare.specs.Equal.{EqualByValue, IsCompleteRecord, IsSameItem}
 use Rattle.cob_report_compare.specs.Shared.{AllShared, ItemsShared}
 
 -- ---- what holds of all named items holds of those that are compared
@@ -135,7 +135,7 @@ same_item l r one counts same x stands = λ subscripts legal.
       same = inl (ap (field_of stand.place) same);
     }
 
-pub same_bytes : RecordsAreSound → EndInLength → OneOfAll → (xs : List NamedItem) (l r : Printed) → IsRecordDescription l.tree → AreCompared l.tree xs → l.tree ≡ r.tree → IsComplete l → IsComplete r
+pub same_bytes : RecordsAreSound → EndInLength → OneOfAll → (xs : List NamedItem) (l r : Printed) → IsRecordDescription l.tree → AreCompared l.tree xs → l.tree ≡ r.tree → IsCompleteRecord l → IsCompleteRecord r
     → l.bytes ≡ r.bytes → EqualByValue xs l r
 same_bytes sounds law outcome xs l r described are one left right same =
     let counts = one_counts outcome l r one same left.counts right.counts in

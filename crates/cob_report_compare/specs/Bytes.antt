@@ -8,14 +8,14 @@ abbrev pub most_told : ℕ
 most_told = 20
 
 -- a byte of two records, where it differs
-abbrev pub bytes_at : ByteDifference → List ByteDifference
-bytes_at byte = if byte.left == byte.right then [] else byte ∷ []
+abbrev pub difference_at_byte : ByteDifference → List ByteDifference
+difference_at_byte byte = if byte.left == byte.right then [] else byte ∷ []
 
 -- the bytes that differ in two records, as far as both go, with their offsets, of which the first is this
 abbrev pub bytes_from : ℕ → List ℕ → List ℕ → List ByteDifference
 bytes_from offset [] rs = []
 bytes_from offset (l ∷ ls) [] = []
-bytes_from offset (l ∷ ls) (r ∷ rs) = bytes_at (record { offset = offset; left = l; right = r }) ++ bytes_from (offset + 1) ls rs
+bytes_from offset (l ∷ ls) (r ∷ rs) = difference_at_byte (record { offset = offset; left = l; right = r }) ++ bytes_from (offset + 1) ls rs
 
 -- of these bytes that differ the first are told, and their number
 pub record AreFirstOfBytes (all : List ByteDifference) (told : FirstBytes) : Type 0 where

@@ -79,8 +79,8 @@ pub record AreFirstOf (all : List PlainDifference) (told : FirstDifferences) : T
   pub count : told.count ≡ min (length all) greatest_count
 
 -- differences of which this is true came behind those so far
-abbrev pub Adds : (List PlainDifference → Type 0) → FirstDifferences → FirstDifferences → Type 0
-Adds is before now =
+abbrev pub AddsDifference : (List PlainDifference → Type 0) → FirstDifferences → FirstDifferences → Type 0
+AddsDifference is before now =
     (added : List PlainDifference) × is added × ((all : List PlainDifference) → AreFirstOf all before → AreFirstOf (all ++ added) now)
 
 -- The first of the differences of two records of one layout in these items: of each element that both records have and that does not hold one value in both,

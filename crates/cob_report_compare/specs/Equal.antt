@@ -16,7 +16,7 @@ abbrev pub printed_of : ComparedRecord → Printed
 printed_of r = record { tree = r.layout.now; places = r.places.now; bytes = r.bytes.now }
 
 -- a record whose bytes give its counts, whose entries stand under these, and which is long enough for them
-pub record IsComplete (r : Printed) : Type 0 where
+pub record IsCompleteRecord (r : Printed) : Type 0 where
   pub counts : CountsOf r.tree r.bytes (Ok r.places.counts)
   pub holds : HoldsRecord r.tree r.places (length r.bytes)
 

@@ -21,7 +21,7 @@ use Rattle.cob_report_compare.specs.declared.files.FileSide.{FileSide}
 use Rattle.cob_report_compare.specs.declared.files.FileSide.TheVariants.{Left, Right}
 
 -- a record that came whole and is legible
-pub record IsWholeRecord (form : Form) (tree : Forest Resolved) (body : List ℕ) : Type 0 where
+pub record IsWholeComparedRecord (form : Form) (tree : Forest Resolved) (body : List ℕ) : Type 0 where
   pub whole : IsRecord form (greatest_length tree) body
   pub places : Standing
   pub legible : IsLegible form tree body places
@@ -35,13 +35,13 @@ abbrev pub IsNotRead : (opened : ℕ) → List ℕ → List ℕ → Type 0
 IsNotRead opened left rest = rest ≡ left
 
 -- the reason of records that are more than are compared
-abbrev pub limit : Reason
-limit = record { side = In; offset = 0; cause = Limit }
+abbrev pub limit_of_pairs : Reason
+limit_of_pairs = record { side = In; offset = 0; cause = Limit }
 
 -- behind so many records the next one stops the reading for this reason, or they are as many as at most, and nothing behind them was read
 abbrev pub IsFileStop : Form → Forest Resolved → ℕ → Reason → (opened : ℕ) → List ℕ → List ℕ → Type 0
 IsFileStop form tree n why opened left rest =
-    ((after : ℕ) × StopsReading form tree opened why after left rest) ⊎ ((why ≡ limit) × (n ≡ most_shown) × IsNotRead opened left rest)
+    ((after : ℕ) × StopsReading form tree opened why after left rest) ⊎ ((why ≡ limit_of_pairs) × (n ≡ most_shown) × IsNotRead opened left rest)
 
 -- these records came one behind another, and this stands behind them
 pub record CameBefore (form : Form) (bodies : List (List ℕ)) (ends : ℕ → List ℕ → List ℕ → Type 0) (bytes rest : List ℕ) : Type 0 where
@@ -73,7 +73,7 @@ is_stopped_for is (Err stop) = is stop.reason.cause
 -- failed, just their lines were printed, where so many records were told before.
 abbrev pub AreAlone : FileSide → Form → Forest Resolved → (most told first opened : ℕ) → (old new w0 w1 : Option (List ℕ)) → Result ℕ CompareStop → Type 0
 AreAlone side form tree most told first opened old new w0 w1 answer =
-    (bodies : List (List ℕ)) × AllByRecursion (IsWholeRecord form tree) bodies
+    (bodies : List (List ℕ)) × AllByRecursion (IsWholeComparedRecord form tree) bodies
     × (is_stopped_for is_write_cause answer ≡ false → Took w0 w1 (AreAloneLines side most told first (length bodies)))
     × ((before : Option (List ℕ)) (came : List (List ℕ)) → CameSoFar form came opened before old → CountsAlone side form tree first came before new answer bodies)
 

@@ -19,8 +19,8 @@ use Rattle.cob_report_compare.specs.declared.in_order.ComparedFiles.{ComparedFil
 use Rattle.cob_report_compare.specs.declared.records.Comparison.{Comparison}
 use Rattle.cob_report_compare.specs.declared.records.Comparison.TheVariants.{Same, Equal, Differ, Unlike}
 use Rattle.cob_report_compare.specs.Differences.{IsMeasured}
-use Rattle.cob_report_compare.specs.Files.{CameBefore, IsFileEnd, IsFileStop, IsNotRead, IsWholeRecord}
-use Rattle.cob_report_compare.specs.Lines.{AreAloneLines, AreRecordLines, IfTold}
+use Rattle.cob_report_compare.specs.Files.{CameBefore, IsFileEnd, IsFileStop, IsNotRead, IsWholeComparedRecord}
+use Rattle.cob_report_compare.specs.Lines.{AreAloneLines, AreComparedRecordLines, IfTold}
 
 -- ---- pairs
 
@@ -119,7 +119,7 @@ abbrev pub ArePairLines : (most number told : ℕ) → List (List ℕ × List �
 ArePairLines most number told [] comparisons text = text ≡ []
 ArePairLines most number told (pair ∷ pairs) [] text = ⊥
 ArePairLines most number told (pair ∷ pairs) (comparison ∷ comparisons) text =
-    (front : List ℕ) × (rest : List ℕ) × IfTold most told (AreRecordLines (number + 1) pair.0 pair.1 comparison) front
+    (front : List ℕ) × (rest : List ℕ) × IfTold most told (AreComparedRecordLines (number + 1) pair.0 pair.1 comparison) front
     × ArePairLines most (number + 1) (told + count_by does_differ (comparison ∷ [])) pairs comparisons rest × (text ≡ front ++ rest)
 
 -- the lines of all pairs, and behind them those of so many records that stand alone on either side
@@ -176,6 +176,6 @@ pub record ComparesInOrder (files : FilePair) (l0 l1 r0 r1 w0 w1 : Option (List 
   pub left_alone : List (List ℕ)
   pub right_alone : List (List ℕ)
   pub each : ArePairs files pairs comparisons
-  pub left_whole : AllByRecursion (IsWholeRecord files.left_form files.tree) left_alone
-  pub right_whole : AllByRecursion (IsWholeRecord files.right_form files.tree) right_alone
+  pub left_whole : AllByRecursion (IsWholeComparedRecord files.left_form files.tree) left_alone
+  pub right_whole : AllByRecursion (IsWholeComparedRecord files.right_form files.tree) right_alone
   pub ends : EndsInOrder files pairs comparisons left_alone right_alone l0 l1 r0 r1 w0 w1 answer

@@ -17,9 +17,9 @@ use Rattle.cob_report_compare.specs.declared.records.Comparison.{Comparison}
 use Rattle.cob_report_compare.specs.declared.records.Comparison.TheVariants.{Same, Equal, Differ, Unlike}
 
 -- bytes as characters, one behind another
-abbrev pub AreShown : List ℕ → List ℕ → Type 0
-AreShown [] text = text ≡ []
-AreShown (byte ∷ bytes) text = (first : List ℕ) × (rest : List ℕ) × IsByteShown byte first × AreShown bytes rest × (text ≡ first ++ rest)
+abbrev pub AreBytesShown : List ℕ → List ℕ → Type 0
+AreBytesShown [] text = text ≡ []
+AreBytesShown (byte ∷ bytes) text = (first : List ℕ) × (rest : List ℕ) × IsByteShown byte first × AreBytesShown bytes rest × (text ≡ first ++ rest)
 
 -- the lengths of two records, where they have not one length
 abbrev pub lengths_text : (left right : ℕ) → List ℕ
@@ -38,14 +38,14 @@ abbrev pub place_text : List ℕ → List ℕ → ℕ → List ℕ
 place_text name subscripts offset = name ++ (subscripts_text subscripts ++ 32 ∷ (decimal offset ++ codes ": "))
 
 -- both values of an element of an item, each as the listing of values shows it, with a bar between them, and the end of their line
-abbrev pub AreValues : Item → List ℕ → List ℕ → List ℕ → Type 0
-AreValues i l r text =
+abbrev pub AreValuesShown : Item → List ℕ → List ℕ → List ℕ → Type 0
+AreValuesShown i l r text =
     (left : List ℕ) × (right : List ℕ) × IsValueShown i l left × IsValueShown i r right × (text ≡ left ++ (codes " | " ++ (right ++ 10 ∷ [])))
 
 -- the line of an element of an item that differs: what stands before its values, and both of them
 abbrev pub IsDifferenceLine : List ℕ → List ℕ → PlainDifference → List ℕ → Type 0
 IsDifferenceLine l r d line =
-    (item : NamedItem) × (values : List ℕ) × (d.item ≡ Some item) × AreValues item.item (field_of d.left l) (field_of d.right r) values
+    (item : NamedItem) × (values : List ℕ) × (d.item ≡ Some item) × AreValuesShown item.item (field_of d.left l) (field_of d.right r) values
     × (line ≡ codes "  " ++ (place_text item.name d.subscripts d.left.offset ++ values))
 
 -- the lines of elements that differ
@@ -58,8 +58,8 @@ abbrev pub byte_line : ByteDifference → List ℕ
 byte_line d = codes "  byte " ++ (decimal d.offset ++ (codes ": " ++ (byte_text d.left ++ (codes " | " ++ (byte_text d.right ++ 10 ∷ [])))))
 
 -- the lines of two records of one number that are not equal by value
-abbrev pub AreElementLines : (number : ℕ) → List ℕ → List ℕ → FirstDifferences → List ℕ → Type 0
-AreElementLines number l r told text =
+abbrev pub AreComparedElementLines : (number : ℕ) → List ℕ → List ℕ → FirstDifferences → List ℕ → Type 0
+AreComparedElementLines number l r told text =
     (lines : List ℕ) × AreDifferenceLines l r (map plain_difference told.first.items) lines
     × (text ≡ header_line number (length l) (length r) ++ (lines ++ more_line (told.count - length told.first.items)))
 
@@ -70,11 +70,11 @@ unlike_lines number l r told =
 
 -- The lines of two records of one number that were compared: none where they are equal, and else a line with their number, one for each of the first
 -- differences, and how many more there are.
-abbrev pub AreRecordLines : (number : ℕ) → List ℕ → List ℕ → Comparison → List ℕ → Type 0
-AreRecordLines number l r Same text = text ≡ []
-AreRecordLines number l r Equal text = text ≡ []
-AreRecordLines number l r (Differ told) text = AreElementLines number l r told text
-AreRecordLines number l r (Unlike told) text = text ≡ unlike_lines number l r told
+abbrev pub AreComparedRecordLines : (number : ℕ) → List ℕ → List ℕ → Comparison → List ℕ → Type 0
+AreComparedRecordLines number l r Same text = text ≡ []
+AreComparedRecordLines number l r Equal text = text ≡ []
+AreComparedRecordLines number l r (Differ told) text = AreComparedElementLines number l r told text
+AreComparedRecordLines number l r (Unlike told) text = text ≡ unlike_lines number l r told
 
 -- what is printed of a record, of which so many were told before: its text, where they are fewer than are told at most
 abbrev pub IfTold : (most told : ℕ) → (List ℕ → Type 0) → List ℕ → Type 0

@@ -1,7 +1,7 @@
 //! Bytes that differ, of which the first are told.
 
 ghost use Rattle.std.specs.Prelude.{◌≡◌, ◌∷◌, ◌++◌, ◌+◌, ◌<◌, ◌≤◌, ◌^◌, List, []};
-ghost use Rattle.cob_report_compare.specs.Bytes.{AreFirstBytes, AreFirstOfBytes, bytes_at};
+ghost use Rattle.cob_report_compare.specs.Bytes.{AreFirstBytes, AreFirstOfBytes, difference_at_byte};
 
 use crate::differences::MOST_TOLD;
 use arrayvec::ArrayVec;
@@ -53,7 +53,7 @@ fn add_byte(told: &mut FirstBytes, byte: ByteDifference)
 fn note_byte(told: &mut FirstBytes, byte: ByteDifference)
     requires { told.old.count + 1 < 2 ^ 64 }
     ensures told { (all : List ByteDifference) → AreFirstOfBytes all told.old
-        → AreFirstOfBytes (all ++ bytes_at byte) told.new }
+        → AreFirstOfBytes (all ++ difference_at_byte byte) told.new }
     ensures few { told.new.count ≤ told.old.count + 1 }
 {
     if byte.left != byte.right {

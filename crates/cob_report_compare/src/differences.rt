@@ -1,7 +1,7 @@
 //! Elements that differ, of which the first are told.
 
 ghost use Rattle.std.specs.Prelude.{◌≡◌, List, ◌∷◌, [], IsTrue, IsFalse};
-ghost use Rattle.cob_report_compare.specs.Differences.{Adds, AreFirstOf, PlainDifference, plain_difference};
+ghost use Rattle.cob_report_compare.specs.Differences.{AddsDifference, AreFirstOf, PlainDifference, plain_difference};
 
 use arrayvec::ArrayVec;
 use cob_layout::Place;
@@ -61,7 +61,7 @@ impl<'a> FirstDifferences<'a> {
 
     /// Adds a difference behind those so far.
     pub(crate) fn add(&mut self, difference: Difference<'a>)
-        ensures { Adds (λ added. added ≡ plain_difference difference.entry ∷ []) self.old self.new }
+        ensures { AddsDifference (λ added. added ≡ plain_difference difference.entry ∷ []) self.old self.new }
     {
         self.count = self.count.saturating_add(1);
         if !self.first.is_full() {

@@ -5,7 +5,7 @@ ghost use Rattle.cob_limits.specs.Limits.{most_dimensions};
 ghost use Rattle.cob_copybook_tree.specs.Lengths.{item_size};
 ghost use Rattle.cob_layout.specs.Ways.{spot_at};
 ghost use Rattle.cob_report_show.specs.Elements.{ElementStandsAt, IsLaidOut, StandsWithin, named_item};
-ghost use Rattle.cob_report_compare.specs.Differences.{Adds, AreElementsTold, AreItemsTold, IsElementTold, listed_item, shared_times};
+ghost use Rattle.cob_report_compare.specs.Differences.{AddsDifference, AreElementsTold, AreItemsTold, IsElementTold, listed_item, shared_times};
 ghost use Rattle.cob_report_compare.specs.Equal.{printed_of};
 ghost use Rattle.cob_report_compare.specs.Shared.{AllShared, ItemsShared};
 
@@ -84,7 +84,7 @@ fn add_element<'a>(
         reference.now.subscripts.items }
     requires right_stands { StandsWithin (printed_of right) (named_item item.now)
         reference.now.subscripts.items }
-    ensures added { Adds (IsElementTold (printed_of left.entry) (printed_of right.entry)
+    ensures added { AddsDifference (IsElementTold (printed_of left.entry) (printed_of right.entry)
         (named_item item.now) reference.now.subscripts.items) told.old told.new }
 {
     let left_place = place_of(left, item, reference);
@@ -124,7 +124,7 @@ fn add_elements<'a>(
     requires room { length reference.old.subscripts.items + length tables.now ≤ most_dimensions }
     requires shared { AllShared (printed_of left) (printed_of right) (named_item item.now)
         tables.now reference.old.subscripts.items }
-    ensures added { Adds (AreElementsTold (printed_of left.entry) (printed_of right.entry)
+    ensures added { AddsDifference (AreElementsTold (printed_of left.entry) (printed_of right.entry)
         (named_item item.now)
         (shared_times (printed_of left.entry) (printed_of right.entry) tables.now)
         reference.old.subscripts.items) told.old told.new }
@@ -153,7 +153,7 @@ pub(crate) fn add_items<'a>(
     requires left_laid { IsLaidOut (printed_of left) }
     requires right_laid { IsLaidOut (printed_of right) }
     requires shared { ItemsShared (printed_of left) (printed_of right) (map named_item items.now) }
-    ensures added { Adds (AreItemsTold (printed_of left.entry) (printed_of right.entry)
+    ensures added { AddsDifference (AreItemsTold (printed_of left.entry) (printed_of right.entry)
         (map named_item items.now)) told.old told.new }
 {
     for item in items {

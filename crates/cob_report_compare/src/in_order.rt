@@ -10,7 +10,7 @@ ghost use Rattle.cob_report_show.specs.Elements.{named_item};
 ghost use Rattle.cob_report_compare.specs.Chosen.{AreCompared};
 ghost use Rattle.cob_report_compare.specs.Files.{is_stopped_for, is_stopped_on};
 ghost use Rattle.cob_report_compare.specs.Differences.{IsMeasured};
-ghost use Rattle.cob_report_compare.specs.Equal.{IsComplete, printed_of};
+ghost use Rattle.cob_report_compare.specs.Equal.{IsCompleteRecord, printed_of};
 ghost use Rattle.cob_report_compare.specs.Printable.{IsTellable};
 ghost use Rattle.cob_report_compare.specs.InOrder.{AreFew, ComparesInOrder, file_pair};
 
@@ -48,8 +48,8 @@ fn compare_pair<'a>(
 ) -> Comparison<'a>
     requires one { left.layout.now ≡ right.layout.now }
     requires same { files.layout.now ≡ left.layout.now }
-    requires left { IsComplete (printed_of left) }
-    requires right { IsComplete (printed_of right) }
+    requires left { IsCompleteRecord (printed_of left) }
+    requires right { IsCompleteRecord (printed_of right) }
     requires items { AreCompared files.layout.now (map named_item files.items.now) }
     ensures is { IsMeasured files.entry.by_bytes (map named_item files.entry.items.now)
         (printed_of left.entry) (printed_of right.entry) result }

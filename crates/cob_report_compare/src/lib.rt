@@ -28,7 +28,7 @@
 //! - the answer says how many pairs there are of each kind, and how many records stand alone (`ArePairCounts`);
 //! - what is printed are the lines of the pairs that differ and of the records that stand alone, in their order, of at most so many records (`AreLines`), and
 //!   behind them the line with the counts (`counts_line`). The lines of a pair are its number, and each difference that is handed out with both values, as
-//!   [`show`](cob_report_show::show) prints them (`AreRecordLines` of specs/Lines.antt);
+//!   [`show`](cob_report_show::show) prints them (`AreComparedRecordLines` of specs/Lines.antt);
 //! - or it names the first record that stops it, by its file, its number and the reason, and the definition says what was read of the other file (`StopsOn`).
 //!   Where it is the printing of a record's lines that failed, what the sink took is not told (`StopsPrinting`);
 //! - a read or a write failed exactly where the answer says so (`left_reads`, `right_reads`, `writes`), and where memory is refused nothing was read or printed.

@@ -11,7 +11,7 @@ ghost use Rattle.cob_report_show.specs.Elements.{named_item};
 ghost use Rattle.cob_report_show.specs.Runs.{most_shown};
 ghost use Rattle.cob_report_show.specs.Values.{AreQuoted, AreUnknown, IsNumberShown, IsNumberValue, IsValueShown};
 ghost use Rattle.cob_report_compare.specs.Differences.{plain_difference};
-ghost use Rattle.cob_report_compare.specs.Lines.{AreDifferenceLines, AreElementLines, AreRecordLines, AreShown, AreValues, IfTold, IsDifferenceLine, alone_line, byte_line, counts_line, header_line, lengths_text, more_line, place_text, unlike_lines};
+ghost use Rattle.cob_report_compare.specs.Lines.{AreDifferenceLines, AreComparedElementLines, AreComparedRecordLines, AreBytesShown, AreValuesShown, IfTold, IsDifferenceLine, alone_line, byte_line, counts_line, header_line, lengths_text, more_line, place_text, unlike_lines};
 ghost use Rattle.cob_report_compare.specs.Printable.{ArePrintable, IsPrintable, IsTellable};
 
 use crate::bytes::{ByteDifference, FirstBytes};
@@ -41,7 +41,7 @@ fn put_text<W: Sink>(sink: &mut W, text: &[u8]) -> Result<(), RecordFault>
 /// Prints bytes as characters.
 fn put_shown<W: Sink>(sink: &mut W, bytes: &[u8]) -> Result<(), RecordFault>
     ensures text { OnOk result (Took (W.taken sink.old) (W.taken sink.new)
-        (AreShown bytes.now)) }
+        (AreBytesShown bytes.now)) }
     ensures kind { IfErr result (λ fault. is_write_fault fault ≡ true) }
     ensures cause { W.failures sink.new ≡ counted (is_err result) (W.failures sink.old) }
 {
@@ -142,7 +142,7 @@ fn put_values<W: Sink>(
     requires left { length left.now ≡ item_size item.now }
     requires right { length right.now ≡ item_size item.now }
     ensures text { OnOk result (Took (W.taken sink.old) (W.taken sink.new)
-        (AreValues item.now left.now right.now)) }
+        (AreValuesShown item.now left.now right.now)) }
     ensures kind { IfErr result (λ fault. is_write_fault fault ≡ true) }
     ensures cause { W.failures sink.new ≡ counted (is_err result) (W.failures sink.old) }
 {
@@ -315,7 +315,7 @@ fn put_elements<W: Sink>(
 ) -> Result<(), RecordFault>
     requires { ArePrintable left.now right.now (map plain_difference told.now.first.items) }
     ensures text { OnOk result (Took (W.taken sink.old) (W.taken sink.new)
-        (AreElementLines number left.now right.now told.now)) }
+        (AreComparedElementLines number left.now right.now told.now)) }
     ensures kind { IfErr result (λ fault. is_write_fault fault ≡ true) }
     ensures cause { W.failures sink.new ≡ counted (is_err result) (W.failures sink.old) }
 {
@@ -354,7 +354,7 @@ fn put_comparison<W: Sink>(
 ) -> Result<(), RecordFault>
     requires { IsTellable left.now right.now comparison.now }
     ensures text { OnOk result (Took (W.taken sink.old) (W.taken sink.new)
-        (AreRecordLines number left.now right.now comparison.now)) }
+        (AreComparedRecordLines number left.now right.now comparison.now)) }
     ensures kind { IfErr result (λ fault. is_write_fault fault ≡ true) }
     ensures cause { W.failures sink.new ≡ counted (is_err result) (W.failures sink.old) }
 {
@@ -421,7 +421,7 @@ pub(crate) fn tell_comparison<W: Sink>(
 ) -> Result<(), RecordFault>
     requires { IsTellable left.now right.now comparison.now }
     ensures text { OnOk result (Took (W.taken sink.old) (W.taken sink.new)
-        (IfTold most told (AreRecordLines number left.now right.now comparison.now))) }
+        (IfTold most told (AreComparedRecordLines number left.now right.now comparison.now))) }
     ensures kind { IfErr result (λ fault. is_write_fault fault ≡ true) }
     ensures cause { W.failures sink.new ≡ counted (is_err result) (W.failures sink.old) }
 {

@@ -5,7 +5,7 @@ ghost use Rattle.cob_report_show.specs.Elements.{named_item};
 ghost use Rattle.cob_report_show.specs.Records.{HoldsRecord};
 ghost use Rattle.cob_report_compare.specs.Chosen.{AreCompared};
 ghost use Rattle.cob_report_compare.specs.Differences.{AreFirstDifferences, IsBytesComparison, IsComparison};
-ghost use Rattle.cob_report_compare.specs.Equal.{IsComplete, OccurAlike, printed_of};
+ghost use Rattle.cob_report_compare.specs.Equal.{IsCompleteRecord, OccurAlike, printed_of};
 
 use crate::bytes::{FirstBytes, byte_differences};
 use crate::differences::FirstDifferences;
@@ -71,8 +71,8 @@ pub fn compare_records<'a>(
     items: &'a [ListedItem],
 ) -> Comparison<'a>
     requires one { left.layout.now ≡ right.layout.now }
-    requires left { IsComplete (printed_of left) }
-    requires right { IsComplete (printed_of right) }
+    requires left { IsCompleteRecord (printed_of left) }
+    requires right { IsCompleteRecord (printed_of right) }
     requires items { AreCompared left.layout.now (map named_item items.now) }
     // Equal exactly where they are so by value, and else the elements that differ.
     ensures is { IsComparison (map named_item items.now) (printed_of left.entry)

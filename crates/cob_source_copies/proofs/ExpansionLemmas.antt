@@ -9,7 +9,7 @@ use Rattle.cob_source_copies.specs.declared.fault.CopyRule.TheVariants as rule
 use Rattle.cob_source_copies.specs.Statements.{CopyFront, WrittenCopy, copy_front, is_copy}
 use Rattle.cob_source_copies.specs.Texts.{AreExpanded, BeginWithParts, CopiedText, Copies, MayCopy, MayCopyText, Stays, TextPart, copied, has_copy, part_put, put_by_copy, text_named}
 use Rattle.cob_source_copies.specs.Refusals.{IsCopyRefusal, PutsTooMany, ReachesCopy, ReplacesInNested}
-use Rattle.cob_source_copies.specs.Carrying.{IsCarriedOut, IsCarryRefusal}
+use Rattle.cob_source_copies.specs.Carrying.{IsCopyCarriedOut, IsCarryRefusal}
 use Rattle.cob_source_copies.specs.Laws.{ExpandedBreaksNoRule, NothingToExpand, OneExpansion}
 use Rattle.cob_source_copies.proofs.PartLemmas.{all_both, cut_parts, join_parts, one_of_all, one_parts, one_put, put_least, states_first}
 
@@ -38,7 +38,7 @@ so_stays texts ws rest more room out next w so e other is =
     }
 
 pub so_copies : (texts : List CopiedText) (ws rest behind more : List Lexeme) (room left : ℕ) (out next : List Lexeme) (w : Lexeme) → SoFar texts ws rest room out → rest ≡ w ∷ behind → is_copy w ≡ true
-    → IsCarriedOut texts behind more room left out next → SoFar texts ws more left next
+    → IsCopyCarriedOut texts behind more room left out next → SoFar texts ws more left next
 so_copies texts ws rest behind more room left out next w so e is (c, front, put) =
     let own = copied c (text_named texts c.named) in
     let sum : length (flat_map (put_by_copy texts) (so.parts ++ Copies c ∷ [])) ≡ length (flat_map (put_by_copy texts) so.parts) + length own =

@@ -8,15 +8,15 @@ use Rattle.cob_source_copies.specs.Texts.{CopiedText, MayCopyText, copied, text_
 use Rattle.cob_source_copies.specs.Refusals.{ReplacesInNested}
 
 -- this is the text that a statement copies
-pub record IsTextOf (texts : List CopiedText) (c : WrittenCopy) (t : CopiedText) : Type 0 where
+pub record IsTextCopiedBy (texts : List CopiedText) (c : WrittenCopy) (t : CopiedText) : Type 0 where
   pub named : text_named texts c.named ≡ Some t
   pub may : MayCopyText c (Some t)
 
 -- why a statement copies no text
-abbrev pub IsTextRefusal : CopyRule → List CopiedText → WrittenCopy → Type 0
-IsTextRefusal rule.Unknown texts c = text_named texts c.named ≡ None
-IsTextRefusal rule.Nested texts c = ReplacesInNested texts c
-IsTextRefusal r texts c = ⊥
+abbrev pub CopiesNoText : CopyRule → List CopiedText → WrittenCopy → Type 0
+CopiesNoText rule.Unknown texts c = text_named texts c.named ≡ None
+CopiesNoText rule.Nested texts c = ReplacesInNested texts c
+CopiesNoText r texts c = ⊥
 
 -- a statement put its words behind others, and so many more may be put, where this many were allowed
 pub record IsPut (texts : List CopiedText) (c : WrittenCopy) (room left : ℕ) (old new : List Lexeme) : Type 0 where
@@ -33,8 +33,8 @@ IsPutRefusal rule.TooMany texts c room = room < length (copied c (text_named tex
 IsPutRefusal rule.Memory texts c room = Unit {0}
 
 -- the statement that goes on with words behind its word COPY is carried out
-abbrev pub IsCarriedOut : List CopiedText → List Lexeme → List Lexeme → ℕ → ℕ → List Lexeme → List Lexeme → Type 0
-IsCarriedOut texts behind more room left old new = (c : WrittenCopy) × (copy_front behind ≡ Some (record { copy = c; behind = more })) × IsPut texts c room left old new
+abbrev pub IsCopyCarriedOut : List CopiedText → List Lexeme → List Lexeme → ℕ → ℕ → List Lexeme → List Lexeme → Type 0
+IsCopyCarriedOut texts behind more room left old new = (c : WrittenCopy) × (copy_front behind ≡ Some (record { copy = c; behind = more })) × IsPut texts c room left old new
 
 -- why it is not
 abbrev pub IsCarryRefusal : CopyRule → List CopiedText → List Lexeme → ℕ → Type 0

@@ -27,14 +27,14 @@ is_one_kind kind.Stop kind.Stop = true
 is_one_kind a b = false
 
 -- Two text words are the same: of one kind, and equal character for character.
-abbrev pub are_same : TextWord → TextWord → Bool
-are_same a b = is_one_kind a.lexeme.kind b.lexeme.kind && bytes_eq a.lexeme.text b.lexeme.text
+abbrev pub are_same_text_words : TextWord → TextWord → Bool
+are_same_text_words a b = is_one_kind a.lexeme.kind b.lexeme.kind && bytes_eq a.lexeme.text b.lexeme.text
 
 -- text words stand in front of others; whether spaces stand between them is not compared
 abbrev pub begin_with : List TextWord → List TextWord → Bool
 begin_with [] vs = true
 begin_with (f ∷ fs) [] = false
-begin_with (f ∷ fs) (v ∷ vs) = are_same f v && begin_with fs vs
+begin_with (f ∷ fs) (v ∷ vs) = are_same_text_words f v && begin_with fs vs
 
 -- the first x BY y, in their order, whose x stands in front
 abbrev pub first_fitting : List Replacing → List TextWord → Option Replacing

@@ -7,7 +7,7 @@ use Rattle.cob_source_copies.specs.declared.fault.CopyRule.TheVariants as rule
 use Rattle.cob_source_copies.specs.TextWords.{text_words, together}
 use Rattle.cob_source_copies.specs.Texts.{AreExpanded, CopiedText, has_copy}
 use Rattle.cob_source_copies.specs.Refusals.{IsCopyRefusal}
-use Rattle.cob_source_copies.specs.Libraries.{IsLineOf, MakeLibrary, NamedText}
+use Rattle.cob_source_copies.specs.Libraries.{IsNumberOfLine, MakeLibrary, NamedText}
 
 -- law: words come to one list of words at most
 abbrev pub OneExpansion : Type 0
@@ -31,4 +31,4 @@ OneLibrary = (ts : List NamedText) (before a b : List CopiedText) → MakeLibrar
 
 -- law: the number of a line says its text and its number there
 abbrev pub OneLine : Type 0
-OneLine = (number a b m n : ℕ) → IsLineOf number a m → IsLineOf number b n → (a ≡ b) × (m ≡ n)
+OneLine = (number a b m n : ℕ) → IsNumberOfLine number a m → IsNumberOfLine number b n → (a ≡ b) × (m ≡ n)

@@ -117,22 +117,22 @@ operands_in begun (w ∷ ws) =
     else option_map (operands_before (operands_at begun w)) (operands_in (open_at begun w) ws)
 
 -- the name of a text, and of its library if one is written
-pub record WrittenName : Type 0 where
+pub record WrittenTextName : Type 0 where
   pub name : List ℕ
   pub library : Option (List ℕ)
 
 -- a name without where it lies in memory
-abbrev pub written_name : TextName → WrittenName
-written_name n = record { name = n.name.items; library = option_map (λ t. t.items) n.library }
+abbrev pub written_text_name : TextName → WrittenTextName
+written_text_name n = record { name = n.name.items; library = option_map (λ t. t.items) n.library }
 
 -- what a COPY statement says
 pub record WrittenCopy : Type 0 where
-  pub named : WrittenName
+  pub named : WrittenTextName
   pub replacings : List Replacing
 
 -- a statement without where it lies in memory
 abbrev pub written_copy : Statement → WrittenCopy
-written_copy s = record { named = written_name s.named; replacings = map replacing s.exchanges.items }
+written_copy s = record { named = written_text_name s.named; replacings = map replacing s.exchanges.items }
 
 -- the text of a word or a literal that stands by itself
 abbrev pub own_text : WrittenOperand → Option (List ℕ)

@@ -5,17 +5,17 @@ use Rattle.cob_limits.specs.Limits.{most_copied_words}
 use Rattle.cob_source.specs.Tokens.{Lexeme, lexemes}
 use Rattle.cob_source_copies.specs.declared.library.LibraryText.{LibraryText}
 use Rattle.cob_source_copies.specs.Exchanges.{replaced}
-use Rattle.cob_source_copies.specs.Statements.{WrittenCopy, WrittenName, copy_front, is_copy, written_name}
+use Rattle.cob_source_copies.specs.Statements.{WrittenCopy, WrittenTextName, copy_front, is_copy, written_text_name}
 
 -- a text that may be copied: its name, its words, and whether a COPY statement stood in it
 pub record CopiedText : Type 0 where
-  pub named : WrittenName
+  pub named : WrittenTextName
   pub words : List Lexeme
   pub holds_copy : Bool
 
 -- a text without where it lies in memory
 abbrev pub copied_text : LibraryText → CopiedText
-copied_text t = record { named = written_name t.named; words = lexemes t.words.items; holds_copy = t.holds_copy }
+copied_text t = record { named = written_text_name t.named; words = lexemes t.words.items; holds_copy = t.holds_copy }
 
 -- the two name one library, or both none
 abbrev pub is_one_library : Option (List ℕ) → Option (List ℕ) → Bool
@@ -25,11 +25,11 @@ is_one_library (Some a) None = false
 is_one_library (Some a) (Some b) = bytes_eq a b
 
 -- the two name one text
-abbrev pub is_one_name : WrittenName → WrittenName → Bool
+abbrev pub is_one_name : WrittenTextName → WrittenTextName → Bool
 is_one_name a b = bytes_eq a.name b.name && is_one_library a.library b.library
 
 -- the first text of this name
-abbrev pub text_named : List CopiedText → WrittenName → Option CopiedText
+abbrev pub text_named : List CopiedText → WrittenTextName → Option CopiedText
 text_named [] n = None
 text_named (t ∷ ts) n = if is_one_name t.named n then Some t else text_named ts n
 

@@ -4,10 +4,10 @@ ghost use Rattle.std.specs.Prelude.{◌≡◌, ℕ, ◌+◌, ◌*◌, ◌≤◌,
 ghost use Rattle.cob_limits.specs.Limits.{longest_text};
 ghost use Rattle.cob_source.specs.Tokens.{Lexeme, lexemes};
 ghost use Rattle.cob_source_copies.specs.declared.fault.CopyRule.TheVariants.{Memory};
-ghost use Rattle.cob_source_copies.specs.Statements.{written_name};
+ghost use Rattle.cob_source_copies.specs.Statements.{written_text_name};
 ghost use Rattle.cob_source_copies.specs.Texts.{AreExpanded, copied_text, has_copy};
 ghost use Rattle.cob_source_copies.specs.Refusals.{IsCopyRefusal};
-ghost use Rattle.cob_source_copies.specs.Libraries.{IsAdded, on_line};
+ghost use Rattle.cob_source_copies.specs.Libraries.{IsTextAdded, on_line};
 
 use crate::fault::CopyFault;
 use crate::library::{Library, LibraryText};
@@ -72,7 +72,7 @@ impl Library {
     ///
     /// A rule of COPY that the words break, with the line of the word COPY. `Memory`, with line 0, only where memory is refused. The library is then as before.
     pub fn add(&mut self, alloc: Global, named: TextName, words: &[Token]) -> Result<(), CopyFault>
-        ensures added { OnOk result (IsAdded (written_name named) (lexemes words.now)
+        ensures added { OnOk result (IsTextAdded (written_text_name named) (lexemes words.now)
             (map copied_text self.old.texts.items) (map copied_text self.new.texts.items)) }
         // A text whose words come to others is put in, memory aside.
         ensures only { (done : List Lexeme)

@@ -3,7 +3,7 @@
 ghost use Rattle.std.specs.Prelude.{◌≡◌, ◌++◌, ◌∷◌, [], map, drop, IfOk, OnOk, option_map};
 ghost use Rattle.cob_source.specs.Tokens.{lexemes};
 ghost use Rattle.cob_source_copies.specs.TextWords.{text_word};
-ghost use Rattle.cob_source_copies.specs.Exchanges.{are_same, begin_with, exchanged, first_fitting, in_place_of, is_one_kind, part_of_x, put_by, put_for, replaced, replacing, replacing_by};
+ghost use Rattle.cob_source_copies.specs.Exchanges.{are_same_text_words, begin_with, exchanged, first_fitting, in_place_of, is_one_kind, part_of_x, put_by, put_for, replaced, replacing, replacing_by};
 
 use crate::copying::push_copies;
 use crate::fragment::{Fragment, fragments};
@@ -32,8 +32,8 @@ fn is_one_kind(a: TokenKind, b: TokenKind) -> bool
 }
 
 /// Whether two text words are the same.
-fn are_same(a: &Fragment, b: &Fragment) -> bool
-    ensures { result ≡ are_same (text_word a.now) (text_word b.now) }
+fn are_same_text_words(a: &Fragment, b: &Fragment) -> bool
+    ensures { result ≡ are_same_text_words (text_word a.now) (text_word b.now) }
 {
     is_one_kind(a.token.kind, b.token.kind) && a.token.text.as_slice() == b.token.text.as_slice()
 }
@@ -48,7 +48,7 @@ fn begin_with(from: &[Fragment], fragments: &[Fragment]) -> bool
         let Some((first, more)) = rest.split_first() else {
             return false;
         };
-        if !are_same(wanted, first) {
+        if !are_same_text_words(wanted, first) {
             return false;
         }
         left = others;

@@ -6,7 +6,7 @@ ghost use Rattle.cob_source_copies.specs.declared.fault.CopyRule.TheVariants.{Me
 ghost use Rattle.cob_source_copies.specs.Statements.{written_copy};
 ghost use Rattle.cob_source_copies.specs.Texts.{AreExpanded, copied_text};
 ghost use Rattle.cob_source_copies.specs.Refusals.{IsCopyRefusal};
-ghost use Rattle.cob_source_copies.specs.Carrying.{IsCarriedOut, IsCarryRefusal, IsPut, IsPutRefusal, IsTextOf, IsTextRefusal};
+ghost use Rattle.cob_source_copies.specs.Carrying.{IsCopyCarriedOut, IsCarryRefusal, IsPut, IsPutRefusal, IsTextCopiedBy, CopiesNoText};
 
 use crate::copying::copy_of;
 use crate::exchange::push_replaced;
@@ -25,9 +25,9 @@ impl Library {
     ///
     /// `Unknown` where none has its name, and `Nested` where it holds a COPY statement and something is to be replaced in it.
     fn text_of(&self, statement: &Statement) -> Result<&LibraryText, CopyRule>
-        ensures ok { IfOk result (λ t. IsTextOf (map copied_text self.now.texts.items)
+        ensures ok { IfOk result (λ t. IsTextCopiedBy (map copied_text self.now.texts.items)
             (written_copy statement.now) (copied_text t.now)) }
-        ensures fault { IfErr result (λ r. IsTextRefusal r (map copied_text self.now.texts.items)
+        ensures fault { IfErr result (λ r. CopiesNoText r (map copied_text self.now.texts.items)
             (written_copy statement.now)) }
     {
         let Some(text) = self.text_named(&statement.named) else {
@@ -84,7 +84,7 @@ impl Library {
         room: usize,
         out: &mut Vec<Token>,
     ) -> Result<(usize, &'a [Token]), CopyRule>
-        ensures ok { IfOk result (λ r. IsCarriedOut (map copied_text self.now.texts.items)
+        ensures ok { IfOk result (λ r. IsCopyCarriedOut (map copied_text self.now.texts.items)
             (lexemes behind.now) (lexemes r.1.now) room r.0 (lexemes out.old.items) (lexemes out.new.items)) }
         ensures shorter { IfOk result (λ r. length r.1.now ≤ length behind.now) }
         ensures fault { IfErr result (λ r. IsCarryRefusal r (map copied_text self.now.texts.items) (lexemes behind.now) room) }

@@ -5,9 +5,9 @@ ghost use Rattle.std.specs.List.{AllByRecursion, flat_map};
 ghost use Rattle.cob_limits.specs.Limits.{longest_text};
 ghost use Rattle.cob_source.specs.Tokens.{lexemes};
 ghost use Rattle.cob_source.specs.Words.{AreWordsOf};
-ghost use Rattle.cob_source_copies.specs.Statements.{written_name};
+ghost use Rattle.cob_source_copies.specs.Statements.{written_text_name};
 ghost use Rattle.cob_source_copies.specs.Texts.{BeginWithParts, TextPart, copied_text};
-ghost use Rattle.cob_source_copies.specs.Libraries.{Grows, IsAdded, IsKnown, MakeLibrary, NamedText, names_in_part, on_line};
+ghost use Rattle.cob_source_copies.specs.Libraries.{LibraryGrows, IsTextAdded, IsKnown, MakeLibrary, NamedText, names_in_part, on_line};
 
 use crate::adding::counted_on;
 use crate::fetch_fault::{FetchFault, ShelfFault};
@@ -96,7 +96,7 @@ fn put_text(
     words: &[Token],
     library: &mut Library,
 ) -> Result<(), FetchFault>
-    ensures { OnOk result (IsAdded (written_name named)
+    ensures { OnOk result (IsTextAdded (written_text_name named)
         (map (on_line ((length library.old.texts.items + 1) * longest_text)) (lexemes words.now))
         (map copied_text library.old.texts.items) (map copied_text library.new.texts.items)) }
 {
@@ -126,10 +126,10 @@ fn fetch_text<S: Shelf>(
     named: TextName,
     library: &mut Library,
 ) -> Result<(), FetchFault>
-    ensures grows { OnOk result (Grows (map copied_text library.old.texts.items)
+    ensures grows { OnOk result (LibraryGrows (map copied_text library.old.texts.items)
         (map copied_text library.new.texts.items)) }
     ensures known { OnOk result (IsKnown (map copied_text library.new.texts.items)
-        (written_name named)) }
+        (written_text_name named)) }
 {
     if library.has_text(&named) {
         return Ok(());
@@ -162,7 +162,7 @@ fn fetch_wanted<S: Shelf>(
     words: &[Token],
     library: &mut Library,
 ) -> Result<(), FetchFault>
-    ensures grows { OnOk result (Grows (map copied_text library.old.texts.items)
+    ensures grows { OnOk result (LibraryGrows (map copied_text library.old.texts.items)
         (map copied_text library.new.texts.items)) }
     ensures known { OnOk result ((parts : List TextPart)
         → BeginWithParts parts (lexemes words.now) []

@@ -1,7 +1,7 @@
 //! Texts that may be copied.
 
 ghost use Rattle.std.specs.Prelude.{◌≡◌, IsTrue, map, option_map};
-ghost use Rattle.cob_source_copies.specs.Statements.{written_name};
+ghost use Rattle.cob_source_copies.specs.Statements.{written_text_name};
 ghost use Rattle.cob_source_copies.specs.Texts.{copied_text, is_one_library, is_one_name, text_named};
 ghost use Rattle.cob_source_copies.specs.Libraries.{IsKnown};
 
@@ -36,7 +36,7 @@ fn is_one_library(a: &Option<Vec<u8>>, b: &Option<Vec<u8>>) -> bool
 
 /// Whether two names name one text.
 pub(crate) fn is_one_name(a: &TextName, b: &TextName) -> bool
-    ensures { result ≡ is_one_name (written_name a.now) (written_name b.now) }
+    ensures { result ≡ is_one_name (written_text_name a.now) (written_text_name b.now) }
 {
     a.name.as_slice() == b.name.as_slice() && is_one_library(&a.library, &b.library)
 }
@@ -45,7 +45,7 @@ impl Library {
     /// The first text of this name.
     pub fn text_named(&self, named: &TextName) -> Option<&LibraryText>
         ensures { option_map (λ t. copied_text t.now) result
-            ≡ text_named (map copied_text self.now.texts.items) (written_name named.now) }
+            ≡ text_named (map copied_text self.now.texts.items) (written_text_name named.now) }
     {
         let mut rest = self.texts.as_slice();
         while let Some((first, more)) = rest.split_first() {
@@ -59,7 +59,7 @@ impl Library {
 
     /// Whether a text of this name is there.
     pub fn has_text(&self, named: &TextName) -> bool
-        ensures { IsTrue result → IsKnown (map copied_text self.now.texts.items) (written_name named.now) }
+        ensures { IsTrue result → IsKnown (map copied_text self.now.texts.items) (written_text_name named.now) }
     {
         match self.text_named(named) {
             Some(_) => true,

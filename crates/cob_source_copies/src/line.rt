@@ -1,7 +1,7 @@
 //! Lines of texts by their numbers.
 
 ghost use Rattle.std.specs.Prelude.{◌<◌};
-ghost use Rattle.cob_source_copies.specs.Libraries.{IsLineOf};
+ghost use Rattle.cob_source_copies.specs.Libraries.{IsNumberOfLine};
 
 use cob_limits::MAX_TEXT_BYTES;
 
@@ -17,7 +17,7 @@ pub struct TextLine {
 /// The line that a number means, where the lines of each text are counted on behind those of the texts before it.
 pub fn line_numbered(number: u32) -> TextLine
     requires { 0 < number }
-    ensures { IsLineOf number result.text result.line }
+    ensures { IsNumberOfLine number result.text result.line }
 {
     let before = number - 1;
     let most = MAX_TEXT_BYTES as u32;

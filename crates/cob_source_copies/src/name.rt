@@ -1,7 +1,7 @@
 //! Names of texts.
 
 ghost use Rattle.std.specs.Prelude.{◌≡◌, IfOk};
-ghost use Rattle.cob_source_copies.specs.Statements.{written_name};
+ghost use Rattle.cob_source_copies.specs.Statements.{written_text_name};
 
 use std::alloc::{AllocError, Global};
 
@@ -20,7 +20,7 @@ pub struct TextName {
 ///
 /// Where no memory is left.
 pub(crate) fn copy_of_name(alloc: Global, named: &TextName) -> Result<TextName, AllocError>
-    ensures { IfOk result (λ n. written_name n ≡ written_name named.now) }
+    ensures { IfOk result (λ n. written_text_name n ≡ written_text_name named.now) }
 {
     let name = Vec::from_slice(alloc, named.name.as_slice())?;
     let library = match &named.library {

@@ -4,7 +4,7 @@ ghost use Rattle.std.specs.Prelude.{◌≡◌, ◌≤◌, ◌&&◌, None, map, l
 ghost use Rattle.cob_source.specs.Tokens.{lexeme, lexemes};
 ghost use Rattle.cob_source_copies.specs.TextWords.{is_wordlike, text_word, text_words};
 ghost use Rattle.cob_source_copies.specs.Exchanges.{Replacing, replacing};
-ghost use Rattle.cob_source_copies.specs.Statements.{behind_suppress, copy_front, copy_in, is_copy, is_keyword, library_first, named_library, own_text, replacing_of, replacings_behind, replacings_in, words_in, written_copy, written_name, written_operand};
+ghost use Rattle.cob_source_copies.specs.Statements.{behind_suppress, copy_front, copy_in, is_copy, is_keyword, library_first, named_library, own_text, replacing_of, replacings_behind, replacings_in, words_in, written_copy, written_text_name, written_operand};
 ghost use Rattle.cob_source_copies.specs.Reading.{front_seen, library_seen};
 
 use crate::exchange::Exchange;
@@ -189,7 +189,7 @@ fn exchanges_behind(
 ///
 /// Where no memory is left.
 fn name_of(alloc: Global, name: &[u8], library: Option<&[u8]>) -> Result<TextName, AllocError>
-    ensures { IfOk result (λ n. written_name n ≡ record { name = name.now; library = option_map (λ t. t.now) library.entry }) }
+    ensures { IfOk result (λ n. written_text_name n ≡ record { name = name.now; library = option_map (λ t. t.now) library.entry }) }
 {
     let name = Vec::from_slice(alloc, name)?;
     let library = match library {

@@ -3,7 +3,7 @@
 ghost use Rattle.std.specs.Prelude.{◌≡◌, [], List, map, IfOk};
 ghost use Rattle.std.specs.List.{flat_map};
 ghost use Rattle.cob_source.specs.Tokens.{lexemes};
-ghost use Rattle.cob_source_copies.specs.Statements.{written_name};
+ghost use Rattle.cob_source_copies.specs.Statements.{written_text_name};
 ghost use Rattle.cob_source_copies.specs.Texts.{BeginWithParts, TextPart};
 ghost use Rattle.cob_source_copies.specs.Libraries.{names_in_part};
 
@@ -28,7 +28,7 @@ fn name_in(statement: Statement) -> TextName
 pub fn names_wanted(alloc: Global, words: &[Token]) -> Result<Vec<TextName>, AllocError>
     ensures { IfOk result (λ v. (parts : List TextPart)
         → BeginWithParts parts (lexemes words.now) []
-        → map written_name v.items ≡ flat_map names_in_part parts) }
+        → map written_text_name v.items ≡ flat_map names_in_part parts) }
 {
     let mut out = Vec::new(alloc);
     let mut rest = words;

@@ -1,7 +1,7 @@
 -- The elements so far were told, and the reference is as it was.
 use Rattle.std.proofs.Common.{◌≡◌, length}
 use Rattle.cob_report_show.specs.Elements.{named_item}
-use Rattle.cob_report_compare.specs.Differences.{Adds, AreToldInTurn, shared_times}
+use Rattle.cob_report_compare.specs.Differences.{AddsDifference, AreToldInTurn, shared_times}
 use Rattle.cob_report_compare.specs.Equal.{printed_of}
 use Rattle.cob_report_compare.proofs.ToldLemmas.{inner_told}
 use Rattle.cob_report_compare.proofs.elements.+add_elements.Given as goal
@@ -16,5 +16,5 @@ invariant-loop-earlier l =
     record {
       node : l.reference.node ≡ l.fn.reference.node;
       same : l.reference.subscripts.items ≡ l.fn.reference.subscripts.items;
-      so_far : Adds (AreToldInTurn (inner_told one other (named_item l.item) (shared_times one other l.inner) l.fn.reference.subscripts.items) l.earlier) l.fn.told l.told;
+      so_far : AddsDifference (AreToldInTurn (inner_told one other (named_item l.item) (shared_times one other l.inner) l.fn.reference.subscripts.items) l.earlier) l.fn.told l.told;
     }

@@ -1,18 +1,18 @@
 use Rattle.std.proofs.Common.{rules, refl, subst, sym, ◌∙◌}
 use Rattle.cob_report_show.specs.Values.{IsByteShown}
-use Rattle.cob_report_compare.specs.Lines.{AreShown}
+use Rattle.cob_report_compare.specs.Lines.{AreBytesShown}
 use Rattle.cob_report_compare.proofs.PrintLemmas.{all_printed, none_printed, one_printed}
 use Rattle.cob_report_compare.proofs.lines.put_shown.Goals as goal
 
 pub loop-byte-init : goal.loop-byte-init
-loop-byte-init g c = record { so_far = none_printed AreShown c.args.bytes.now (g.W.Sink.taken c.args.sink.now); writes = search rules }
+loop-byte-init g c = record { so_far = none_printed AreBytesShown c.args.bytes.now (g.W.Sink.taken c.args.sink.now); writes = search rules }
 
 pub loop-byte-preserved : goal.loop-byte-preserved
 loop-byte-preserved g c = record {
-  so_far = one_printed AreShown _ c.args.bytes.now c.args.bytes.now c.loop-byte.byte-index 0 _ (g.W.Sink.taken c.loop-byte.sink) _ c.loop-byte-test.true
+  so_far = one_printed AreBytesShown _ c.args.bytes.now c.args.bytes.now c.loop-byte.byte-index 0 _ (g.W.Sink.taken c.loop-byte.sink) _ c.loop-byte-test.true
       (λ piece rest is are. (piece, rest, subst (IsByteShown _) (sym (is ∙ c.as_slice.ensures.value)) c.shown_byte.ensures.shown, are, refl)) c.loop-byte.invariant.so_far c.in_ok-put_text.ensures.text;
   writes = search rules;
 }
 
 pub returns-clause-text : goal.returns-clause-text
-returns-clause-text g c = all_printed AreShown c.args.bytes.now c.args.bytes.now c.loop-byte.byte-index _ _ c.loop-byte-test.false refl c.loop-byte.invariant.so_far
+returns-clause-text g c = all_printed AreBytesShown c.args.bytes.now c.args.bytes.now c.loop-byte.byte-index _ _ c.loop-byte-test.false refl c.loop-byte.invariant.so_far

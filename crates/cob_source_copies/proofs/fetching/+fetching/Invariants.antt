@@ -1,9 +1,9 @@
 use Rattle.std.proofs.Common.{◌*◌, ◌+◌, ◌-◌, List, [], length, map}
 use Rattle.std.specs.List.{flat_map}
 use Rattle.cob_source.specs.Tokens.{lexemes}
-use Rattle.cob_source_copies.specs.Statements.{written_name}
+use Rattle.cob_source_copies.specs.Statements.{written_text_name}
 use Rattle.cob_source_copies.specs.Texts.{BeginWithParts, TextPart, copied_text}
-use Rattle.cob_source_copies.specs.Libraries.{Grows, names_in_part}
+use Rattle.cob_source_copies.specs.Libraries.{LibraryGrows, names_in_part}
 use Rattle.cob_source_copies.proofs.FetchLemmas.{LeftNames}
 use Rattle.cob_source_copies.proofs.fetching.+fetching.Given as goal
 
@@ -15,8 +15,8 @@ decreases-fetch_wanted g l = 2 * (8 - length l.opened.now) + 1
 
 abbrev pub invariant-fetch_wanted-loop-first : goal.invariant-fetch_wanted-loop-first
 invariant-fetch_wanted-loop-first g l = record {
-  grows : Grows (map copied_text l.fn.library.texts.items) (map copied_text l.library.texts.items);
-  left : (parts : List TextPart) → BeginWithParts parts (lexemes l.words) [] → LeftNames (map copied_text l.library.texts.items) (map written_name l.rest) (flat_map names_in_part parts);
+  grows : LibraryGrows (map copied_text l.fn.library.texts.items) (map copied_text l.library.texts.items);
+  left : (parts : List TextPart) → BeginWithParts parts (lexemes l.words) [] → LeftNames (map copied_text l.library.texts.items) (map written_text_name l.rest) (flat_map names_in_part parts);
 }
 
 abbrev pub decreases-fetch_wanted-loop-first : goal.decreases-fetch_wanted-loop-first
