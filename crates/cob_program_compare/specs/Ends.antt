@@ -3,15 +3,41 @@ use Rattle.std.specs.Prelude.{◌==◌, ◌&&◌, Bool, Result, Ok, Err, if◌th
 use Rattle.cob_convert.specs.Statuses.{status_of_stop}
 use Rattle.cob_convert.specs.declared.status.Status.{Status}
 use Rattle.cob_convert.specs.declared.status.Status.TheVariants as status
+use Rattle.cob_convert_stream.specs.declared.fault.Cause.{Cause}
+use Rattle.cob_convert_stream.specs.declared.fault.Cause.TheVariants as cause
+use Rattle.cob_records.specs.declared.device.DeviceFault.{DeviceFault}
+use Rattle.cob_records.specs.declared.records.RecordFault.TheVariants.{WriteFailed, TookNothing}
 use Rattle.cob_program_faults.specs.Ends.{EndsAs}
+use Rattle.cob_program_faults.specs.declared.fault.CommandFault.TheVariants as command
 use Rattle.cob_program_faults.specs.Faults.{status_of}
 use Rattle.cob_report_compare.specs.declared.counted.PairCounts.{PairCounts}
+use Rattle.cob_report_compare.specs.declared.files.CompareStop.{CompareStop}
+use Rattle.cob_report_compare.specs.declared.runs.CompareFault.{CompareFault}
+use Rattle.cob_report_compare.specs.declared.runs.CompareFault.TheVariants as compared
 use Rattle.cob_program_compare.specs.declared.fault.ComparisonFault.{ComparisonFault}
 use Rattle.cob_program_compare.specs.declared.fault.ComparisonFault.TheVariants as fault
 
 -- all records are in pairs that are equal
 abbrev pub are_equal : PairCounts → Bool
 are_equal counts = counts.differ == 0 && counts.left_alone == 0 && counts.right_alone == 0
+
+-- what the record that stops a comparison is for the command: a line that is not printed is told by no other
+abbrev pub stop_by : Cause → CompareStop → ComparisonFault
+stop_by (cause.Record (WriteFailed taken)) stop = fault.Command command.Unprinted
+stop_by (cause.Record (TookNothing taken)) stop = fault.Command command.Unprinted
+stop_by other stop = fault.Stopped stop
+
+-- what the fault of a comparison is for the command
+abbrev pub comparison_fault : CompareFault → ComparisonFault
+comparison_fault compared.Memory = fault.Command command.Memory
+comparison_fault (compared.Stop stop) = stop_by stop.reason.cause stop
+comparison_fault compared.Uncounted = fault.Command command.Unprinted
+
+-- what a comparison comes to: where its lines were not handed over, one was not printed, whatever stopped it
+abbrev pub comparison_outcome : Result (Result PairCounts CompareFault) DeviceFault → Result PairCounts ComparisonFault
+comparison_outcome (Ok (Ok counts)) = Ok counts
+comparison_outcome (Ok (Err stopped)) = Err (comparison_fault stopped)
+comparison_outcome (Err failed) = Err (fault.Command command.Unprinted)
 
 -- the status of a fault: a record that stops a comparison is told as one that stops a conversion
 abbrev pub status_of_comparison_fault : ComparisonFault → Status

@@ -5,7 +5,7 @@ ghost use Rattle.std.specs.Io.Buffered.{writer_buffer};
 ghost use Rattle.cob_records.specs.Forms.{HasBlockSize};
 ghost use Rattle.cob_records.specs.Streams.{sink_writer};
 ghost use Rattle.cob_report_compare.specs.Runs.{ComparesFiles, files_of};
-ghost use Rattle.cob_program_compare.specs.Ends.{EndsCompare};
+ghost use Rattle.cob_program_compare.specs.Ends.{EndsCompare, comparison_fault, comparison_outcome};
 
 use crate::ends::end_of;
 use crate::fault::ComparisonFault;
@@ -46,7 +46,9 @@ fn compare_to_end<L: Source, R: Source, W: Write + Drop>(
 }
 
 /// The fault of a comparison.
-fn fault_of(fault: CompareFault) -> ComparisonFault {
+fn fault_of(fault: CompareFault) -> ComparisonFault
+    ensures { result ≡ comparison_fault fault }
+{
     match fault {
         CompareFault::Memory => ComparisonFault::Command(CommandFault::Memory),
         CompareFault::Uncounted => ComparisonFault::Command(CommandFault::Unprinted),
@@ -62,7 +64,9 @@ fn fault_of(fault: CompareFault) -> ComparisonFault {
 /// What a comparison comes to whose lines were handed to the device, or were not.
 fn outcome_of(
     handed: Result<Result<PairCounts, CompareFault>, DeviceFault>,
-) -> Result<PairCounts, ComparisonFault> {
+) -> Result<PairCounts, ComparisonFault>
+    ensures { result ≡ comparison_outcome handed }
+{
     match handed {
         Ok(Ok(counts)) => Ok(counts),
         Ok(Err(fault)) => Err(fault_of(fault)),

@@ -1,7 +1,7 @@
 //! How a comparison ends.
 
 ghost use Rattle.std.specs.Prelude.{◌≡◌, Err};
-ghost use Rattle.cob_program_compare.specs.Ends.{EndsCompare, are_equal, status_of_comparison};
+ghost use Rattle.cob_program_compare.specs.Ends.{are_equal, status_of_comparison};
 ghost use Rattle.cob_program_faults.specs.Ends.{EndsAs};
 
 use crate::fault::ComparisonFault;
@@ -29,7 +29,7 @@ fn tell<R: Eprint>(rt: &R, fault: ComparisonFault) -> Status
 
 /// How a comparison ends that came to these counts, or to a fault, which it prints.
 pub(crate) fn end_of<R: Eprint>(rt: &R, outcome: Result<PairCounts, ComparisonFault>) -> Status
-    ensures { EndsCompare result }
+    ensures { EndsAs (status_of_comparison outcome) result }
 {
     match outcome {
         Ok(counts) if are_equal(counts) => Status::Done,

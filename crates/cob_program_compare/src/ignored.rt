@@ -1,8 +1,8 @@
 //! The entries that are ignored, by their names.
 
 ghost use Rattle.std.specs.Prelude.{◌≤◌, length};
-ghost use Rattle.cob_copybook_clauses.specs.Written.{names_behind};
 ghost use Rattle.cob_copybook_names.specs.Listed.{texts};
+ghost use Rattle.cob_program_compare.specs.Ignored.{linked_names};
 
 use crate::fault::{ComparisonFault, IgnoreRule};
 use cob_copybook_names::{Bearer, Directory, NameFault, Qualifiers, name_of, names_beneath};
@@ -70,12 +70,12 @@ struct QualifierTexts<'a> {
 }
 
 impl Qualifiers for QualifierTexts<'_> {
-    ghost names = { λ qualifiers. names_behind (texts qualifiers.words.now) };
+    ghost names = { λ qualifiers. linked_names (texts qualifiers.words.now) };
 
     fn nearest(&self) -> Option<(&[u8], Self)> {
         let (_, named) = self.words.split_first()?;
         let (name, words) = named.split_first()?;
-        Some((name, QualifierTexts { words }))
+        Some((*name, QualifierTexts { words }))
     }
 }
 

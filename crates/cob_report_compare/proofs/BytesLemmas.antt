@@ -74,8 +74,8 @@ none_left l r offset (inr short) = ap (λ (ys : List ℕ). bytes_from offset (dr
 
 which_ends : (m n i : ℕ) → min m n ≤ i → (m ≤ i) ⊎ (n ≤ i)
 which_ends m n i low = elim (cases_lt m n) [
-  | inl above ↦ inr (omega (arith, low, above))
-  | inr below ↦ inl (omega (arith, low, below))
+  | inl below ↦ inl (omega (arith, low, below))
+  | inr above ↦ inr (omega (arith, low, above))
 ]
 
 pub all_bytes : (l r : List ℕ) (offset : ℕ) (told : FirstBytes) → min (length l) (length r) ≤ offset → BytesSoFar l r offset told → AreFirstOfBytes (bytes_from 0 l r) told

@@ -54,13 +54,13 @@ came_more form tree bodies opened after count slot r0 r1 r2 so_far next =
 -- without blocks none is open
 at_end : (form : Form) (bodies : List (List ℕ)) (bytes : List ℕ) (opened : ℕ) (left slot rest : List ℕ) (after greatest start : ℕ) → start ≡ 0
     → Come form start bodies bytes opened left → ReadsInForm form greatest opened slot (Ok None) after left rest → (opened ≡ 0) × (left ≡ []) × (rest ≡ [])
-at_end Fixed [] bytes opened left slot rest after greatest start zero (same, is) reads = (is ∙ zero, reads.0.0, reads.0.1)
-at_end Fixed (b ∷ bodies) bytes opened left slot rest after greatest start zero (mid, more, (frame, is), come) reads =
-    at_end Fixed bodies more opened left slot rest after greatest mid (is ∙ zero) come reads
-at_end Variable [] bytes opened left slot rest after greatest start zero (same, is) reads = (is ∙ zero, reads.0.0, reads.0.1)
-at_end Variable (b ∷ bodies) bytes opened left slot rest after greatest start zero (mid, more, (frame, is), come) reads =
-    at_end Variable bodies more opened left slot rest after greatest mid (is ∙ zero) come reads
-at_end (Blocked most) bodies bytes opened left slot rest after greatest start zero come (none, done, is, end) = (none, is, end)
+at_end Fixed [] bytes opened left slot rest after greatest start shut (same, is) reads = (is ∙ shut, reads.0.0, reads.0.1)
+at_end Fixed (b ∷ bodies) bytes opened left slot rest after greatest start shut (mid, more, (frame, is), come) reads =
+    at_end Fixed bodies more opened left slot rest after greatest mid (is ∙ shut) come reads
+at_end Variable [] bytes opened left slot rest after greatest start shut (same, is) reads = (is ∙ shut, reads.0.0, reads.0.1)
+at_end Variable (b ∷ bodies) bytes opened left slot rest after greatest start shut (mid, more, (frame, is), come) reads =
+    at_end Variable bodies more opened left slot rest after greatest mid (is ∙ shut) come reads
+at_end (Blocked most) bodies bytes opened left slot rest after greatest start shut come (none, done, is, end) = (none, is, end)
 
 pub came_end : (form : Form) (tree : Forest Resolved) (bodies : List (List ℕ)) (opened after : ℕ) (slot : List ℕ) (r0 r1 r2 : Option (List ℕ)) → CameSoFar form bodies opened r0 r1
     → Told r1 r2 (ReadsNext form tree opened slot (Ok None) after) → Told r0 r2 (CameBefore form bodies IsFileEnd)
@@ -131,8 +131,9 @@ line_moved side most a b m n text same is told =
 pub one_line : (side : FileSide) (most told first n m t number : ℕ) (w0 w1 w2 : Option (List ℕ)) → Took w0 w1 (AreAloneLines side most told first n)
     → Took w1 w2 (IfTold most t (λ line. line ≡ alone_line side number)) → t ≡ told + n → number ≡ first + n + 1 → m ≡ n + 1 → Took w0 w2 (AreAloneLines side most told first m)
 one_line side most told first n m t number w0 w1 w2 before one same is next =
+    let more : suc n ≡ m = omega (arith, next) in
     took_both w0 w1 w2 (AreAloneLines side most told first n) (IfTold most t (λ line. line ≡ alone_line side number)) (AreAloneLines side most told first m) before one
-    (λ front last lines line. subst (λ (k : ℕ). AreAloneLines side most told first k (front ++ last)) (omega (arith, next))
+    (λ front last lines line. subst (λ (k : ℕ). AreAloneLines side most told first k (front ++ last)) more
     (front, last, lines, line_moved side most t (told + n) number (first + n + 1) last same is line, refl))
 
 -- the line of a record before those of others

@@ -1,5 +1,5 @@
 -- Pairs of records that were compared so far, one more, and the end.
-use Rattle.std.proofs.Common.{◌≡◌, ◌≤◌, ℕ, suc, ◌+◌, Bool, false, ◌&&◌, not, cond, List, [], ◌∷◌, ◌++◌, length, take, refl, sym, subst, ap, ◌∙◌, append_assoc, append-nil, arith, inl, inr, None, Some, Option, Ok, Err, Result}
+use Rattle.std.proofs.Common.{◌≡◌, ◌≤◌, ℕ, suc, ◌+◌, Bool, true, false, ◌&&◌, not, cond, List, [], ◌∷◌, ◌++◌, length, take, refl, sym, subst, ap, ◌∙◌, append_assoc, append-nil, arith, inl, inr, None, Some, Option, Ok, Err, Result}
 use Rattle.std.specs.Prelude.{IfErr, IfOk}
 use Rattle.std.specs.List.{count_by}
 use Rattle.std.proofs.lemmas.List.{length-append, map-append}
@@ -142,7 +142,7 @@ lines_more : (files : FilePair) (most n told : ℕ) (pairs : List (List ℕ × L
 lines_more files most n told [] [] p c text t each none one = (
   t,
   [],
-  record_moved most (told + count_by does_differ []) told (n + length [] + 1) (n + 1) p.0 p.1 c t (omega arith) (omega arith) one,
+  record_moved most (told + count_by does_differ []) told (n + 0 + 1) (n + 1) p.0 p.1 c t (omega arith) (omega arith) one,
   refl,
   ap (λ (s : List ℕ). s ++ t) none ∙ sym (append-nil t),
 )
@@ -164,6 +164,7 @@ pub record PairsSoFar (files : FilePair) (n left_opened right_opened : ℕ) (cou
   pub printed : Took w0 w (ArePairLines files.most 0 0 come.pairs come.comparisons)
 
 pub none_paired : (files : FilePair) (l r w : Option (List ℕ)) → PairsSoFar files 0 0 0 (record { same = 0; equal = 0; differ = 0; left_alone = 0; right_alone = 0 }) l l r r w w
+unfolding none_come
 none_paired files l r w = record { come = none_come files l r; printed = ([], refl, append_none w) }
 
 pub one_paired : (files : FilePair) (n left_opened right_opened left_after right_after left_count right_count : ℕ) (counts : PairCounts) (c : Comparison) (left_slot right_slot : List ℕ) (s t : Standing)
@@ -175,6 +176,7 @@ pub one_paired : (files : FilePair) (n left_opened right_opened left_after right
     → IsMeasured files.by_bytes files.items (record { tree = files.tree; places = s; bytes = take left_count left_slot }) (record { tree = files.tree; places = t; bytes = take right_count right_slot }) c
     → Took w1 w2 (IfTold files.most counts.differ (AreComparedRecordLines (n + 1) (take left_count left_slot) (take right_count right_slot) c))
     → PairsSoFar files (n + 1) left_after right_after (with_comparison counts c) l0 l2 r0 r2 w0 w2
+unfolding one_come
 one_paired files n left_opened right_opened left_after right_after left_count right_count counts c left_slot right_slot s t l0 l1 l2 r0 r1 r2 w0 w1 w2 so_far left right left_whole right_whole left_legible right_legible is told =
     let a = take left_count left_slot in
     let b = take right_count right_slot in

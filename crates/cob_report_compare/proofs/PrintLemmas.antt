@@ -176,34 +176,53 @@ byte_lines ds text = text ≡ flat_map byte_line ds
 pub line_more : (d e : ByteDifference) (ds : List ByteDifference) (piece rest : List ℕ) → d ≡ e → piece ≡ byte_line d → rest ≡ flat_map byte_line ds → piece ++ rest ≡ flat_map byte_line (e ∷ ds)
 line_more d e ds piece rest is line lines = ap (λ (t : List ℕ). t ++ rest) (line ∙ ap byte_line is) ∙ ap (λ (t : List ℕ). byte_line e ++ t) lines
 
-pub more_none : (n : ℕ) → (n == 0) ≡ true → [] ≡ more_line n
-more_none n is = rw is refl
+pub more_none : (n : ℕ) → n ≡ 0 → [] ≡ more_line n
+more_none n is = subst (λ (k : ℕ). [] ≡ more_line k) (sym is) refl
 
-pub more_some : (n : ℕ) (text : List ℕ) → (n == 0) ≡ false → text ≡ codes "  and " ++ (decimal n ++ codes " more\n") → text ≡ more_line n
-more_some n text is e = rw is e
-
-pub element_lines : (number : ℕ) (l r : List ℕ) (told : FirstDifferences) (w0 w1 w2 w3 : Option (List ℕ)) → Took w0 w1 (λ part. part ≡ header_line number (length l) (length r))
-    → Took w1 w2 (AreDifferenceLines l r (map plain_difference told.first.items)) → Took w2 w3 (λ part. part ≡ more_line (told.count - length told.first.items))
-    → Took w0 w3 (AreComparedElementLines number l r told)
-element_lines number l r told w0 w1 w2 w3 header lines more =
-    let end = more_line (told.count - length told.first.items) in
+pub element_lines : (number : ℕ) (l r : List ℕ) (told : FirstDifferences) (shown : List Difference) (more : ℕ) (w0 w1 w2 w3 : Option (List ℕ)) → shown ≡ told.first.items
+    → more ≡ told.count - length shown → Took w0 w1 (λ part. part ≡ header_line number (length l) (length r)) → Took w1 w2 (AreDifferenceLines l r (map plain_difference shown))
+    → Took w2 w3 (λ part. part ≡ more_line more) → Took w0 w3 (AreComparedElementLines number l r told)
+element_lines number l r told shown more w0 w1 w2 w3 all is header lines last =
     let ds = map plain_difference told.first.items in
+    let end = more_line (told.count - length told.first.items) in
+    let rest : more ≡ told.count - length told.first.items = is ∙ ap (λ (es : List Difference). told.count - length es) all in
     took_front (header_line number (length l) (length r)) (λ text. (lines : List ℕ) × AreDifferenceLines l r ds lines × (text ≡ lines ++ end)) (AreComparedElementLines number l r told) w0 w1 w3
     (λ q is. (is.0, is.1, ap (λ (t : List ℕ). header_line number (length l) (length r) ++ t) is.2)) header
-    (took_end end (AreDifferenceLines l r ds) (λ text. (lines : List ℕ) × AreDifferenceLines l r ds lines × (text ≡ lines ++ end)) w1 w2 w3 (λ p are. (p, are, refl)) lines more)
+    (took_end end (AreDifferenceLines l r ds) (λ text. (lines : List ℕ) × AreDifferenceLines l r ds lines × (text ≡ lines ++ end)) w1 w2 w3 (λ p are. (p, are, refl))
+    (subst (λ (es : List Difference). Took w1 w2 (AreDifferenceLines l r (map plain_difference es))) all lines) (subst (λ (n : ℕ). Took w2 w3 (λ part. part ≡ more_line n)) rest last))
 
-pub unlike_is : (number : ℕ) (l r : List ℕ) (told : FirstBytes) (w0 w1 w2 w3 : Option (List ℕ)) → Took w0 w1 (λ part. part ≡ header_line number (length l) (length r))
-    → Took w1 w2 (λ part. part ≡ flat_map byte_line told.first.items) → Took w2 w3 (λ part. part ≡ more_line (told.count - length told.first.items))
-    → Took w0 w3 (λ part. part ≡ unlike_lines number l r told)
-unlike_is number l r told w0 w1 w2 w3 header lines more =
+pub unlike_is : (number : ℕ) (l r : List ℕ) (told : FirstBytes) (shown : List ByteDifference) (more : ℕ) (w0 w1 w2 w3 : Option (List ℕ)) → shown ≡ told.first.items
+    → more ≡ told.count - length shown → Took w0 w1 (λ part. part ≡ header_line number (length l) (length r)) → Took w1 w2 (λ part. part ≡ flat_map byte_line shown)
+    → Took w2 w3 (λ part. part ≡ more_line more) → Took w0 w3 (λ part. part ≡ unlike_lines number l r told)
+unlike_is number l r told shown more w0 w1 w2 w3 all is header lines last =
+    let bytes = flat_map byte_line told.first.items in
     let end = more_line (told.count - length told.first.items) in
-    let all = flat_map byte_line told.first.items in
-    took_front (header_line number (length l) (length r)) (λ text. text ≡ all ++ end) (λ text. text ≡ unlike_lines number l r told) w0 w1 w3
+    let rest : more ≡ told.count - length told.first.items = is ∙ ap (λ (ds : List ByteDifference). told.count - length ds) all in
+    took_front (header_line number (length l) (length r)) (λ text. text ≡ bytes ++ end) (λ text. text ≡ unlike_lines number l r told) w0 w1 w3
     (λ q is. ap (λ (t : List ℕ). header_line number (length l) (length r) ++ t) is) header
-    (took_end end (λ text. text ≡ all) (λ text. text ≡ all ++ end) w1 w2 w3 (λ p is. ap (λ (t : List ℕ). t ++ end) is) lines more)
+    (took_end end (λ text. text ≡ bytes) (λ text. text ≡ bytes ++ end) w1 w2 w3 (λ p is. ap (λ (t : List ℕ). t ++ end) is)
+    (subst (λ (ds : List ByteDifference). Took w1 w2 (λ part. part ≡ flat_map byte_line ds)) all lines) (subst (λ (n : ℕ). Took w2 w3 (λ part. part ≡ more_line n)) rest last))
 
--- what stands before the values is no empty text
-pub place_some : (name subscripts : List ℕ) (offset : ℕ) (text : List ℕ) → text ≡ place_text name subscripts offset → 0 < length text
-place_some name subscripts offset text is =
-    let rest = decimal offset ++ codes ": " in
-    omega (arith, ap length is, length-append name (subscripts_text subscripts ++ 32 ∷ rest), length-append (subscripts_text subscripts) (32 ∷ rest))
+-- a text with another one behind it that is not empty
+pub not_empty : (a b text : List ℕ) → text ≡ a ++ b → 0 < length b → 0 < length text
+not_empty a b text is some = omega (arith, ap length is, length-append a b, some)
+
+-- ---- the line with the counts
+
+-- words and a number that come behind a line, and what stands behind these
+one_count : (before line words number rest : List ℕ) → line ≡ before ++ (words ++ number) → line ++ rest ≡ before ++ (words ++ (number ++ rest))
+one_count before line words number rest is =
+    ap (λ (t : List ℕ). t ++ rest) is ∙ append_assoc before (words ++ number) rest ∙ ap (λ (t : List ℕ). before ++ t) (append_assoc words number rest)
+
+pub seven_counts : (l0 l1 l2 l3 l4 l5 l6 l7 line w1 n1 w2 n2 w3 n3 w4 n4 w5 n5 w6 n6 w7 n7 : List ℕ) → l0 ≡ [] → l1 ≡ l0 ++ (w1 ++ n1) → l2 ≡ l1 ++ (w2 ++ n2) → l3 ≡ l2 ++ (w3 ++ n3)
+    → l4 ≡ l3 ++ (w4 ++ n4) → l5 ≡ l4 ++ (w5 ++ n5) → l6 ≡ l5 ++ (w6 ++ n6) → l7 ≡ l6 ++ (w7 ++ n7) → line ≡ l7 ++ 10 ∷ []
+    → line ≡ w1 ++ (n1 ++ (w2 ++ (n2 ++ (w3 ++ (n3 ++ (w4 ++ (n4 ++ (w5 ++ (n5 ++ (w6 ++ (n6 ++ (w7 ++ (n7 ++ 10 ∷ [])))))))))))))
+seven_counts l0 l1 l2 l3 l4 l5 l6 l7 line w1 n1 w2 n2 w3 n3 w4 n4 w5 n5 w6 n6 w7 n7 e0 e1 e2 e3 e4 e5 e6 e7 e =
+    let r7 = w7 ++ (n7 ++ 10 ∷ []) in
+    let r6 = w6 ++ (n6 ++ r7) in
+    let r5 = w5 ++ (n5 ++ r6) in
+    let r4 = w4 ++ (n4 ++ r5) in
+    let r3 = w3 ++ (n3 ++ r4) in
+    let r2 = w2 ++ (n2 ++ r3) in
+    e ∙ one_count l6 l7 w7 n7 (10 ∷ []) e7 ∙ one_count l5 l6 w6 n6 r7 e6 ∙ one_count l4 l5 w5 n5 r6 e5 ∙ one_count l3 l4 w4 n4 r5 e4 ∙ one_count l2 l3 w3 n3 r4 e3
+    ∙ one_count l1 l2 w2 n2 r3 e2 ∙ one_count l0 l1 w1 n1 r2 e1 ∙ ap (λ (t : List ℕ). t ++ (w1 ++ (n1 ++ r2))) e0

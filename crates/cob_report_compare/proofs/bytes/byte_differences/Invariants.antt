@@ -5,6 +5,6 @@ use Rattle.cob_report_compare.proofs.bytes.byte_differences.Given as goal
 
 abbrev pub invariant-loop-offset : goal.invariant-loop-offset
 invariant-loop-offset l = record {
-  so_far : BytesSoFar l.left.now l.right.now l.offset l.told;
+  so_far : BytesSoFar l.left l.right l.offset l.told;
   few : l.told.count ≤ l.offset;
 }

@@ -1,7 +1,9 @@
-use Rattle.std.proofs.Common.{rules, arith, refl, sym, ap, ◌∙◌, ◌≡◌, ◌+◌, ◌-◌, true, false}
+use Rattle.std.proofs.Common.{rules, arith, refl, sym, subst, ap, ◌∙◌, ◌≡◌, ◌+◌, ◌-◌, true, false, Err}
 use Rattle.cob_convert_stream.specs.Reasons.{is_write_cause}
 use Rattle.cob_convert_stream.specs.declared.fault.Reason.{Reason}
-use Rattle.cob_report_compare.proofs.CameLemmas.{alone_end, alone_stop, alone_unprinted, one_alone, one_line}
+use Rattle.cob_report_compare.specs.declared.files.CompareStop.{CompareStop}
+use Rattle.cob_report_compare.specs.Files.{AreAlone}
+use Rattle.cob_report_compare.proofs.CameLemmas.{alone_end, alone_limit, alone_stop, alone_unprinted, one_alone, one_line}
 use Rattle.cob_report_compare.proofs.files.count_alone.Goals as goal
 
 pub returns-in-Ok-None-clause-alone : goal.returns-in-Ok-None-clause-alone
@@ -43,3 +45,12 @@ returns-in-Err-tell_alone-clause-alone g c =
     (one_alone c.args.form c.args.layout.now (c.loop-done.done - c.args.first) (c.loop-done.done + 1 - c.args.first) c.args.opened c.loop-done.left c.read_record.new.left
     c.in-Ok-Some.field-0-0 c.read_record.new.bytes c.read_record.new.places _ (g.R.Source.coming c.loop-done.source) _ c.loop-done.invariant.so_far
     (omega (arith, c.loop-done.auto.done)) next whole legible) (omega (arith, c.loop-done.auto.done)) writing)
+
+pub returns-clause-alone : goal.returns-clause-alone
+returns-clause-alone g c =
+    let end : c.loop-done.done ≡ 18446744073709551614 = omega (arith, c.loop-done-test.false, c.loop-done.auto.done-end) in
+    subst (λ (s : CompareStop). AreAlone c.args.side c.args.form c.args.layout.now c.args.most c.args.told c.args.first c.args.opened (g.R.Source.coming c.args.source.now)
+    (g.R.Source.coming c.loop-done.source) (g.W.Sink.taken c.args.sink.now) (g.W.Sink.taken c.loop-done.sink) (Err s))
+    (sym (c.stop_on-2.ensures ∙ ap (λ (why : Reason). record { side = c.args.side; number = 18446744073709551615; reason = why }) c.limit_reason.ensures))
+    (alone_limit c.args.side c.args.form c.args.layout.now c.args.most c.args.told c.args.first (c.loop-done.done - c.args.first) 18446744073709551615 c.args.opened c.loop-done.left _ _ _ _
+    c.loop-done.invariant.so_far (omega (arith, end, c.loop-done.auto.done)) (omega (arith, end, c.loop-done.auto.done)) c.loop-done.invariant.printed)

@@ -106,7 +106,7 @@ loop-done-preserved g c = record {
       c.loop-done.invariant.so_far (rw c.in-Ok-Some.field-0-is at c.in-Ok-Some.ensures.next) (rw c.in-Ok-Some-read_record.field-0-is at c.in-Ok-Some-read_record.ensures.next)
       (rw c.in-Ok-Some.field-0-is at c.in-Ok-Some.ensures.whole) (rw c.in-Ok-Some-read_record.field-0-is at c.in-Ok-Some-read_record.ensures.whole)
       (rw c.in-Ok-Some.field-0-is at c.in-Ok-Some.ensures.legible) (rw c.in-Ok-Some-read_record.field-0-is at c.in-Ok-Some-read_record.ensures.legible)
-      c.compare_pair-comparison.ensures.is c.in_default-2.ensures.text);
+      c.compare_pair-comparison.ensures.is c.in_default-tell_comparison.ensures.text);
   writes = search rules;
   left_reads = search rules;
   right_reads = search rules;

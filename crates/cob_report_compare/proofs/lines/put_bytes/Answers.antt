@@ -9,8 +9,8 @@ loop-byte-init g c = record { so_far = none_printed byte_lines c.args.bytes.now 
 
 pub loop-byte-preserved : goal.loop-byte-preserved
 loop-byte-preserved g c = record {
-  so_far = one_printed byte_lines _ c.args.bytes.now c.args.bytes.now c.loop-byte.byte-index c.byte-byte.result _ (g.W.Sink.taken c.loop-byte.sink) _ c.loop-byte-test.true
-      (λ piece rest is are. line_more _ _ _ piece rest c.byte-byte.is (is ∙ c.as_slice.ensures.value ∙ c.line_of_byte.ensures.text) are) c.loop-byte.invariant.so_far c.in_ok-put_text.ensures.text;
+  so_far = one_printed byte_lines _ c.args.bytes.now c.args.bytes.now c.loop-byte.byte-index _ _ (g.W.Sink.taken c.loop-byte.sink) _ c.loop-byte-test.true
+      (λ piece rest is are. line_more _ _ _ piece rest refl (is ∙ c.as_slice.ensures.value ∙ c.line_of_byte.ensures.text) are) c.loop-byte.invariant.so_far c.in_ok-put_text.ensures.text;
   writes = search rules;
 }
 

@@ -7,7 +7,7 @@ use Rattle.cob_report_compare.proofs.lines.put_differences.Given as goal
 
 abbrev pub invariant-loop-difference : goal.invariant-loop-difference
 invariant-loop-difference g l = record {
-  printable : ArePrintable l.left.now l.right.now (map plain_difference (drop l.difference-index l.differences));
-  so_far : PrintedSoFar (lines_of l.left.now l.right.now) l.differences (drop l.difference-index l.differences) (g.W.Sink.taken l.fn.sink) (g.W.Sink.taken l.sink);
+  printable : ArePrintable l.left l.right (map plain_difference (drop l.difference-index l.differences));
+  so_far : PrintedSoFar (lines_of l.left l.right) l.differences (drop l.difference-index l.differences) (g.W.Sink.taken l.fn.sink) (g.W.Sink.taken l.sink);
   writes : g.W.Sink.failures l.sink ≡ g.W.Sink.failures l.fn.sink;
 }

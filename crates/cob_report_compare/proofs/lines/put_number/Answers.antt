@@ -1,4 +1,4 @@
-use Rattle.std.proofs.Common.{inl, inr, rw}
+use Rattle.std.proofs.Common.{inl, inr}
 use Rattle.cob_report_show.specs.Values.{AreUnknown, IsNumberValue}
 use Rattle.cob_report_compare.proofs.PrintLemmas.{on_ok, took_is, took_so}
 use Rattle.cob_report_compare.proofs.lines.put_number.Goals as goal
