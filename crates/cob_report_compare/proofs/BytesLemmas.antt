@@ -1,5 +1,5 @@
 -- Bytes that differ, in order.
-use Rattle.std.proofs.Common.{◌≡◌, ◌∙◌, ℕ, ◌+◌, ◌<◌, ◌≤◌, ◌==◌, min, Bool, true, false, List, [], ◌∷◌, ◌++◌, length, drop, take, get_or, refl, sym, ap, subst, append_assoc, append-nil, arith, inl, inr, ◌⊎◌}
+use Rattle.std.proofs.Common.{◌≡◌, ◌∙◌, ℕ, ◌+◌, ◌<◌, ◌≤◌, ◌==◌, min, true, false, List, [], ◌∷◌, ◌++◌, length, drop, take, get_or, refl, sym, ap, subst, append_assoc, append-nil, arith, inl, inr, ◌⊎◌}
 use Rattle.std.proofs.lemmas.List.{drop_all, drop_more, length-append, length-take, take-append-le, take_all}
 use Rattle.std.proofs.lemmas.Bool.{cases_lt}
 use Rattle.cob_report_compare.specs.Bytes.{AreFirstOfBytes, difference_at_byte, bytes_from, most_told}

@@ -1,12 +1,11 @@
 -- What is printed, text behind text.
-use Rattle.std.proofs.Common.{◌≡◌, ◌∙◌, ℕ, ◌+◌, ◌-◌, ◌<◌, ◌≤◌, ◌==◌, true, false, true≢false, List, [], ◌∷◌, ◌++◌, length, drop, map, refl, sym, ap, subst, append_assoc, append-nil, arith, Option, Some, None, is_some, codes, get_or, Ok, Err, Result}
-use Rattle.std.specs.Prelude.{OnOk, decimal, flat_map}
+use Rattle.std.proofs.Common.{◌≡◌, ◌∙◌, ℕ, ◌+◌, ◌-◌, ◌<◌, ◌≤◌, true≢false, List, [], ◌∷◌, ◌++◌, length, drop, map, refl, sym, ap, subst, append_assoc, append-nil, arith, Option, Some, None, is_some, codes, get_or, Ok, Err, Result}
+use Rattle.std.specs.Prelude.{OnOk, flat_map}
 use Rattle.std.specs.Io.KnownBytes.{append_known}
 use Rattle.std.proofs.lemmas.List.{drop_all, drop_more, length-append}
 use Rattle.cob_copybook_tree.specs.declared.node.Item.{Item}
 use Rattle.cob_layout.specs.Fields.{field_of}
 use Rattle.cob_report_show.specs.Elements.{NamedItem}
-use Rattle.cob_report_show.specs.Lines.{subscripts_text}
 use Rattle.cob_report_show.specs.Values.{AreQuoted, AreUnknown, IsByteShown, IsValueShown}
 use Rattle.cob_records.specs.declared.records.RecordFault.{RecordFault}
 use Rattle.cob_records.specs.Device.{Took}

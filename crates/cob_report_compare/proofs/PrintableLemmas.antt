@@ -1,6 +1,5 @@
 -- The differences of two records can be printed.
-use Rattle.std.proofs.Common.{◌≡◌, ◌∙◌, ℕ, zero, suc, ◌+◌, ◌≤◌, Bool, true, false, true≢false, List, [], ◌∷◌, ◌++◌, length, map, take, refl, sym, ap, subst, inl, inr}
-use Rattle.std.specs.List.{AllByRecursion}
+use Rattle.std.proofs.Common.{◌≡◌, ℕ, zero, suc, Bool, true, false, true≢false, List, [], ◌∷◌, ◌++◌, map, take, sym, subst, inl, inr}
 use Rattle.cob_report_show.specs.Elements.{NamedItem, Printed}
 use Rattle.cob_report_show.proofs.ElementLemmas.{all_append}
 use Rattle.cob_report_compare.specs.Bytes.{most_told}

@@ -1,7 +1,7 @@
 -- Answers of a comparison of two files.
-use Rattle.std.proofs.Common.{◌≡◌, ℕ, Bool, true, false, List, Option, refl, sym, subst, ◌∙◌, ap, Ok, Err, Result}
+use Rattle.std.proofs.Common.{◌≡◌, ℕ, Bool, true, List, Option, refl, sym, subst, ◌∙◌, ap, Ok, Err, Result}
 use Rattle.cob_convert_stream.specs.Reasons.{is_write_cause}
-use Rattle.cob_records.specs.Device.{Took, counted}
+use Rattle.cob_records.specs.Device.{counted}
 use Rattle.cob_convert_stream.specs.declared.fault.Cause.{Cause}
 use Rattle.cob_report_compare.specs.declared.counted.PairCounts.{PairCounts}
 use Rattle.cob_report_compare.specs.declared.files.CompareStop.{CompareStop}

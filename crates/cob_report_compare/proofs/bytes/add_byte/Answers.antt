@@ -1,5 +1,4 @@
 use Rattle.std.proofs.Common.{refl}
-use Rattle.cob_report_compare.specs.declared.bytes.FirstBytes.{FirstBytes}
 use Rattle.cob_report_compare.proofs.AddLemmas.{is_full, is_not_full}
 use Rattle.cob_report_compare.proofs.BytesLemmas.{byte_last, byte_none}
 use Rattle.cob_report_compare.proofs.bytes.add_byte.Goals as goal

@@ -1,4 +1,4 @@
-use Rattle.std.proofs.Common.{rules, ◌≡◌, ◌==◌, true, false}
+use Rattle.std.proofs.Common.{rules}
 use Rattle.cob_report_compare.proofs.BytesLemmas.{not_noted, noted}
 use Rattle.cob_report_compare.proofs.bytes.note_byte.Goals as goal
 

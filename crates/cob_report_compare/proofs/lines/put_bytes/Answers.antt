@@ -1,6 +1,4 @@
-use Rattle.std.proofs.Common.{rules, refl, ap, ◌∙◌, ◌++◌, List, ℕ}
-use Rattle.std.specs.Prelude.{flat_map}
-use Rattle.cob_report_compare.specs.Lines.{byte_line}
+use Rattle.std.proofs.Common.{rules, refl, ◌∙◌}
 use Rattle.cob_report_compare.proofs.PrintLemmas.{all_printed, byte_lines, line_more, none_printed, one_printed}
 use Rattle.cob_report_compare.proofs.lines.put_bytes.Goals as goal
 

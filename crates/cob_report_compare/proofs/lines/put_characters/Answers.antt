@@ -1,4 +1,3 @@
-use Rattle.std.proofs.Common.{refl, ap, ◌≡◌, ◌++◌, ◌∷◌, [], List, ℕ}
 use Rattle.cob_report_compare.proofs.PrintLemmas.{on_ok, quoted}
 use Rattle.cob_report_compare.proofs.lines.put_characters.Goals as goal
 

@@ -1,4 +1,4 @@
-use Rattle.std.proofs.Common.{rules, refl, ◌+◌}
+use Rattle.std.proofs.Common.{rules, refl}
 use Rattle.cob_report_compare.proofs.PrintLemmas.{all_printed, first_can, line_by, none_printed, one_printed}
 use Rattle.cob_report_compare.proofs.PrintLemmas.{lines_of}
 use Rattle.cob_report_compare.proofs.lines.put_differences.Goals as goal

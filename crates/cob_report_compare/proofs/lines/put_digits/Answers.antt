@@ -1,4 +1,4 @@
-use Rattle.std.proofs.Common.{rules, refl, subst, sym, ◌∙◌}
+use Rattle.std.proofs.Common.{rules, refl, ◌∙◌}
 use Rattle.cob_report_compare.proofs.PrintLemmas.{all_printed, digit_lines, digits_more, none_printed, one_printed}
 use Rattle.cob_report_compare.proofs.lines.put_digits.Goals as goal
 

@@ -1,4 +1,4 @@
-use Rattle.std.proofs.Common.{◌≡◌, inl, inr, refl, arith}
+use Rattle.std.proofs.Common.{inl, inr, refl, arith}
 use Rattle.cob_report_compare.specs.Lines.{AreComparedRecordLines, IfTold}
 use Rattle.cob_report_compare.proofs.PrintLemmas.{on_ok, took_none, took_so}
 use Rattle.cob_report_compare.proofs.lines.tell_comparison.Goals as goal

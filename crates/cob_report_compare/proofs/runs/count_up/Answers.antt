@@ -1,4 +1,3 @@
-use Rattle.std.proofs.Common.{rules, refl}
 use Rattle.cob_report_compare.proofs.runs.count_up.Goals as goal
 
 pub put_counts-requires : goal.put_counts-requires
