@@ -6,7 +6,7 @@ use Rattle.clap.specs.Words.{Text}
 use Rattle.cob_program_line.specs.Numbers.{SaysNumber}
 use Rattle.cob_program_options.specs.Commands.{compare_options, pieces_options, show_options}
 use Rattle.cob_program_options.specs.Looks.{AreAll, Look}
-use Rattle.cob_program_line.specs.Named.{NamesBlock, NamesBound, NamesNumber, NamesRightForm, form_by_letter, letter_of, listing_by_word, measure_by_word, reading_by_word, sized_by, word_of, word_of_listing, word_of_measure}
+use Rattle.cob_program_line.specs.Named.{NamesBlock, NamesBound, NamesNumber, NamesRightForm, form_by_letter, letter_of, listing_by_word, reading_by_word, sized_by, word_of, word_of_listing}
 use Rattle.cob_program_line.specs.Faults.{HasCounts, HasForms, HasListing, HasLrecl, HasPiece, HasPieces, HasSizes, IsFaultIn, LacksABlock, LacksBlock, LacksBound, LacksCount, LacksForm, LacksListing, LacksNumber, LacksPiece, LacksReading, LacksSize}
 use Rattle.cob_program_line.specs.Lines.{NameChoice, NameForms, NamePiece}
 use Rattle.cob_program_line.specs.declared.line.Forms.{Forms}

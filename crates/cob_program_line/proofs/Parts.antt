@@ -2,7 +2,7 @@
 use Rattle.std.proofs.Common.{◌≡◌, ◌==◌, arith, length, map, eqb-true, List, [], ◌∷◌, Option, Some, None, option_map, true, false, sym, ap, ap₂, true≢false}
 use Rattle.std.specs.Prelude.{is_some, unwrap_or}
 use Rattle.clap.specs.Words.{Row, Text}
-use Rattle.cob_program_line.specs.Lines.{IsCommandLineOf}
+use Rattle.cob_program_line.specs.Lines.{HandsNothing, IsCommandLineOf}
 use Rattle.cob_program_line.specs.declared.line.CommandLine.{CommandLine}
 use Rattle.cob_program_line.specs.declared.line.Line.TheVariants as line
 
@@ -20,10 +20,10 @@ no_parts None f g z none some = true≢false (sym (ap is_some some))
 no_parts (Some x) f g z none some = true≢false (ap is_some none)
 
 -- no words are a job
-pub none_said : {X : Type 0} (text : X → Text) (words : List X) (said : CommandLine) → said.line ≡ line.Job → said.explain ≡ false → (length words == 0) ≡ true
-    → IsCommandLineOf (map text words) said
-none_said text [] said job plain e = (job, plain)
-none_said text (word ∷ words) said job plain e = absurd (omega (arith, eqb-true _ _ e))
+pub none_said : {X : Type 0} (text : X → Text) (words : List X) (said : CommandLine) → said.line ≡ line.Job → said.explain ≡ false → HandsNothing said.handing
+    → (length words == 0) ≡ true → IsCommandLineOf (map text words) said
+none_said text [] said job plain nothing e = (job, plain, nothing)
+none_said text (word ∷ words) said job plain nothing e = absurd (omega (arith, eqb-true _ _ e))
 
 pub some_said : {X : Type 0} (text : X → Text) (words : List X) → (length words == 0) ≡ false → map text words ≡ [] → ⊥
 some_said text [] e none = true≢false e

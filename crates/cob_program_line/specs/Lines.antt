@@ -1,5 +1,5 @@
 -- What a command line says.
-use Rattle.std.specs.Prelude.{◌≡◌, ◌<◌, ⊤, false, ℕ, List, [], ◌∷◌, Some, Option, option_map, codes}
+use Rattle.std.specs.Prelude.{◌≡◌, ◌<◌, ⊤, false, ℕ, List, [], ◌∷◌, None, Some, Option, option_map, codes}
 use Rattle.clap.specs.Words.{Text}
 use Rattle.cob_records.specs.Forms.{HasBlockSize}
 use Rattle.cob_limits.specs.Limits.{longest_block}
@@ -135,9 +135,10 @@ pub record IsDraft (look : Look) (line : DraftLine) : Type 0 where
   pub in_book : look (codes "in-book") ≡ Some line.in_book.now
   pub out_book : look (codes "out-book") ≡ Some line.out_book.now
 
--- The options of `map` name the line's files, its forms, its reading, the record length of its input, and the number of the record.
+-- The options of `map` name the line's files, and these are told, its forms, its reading, the record length of its input, and the number of the record.
 pub record IsMap (look : Look) (line : MapLine) : Type 0 where
   pub texts : NameTexts look line.texts
+  pub told : NameTexts look line.told
   pub input : look (codes "in") ≡ option_map (λ file. file.now) line.input
   pub forms : NameForms look line.forms
   pub lrecl : NamesLrecl look line.lrecl
@@ -168,6 +169,10 @@ pub record NameHanding (look : Look) (handing : Handing) : Type 0 where
   pub out_record : look (codes "out-record") ≡ option_map (λ name. name.now) handing.out_record
   pub one_record : look (codes "record-name") ≡ option_map (λ name. name.now) handing.record
 
+-- no option hands anything over
+abbrev pub HandsNothing : Handing → Type 0
+HandsNothing handing = NameHanding (λ name. None) handing
+
 -- The name of a command and its options say the command's line, and by options that are none of the line whether its faults are explained, and how its
 -- copybooks are handed over.
 pub record SaysCommand (name : Text) (look : Look) (said : CommandLine) : Type 0 where
@@ -191,9 +196,9 @@ HasBlocks (line.Map options) = HasBlockSize options.forms.input × HasBlockSize 
 HasBlocks line.Completion = ⊤
 HasBlocks line.Manual = ⊤
 
--- What the words behind the program's name say: none at all are a job, of which nothing is explained; others are the name of a command and then its
--- options, each of which names what the line says, by the value that it is given or by its default.
+-- What the words behind the program's name say: none at all are a job, of which nothing is explained, and for which nothing is handed over; others are the
+-- name of a command and then its options, each of which names what the line says, by the value that it is given or by its default.
 abbrev pub IsCommandLineOf : List Text → CommandLine → Type 0
-IsCommandLineOf [] said = (said.line ≡ line.Job) × (said.explain ≡ false)
+IsCommandLineOf [] said = (said.line ≡ line.Job) × (said.explain ≡ false) × HandsNothing said.handing
 IsCommandLineOf (command ∷ words) said = (options : Options) × (given : Given) × (found_at command commands ≡ Some options)
     × AreOptions options words given × SaysCommand command (taken options given) said

@@ -263,6 +263,7 @@ pub fn map_line<'a>(options: &ArgMatches<'a>) -> Result<MapLine<'a>, LineFault>
     let lrecl = lrecl_of(options)?;
     Ok(MapLine {
         texts: texts_of(options),
+        told: texts_of(options),
         input: named_if_there(options, "in"),
         forms,
         lrecl,

@@ -1,5 +1,7 @@
 //! What the words ask for, command by command, and the files that each command names.
 
+ghost use Rattle.cob_program_line.specs.Lines.{HandsNothing};
+
 use cob_codec::Reading;
 use cob_program_runtime::NamedFile;
 use cob_records::Form;
@@ -124,7 +126,9 @@ pub struct Handing<'a> {
 
 impl Handing<'_> {
     /// No option says anything.
-    pub fn plain() -> Handing<'static> {
+    pub fn plain() -> Handing<'static>
+        ensures { HandsNothing result }
+    {
         Handing {
             copy_dirs: None,
             replace: None,
@@ -394,6 +398,8 @@ pub struct DraftLine<'a> {
 pub struct MapLine<'a> {
     /// The files of the three texts.
     pub texts: TextFiles<'a>,
+    /// The files that the page tells: those that the words name, also where the copybooks are read elsewhere.
+    pub told: TextFiles<'a>,
     /// The file that a record comes from, where one is shown; `-` is standard input.
     pub input: Option<&'a str>,
     /// How the records of both files stand, and how binary items are read.

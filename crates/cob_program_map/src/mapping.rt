@@ -67,12 +67,12 @@ fn marks_of(
     })
 }
 
-/// The names of the files of the texts.
+/// The names of the files of the texts, as they are told.
 fn names_of<'a>(line: &MapLine<'a>) -> TextNames<'a> {
     TextNames {
-        in_book: line.texts.in_book,
-        out_book: line.texts.out_book,
-        moves: line.texts.moves,
+        in_book: line.told.in_book,
+        out_book: line.told.out_book,
+        moves: line.told.moves,
     }
 }
 

@@ -15,6 +15,9 @@ returns-in-Layout g c = (_, rw c.in-Layout.is c.do_layout.ensures, c.code-in-Lay
 pub returns-in-Show : goal.returns-in-Show
 returns-in-Show g c = (_, rw c.in-Show.is c.do_show.ensures, c.code-in-Show.ensures)
 
+pub returns-in-Compare : goal.returns-in-Compare
+returns-in-Compare g c = (_, rw c.in-Compare.is c.do_compare.ensures, c.code-in-Compare.ensures)
+
 pub returns-in-Pieces : goal.returns-in-Pieces
 returns-in-Pieces g c = (_, rw c.in-Pieces.is c.do_pieces.ensures, c.code-in-Pieces.ensures)
 

@@ -13,7 +13,7 @@ use Rattle.cob_program_line.proofs.Said.{found_by, named_by, option_fault, refus
 use Rattle.cob_program_line.proofs.read.line_of.Goals as goal
 
 pub returns-then-is_empty : goal.returns-then-is_empty
-returns-then-is_empty g c = record { options = none_said g.S.AsStr.text c.args.words.now _ refl refl (sym c.is_empty.ensures ∙ c.if-is_empty.true); refused = tt; fault = tt; blocks = tt }
+returns-then-is_empty g c = record { options = none_said g.S.AsStr.text c.args.words.now _ refl refl c.plain.ensures (sym c.is_empty.ensures ∙ c.if-is_empty.true); refused = tt; fault = tt; blocks = tt }
 
 pub whole_line-requires : goal.whole_line-requires
 whole_line-requires g c =
