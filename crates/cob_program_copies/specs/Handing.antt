@@ -28,7 +28,7 @@ LacksHanding (fault.Book refusal) = ⊤
 abbrev pub status_of_unhanded : BookRefusal → Status
 status_of_unhanded (refusal.Refused words) = status.Refused
 status_of_unhanded (refusal.NotRead words) = status.Device
-status_of_unhanded (refusal.OneFile book output) = status.Malformed
+status_of_unhanded (refusal.OneFile option lost) = status.Malformed
 status_of_unhanded refusal.BadReplace = status.Malformed
 status_of_unhanded refusal.Memory = status.Memory
 

@@ -124,7 +124,7 @@ fn push_handed<'a, R: AllocGlobal + Files>(
 
 /// The text in the file of a copybook.
 fn read_of<R: AllocGlobal + Files>(rt: &R, book: BookOption<'_>) -> Result<Vec<u8>, CommandFault>
-    ensures { IfErr result (LacksText book.file) }
+    ensures { IfErr result (LacksText book.entry.file) }
 {
     text_of(rt, book.path, book.file)
 }
