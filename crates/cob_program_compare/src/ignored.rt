@@ -97,20 +97,17 @@ fn are_qualifiers(words: &[&[u8]]) -> bool {
 }
 
 /// The number of the only entry that these words name, a name with its qualifiers.
-fn number_of<'a>(
-    directory: &Directory<'a, usize>,
-    words: &[&[u8]],
-) -> Result<usize, ComparisonFault> {
+fn number_of<'a>(directory: &Directory<'a, usize>, words: &[&[u8]]) -> Result<usize, IgnoreRule> {
     let Some((name, qualifiers)) = words.split_first() else {
-        return Err(ComparisonFault::Ignore(IgnoreRule::Grammar));
+        return Err(IgnoreRule::Grammar);
     };
     if is_comma(name) || !are_qualifiers(qualifiers) {
-        return Err(ComparisonFault::Ignore(IgnoreRule::Grammar));
+        return Err(IgnoreRule::Grammar);
     }
     match directory.only_named(name, QualifierTexts { words: qualifiers }) {
         Ok(bearer) => Ok(bearer.entry),
-        Err(NameFault::Unknown) => Err(ComparisonFault::Ignore(IgnoreRule::Unknown)),
-        Err(NameFault::Ambiguous) => Err(ComparisonFault::Ignore(IgnoreRule::Ambiguous)),
+        Err(NameFault::Unknown) => Err(IgnoreRule::Unknown),
+        Err(NameFault::Ambiguous) => Err(IgnoreRule::Ambiguous),
     }
 }
 
@@ -126,23 +123,21 @@ fn words_before_comma(words: &[&[u8]]) -> usize
     words.len()
 }
 
-/// Adds a number.
-fn push_number(numbers: &mut Vec<usize>, number: usize) -> Result<(), AllocError> {
-    numbers.push(number)?;
-    Ok(())
-}
-
-/// Adds the numbers of the entries that these words name: names with their qualifiers, with commas between them.
+/// Adds the numbers of the entries that these words name: names with their qualifiers, with commas between them. It answers the rule that they break.
 fn add_numbers<'a>(
     directory: &Directory<'a, usize>,
     words: &[&[u8]],
     numbers: &mut Vec<usize>,
-) -> Result<(), ComparisonFault> {
+) -> Result<Result<(), IgnoreRule>, AllocError> {
     let (reference, behind) = words.split_at(words_before_comma(words));
-    push_number(numbers, number_of(directory, reference)?)?;
+    let number = match number_of(directory, reference) {
+        Ok(number) => number,
+        Err(rule) => return Ok(Err(rule)),
+    };
+    numbers.push(number)?;
     match behind.split_first() {
         Some((_, further)) => add_numbers(directory, further, numbers),
-        None => Ok(()),
+        None => Ok(Ok(())),
     }
 }
 
@@ -165,6 +160,8 @@ pub(crate) fn ignored_entries(
     let directory = Directory::new(alloc, listed)?;
     let text = names.as_bytes().to_ascii_uppercase(alloc)?;
     let words = words_of(alloc, text.as_slice())?;
-    add_numbers(&directory, words.as_slice(), &mut numbers)?;
-    Ok(numbers)
+    match add_numbers(&directory, words.as_slice(), &mut numbers)? {
+        Ok(()) => Ok(numbers),
+        Err(rule) => Err(ComparisonFault::Ignore(rule)),
+    }
 }
