@@ -371,8 +371,8 @@ turn_refused law unbroken (why.Broken f) e ns l body turns done number bound old
       subst (λ (b : WrittenBound). IsLoopRefused f (nameable e) ns l b (λ i. IsRefusedIn f e (in_its_turn ns l i) p) (λ i. (d : Deeds Past) × (c : ℕ) × PassageComesTo e (in_its_turn ns l i) p d c)) (sym same)
           (done, few, subst (λ (i : ℕ). IsRefusedIn f e (in_its_turn ns l i) p) at (refused p is).1),
       let a = adds p is in
-      turns_few_end e ns l p bound (turns_between l.from l.by bound) (length old.list) same refl
-      (turns_few_refused law unbroken f e ns l p bound done number (length old.list) (length now.list) a.deeds a.many named (refused p is).0 at a.longer a.fits a.are (refused p is).1 (refused p is).2 a.few),
+          turns_few_end e ns l p bound (turns_between l.from l.by bound) (length old.list) same refl
+          (turns_few_refused law unbroken f e ns l p bound done number (length old.list) (length now.list) a.deeds a.many named (refused p is).0 at a.longer a.fits a.are (refused p is).1 (refused p is).2 a.few),
     )
 turn_refused law unbroken why.TooMany e ns l body turns done number bound old now named some same all less at adds refused p is =
     let few : done < turns_between l.from l.by bound =
