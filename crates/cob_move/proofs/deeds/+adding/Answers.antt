@@ -227,16 +227,26 @@ add_tested-try_turns-read-requires t c =
       omega (arith, c.decreases),
       (
         c.requires.named,
-        c.requires.pairs,
-        subst (λ (m : MadeLists). IsMade (records_of c.args.entries.now) m) (sym begin) (closed_made (records_of c.args.entries.now) (made_lists c.args.made.now) c.requires.made),
-        c.requires.bounds,
-        (empty, c.new-turns.ensures.items),
-        ap open_statements begin ∙ closed_open (made_lists c.args.made.now),
         (
-          lexemes c.args.words.now,
-          past_of c.args.entries.now c.in_ok-found.found 0,
-          c.requires.item,
-          record { reference = b.reference; spelled = b.spelled; named = b.named; item = b.item },
+          c.requires.pairs,
+          (
+            subst (λ (m : MadeLists). IsMade (records_of c.args.entries.now) m) (sym begin) (closed_made (records_of c.args.entries.now) (made_lists c.args.made.now) c.requires.made),
+            (
+              c.requires.bounds,
+              (
+                (empty, c.new-turns.ensures.items),
+                (
+                  ap open_statements begin ∙ closed_open (made_lists c.args.made.now),
+                  (
+                    lexemes c.args.words.now,
+                    past_of c.args.entries.now c.in_ok-found.found 0,
+                    c.requires.item,
+                    record { reference = b.reference; spelled = b.spelled; named = b.named; item = b.item },
+                  ),
+                ),
+              ),
+            ),
+          ),
         ),
       ),
     )
@@ -334,9 +344,94 @@ add_passage-add_item-requires t c =
       omega (arith, c.decreases, less, c.loop-item.invariant.fewer),
       (
         c.requires.named,
-        c.loop-item.invariant.pairs,
-        c.loop-item.invariant.made,
-        front_read (item_front c.in-Some.item) (lexemes c.loop-item.rest.now) (lexemes c.in-Some.more.now) c.in-Some.ensures.found,
-        (bounds_parted (item_front c.in-Some.item) (lexemes c.loop-item.rest.now) (lexemes c.in-Some.more.now) c.loop-item.invariant.bounds (omega (arith, short)) c.in-Some.ensures.only).0,
+        (
+          c.loop-item.invariant.pairs,
+          (
+            c.loop-item.invariant.made,
+            (
+              front_read (item_front c.in-Some.item) (lexemes c.loop-item.rest.now) (lexemes c.in-Some.more.now) c.in-Some.ensures.found,
+              (bounds_parted (item_front c.in-Some.item) (lexemes c.loop-item.rest.now) (lexemes c.in-Some.more.now) c.loop-item.invariant.bounds (omega (arith, short)) c.in-Some.ensures.only).0,
+            ),
+          ),
+        ),
       ),
     )
+
+pub add_turn-returns-in_err-inner-clause-fault : goal.add_turn-returns-in_err-inner-clause-fault
+add_turn-returns-in_err-inner-clause-fault t c =
+    let p = err_from_is_err_and c.from_residual.result c.from_residual.ensures.1 in
+    rw (p.1, p.2) (λ p is. tt)
+
+pub add_turn-returns-in_err-inner-clause-kept : goal.add_turn-returns-in_err-inner-clause-kept
+add_turn-returns-in_err-inner-clause-kept t c =
+    let p = err_from_is_err_and c.from_residual.result c.from_residual.ensures.1 in
+    rw (p.1, p.2) tt
+
+pub add_turns-returns-in_err-number-clause-fault : goal.add_turns-returns-in_err-number-clause-fault
+add_turns-returns-in_err-number-clause-fault t c =
+    let p = err_from_is_err_and c.from_residual-in_err-number.result c.from_residual-in_err-number.ensures.1 in
+    rw (p.1, p.2) (λ p is. tt)
+
+pub add_turns-returns-in_err-number-clause-kept : goal.add_turns-returns-in_err-number-clause-kept
+add_turns-returns-in_err-number-clause-kept t c =
+    let p = err_from_is_err_and c.from_residual-in_err-number.result c.from_residual-in_err-number.ensures.1 in
+    rw (p.1, p.2) tt
+
+pub try_turns-returns-in_err-number-clause-fault : goal.try_turns-returns-in_err-number-clause-fault
+try_turns-returns-in_err-number-clause-fault t c =
+    let p = err_from_is_err_and c.from_residual.result c.from_residual.ensures.1 in
+    rw (p.1, p.2) (λ p is. tt)
+
+pub try_turns-returns-in_err-number-clause-kept : goal.try_turns-returns-in_err-number-clause-kept
+try_turns-returns-in_err-number-clause-kept t c =
+    let p = err_from_is_err_and c.from_residual.result c.from_residual.ensures.1 in
+    rw (p.1, p.2) tt
+
+pub try_turns-returns-in_err-next-clause-fault : goal.try_turns-returns-in_err-next-clause-fault
+try_turns-returns-in_err-next-clause-fault t c =
+    let p = err_from_is_err_and c.from_residual-in_err-next.result c.from_residual-in_err-next.ensures.1 in
+    rw (p.1, p.2) (λ p is. tt)
+
+pub try_turns-returns-in_err-next-clause-kept : goal.try_turns-returns-in_err-next-clause-kept
+try_turns-returns-in_err-next-clause-kept t c =
+    let p = err_from_is_err_and c.from_residual-in_err-next.result c.from_residual-in_err-next.ensures.1 in
+    rw (p.1, p.2) tt
+
+pub add_tested-returns-in_err-close-clause-fault : goal.add_tested-returns-in_err-close-clause-fault
+add_tested-returns-in_err-close-clause-fault t c =
+    let p = err_from_is_err_and c.from_residual-in_err-close.result c.from_residual-in_err-close.ensures.1 in
+    rw (p.1, p.2) (λ p is. tt)
+
+pub add_tested-returns-in_err-close-clause-kept : goal.add_tested-returns-in_err-close-clause-kept
+add_tested-returns-in_err-close-clause-kept t c =
+    let p = err_from_is_err_and c.from_residual-in_err-close.result c.from_residual-in_err-close.ensures.1 in
+    rw (p.1, p.2) tt
+
+pub add_tested-returns-in_err-push-clause-fault : goal.add_tested-returns-in_err-push-clause-fault
+add_tested-returns-in_err-push-clause-fault t c =
+    let p = err_from_is_err_and c.from_residual-in_err-push.result c.from_residual-in_err-push.ensures.1 in
+    rw (p.1, p.2) (λ p is. tt)
+
+pub add_tested-returns-in_err-push-clause-kept : goal.add_tested-returns-in_err-push-clause-kept
+add_tested-returns-in_err-push-clause-kept t c =
+    let p = err_from_is_err_and c.from_residual-in_err-push.result c.from_residual-in_err-push.ensures.1 in
+    rw (p.1, p.2) tt
+
+pub add_tested-returns-in_err-link_turns-clause-fault : goal.add_tested-returns-in_err-link_turns-clause-fault
+add_tested-returns-in_err-link_turns-clause-fault t c =
+    let p = err_from_is_err_and c.from_residual-in_err-link_turns.result c.from_residual-in_err-link_turns.ensures.1 in
+    rw (p.1, p.2) (λ p is. tt)
+
+pub add_tested-returns-in_err-link_turns-clause-kept : goal.add_tested-returns-in_err-link_turns-clause-kept
+add_tested-returns-in_err-link_turns-clause-kept t c =
+    let p = err_from_is_err_and c.from_residual-in_err-link_turns.result c.from_residual-in_err-link_turns.ensures.1 in
+    rw (p.1, p.2) tt
+
+pub add_item-add_turns-requires : goal.add_item-add_turns-requires
+add_item-add_turns-requires t c = ?
+
+pub add_item-add_tested-requires : goal.add_item-add_tested-requires
+add_item-add_tested-requires t c = ?
+
+pub add_tested-new-item-requires : goal.add_tested-new-item-requires
+add_tested-new-item-requires t c = record { operand = c.in_ok-found.ensures.operand }
