@@ -1,21 +1,22 @@
 use Rattle.std.proofs.Common.{◌≡◌, ◌+◌, ◌-◌, ◌++◌, ◌∷◌, [], List, ℕ, ◌∙◌, ap, arith, false, length, refl, subst, sym}
 use Rattle.std.specs.Prelude.{IfErr, OnOk}
 use Rattle.std.specs.Global.{Vec}
-use Rattle.std.proofs.lemmas.Result.{err_from_is_err_and}
+use Rattle.std.proofs.lemmas.Result.{IfErr-weaker, IfOk-weaker, err_from_is_err_and}
 use Rattle.cob_source.specs.Tokens.{lexemes}
-use Rattle.cob_move_loops.specs.Reading.{counters, item_front, written_loop}
-use Rattle.cob_move_loops.specs.Passages.{PassageFront}
+use Rattle.cob_move_loops.specs.declared.front.PassageItem.{PassageItem}
+use Rattle.cob_move_loops.specs.Reading.{counters, item_front, written_bound, written_loop}
+use Rattle.cob_move_loops.specs.Passages.{ARun, PassageFront}
 use Rattle.cob_move_loops.specs.Turns.{Counted, counter_at, in_turn}
 use Rattle.cob_move_deeds.specs.declared.flow.Bound.{Bound}
 use Rattle.cob_move_deeds.specs.declared.flow.Flow.{Flow}
 use Rattle.cob_move.specs.declared.made.NotRead.{NotRead}
-use Rattle.cob_move_loops.proofs.FrontLemmas.{front_smaller}
+use Rattle.cob_move_loops.proofs.FrontLemmas.{front_size, front_smaller}
 use Rattle.cob_move_loops.proofs.PassageLemmas.{shorter}
 use Rattle.cob_move_loops.proofs.WritingLemmas.{counters_more}
-use Rattle.cob_move.specs.DeedsRead.{AddsDeeds, AddsFront, AddsTurns, HasGrown, IsMade, LeavesFront, LoopRefused, MadeLists, ReadsTurns, TurnRefused, closed, flow_lists, in_its_turn, linked_turns, made_lists, open_statements, without_flows}
+use Rattle.cob_move.specs.DeedsRead.{AddsDeeds, AddsFront, AddsMoved, AddsTurns, FrontHasBounds, FrontRefused, HasGrown, IsMade, LeavesFront, LoopRefused, MadeLists, MovedRefused, ReadsTurns, TurnRefused, closed, flow_lists, in_its_turn, linked_turns, made_lists, open_statements, without_flows}
 use Rattle.cob_move.specs.Entries.{records_of}
 use Rattle.cob_move.proofs.MadeLemmas.{back_again, grown_both, grown_none, leaves_more, leaves_same, leaves_unbroken}
-use Rattle.cob_move.proofs.ReadingLemmas.{bounds_parted, deeds_end, deeds_first, deeds_more, deeds_refused, front_read, pause_added}
+use Rattle.cob_move.proofs.ReadingLemmas.{bounds_parted, deeds_end, deeds_first, deeds_more, deeds_refused, front_read, loop_bounds, pause_added}
 use Rattle.cob_move.proofs.TestedLemmas.{HasReadLoop, bound_for, bound_not_read, breaks_first, breaks_same, broken_left, closed_refused, emptied, first_refused, later_refused, loop_left, loop_same, never_refused, no_turn_comes, past_of, tested_added, tested_grown, tested_made, tried_first, tried_now, tried_step}
 use Rattle.cob_move.proofs.CloseLemmas.{closed_made, closed_open}
 use Rattle.cob_move.proofs.TurnsLemmas.{number_next, turn_refused, turns_begin, turns_end, turns_next}
@@ -428,10 +429,69 @@ add_tested-returns-in_err-link_turns-clause-kept t c =
     rw (p.1, p.2) tt
 
 pub add_item-add_turns-requires : goal.add_item-add_turns-requires
-add_item-add_turns-requires t c = ?
+add_item-add_turns-requires t c =
+    let size : front_size (item_front c.args.item.now) ≡ length (lexemes c.in-Loop.body.now) = ap (λ (i : PassageItem). front_size (item_front i)) c.in-Loop.is in (
+      omega (arith, c.decreases, size),
+      (
+        c.requires.named,
+        (
+          c.requires.pairs,
+          (
+            c.requires.made,
+            (
+              loop_bounds (written_loop c.in-Loop.head) (lexemes c.in-Loop.body.now) (subst (λ (f : PassageFront). FrontHasBounds f) (ap item_front c.in-Loop.is) c.requires.bounds),
+              (c.in-Number.field-0, ap written_bound c.in-Number.is),
+            ),
+          ),
+        ),
+      ),
+    )
 
 pub add_item-add_tested-requires : goal.add_item-add_tested-requires
-add_item-add_tested-requires t c = ?
+add_item-add_tested-requires t c =
+    let size : front_size (item_front c.args.item.now) ≡ length (lexemes c.in-Loop.body.now) = ap (λ (i : PassageItem). front_size (item_front i)) c.in-Loop.is in (
+      omega (arith, c.decreases, size),
+      (
+        c.requires.named,
+        (
+          c.requires.pairs,
+          (
+            c.requires.made,
+            (
+              loop_bounds (written_loop c.in-Loop.head) (lexemes c.in-Loop.body.now) (subst (λ (f : PassageFront). FrontHasBounds f) (ap item_front c.in-Loop.is) c.requires.bounds),
+              ap written_bound c.in-Item.is,
+            ),
+          ),
+        ),
+      ),
+    )
 
 pub add_tested-new-item-requires : goal.add_tested-new-item-requires
 add_tested-new-item-requires t c = record { operand = c.in_ok-found.ensures.operand }
+
+pub add_item-returns-in-Run-clause-added : goal.add_item-returns-in-Run-clause-added
+add_item-returns-in-Run-clause-added t c =
+    let e = c.args.entries.now in
+    let ns = counters c.args.turn.now in
+    let words = lexemes c.in-Run.words.now in
+    let old = made_lists c.args.made.now in
+    let new = made_lists c.add_moves.new.made in
+    subst (λ (f : PassageFront). OnOk c.add_moves.result (AddsFront e ns f old new)) (sym (ap item_front c.in-Run.is))
+    (IfOk-weaker c.add_moves.result (λ _. AddsMoved e ns words old new) (λ _. AddsFront e ns (ARun words) old new) (λ _ a p within. a) c.add_moves.ensures.added)
+
+pub add_item-returns-in-Run-clause-fault : goal.add_item-returns-in-Run-clause-fault
+add_item-returns-in-Run-clause-fault t c =
+    let e = c.args.entries.now in
+    let ns = counters c.args.turn.now in
+    let words = lexemes c.in-Run.words.now in
+    let old = made_lists c.args.made.now in
+    subst (λ (f : PassageFront). IfErr c.add_moves.result (λ n. FrontRefused n e ns f old)) (sym (ap item_front c.in-Run.is))
+    (IfErr-weaker c.add_moves.result (λ n. MovedRefused n e ns words old) (λ n. FrontRefused n e ns (ARun words) old) (λ n r p within. r) c.add_moves.ensures.fault)
+
+pub add_item-returns-in-Number-clause-fault : goal.add_item-returns-in-Number-clause-fault
+add_item-returns-in-Number-clause-fault t c =
+    subst (λ (f : PassageFront). IfErr c.add_turns.result (λ n. FrontRefused n c.args.entries.now (counters c.args.turn.now) f (made_lists c.args.made.now))) (sym (ap item_front c.in-Loop.is)) c.add_turns.ensures.fault
+
+pub add_item-returns-in-Item-clause-fault : goal.add_item-returns-in-Item-clause-fault
+add_item-returns-in-Item-clause-fault t c =
+    subst (λ (f : PassageFront). IfErr c.add_tested.result (λ n. FrontRefused n c.args.entries.now (counters c.args.turn.now) f (made_lists c.args.made.now))) (sym (ap item_front c.in-Loop.is)) c.add_tested.ensures.fault
