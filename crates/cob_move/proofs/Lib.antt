@@ -11,3 +11,17 @@ pub mod PieceLemmas
 pub mod PassageLemmas
 pub mod PlainLemmas
 pub mod LoopLemmas
+mod FlowLemmas
+mod DeedsLemmas
+mod FewLemmas
+mod WholeLemmas
+mod MadeLemmas
+mod CloseLemmas
+mod ReadingLemmas
+mod TurnsLemmas
+mod TestedLemmas
+mod LiteralLemmas
+mod BodyLemmas
+mod ReadyLemmas
+mod JoinedLemmas
+mod BoundLemmas

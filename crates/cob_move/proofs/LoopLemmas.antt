@@ -1,9 +1,9 @@
 -- Readers of paragraphs with loops.
 use Rattle.std.proofs.Common.{◌≡◌, ◌⊎◌, inl, inr, ℕ, ◌+◌, ◌<◌, ◌≤◌, List, [], ◌∷◌, ◌++◌, length, map, get_or, drop, take, Bool, true, false, refl, sym, ap, subst, ◌∙◌, append_assoc, append-nil, arith}
-use Rattle.std.proofs.lemmas.List.{drop_all, map-append, take_more}
+use Rattle.std.proofs.lemmas.List.{drop_all, length-append, map-append, take_more}
 use Rattle.std.proofs.lemmas.Bool.Decides.{Decides-eqb}
 use Rattle.std.proofs.lemmas.Grind.{flat_map-append}
-use Rattle.std.specs.Prelude.{◌==◌}
+use Rattle.std.specs.Prelude.{◌==◌, ◌↔◌}
 use Rattle.std.specs.List.{AllByRecursion}
 use Rattle.cob_source.specs.Tokens.{Lexeme, lexemes}
 use Rattle.cob_source.specs.declared.token.TokenKind.{TokenKind}
@@ -11,7 +11,7 @@ use Rattle.cob_copybook_names.specs.Naming.{named}
 use Rattle.cob_copybook_tree.specs.Forests.{Forest}
 use Rattle.cob_copybook_tree.specs.Nodes.{Resolved}
 use Rattle.cob_move_loops.specs.Passages.{IsPassage, Passage, WrittenLoop}
-use Rattle.cob_move_loops.specs.Few.{Clashes, IsFew, IsShallow, loop_line}
+use Rattle.cob_move_loops.specs.Few.{Clashes, IsFew, IsShallow, loop_line, loops_of}
 use Rattle.cob_move_loops.specs.Laws.{NoTurn}
 use Rattle.cob_move_loops.specs.Reading.{ClashesIn, all_runs, counters, run_words}
 use Rattle.cob_move_loops.specs.declared.turn.Counter.{Counter}
@@ -36,8 +36,8 @@ use Rattle.cob_move.specs.Among.{AreMeaningsAmong, nameable}
 use Rattle.cob_move.specs.Entries.{AllMayBeNamed, records_of}
 use Rattle.cob_move.specs.Meaning.{AreMeanings}
 use Rattle.cob_move.specs.Loops.{AddsRun, AreItsLoops, BodyRefused, BreaksAnywhere, HasChecked, HasJudged, IsClashOf, RunRefused, SayRuns, SaysBody}
-use Rattle.cob_move.specs.Paragraphs.{AreCounters, AreSpelled, BreaksCounters, BreaksFew, BreaksPassage, IsBodyIn, IsBodyRefusal, IsNoEntry, IsParagraphOf, IsPassageRefusal, IsRefusalOf, IsRunRefusal}
-use Rattle.cob_move.proofs.MeaningLemmas.{meant_here}
+use Rattle.cob_move.specs.Bodies.{AreSpelled, BreaksCounters, BreaksFew, BreaksPassage, IsBodyIn, IsNoEntry, IsPassageRefusal, IsRunRefusal}
+use Rattle.cob_move.specs.Paragraphs.{EndsByNumber, IsLiteral}
 use Rattle.cob_move.proofs.PieceLemmas.{meanings_both}
 use Rattle.cob_move.proofs.SomeLemmas.{next}
 
@@ -81,6 +81,10 @@ pub names_refused : (all : List Candidate) (body : List Lexeme) (ls : List Writt
     → IsPassageRefusal f.rule f.line all body
 names_refused all body ls f h are same broken =
     subst (λ (r : MoveRule). IsPassageRefusal r f.line all body) (sym same) (h.passage, h.says, inr (subst (λ (ks : List WrittenLoop). BreaksCounters all f.line ks) (are h.passage h.says).1 broken))
+
+-- whether its loops end by numbers is so of the passage
+pub literal_so : (literal : Bool) (p : Passage) (ls : List WrittenLoop) → ls ≡ loops_of p → ((literal ≡ true) ↔ AllByRecursion (λ (l : WrittenLoop). EndsByNumber l.bound) ls) → ((literal ≡ true) ↔ IsLiteral p)
+literal_so literal p ls same is = subst (λ (ks : List WrittenLoop). ((literal ≡ true) ↔ AllByRecursion (λ (l : WrittenLoop). EndsByNumber l.bound) ks)) same is
 
 -- words that are no statements refuse a run
 pub run_refused : (r : MoveRule) (line : ℕ) (ws : List Lexeme)
@@ -127,6 +131,7 @@ runs_begin e list none = record {
   statements = [];
   spelled = refl;
   meant = subst (λ (vs : List StatementMoves). AreMeaningsAmong e [] vs) (sym none) refl;
+  many = ap length none;
 }
 
 pub runs_more : (e : Entries) (runs : List (List Lexeme)) (ws : List Lexeme) (old new : List StatementMoves) → SayRuns e runs old → AddsRun e ws old new → SayRuns e (runs ++ ws ∷ []) new
@@ -138,6 +143,7 @@ runs_more e runs ws old new h a =
       spelled = spelled_more runs ws h.statements a.statements h.spelled a.spelled;
       meant = subst (λ (t : List Move). AreMeanings (nameable e) e.input.now e.output.now (h.statements ++ a.statements) t) same
           (meanings_both (nameable e) e.input.now e.output.now h.statements a.statements (moves (records_of e) old) (moves (records_of e) a.own) h.meant a.meant);
+      many = omega (arith, ap length a.added, length-append old a.own, length-append h.statements a.statements, h.many, a.many);
     }
 
 pub runs_next : (e : Entries) (runs : List Run) (i : ℕ) (r : Run) (old new : List StatementMoves) → i < length runs → r ≡ get_or runs i r → SayRuns e (all_runs (take i runs)) old → AddsRun e (run_words r) old new
@@ -154,6 +160,7 @@ says_body e body runs list h out says = record {
   statements = says.statements;
   spelled = subst (λ (rs : List (List Lexeme)). AreSpelled rs says.statements) (out h.passage h.says) says.spelled;
   meant = says.meant;
+  many = says.many;
 }
 
 pub runs_refused : (f : MoveFault) (e : Entries) (body : List Lexeme) (runs : List (List Lexeme)) → HasJudged (nameable e) body → ((p : Passage) → IsPassage p body → runs ≡ words_by_turn [] p) → SomeOf (RunRefused f e) runs
@@ -249,37 +256,12 @@ loops_later {A} {B} f P xs i x lt is here all = subst (λ (ys : List A). AllByRe
 pub loops_end : {A B : Type 0} (f : A → B) (P : B → Type 0) (xs : List A) (i : ℕ) → length xs ≤ i → AllByRecursion P (map f (drop i xs))
 loops_end {A} {B} f P xs i past = subst (λ (ys : List A). AllByRecursion P (map f ys)) (sym (drop_all i xs past)) tt
 
--- ---- the words of a text
+pub loops_here : {A B : Type 0} (f : A → B) (P : B → Type 0) (xs : List A) (i : ℕ) (x : A) → i < length xs → x ≡ get_or xs i x → AllByRecursion P (map f (drop i xs)) → P (f x)
+loops_here {A} {B} f P xs i x lt is all =
+    let first : AllByRecursion P (map f (x ∷ drop (i + 1) xs)) = subst (λ (ys : List A). AllByRecursion P (map f ys)) (next xs i x lt is) all in
+    first.0
 
-pub says_paragraph : (text : List ℕ) (words body : List Lexeme) (e : Entries) (list : List StatementMoves) → AreParagraphWordsOf text words → IsBodyIn words body → SaysBody e body list → AllMayBeNamed e
-    → IsParagraphOf text e.input.now e.output.now (moves (records_of e) list)
-says_paragraph text words body e list are is says named = record {
-  words = words;
-  passage = says.judged.passage;
-  statements = says.statements;
-  are_words = are;
-  has = record {
-    heading = is.heading;
-    body = body;
-    named = is.named;
-    others = is.others;
-    words_are = is.words_are;
-    some = says.judged.some;
-    says = says.judged.says;
-    shallow = says.judged.shallow;
-    few = says.judged.few;
-  };
-  counters = subst (λ (all : List Candidate). AreCounters all says.judged.passage) named says.judged.counters;
-  spelled = says.spelled;
-  meant = meant_here (nameable e) (records_of e) says.statements list named says.meant;
-}
-
-pub body_refused : (text : List ℕ) (words body : List Lexeme) (all : List Candidate) (input output : Forest Resolved) (f : MoveFault) → AreParagraphWordsOf text words → IsBodyIn words body → IsBodyRefusal f all input output body
-    → all ≡ all_entries input output → IsRefusalOf f text input output
-body_refused text words body all input output f are is refused same = inr (record {
-  words = words;
-  body = body;
-  are_words = are;
-  is_body = is;
-  refused = subst (λ (cs : List Candidate). IsBodyRefusal f cs input output body) same refused;
-})
+pub loops_after : {A B : Type 0} (f : A → B) (P : B → Type 0) (xs : List A) (i : ℕ) (x : A) → i < length xs → x ≡ get_or xs i x → AllByRecursion P (map f (drop i xs)) → AllByRecursion P (map f (drop (i + 1) xs))
+loops_after {A} {B} f P xs i x lt is all =
+    let first : AllByRecursion P (map f (x ∷ drop (i + 1) xs)) = subst (λ (ys : List A). AllByRecursion P (map f ys)) (next xs i x lt is) all in
+    first.1

@@ -26,7 +26,7 @@ use Rattle.cob_move_apply.specs.Some.{SomeOf}
 use Rattle.cob_move_names.specs.Candidates.{Candidate}
 use Rattle.cob_move.specs.Meaning.{AreMeanings}
 use Rattle.cob_move.specs.MeaningLaws.{MeantBreakNoRule}
-use Rattle.cob_move.specs.Paragraphs.{AreCounters, AreSpelled, BreaksCounters, HasPassage, IsBodyIn, IsNoEntry, IsPassageRefusal, IsRunRefusal, RunIsRefused}
+use Rattle.cob_move.specs.Bodies.{AreCounters, AreSpelled, BreaksCounters, HasPassage, IsBodyIn, IsNoEntry, IsPassageRefusal, IsRunRefusal, RunIsRefused}
 
 -- ---- the words behind the heading
 
@@ -105,7 +105,7 @@ meaning_parts all input output (s ∷ own) rest ms (mine, more, is, others, e) =
     let k = meaning_parts all input output own rest more others in
     record { first = mine ++ k.first; behind = k.behind; mean = (mine, k.first, is, k.mean, refl); mean_behind = k.mean_behind }
 
-run_unbroken : OneListOfEnded → MeantBreakNoRule → (f : MoveFault) (r : MoveRule) (line : ℕ) (all : List Candidate) (input output : Forest Resolved) (ws : List Lexeme) (own : List WrittenStatement) (ms : List Move)
+pub run_unbroken : OneListOfEnded → MeantBreakNoRule → (f : MoveFault) (r : MoveRule) (line : ℕ) (all : List Candidate) (input output : Forest Resolved) (ws : List Lexeme) (own : List WrittenStatement) (ms : List Move)
     → f.rule ≡ r → Several IsEndedStatement own ws → IsRunRefusal r line ws → f.rule ≡ rule.Memory
 run_unbroken one unbroken f rule.Grammar line all input output ws own ms same is broken = absurd (broken.none own is)
 run_unbroken one unbroken f (rule.Source s) line all input output ws own ms same is broken = absurd broken

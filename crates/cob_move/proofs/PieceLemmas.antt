@@ -1,5 +1,5 @@
 -- Paragraphs one behind another.
-use Rattle.std.proofs.Common.{◌≡◌, ℕ, Bool, true, false, List, [], ◌∷◌, ◌++◌, refl, sym, ap, subst, ◌∙◌, append_assoc, arith}
+use Rattle.std.proofs.Common.{◌≡◌, ℕ, Bool, true, false, List, [], ◌∷◌, ◌++◌, length, refl, sym, ap, subst, ◌∙◌, append_assoc, arith}
 use Rattle.std.proofs.lemmas.List.{length-append}
 use Rattle.std.proofs.lemmas.Grind.{flat_map-append}
 use Rattle.std.specs.List.{AllByRecursion}
@@ -22,8 +22,7 @@ use Rattle.cob_move.specs.declared.entries.Entries.{Entries}
 use Rattle.cob_move.specs.Among.{nameable}
 use Rattle.cob_move.specs.Entries.{AllMayBeNamed, records_of}
 use Rattle.cob_move.specs.Meaning.{AreMeanings}
-use Rattle.cob_move.specs.Paragraphs.{IsParagraphOf}
-use Rattle.cob_move.specs.Pieces.{AddsMoves, SaysSoFar}
+use Rattle.cob_move.specs.Pieces.{AddsMoves, IsParagraphAmong, SaysSoFar}
 use Rattle.cob_move.proofs.MeaningLemmas.{meant_here}
 use Rattle.cob_move.proofs.PlainLemmas.{plain_passage, plain_spelled}
 
@@ -71,6 +70,7 @@ begins_says text e words old new ahead more read a none =
       plain = a.plain;
       spelled = a.spelled;
       meant = subst (λ (t : List StatementMoves). AreMeanings (nameable e) e.input.now e.output.now a.statements (moves (records_of e) t)) same a.meant;
+      many = sym (ap length same) ∙ a.many;
     }
 
 pub goes_on_says : (text : List ℕ) (e : Entries) (words : List Lexeme) (old new : List StatementMoves) (before ahead : WordsAhead) (more : Bool) (s : SaysSoFar text e old before true) → AreReadOf text (s.words ++ words) ahead more → AddsMoves e words old new → FollowsStatements words → SaysSoFar text e new ahead more
@@ -85,20 +85,25 @@ goes_on_says text e words old new before ahead more s read a first =
       spelled = paragraph_both s.words words s.statements a.statements s.spelled a.spelled first;
       meant = subst (λ (t : List Move). AreMeanings (nameable e) e.input.now e.output.now (s.statements ++ a.statements) t) same
           (meanings_both (nameable e) e.input.now e.output.now s.statements a.statements (moves (records_of e) old) (moves (records_of e) a.own) s.meant a.meant);
+      many = omega (arith, ap length a.added, length-append old a.own, length-append s.statements a.statements, s.many, a.many);
     }
 
 pub more_says : (text : List ℕ) (e : Entries) (list : List StatementMoves) (ahead : WordsAhead) (more : Bool) → SaysSoFar text e list ahead more → more ≡ true → SaysSoFar text e list ahead true
 more_says text e list ahead more s is = subst (λ (b : Bool). SaysSoFar text e list ahead b) is s
 
 -- where no more pieces are left the text says the moves
-pub all_said : (text : List ℕ) (e : Entries) (list : List StatementMoves) (ahead : WordsAhead) (more : Bool) → SaysSoFar text e list ahead more → more ≡ false → AllMayBeNamed e → NoTurn → IsParagraphOf text e.input.now e.output.now (moves (records_of e) list)
-all_said text e list ahead more s none named no_turn = record {
-  words = s.words;
-  passage = Moves s.spelled.body NoMore;
-  statements = s.statements;
-  are_words = subst (λ (b : Bool). AreReadOf text s.words ahead b) none s.are_read;
-  has = plain_passage s.words s.statements s.spelled s.plain;
-  counters = record { apart = tt; no_entries = tt };
-  spelled = plain_spelled no_turn s.spelled.body s.statements s.spelled.statements;
-  meant = meant_here (nameable e) (records_of e) s.statements list named s.meant;
-}
+pub all_said : (text : List ℕ) (e : Entries) (list : List StatementMoves) (ahead : WordsAhead) (more : Bool) → SaysSoFar text e list ahead more → more ≡ false → AllMayBeNamed e → NoTurn → IsParagraphAmong text e list
+all_said text e list ahead more s none named no_turn = (
+  record {
+    words = s.words;
+    passage = Moves s.spelled.body NoMore;
+    statements = s.statements;
+    are_words = subst (λ (b : Bool). AreReadOf text s.words ahead b) none s.are_read;
+    has = plain_passage s.words s.statements s.spelled s.plain;
+    literal = tt;
+    counters = record { apart = tt; no_entries = tt };
+    spelled = plain_spelled no_turn s.spelled.body s.statements s.spelled.statements;
+    meant = meant_here (nameable e) (records_of e) s.statements list named s.meant;
+  },
+  s.many,
+)

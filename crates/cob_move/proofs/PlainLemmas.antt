@@ -1,5 +1,5 @@
 -- Paragraphs without loops.
-use Rattle.std.proofs.Common.{◌≡◌, ℕ, ◌<◌, List, [], ◌∷◌, ◌++◌, length, refl, sym, ap, subst, ◌∙◌, append-nil, arith, Option, Some, None}
+use Rattle.std.proofs.Common.{◌≡◌, ℕ, ◌+◌, ◌<◌, List, [], ◌∷◌, ◌++◌, length, refl, sym, ap, subst, ◌∙◌, append-nil, arith, Option, Some, None}
 use Rattle.std.specs.List.{AllByRecursion}
 use Rattle.cob_source.specs.Tokens.{Lexeme}
 use Rattle.cob_source.specs.Words.{ParagraphWordsAreOne}
@@ -14,8 +14,18 @@ use Rattle.cob_move_loops.proofs.PassageLemmas.{head_first, nothing_left, shorte
 use Rattle.cob_move_statements.specs.Statements.{IsEndedStatement, IsParagraph, Several}
 use Rattle.cob_move_statements.specs.Written.{WrittenStatement}
 use Rattle.cob_move_statements.proofs.ParagraphLemmas.{statements_first}
+use Rattle.cob_copybook_tree.specs.Forests.{Forest}
+use Rattle.cob_copybook_tree.specs.Nodes.{Resolved}
+use Rattle.cob_move_data.specs.Moves.{Move}
+use Rattle.cob_move_deeds.specs.Deeds.{Deeds, Moving, Nothing}
+use Rattle.cob_move_deeds.specs.Tests.{Past}
+use Rattle.cob_move_names.specs.Candidates.{all_entries}
+use Rattle.cob_move.specs.Bodies.{AreSpelled, HasPassage}
+use Rattle.cob_move.specs.Deeds.{AreDeeds}
+use Rattle.cob_move.specs.Joined.{before_deeds}
 use Rattle.cob_move.specs.Laws.{PlainParagraph}
-use Rattle.cob_move.specs.Paragraphs.{AreSpelled, HasPassage}
+use Rattle.cob_move.specs.Meaning.{AreMeant}
+use Rattle.cob_move.specs.Paragraphs.{IsParagraphOf, IsPlainParagraphOf}
 
 others_front : (a b : List Lexeme) → AllByRecursion IsOther (a ++ b) → AllByRecursion IsOther a
 others_front [] b all = tt
@@ -87,42 +97,72 @@ plain_is (ALoop l body more) ws (head, own, stops, rest, end, h, b, inner, word,
     let words : ws ≡ w ∷ (tail ++ (own ++ end ∷ (stops ++ rest))) = e ∙ ap (λ (t : List Lexeme). t ++ (own ++ end ∷ (stops ++ rest))) f in
     absurd (no_loop_word loop.Perform w first (subst (λ (t : List Lexeme). AllByRecursion IsOther t) words all).0)
 
-spelled_plain : NoTurn → (body : List Lexeme) (ss : List WrittenStatement) → AreSpelled (words_by_turn [] (Moves body NoMore)) ss → Several IsEndedStatement ss body
-spelled_plain no_turn body ss (own, rest, are, none, e) =
-    let all : ss ≡ own = e ∙ ap (λ (t : List WrittenStatement). own ++ t) none ∙ append-nil own in
-    subst (λ (t : List WrittenStatement). Several IsEndedStatement t body) (sym all) (subst (λ (ws : List Lexeme). Several IsEndedStatement own ws) (no_turn body) are)
-
 some_statements : (ss : List WrittenStatement) (body : List Lexeme) → Several IsEndedStatement ss body → 0 < length body → 0 < length ss
 some_statements [] body e some = absurd (omega (arith, some, ap length e))
 some_statements (s ∷ ss) body are some = omega arith
 
-plain_words : NoTurn → (words : List Lexeme) (p : Passage) (ss : List WrittenStatement) → AllByRecursion IsOther words → HasPassage words p → AreSpelled (words_by_turn [] p) ss → IsParagraph words ss
-plain_words no_turn words p ss all h spelled =
+plain_words : (words : List Lexeme) (p : Passage) (h : HasPassage words p) (ss : List WrittenStatement) → Several IsEndedStatement ss h.body → IsParagraph words ss
+plain_words words p h ss are = record { heading = h.heading; body = h.body; named = h.named; some = some_statements ss h.body are h.some; statements = are; words = h.words_are }
+
+-- what one run comes to
+record RunDone (input output : Forest Resolved) (body : List Lexeme) (d : Deeds Past) : Type 0 where
+  pub moves : List Move
+  pub statements : List WrittenStatement
+  pub spelled : Several IsEndedStatement statements body
+  pub meant : AreMeant input output statements moves
+  pub done : d ≡ Moving moves Nothing
+
+run_done : NoTurn → (input output : Forest Resolved) (body : List Lexeme) (d : Deeds Past) (m : ℕ) → AreDeeds (all_entries input output) input output [] (Moves body NoMore) d m → RunDone input output body d
+run_done no_turn input output body d m (ms, next, count, rest, run, (none, zero_is), d_is, m_is) = record {
+  moves = ms;
+  statements = run.statements;
+  spelled = subst (λ (ws : List Lexeme). Several IsEndedStatement run.statements ws) (no_turn body) run.spelled;
+  meant = run.meant;
+  done = d_is ∙ ap (λ (k : Deeds Past). before_deeds ms k) none;
+}
+
+plain_done : NoTurn → (text : List ℕ) (input output : Forest Resolved) (d : Deeds Past) (p : IsParagraphOf text input output d) → AllByRecursion IsOther p.words
+    → (ms : List Move) × IsPlainParagraphOf text input output ms × (d ≡ Moving ms Nothing)
+plain_done no_turn text input output d p all =
+    let h = p.has in
     let parts : AllByRecursion IsOther (h.heading ++ h.body) = subst (λ (ws : List Lexeme). AllByRecursion IsOther ws) h.words_are all in
-    let one : p ≡ Moves h.body NoMore = plain_is p h.body h.says (others_behind h.heading h.body parts) h.some in
-    let are : Several IsEndedStatement ss h.body = spelled_plain no_turn h.body ss (subst (λ (d : Passage). AreSpelled (words_by_turn [] d) ss) one spelled) in
-    record { heading = h.heading; body = h.body; named = h.named; some = some_statements ss h.body are h.some; statements = are; words = h.words_are }
+    let one : p.passage ≡ Moves h.body NoMore = plain_is p.passage h.body h.says (others_behind h.heading h.body parts) h.some in
+    let run = run_done no_turn input output h.body d p.many (subst (λ (k : Passage). AreDeeds (all_entries input output) input output [] k d p.many) one p.comes) in (
+      run.moves,
+      record { words = p.words; statements = run.statements; are_words = p.are_words; spelled = plain_words p.words p.passage h run.statements run.spelled; meant = run.meant },
+      run.done,
+    )
+
+done_plain : NoTurn → (text : List ℕ) (input output : Forest Resolved) (ms : List Move) (p : IsPlainParagraphOf text input output ms) → AllByRecursion IsOther p.words → IsParagraphOf text input output (Moving ms Nothing)
+done_plain no_turn text input output ms p plain = record {
+  words = p.words;
+  passage = Moves p.spelled.body NoMore;
+  many = length p.statements + 0;
+  are_words = p.are_words;
+  has = plain_passage p.words p.statements p.spelled plain;
+  counters = record { apart = tt; no_entries = tt };
+  bounded = tt;
+  comes = (
+    ms,
+    Nothing,
+    length p.statements,
+    0,
+    record {
+      statements = p.statements;
+      spelled = subst (λ (ws : List Lexeme). Several IsEndedStatement p.statements ws) (sym (no_turn p.spelled.body)) p.spelled.statements;
+      meant = p.meant;
+      many = refl;
+    },
+    (refl, refl),
+    refl,
+    refl,
+  );
+  few = λ none. absurd (none tt);
+}
 
 pub plain_paragraph : ParagraphWordsAreOne → NoTurn → PlainParagraph
-plain_paragraph words_one no_turn text input output ms words are all = (
-  λ p. let same : words ≡ p.words = words_one text words p.words are p.are_words in
-      record {
-        words = p.words;
-        statements = p.statements;
-        are_words = p.are_words;
-        spelled = plain_words no_turn p.words p.passage p.statements (subst (λ (ws : List Lexeme). AllByRecursion IsOther ws) same all) p.has p.spelled;
-        meant = p.meant;
-      },
-  λ p. let same : words ≡ p.words = words_one text words p.words are p.are_words in
-      let plain = subst (λ (ws : List Lexeme). AllByRecursion IsOther ws) same all in
-      record {
-        words = p.words;
-        passage = Moves p.spelled.body NoMore;
-        statements = p.statements;
-        are_words = p.are_words;
-        has = plain_passage p.words p.statements p.spelled plain;
-        counters = record { apart = tt; no_entries = tt };
-        spelled = plain_spelled no_turn p.spelled.body p.statements p.spelled.statements;
-        meant = p.meant;
-      },
+plain_paragraph words_one no_turn text input output d words are all = (
+  λ p. plain_done no_turn text input output d p (subst (λ (ws : List Lexeme). AllByRecursion IsOther ws) (words_one text words p.words are p.are_words) all),
+  λ (ms, p, done). subst (λ (k : Deeds Past). IsParagraphOf text input output k) (sym done)
+      (done_plain no_turn text input output ms p (subst (λ (ws : List Lexeme). AllByRecursion IsOther ws) (words_one text words p.words are p.are_words) all)),
 )

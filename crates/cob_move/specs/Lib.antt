@@ -1,10 +1,15 @@
 pub mod Between
 pub mod Entries
-pub mod Paragraphs
-pub mod Laws
 pub mod Meaning
 pub mod Refusals
+pub mod Bodies
+pub mod Joined
+pub mod Deeds
+pub mod Paragraphs
+pub mod Laws
 pub mod MeaningLaws
 pub mod Among
 pub mod Pieces
 pub mod Loops
+pub mod DeedsRead
+pub mod DeedsLaws

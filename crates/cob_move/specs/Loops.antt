@@ -12,7 +12,9 @@ use Rattle.cob_move_statements.specs.Statements.{IsEndedStatement, Several}
 use Rattle.cob_move_statements.specs.Written.{WrittenStatement}
 use Rattle.cob_move.specs.declared.entries.Entries.{Entries}
 use Rattle.cob_move.specs.Among.{AreMeaningsAmong, nameable}
-use Rattle.cob_move.specs.Paragraphs.{AreCounters, AreSpelled, IsBodyRefusal, IsPassageRefusal, RunIsRefused}
+use Rattle.cob_move_apply.specs.Some.{SomeOf}
+use Rattle.cob_move.specs.Bodies.{AreCounters, AreSpelled, IsPassageRefusal, RunIsRefused}
+use Rattle.cob_move.specs.Paragraphs.{IsLiteral}
 
 -- words are a passage that is not empty, with few loops in one another, which come to few statements
 pub record HasChecked (body : List Lexeme) : Type 0 where
@@ -51,6 +53,7 @@ pub record AddsRun (e : Entries) (words : List Lexeme) (old new : List Statement
   pub own : List StatementMoves
   pub spelled : Several IsEndedStatement statements words
   pub meant : AreMeaningsAmong e statements own
+  pub many : length own ≡ length statements
   pub added : new ≡ old ++ own
 
 -- runs spell statements, and these mean the moves
@@ -58,14 +61,21 @@ pub record SayRuns (e : Entries) (runs : List (List Lexeme)) (list : List Statem
   pub statements : List WrittenStatement
   pub spelled : AreSpelled runs statements
   pub meant : AreMeaningsAmong e statements list
+  pub many : length list ≡ length statements
 
 -- words are no statements, or one of them breaks a rule, or memory was refused
 abbrev pub RunRefused : MoveFault → Entries → List Lexeme → Type 0
 RunRefused f e ws = RunIsRefused f (nameable e) e.input.now e.output.now ws
 
--- words behind a heading are refused
+-- words behind a heading are refused: they break a rule of passages; or they are one, and a run of it is refused once it is written out
 abbrev pub BodyRefused : MoveFault → Entries → List Lexeme → Type 0
-BodyRefused f e body = IsBodyRefusal f (nameable e) e.input.now e.output.now body
+BodyRefused f e body =
+    IsPassageRefusal f.rule f.line (nameable e) body
+    ⊎ ((p : Passage) × IsPassage p body × SomeOf (RunRefused f e) (words_by_turn [] p))
+
+-- whatever passage words are, its loops all end by numbers
+abbrev pub AreLiteralWords : List Lexeme → Type 0
+AreLiteralWords body = (p : Passage) → IsPassage p body → IsLiteral p
 
 -- words behind a heading are a passage, whose runs mean these moves
 pub record SaysBody (e : Entries) (body : List Lexeme) (list : List StatementMoves) : Type 0 where
@@ -73,3 +83,4 @@ pub record SaysBody (e : Entries) (body : List Lexeme) (list : List StatementMov
   pub statements : List WrittenStatement
   pub spelled : AreSpelled (words_by_turn [] judged.passage) statements
   pub meant : AreMeaningsAmong e statements list
+  pub many : length list ≡ length statements

@@ -1,62 +1,68 @@
--- Which moves the text of a paragraph says between two records, and which rules it breaks.
-use Rattle.std.specs.Prelude.{◌≡◌, ◌⊎◌, ℕ, ◌<◌, List, [], ◌∷◌, ◌++◌, length}
+-- What the text of a paragraph does between two records, and which rules it breaks.
+use Rattle.std.specs.Prelude.{◌≡◌, ◌⊎◌, ℕ, ◌+◌, ◌<◌, ◌≤◌, List, [], length}
 use Rattle.std.specs.List.{AllByRecursion}
+use Rattle.cob_limits.specs.Limits.{most_written_out}
 use Rattle.cob_source.specs.Tokens.{Lexeme}
 use Rattle.cob_source.specs.Words.{AreParagraphWordsOf, BreaksSourceRule as BreaksSource}
-use Rattle.cob_copybook_names.specs.Naming.{named}
 use Rattle.cob_copybook_tree.specs.Forests.{Forest}
 use Rattle.cob_copybook_tree.specs.Nodes.{Resolved}
-use Rattle.cob_move_loops.specs.Few.{AreLoopsApart, Clashes, IsFew, IsShallow, loop_line, loops_of}
-use Rattle.cob_move_loops.specs.Passages.{Breaks, IsPassage, Passage, WrittenLoop}
+use Rattle.cob_move_loops.specs.Bounded.{AreBounded, LacksBound}
+use Rattle.cob_move_loops.specs.Few.{loop_line, loops_of}
+use Rattle.cob_move_loops.specs.Passages.{IsPassage, Passage, ToItem, ToNumber, WrittenBound}
 use Rattle.cob_move_loops.specs.Turns.{words_by_turn}
-use Rattle.cob_move_loops.specs.Words.{IsOther}
 use Rattle.cob_move_names.specs.Candidates.{Candidate, all_entries}
 use Rattle.cob_move_statements.specs.declared.fault.MoveFault.{MoveFault}
 use Rattle.cob_move_statements.specs.declared.fault.MoveRule.{MoveRule}
 use Rattle.cob_move_statements.specs.declared.fault.MoveRule.TheVariants as rule
 use Rattle.cob_move_statements.specs.Written.{WrittenStatement}
-use Rattle.cob_move_statements.specs.Statements.{BreaksOff, IsEndedStatement, IsHeading, IsParagraph, Several}
+use Rattle.cob_move_statements.specs.Statements.{IsParagraph}
 use Rattle.cob_move_data.specs.Moves.{Move, Records}
+use Rattle.cob_move_apply.specs.Marked.{ends_of_marks, marked_steps}
+use Rattle.cob_move_deeds.specs.Deeds.{Deeds, IsStraight, Moving, Nothing}
+use Rattle.cob_move_deeds.specs.Prepared.{AreDeedsPrepared, HaveAllMoves, deeds_of}
+use Rattle.cob_move_deeds.specs.Tests.{Past}
+use Rattle.cob_move_deeds.specs.declared.ready.ReadyDeeds.{ReadyDeeds}
+use Rattle.cob_move.specs.Bodies.{AreCounters, AreSpelled, HasPassage, IsBodyIn, IsPassageRefusal}
+use Rattle.cob_move.specs.Deeds.{AreDeeds, ComeFirst, IsFewRead, IsTurnRefused}
 use Rattle.cob_move.specs.Meaning.{AreMeant}
-use Rattle.cob_move.specs.Refusals.{SomeBroken}
-use Rattle.cob_move_apply.specs.Prepared.{ArePrepared, moves_of}
-use Rattle.cob_move_apply.specs.Some.{SomeOf}
 use Rattle.cob_move.specs.declared.paragraph.Paragraph.{Paragraph}
 
--- Runs of words spell statements, one run's behind another's.
-abbrev pub AreSpelled : List (List Lexeme) → List WrittenStatement → Type 0
-AreSpelled [] ss = ss ≡ []
-AreSpelled (ws ∷ runs) ss = (own rest : List WrittenStatement) × Several IsEndedStatement own ws × AreSpelled runs rest × (ss ≡ own ++ rest)
+-- a loop ends by a number
+abbrev pub EndsByNumber : WrittenBound → Type 0
+EndsByNumber (ToNumber n) = Unit {0}
+EndsByNumber (ToItem ws) = ⊥
 
--- no entry of the two records has this name
-abbrev pub IsNoEntry : List Candidate → List ℕ → Type 0
-IsNoEntry all name = named name [] all ≡ []
+-- each loop of a passage ends by a number
+abbrev pub IsLiteral : Passage → Type 0
+IsLiteral p = AllByRecursion (λ l. EndsByNumber l.bound) (loops_of p)
 
--- M11: each loop has a counter of its own, and none has the name of an entry
-pub record AreCounters (all : List Candidate) (p : Passage) : Type 0 where
-  pub apart : AreLoopsApart [] p
-  pub no_entries : AllByRecursion (λ l. IsNoEntry all l.counter) (loops_of p)
+-- M12: a passage with loops to items comes to few statements, however far it is read
+abbrev pub ComesToFew : List Candidate → Forest Resolved → Forest Resolved → Passage → Type 0
+ComesToFew all input output p = (IsLiteral p → ⊥) → IsFewRead all input output p
 
--- The words of a paragraph: perhaps its name, which is no word of loops, and a passage that is not empty, with few loops in one another, which come to few statements (M12).
-pub record HasPassage (words : List Lexeme) (p : Passage) : Type 0 where
-  pub heading : List Lexeme
-  pub body : List Lexeme
-  pub named : IsHeading heading
-  pub others : AllByRecursion IsOther heading
-  pub words_are : words ≡ heading ++ body
-  pub some : 0 < length body
-  pub says : IsPassage p body
-  pub shallow : IsShallow body
-  pub few : IsFew p
+-- ---- what a text does
 
--- The words of the text are a passage, with loops as they may be. Written out, its runs spell statements, and these mean the moves between two records, in
--- their order.
-pub record IsParagraphOf (text : List ℕ) (input output : Forest Resolved) (ms : List Move) : Type 0 where
+-- The words of the text are a passage, with loops as they may be: each has a counter of its own, and one to an item has a table that bounds it (M11). It comes
+-- to these deeds between the two records: moves in their order, and tests of loops to items between them.
+pub record IsParagraphOf (text : List ℕ) (input output : Forest Resolved) (d : Deeds Past) : Type 0 where
+  pub words : List Lexeme
+  pub passage : Passage
+  pub many : ℕ
+  pub are_words : AreParagraphWordsOf text words
+  pub has : HasPassage words passage
+  pub counters : AreCounters (all_entries input output) passage
+  pub bounded : AreBounded passage
+  pub comes : AreDeeds (all_entries input output) input output [] passage d many
+  pub few : ComesToFew (all_entries input output) input output passage
+
+-- What a text says whose loops all end by numbers: written out, its runs spell statements, and these mean the moves between two records, in their order.
+pub record IsLiteralParagraphOf (text : List ℕ) (input output : Forest Resolved) (ms : List Move) : Type 0 where
   pub words : List Lexeme
   pub passage : Passage
   pub statements : List WrittenStatement
   pub are_words : AreParagraphWordsOf text words
   pub has : HasPassage words passage
+  pub literal : IsLiteral passage
   pub counters : AreCounters (all_entries input output) passage
   pub spelled : AreSpelled (words_by_turn [] passage) statements
   pub meant : AreMeant input output statements ms
@@ -69,57 +75,25 @@ pub record IsPlainParagraphOf (text : List ℕ) (input output : Forest Resolved)
   pub spelled : IsParagraph words statements
   pub meant : AreMeant input output statements ms
 
--- the words behind the heading, if one comes first; the name of a paragraph is no word of loops
-pub record IsBodyIn (words body : List Lexeme) : Type 0 where
-  pub heading : List Lexeme
-  pub named : IsHeading heading
-  pub others : AllByRecursion IsOther heading
-  pub words_are : words ≡ heading ++ body
-  pub longest : (other more : List Lexeme) → IsHeading other → AllByRecursion IsOther other → 0 < length other → words ≡ other ++ more → body ≡ more
+-- These moves are done in order, and no test is; or there is no statement, and nothing is done.
+abbrev pub AreDone : List Move → Deeds Past → Type 0
+AreDone ms d = (d ≡ Moving ms Nothing) ⊎ ((d ≡ Nothing) × (ms ≡ []))
 
--- M1: the words behind the heading are no passage, and this is the line where it breaks off, or 1 where there are none
-abbrev pub BreaksPassage : List Lexeme → ℕ → Type 0
-BreaksPassage body line = ((body ≡ []) × (line ≡ 1)) ⊎ Breaks body line
+-- ---- which rules it breaks
 
--- M12: too many loops hold one another, or the loops of the passage come to too many statements
-abbrev pub BreaksFew : List Lexeme → Type 0
-BreaksFew body = (IsShallow body → ⊥) ⊎ ((p : Passage) × IsPassage p body × (IsFew p → ⊥))
+-- A passage is refused: a loop to an item has no table that bounds it (M11), on its line; or, where there is such a loop, too many statements come first
+-- (M12), on the line of the first loop; or words of MOVE statements or of a bound break a rule in a turn, or nothing bounds a loop to an item.
+abbrev pub PassageRefused : MoveFault → List Candidate → Forest Resolved → Forest Resolved → List Lexeme → Passage → Type 0
+PassageRefused f all input output body p =
+    ((f.rule ≡ rule.Counter) × LacksBound p f.line)
+    ⊎ (((f.rule ≡ rule.TooMany) × (f.line ≡ loop_line body) × (IsLiteral p → ⊥) × ((many : ℕ) × ComeFirst all input output [] p many × (most_written_out < many)))
+    ⊎ IsTurnRefused f all input output [] p)
 
--- one of these loops stands on this line, and an entry has the name of its counter
-abbrev pub BreaksCounters : List Candidate → ℕ → List WrittenLoop → Type 0
-BreaksCounters all line ls = SomeOf (λ l. (line ≡ l.line) × (IsNoEntry all l.counter → ⊥)) ls
-
--- The words behind the heading break a rule of passages on this line: they are none (M1), their loops come to too much (M12, on the line of the first), or a
--- loop's counter is that of another one, or an entry's (M11); refused memory has line 0.
-abbrev pub IsPassageRefusal : MoveRule → ℕ → List Candidate → List Lexeme → Type 0
-IsPassageRefusal rule.Grammar line all body = BreaksPassage body line
-IsPassageRefusal rule.TooMany line all body = BreaksFew body × (line ≡ loop_line body)
-IsPassageRefusal rule.Counter line all body = (p : Passage) × IsPassage p body × (Clashes [] p line ⊎ BreaksCounters all line (loops_of p))
-IsPassageRefusal rule.Memory line all body = line ≡ 0
-IsPassageRefusal other line all body = ⊥
-
--- M1: words are no statements, and the line is that of the first word where none stands
-pub record BreaksRun (line : ℕ) (ws : List Lexeme) : Type 0 where
-  pub none : (ss : List WrittenStatement) → Several IsEndedStatement ss ws → ⊥
-  pub line_is : BreaksOff ws line
-
--- the words of a run, in a turn, break the rule: they are no statements; refused memory has line 0
-abbrev pub IsRunRefusal : MoveRule → ℕ → List Lexeme → Type 0
-IsRunRefusal rule.Grammar line ws = BreaksRun line ws
-IsRunRefusal rule.Memory line ws = line ≡ 0
-IsRunRefusal other line ws = ⊥
-
--- A run, in a turn, is no statements; or it is, and one of these breaks the rule of the fault on its line, or memory was refused.
-abbrev pub RunIsRefused : MoveFault → List Candidate → Forest Resolved → Forest Resolved → List Lexeme → Type 0
-RunIsRefused f all input output ws =
-    IsRunRefusal f.rule f.line ws
-    ⊎ ((ss : List WrittenStatement) × Several IsEndedStatement ss ws × SomeBroken f all input output ss)
-
--- The words behind the heading are refused: they break a rule of passages; or they are one, and a run of it is refused.
+-- The words behind the heading are refused: they break a rule of passages; or they are one, and it is refused.
 abbrev pub IsBodyRefusal : MoveFault → List Candidate → Forest Resolved → Forest Resolved → List Lexeme → Type 0
 IsBodyRefusal f all input output body =
     IsPassageRefusal f.rule f.line all body
-    ⊎ ((p : Passage) × IsPassage p body × SomeOf (RunIsRefused f all input output) (words_by_turn [] p))
+    ⊎ ((p : Passage) × IsPassage p body × PassageRefused f all input output body p)
 
 -- The text breaks a rule of the reference format on this line; refused memory has line 0.
 abbrev pub BreaksFormat : MoveRule → ℕ → List ℕ → Type 0
@@ -139,10 +113,23 @@ pub record BreaksWords (f : MoveFault) (text : List ℕ) (input output : Forest 
 abbrev pub IsRefusalOf : MoveFault → List ℕ → Forest Resolved → Forest Resolved → Type 0
 IsRefusalOf f text input output = BreaksFormat f.rule f.line text ⊎ BreaksWords f text input output
 
--- the moves of a paragraph between two records, in their order
-abbrev pub moves_in : Records → Paragraph → List Move
-moves_in r p = moves_of r p.moves
+-- ---- paragraphs that are read
 
--- the moves of a paragraph are made ready for these records
+-- what a paragraph does between two records
+abbrev pub deeds_in : Records → Paragraph → Deeds Past
+deeds_in r p = deeds_of r p.deeds
+
+-- how many steps its moves make, those between one mark and the next by themselves
+abbrev pub steps_told : Records → Paragraph → ℕ
+steps_told r p = marked_steps r p.deeds.moves
+
+-- What is to be done may be carried out between these records: the moves that may be carried out are those that were made ready, and where there is no test
+-- they lie between two marks at most.
+pub record AreReady (r : Records) (d : ReadyDeeds) : Type 0 where
+  pub prepared : AreDeedsPrepared r d
+  pub all : HaveAllMoves r d
+  pub together : IsStraight (deeds_of r d) → length (ends_of_marks d.moves) ≤ 2
+
+-- what a paragraph does is ready for these records
 abbrev pub IsReadyFor : Records → Paragraph → Type 0
-IsReadyFor r p = ArePrepared r p.moves
+IsReadyFor r p = AreReady r p.deeds

@@ -3,17 +3,21 @@
 //!
 //! What is promised:
 //!
-//! - [`Paragraph::read`] reads a text between the records of two layouts. What it answers are the moves that the text says (clause `found`;
-//!   `IsParagraphOf` of specs/Paragraphs.antt): the words of the text, cut apart at brackets and commas, are a passage. Its loops are written out
-//!   turn by turn, what comes of it spells statements, and these mean the moves, in their order. They are ready for these records (`ready`). A text
-//!   that is a paragraph is read, memory aside (`only`), and a refusal names a rule that is broken, with its line (`fault`; `IsRefusalOf`): by the
-//!   text, by its words and loops, or by one of its statements in a turn. A text says its moves in one way ([`one_paragraph`]), and then breaks no
-//!   rule ([`paragraph_breaks_no_rule`]). Without words of loops it is one exactly where its words spell statements that mean the moves
+//! - [`Paragraph::read`] reads a text between the records of two layouts. What it answers is what the text does (clause `found`; `IsParagraphOf` of
+//!   specs/Paragraphs.antt): the words of the text, cut apart at brackets and commas, are a passage, and it comes to deeds (`AreDeeds` of specs/Deeds.antt):
+//!   moves in their order, and tests of loops to items between them. They are ready for these records (`ready`). A text that is a paragraph is read,
+//!   memory aside (`only`), and a refusal names a rule that is broken, with its line (`fault`; `IsRefusalOf`): by the text, by its words and loops, or by
+//!   one of its statements in a turn. A text does one thing ([`one_paragraph`]), and then breaks no rule ([`paragraph_breaks_no_rule`]).
+//! - Where all loops end by numbers, it does the moves that its statements mean once its loops are written out turn by turn ([`literal_paragraph`]), which is
+//!   what the moves make of a storage in their order ([`done_is_applied`]). Without words of loops these are the moves of the statements that its words spell
 //!   ([`plain_paragraph`]).
-//! - [`Paragraph::with_reading`] are the same moves with their binary senders read otherwise (`read_by` of cob_move_data); a text means them
-//!   read as their pictures say. [`Paragraph::moves`] counts single moves, each of a sender to one of its receivers, and [`Paragraph::steps`] the
-//!   steps that they make, in which plain copies that meet are joined.
-//! - [`apply`] carries the moves out on one record (`applied`; `Applied` of cob_move_apply), and [`pairs`] answers the pairs of CORRESPONDING.
+//! - A loop to an item comes to its turns up to the greatest number whose turn still has the elements that it names, each behind its test (`IsLoopOf`). In a
+//!   turn a passage comes to one thing at most ([`one_deeds`]), and then breaks no rule there ([`deeds_break_no_rule`]). Moves that meet are together, and
+//!   what is done is the same ([`joined_is_both`]).
+//! - [`Paragraph::with_reading`] is the same paragraph with its binary senders read otherwise (`read_by` of cob_move_data); a text means them read as their
+//!   pictures say. [`Paragraph::moves`] counts the single moves that there may be, each of a sender to one of its receivers, and [`Paragraph::steps`] the
+//!   steps that they make between two marks, in which plain copies that meet are joined.
+//! - [`apply`] carries it out on one record (`carried`; `Carried` of cob_move_deeds), and [`pairs`] answers the pairs of CORRESPONDING.
 //! - [`initial`], the storage of a record before the first move, is that of cob_move_initial, with its law [`one_initial`].
 //!
 //! [`apply`] takes no memory.
@@ -33,22 +37,27 @@
 //! Laws: statements mean one list of moves at most ([`one_meaning`], [`one_meant`]); where they have a meaning, none breaks a rule
 //! ([`meanings_break_no_rule`], [`meant_break_no_rule`]); and what they mean are moves between the two records ([`meant_are_moves`]).
 //!
-//! A text is read piece by piece, some thousand words at once, and as a whole where a piece of it isn't read alone (src/pieces.rt); contracts say
-//! nothing of it.
+//! A text is read piece by piece, some thousand words at once, and as a whole where a piece of it isn't read alone (src/pieces.rt): then run by run where
+//! all its loops end by numbers (src/loops.rt), and turn by turn else (src/deeds.rt). Contracts say nothing of it.
 //!
 //! It puts the reading of a paragraph together: it stands on `cob_source` for words, on `cob_move_loops` for loops, on `cob_move_statements` for
-//! statements, on `cob_move_names` and, through `cob_move_initial`, `cob_move_receive` for the moves that they mean, and on `cob_move_apply` for
-//! what these do.
+//! statements, on `cob_move_names` and, through `cob_move_initial`, `cob_move_receive` for the moves that they mean, on `cob_move_apply` for what these
+//! do, and on `cob_move_deeds` for tests between them.
 //!
 //! # Where it is proved
 //!
-//! The clauses `found`, `only`, `fault` of `all_meant` and of `Paragraph::read`, those of `Paragraph::with_reading`; its laws.
+//! The clauses `found`, `only`, `fault` of `all_meant` and of `Paragraph::read`, those of `Paragraph::with_reading` and of `apply`; its laws.
 #![tactic(auto)]
 
+mod body;
 mod corresponding;
+mod deeds;
+mod deeds_laws;
 mod entries;
 mod laws;
+mod linking;
 mod loops;
+mod made;
 mod meaning;
 mod meaning_laws;
 mod paragraph;
@@ -65,7 +74,10 @@ pub use cob_move_data::{Side, StatementMoves};
 pub use cob_move_initial::{initial, one_initial};
 pub use cob_move_names::pairs;
 pub use cob_move_statements::{MoveFault, MoveRule};
-pub use laws::{one_paragraph, paragraph_breaks_no_rule, plain_paragraph};
+pub use deeds_laws::{deeds_break_no_rule, joined_is_both, one_deeds};
+pub use laws::{
+    done_is_applied, literal_paragraph, one_paragraph, paragraph_breaks_no_rule, plain_paragraph,
+};
 pub use meaning::all_meant;
 pub use meaning_laws::{
     meanings_break_no_rule, meant_are_moves, meant_break_no_rule, one_meaning, one_meant,

@@ -3,13 +3,15 @@
 ghost use Rattle.std.specs.Prelude.{◌≡◌, ◌↔◌, IfErr, IfOk, IsTrue, OnOk};
 ghost use Rattle.std.specs.List.{AllByRecursion};
 ghost use Rattle.cob_move_loops.specs.Passages.{IsPassage, Passage};
-ghost use Rattle.cob_move_loops.specs.Reading.{all_runs, run_words, written_loops};
+ghost use Rattle.cob_move_loops.specs.Reading.{all_runs, run_words, written_loop, written_loops};
 ghost use Rattle.cob_move_names.specs.Directory.{entries_named};
 ghost use Rattle.cob_move_apply.specs.Some.{SomeOf};
 ghost use Rattle.cob_move.specs.Between.{ArePairsOf};
 ghost use Rattle.cob_move.specs.Entries.{AllMayBeNamed, records_of};
 ghost use Rattle.cob_move.specs.Loops.{AddsRun, AreItsLoops, BodyRefused, BreaksAnywhere, HasChecked, HasJudged, IsClashOf, RunRefused, SayRuns, SaysBody};
-ghost use Rattle.cob_move.specs.Paragraphs.{BreaksCounters, IsBodyIn, IsNoEntry, IsPassageRefusal};
+ghost use Rattle.cob_move.specs.Among.{nameable};
+ghost use Rattle.cob_move.specs.Bodies.{BreaksCounters, IsBodyIn, IsNoEntry, IsPassageRefusal};
+ghost use Rattle.cob_move.specs.Paragraphs.{EndsByNumber, IsLiteral};
 ghost use Rattle.cob_source.specs.Tokens.{lexemes};
 
 use crate::entries::Entries;
@@ -17,7 +19,8 @@ use crate::meaning::meanings_of;
 use crate::pieces::{is_other, refused_memory};
 use cob_move_data::StatementMoves;
 use cob_move_loops::{
-    Loop, LoopFault, Run, check, in_turn, is_few, is_shallow, loop_line, loops, no_turn, write_out,
+    Loop, LoopBound, LoopFault, Run, check, in_turn, is_few, is_shallow, loop_line, loops, no_turn,
+    write_out,
 };
 use cob_move_names::{Correspondences, Names};
 use cob_move_statements::{MoveFault, MoveRule, Reference, behind_heading, ended_statements};
@@ -38,7 +41,7 @@ pub(crate) fn body_of(words: &[Token]) -> &[Token]
 }
 
 /// A fault of loops on this line.
-fn fault_of(rule: MoveRule, line: u32) -> MoveFault
+pub(crate) fn fault_of(rule: MoveRule, line: u32) -> MoveFault
     ensures { (result.rule ≡ rule) × (result.line ≡ line) }
 {
     MoveFault { rule, line }
@@ -138,20 +141,45 @@ fn check_passage(body: &[Token]) -> Result<(), MoveFault>
     Ok(())
 }
 
-/// Checks that the words behind a heading are a passage, and keep the rules of loops.
+/// Whether a loop ends by a number.
+fn ends_by_number(head: &Loop<'_>) -> bool
+    ensures { IsTrue result ↔ EndsByNumber (written_loop head.now).bound }
+{
+    match head.bound {
+        LoopBound::Number(_) => true,
+        LoopBound::Item(_) => false,
+    }
+}
+
+/// Whether loops all end by numbers.
+fn end_by_numbers(heads: &[Loop<'_>]) -> bool
+    ensures { IsTrue result
+        ↔ AllByRecursion (λ l. EndsByNumber l.bound) (written_loops heads.now) }
+{
+    for head in heads {
+        if !ends_by_number(head) {
+            return false;
+        }
+    }
+    true
+}
+
+/// Checks that the words behind a heading are a passage, and keep the rules of loops. The answer is whether its loops all end by numbers.
 ///
 /// # Errors
 ///
 /// `Grammar`, `TooMany`, `Counter`; `Memory`.
-fn judge(alloc: Global, names: &Names<'_>, body: &[Token]) -> Result<(), MoveFault>
+pub(crate) fn judge(alloc: Global, names: &Names<'_>, body: &[Token]) -> Result<bool, MoveFault>
     ensures found { OnOk result (HasJudged (entries_named names.now) (lexemes body.now)) }
+    ensures literal { IfOk result (λ literal. (p : Passage) → IsPassage p (lexemes body.now)
+        → (IsTrue literal ↔ IsLiteral p)) }
     ensures fault { IfErr result (λ f. IsPassageRefusal f.rule f.line (entries_named names.now)
         (lexemes body.now)) }
 {
     check_passage(body)?;
     let heads = apart_loops(alloc, body)?;
     check_names(names, heads.as_slice())?;
-    Ok(())
+    Ok(end_by_numbers(heads.as_slice()))
 }
 
 /// Puts the moves of words behind those so far.
@@ -159,7 +187,7 @@ fn judge(alloc: Global, names: &Names<'_>, body: &[Token]) -> Result<(), MoveFau
 /// # Errors
 ///
 /// The rule that the words or one of their statements break, with its line; `Memory`.
-fn add_words(
+pub(crate) fn add_words(
     alloc: Global,
     entries: &Entries<'_, '_>,
     pairs: &mut Correspondences<'_>,
@@ -171,6 +199,7 @@ fn add_words(
     ensures added { OnOk result (AddsRun entries.now (lexemes words.now) list.old.items
         list.new.items) }
     ensures fault { IfErr result (λ f. RunRefused f entries.now (lexemes words.now)) }
+    ensures same { IfErr result (λ _. list.new.items ≡ list.old.items) }
     ensures pairs { ArePairsOf (records_of entries.now) pairs.new }
 {
     let statements = ended_statements(alloc, words)?;
@@ -234,11 +263,11 @@ fn moves_of_runs(
     Ok(list)
 }
 
-/// The moves that words behind a heading say.
+/// The moves that words behind a heading say, whose loops all end by numbers.
 ///
 /// # Errors
 ///
-/// A rule that they break, with its line; `Memory`.
+/// A rule that their statements break, with its line; `Memory`.
 pub(crate) fn moves_of_body(
     alloc: Global,
     entries: &Entries<'_, '_>,
@@ -247,10 +276,10 @@ pub(crate) fn moves_of_body(
 ) -> Result<Vec<StatementMoves>, MoveFault>
     requires named { AllMayBeNamed entries.now }
     requires pairs { ArePairsOf (records_of entries.now) pairs.old }
+    requires judged { HasJudged (nameable entries.now) (lexemes body.now) }
     ensures found { IfOk result (λ v. SaysBody entries.now (lexemes body.now) v.items) }
     ensures fault { IfErr result (λ f. BodyRefused f entries.now (lexemes body.now)) }
 {
-    judge(alloc, entries.names, body)?;
     let runs = write_out(alloc, body)?;
     let list = moves_of_runs(alloc, entries, pairs, runs.as_slice())?;
     Ok(list)

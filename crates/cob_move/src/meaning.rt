@@ -1,6 +1,6 @@
 //! What statements mean.
 
-ghost use Rattle.std.specs.Prelude.{◌≡◌, List, IfErr, IfOk};
+ghost use Rattle.std.specs.Prelude.{◌≡◌, List, length, IfErr, IfOk};
 ghost use Rattle.cob_move.specs.Between.{ArePairsOf};
 ghost use Rattle.cob_move.specs.Entries.{AllMayBeNamed, records_of};
 ghost use Rattle.cob_move.specs.Among.{
@@ -102,6 +102,7 @@ pub(crate) fn meanings_of(
     requires pairs { ArePairsOf (records_of entries.now) pairs.old }
     ensures found { IfOk result (λ v. AreMeaningsAmong entries.now
         (written_statements statements.now) v.items) }
+    ensures many { IfOk result (λ v. length v.items ≡ length statements.now) }
     ensures fault { IfErr result (λ f. SomeBrokenAmong f entries.now
         (written_statements statements.now)) }
     ensures pairs { ArePairsOf (records_of entries.now) pairs.new }

@@ -1,14 +1,12 @@
 //! Paragraphs that are read piece by piece, so that the words and the statements of one piece alone are held.
 
-ghost use Rattle.std.specs.Prelude.{◌≡◌, ◌↔◌, ℕ, [], List, IfErr, IfOk, IfSome, IsTrue};
+ghost use Rattle.std.specs.Prelude.{◌≡◌, ◌↔◌, ℕ, [], List, length, IfErr, IfOk, IfSome, IsTrue};
 ghost use Rattle.std.specs.List.{AllByRecursion};
 ghost use Rattle.cob_move_loops.specs.Words.{IsOther};
-ghost use Rattle.cob_move_data.specs.Moves.{moves};
-ghost use Rattle.cob_move.specs.Among.{AreMeaningsAmong, both};
+ghost use Rattle.cob_move.specs.Among.{AreMeaningsAmong};
 ghost use Rattle.cob_move.specs.Between.{ArePairsOf};
 ghost use Rattle.cob_move.specs.Entries.{AllMayBeNamed, records_of};
-ghost use Rattle.cob_move.specs.Paragraphs.{IsParagraphOf};
-ghost use Rattle.cob_move.specs.Pieces.{AddsMoves, IsParagraphAmong, IsRefusedMemory, ReadsPiece, SaysNext, SaysSoFar};
+ghost use Rattle.cob_move.specs.Pieces.{AddsMoves, IsParagraphAmong, IsRefusedMemory, ReadsPiece, SaysMoves, SaysNext, SaysSoFar};
 ghost use Rattle.cob_move_statements.specs.Statements.{FollowsStatements, IsParagraph};
 ghost use Rattle.cob_move_statements.specs.Written.{written_statements};
 ghost use Rattle.cob_source.specs.Ahead.{HaveLineNumbers, IsNoted, IsReadTo};
@@ -141,6 +139,7 @@ fn meanings_alone(
     requires pairs { ArePairsOf (records_of entries.now) pairs.old }
     ensures found { IfOk result (λ o. IfSome o
         (λ v. AreMeaningsAmong entries.now (written_statements read.now) v.items)) }
+    ensures many { IfOk result (λ o. IfSome o (λ v. length v.items ≡ length read.now)) }
     ensures pairs { ArePairsOf (records_of entries.now) pairs.new }
     ensures fault { IfErr result IsRefusedMemory }
 {
@@ -310,8 +309,8 @@ pub(crate) fn meant_in_pieces(
     output: &Layout,
     text: &[u8],
 ) -> Result<Option<Vec<StatementMoves>>, MoveFault>
-    ensures found { IfOk result (λ o. IfSome o (λ v. IsParagraphOf text.now input.now output.now
-        (moves (both input.now output.now) v.items))) }
+    ensures found { IfOk result (λ o. IfSome o (λ v. SaysMoves text.now input.now output.now
+        v.items)) }
     ensures fault { IfErr result IsRefusedMemory }
 {
     let names = Names::of(alloc, input, output)?;

@@ -7,7 +7,7 @@ ghost use Rattle.cob_layout.specs.Storage.{greatest_length, IsStorage};
 ghost use Rattle.cob_layout_places.specs.Counts.{tables_of};
 ghost use Rattle.cob_move_data.specs.Moves.{Records, moves_by};
 ghost use Rattle.cob_move_apply.specs.Applied.{ending};
-ghost use Rattle.cob_move_apply.specs.Marked.{AreMarkedPrepared, marked_steps};
+ghost use Rattle.cob_move_apply.specs.Marked.{AreMarkedPrepared, ends_of_marks, marked_steps};
 ghost use Rattle.cob_move_apply.specs.Prepared.{moves_of};
 ghost use Rattle.cob_move_apply.specs.Room.{room_of};
 ghost use Rattle.cob_move_apply.specs.Told.{most_moves_told, single_moves};
@@ -64,6 +64,7 @@ impl ReadyDeeds {
         ensures deeds { (r : Records) → deeds_of r result ≡ deeds_by reading (deeds_of r self) }
         ensures prepared { (r : Records) → AreDeedsPrepared r self → AreDeedsPrepared r result }
         ensures whole { (r : Records) → HaveAllMoves r self → HaveAllMoves r result }
+        ensures ends { ends_of_marks result.moves ≡ ends_of_marks self.moves }
     {
         ReadyDeeds {
             moves: self.moves.with_reading(reading),

@@ -9,3 +9,4 @@ pub mod WritingLemmas
 pub mod CountLemmas
 pub mod NamingLemmas
 pub mod NumberLemmas
+pub mod BoundedLemmas

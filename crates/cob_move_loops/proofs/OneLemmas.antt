@@ -9,7 +9,7 @@ use Rattle.cob_move_loops.specs.Passages.{ALoop, APause, ARun, PassageFront, Fro
 use Rattle.cob_move_loops.specs.Reading.{Within}
 use Rattle.cob_move_loops.specs.Laws.{BreaksNone, OnePassage}
 use Rattle.cob_move_loops.proofs.CutLemmas.{cut_one}
-use Rattle.cob_move_loops.proofs.HeadLemmas.{head_one}
+use Rattle.cob_move_loops.proofs.HeadLemmas.{ends_before, head_one}
 use Rattle.cob_move_loops.proofs.PassageLemmas.{InFront, head_first, in_front, joined, no_period, shorter}
 
 pub others_one : (own us a b : List Lexeme) → AllByRecursion IsOther own → AllByRecursion IsOther us → LoopWordFirst a → LoopWordFirst b → own ++ a ≡ us ++ b → (own ≡ us) × (a ≡ b)
@@ -70,7 +70,7 @@ one_front APause (Looped l own) ws more others p q = absurd (let never : Some lo
 one_front (Looped l own) (ARun us) ws more others p q = absurd (let never : Some loop.Perform ≡ None = same_kind (Looped l own) (ARun us) ws more others p q in cc)
 one_front (Looped l own) APause ws more others p q = absurd (let never : Some loop.Perform ≡ Some loop.Continue = same_kind (Looped l own) APause ws more others p q in cc)
 one_front (Looped l own) (Looped m us) ws more others (head, stops, end, h, b, word, are, none, e) (deah, spots, dne, k, c, drow, era, enon, d) =
-    let heads = head_one l m head deah (own ++ end ∷ (stops ++ more)) (us ++ dne ∷ (spots ++ others)) h k (sym e ∙ d) in
+    let heads = head_one l m head deah (own ++ end ∷ (stops ++ more)) (us ++ dne ∷ (spots ++ others)) h k (ends_before l.bound own (end ∷ (stops ++ more)) b) (ends_before m.bound us (dne ∷ (spots ++ others)) c) (sym e ∙ d) in
     let cut = cut_one (Some 0) own us end dne (stops ++ more) (spots ++ others) b.closed word c.closed drow heads.1 in
     (λ i. Looped (heads.0 i) (cut.0 i), periods_one stops spots more others are era none enon cut.1)
 

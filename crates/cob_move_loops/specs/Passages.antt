@@ -7,17 +7,21 @@ use Rattle.cob_copybook_clauses.specs.Terms.{word_class}
 use Rattle.cob_copybook_clauses.specs.declared.term.WordClass.TheVariants as term
 use Rattle.cob_move_loops.specs.declared.words.LoopWord.{LoopWord}
 use Rattle.cob_move_loops.specs.declared.words.LoopWord.TheVariants as loop
-use Rattle.cob_move_loops.specs.Words.{IsCounter, IsLoopWord, IsNoPeriod, IsNumber, IsOther, IsPeriod, LoopWordFirst, NoPeriod, first_line, loop_word}
+use Rattle.cob_move_loops.specs.Words.{AreItemWords, IsCounter, IsLoopWord, IsNoPeriod, IsNumber, IsOther, IsPeriod, LoopWordFirst, NoItemWord, NoPeriod, first_line, loop_word}
 
--- a loop with a literal bound: its line, its counter, the first number, how much is added from turn to turn, the name that is tested, and the number
--- that it is not to pass
+-- what a loop ends by: a number that its counter is not to pass, or that of an item, by the words that name it
+pub data WrittenBound : Type 0 where
+  ToNumber : ℕ → WrittenBound
+  ToItem : List Lexeme → WrittenBound
+
+-- a loop: its line, its counter, the first number, how much is added from turn to turn, the name that is tested, and what it ends by
 pub record WrittenLoop : Type 0 where
   pub line : ℕ
   pub counter : List ℕ
   pub from : ℕ
   pub by : ℕ
   pub tested : List ℕ
-  pub bound : ℕ
+  pub bound : WrittenBound
 
 -- What stands in order: nothing; words of MOVE statements, and the others; CONTINUE, and the others; a loop with its statements, and the others.
 pub data Passage : Type 0 where
@@ -54,10 +58,20 @@ abbrev pub IsPastWord : List Lexeme → Type 0
 IsPastWord ws = ((sign : Lexeme) × IsWord (codes ">") sign × (ws ≡ sign ∷ []))
     ⊎ (IsGreater ws ⊎ ((is : Lexeme) × (greater : List Lexeme) × IsWord (codes "IS") is × IsGreater greater × (ws ≡ is ∷ greater)))
 
+-- what stands behind the sign
+abbrev pub AreBoundWords : WrittenBound → List Lexeme → Type 0
+AreBoundWords (ToNumber n) ws = (number : Lexeme) × IsNumber n number × (ws ≡ number ∷ [])
+AreBoundWords (ToItem own) ws = AreItemWords own × (ws ≡ own)
+
+-- the words of a reference end where none comes first; a number is one word
+abbrev pub BoundEnds : WrittenBound → List Lexeme → Type 0
+BoundEnds (ToNumber n) more = Unit {0}
+BoundEnds (ToItem own) more = NoItemWord more
+
 -- UNTIL and the test, whether the counter is past a number
-abbrev pub IsUntil : List ℕ → ℕ → List Lexeme → Type 0
-IsUntil name bound ws = (until counter number : Lexeme) × (past : List Lexeme)
-    × IsWord (codes "UNTIL") until × IsCounter name counter × IsPastWord past × IsNumber bound number × (ws ≡ until ∷ counter ∷ (past ++ number ∷ []))
+abbrev pub IsUntil : List ℕ → WrittenBound → List Lexeme → Type 0
+IsUntil name bound ws = (until counter : Lexeme) × (past own : List Lexeme)
+    × IsWord (codes "UNTIL") until × IsCounter name counter × IsPastWord past × AreBoundWords bound own × (ws ≡ until ∷ counter ∷ (past ++ own))
 
 -- what stands before the statements of a loop
 abbrev pub IsHead : WrittenLoop → List Lexeme → Type 0
@@ -82,9 +96,11 @@ abbrev pub open_behind : Option ℕ → List Lexeme → Option ℕ
 open_behind depth [] = depth
 open_behind depth (w ∷ ws) = open_behind (open_by (loop_word w) depth) ws
 
--- the words of the statements in a loop: there is one, each PERFORM has its END-PERFORM, and no period stands among them
-pub record IsLoopBody (ws : List Lexeme) : Type 0 where
+-- the words of the statements in a loop: there is one, the words of what it ends by end before it, each PERFORM has its END-PERFORM, and no period stands
+-- among them
+pub record IsLoopBody (bound : WrittenBound) (ws : List Lexeme) : Type 0 where
   pub some : 0 < length ws
+  pub ends : BoundEnds bound ws
   pub closed : open_behind (Some 0) ws ≡ Some 0
   pub no_period : AllByRecursion IsNoPeriod ws
 
@@ -95,7 +111,7 @@ IsPassage (Moves own more) ws = (rest : List Lexeme) × IsRun own × LoopWordFir
 IsPassage (Pause more) ws = (pause : Lexeme) × (stops rest : List Lexeme)
     × IsLoopWord loop.Continue pause × AllByRecursion IsPeriod stops × (ws ≡ pause ∷ (stops ++ rest)) × IsPassage more rest
 IsPassage (ALoop l body more) ws = (head own stops rest : List Lexeme) × (end : Lexeme)
-    × IsHead l head × IsLoopBody own × IsPassage body own × IsLoopWord loop.EndPerform end × AllByRecursion IsPeriod stops
+    × IsHead l head × IsLoopBody l.bound own × IsPassage body own × IsLoopWord loop.EndPerform end × AllByRecursion IsPeriod stops
     × (ws ≡ head ++ (own ++ end ∷ (stops ++ rest))) × IsPassage more rest
 
 -- What stands in front of a passage: words of MOVE statements, CONTINUE, or a loop with the words of its statements.
@@ -110,7 +126,7 @@ FrontStands (ARun own) words more = IsRun own × LoopWordFirst more × (words �
 FrontStands APause words more = (pause : Lexeme) × (stops : List Lexeme)
     × IsLoopWord loop.Continue pause × AllByRecursion IsPeriod stops × NoPeriod more × (words ≡ pause ∷ (stops ++ more))
 FrontStands (Looped l own) words more = (head stops : List Lexeme) × (end : Lexeme)
-    × IsHead l head × IsLoopBody own × IsLoopWord loop.EndPerform end × AllByRecursion IsPeriod stops × NoPeriod more
+    × IsHead l head × IsLoopBody l.bound own × IsLoopWord loop.EndPerform end × AllByRecursion IsPeriod stops × NoPeriod more
     × (words ≡ head ++ (own ++ end ∷ (stops ++ more)))
 
 -- Where words are no passage, and on which line: nothing stands in front that may, and this is the line there; or it is so within a loop in front, or

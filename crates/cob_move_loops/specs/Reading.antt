@@ -5,21 +5,28 @@ use Rattle.cob_source.specs.declared.token.Token.{Token}
 use Rattle.cob_source.specs.Tokens.{Lexeme, lexemes}
 use Rattle.cob_copybook_clauses.specs.Clauses.{IsWord}
 use Rattle.cob_move_loops.specs.declared.parts.Loop.{Loop}
+use Rattle.cob_move_loops.specs.declared.parts.LoopBound.{LoopBound}
+use Rattle.cob_move_loops.specs.declared.parts.LoopBound.TheVariants as loop_bound
 use Rattle.cob_move_loops.specs.declared.turn.Counter.{Counter}
 use Rattle.cob_move_loops.specs.declared.naming.LoopFault.{LoopFault}
 use Rattle.cob_move_loops.specs.declared.naming.LoopFault.TheVariants as fault
 use Rattle.cob_move_loops.specs.declared.writing.Run.{Run}
-use Rattle.cob_move_loops.specs.declared.front.Item.{Item}
-use Rattle.cob_move_loops.specs.declared.front.Item.TheVariants as item
+use Rattle.cob_move_loops.specs.declared.front.PassageItem.{PassageItem}
+use Rattle.cob_move_loops.specs.declared.front.PassageItem.TheVariants as item
 use Rattle.cob_move_loops.specs.declared.words.LoopWord.TheVariants as loop
 use Rattle.cob_move_loops.specs.Few.{AreLoopsApart, Clashes, IsApart, loops_of, statements_in, statements_of}
 use Rattle.cob_move_loops.specs.Turns.{Counted, counter_at, in_turn, turns, turns_of, words_by_turn}
 use Rattle.cob_move_loops.specs.Words.{IsLoopWord}
-use Rattle.cob_move_loops.specs.Passages.{APause, ARun, Breaks, PassageFront, IsPassage, Looped, Passage, WrittenLoop, open_behind}
+use Rattle.cob_move_loops.specs.Passages.{APause, ARun, AreBoundWords, BoundEnds, Breaks, IsHead, IsPassage, IsUntil, Looped, Passage, PassageFront, ToItem, ToNumber, WrittenBound, WrittenLoop, open_behind}
+
+-- what a loop ends by, without where its words lie in memory
+abbrev pub written_bound : LoopBound → WrittenBound
+written_bound (loop_bound.Number n) = ToNumber n
+written_bound (loop_bound.Item words) = ToItem (lexemes words.now)
 
 -- a loop without where its texts lie in memory
 abbrev pub written_loop : Loop → WrittenLoop
-written_loop l = record { line = l.line; counter = l.counter.now; from = l.from; by = l.by; tested = l.tested.now; bound = l.bound }
+written_loop l = record { line = l.line; counter = l.counter.now; from = l.from; by = l.by; tested = l.tested.now; bound = written_bound l.bound }
 
 -- a reader answers a number and a text, and leaves these words
 abbrev pub AnswersNamed : Option (ℕ × Bor (List ℕ) × Bor (List Token)) → ℕ → List ℕ → List Lexeme → Type 0
@@ -29,9 +36,25 @@ AnswersNamed answer n text more = IsSomeAnd answer (λ r. (r.0 ≡ n) × (r.1.no
 abbrev pub AnswersNumbers : Option (ℕ × ℕ × Bor (List Token)) → ℕ → ℕ → List Lexeme → Type 0
 AnswersNumbers answer m n more = IsSomeAnd answer (λ r. (r.0 ≡ m) × (r.1 ≡ n) × (lexemes r.2.now ≡ more))
 
--- a reader answers a text and a number, and leaves these words
-abbrev pub AnswersTested : Option (Bor (List ℕ) × ℕ × Bor (List Token)) → List ℕ → ℕ → List Lexeme → Type 0
-AnswersTested answer text n more = IsSomeAnd answer (λ r. (r.0.now ≡ text) × (r.1 ≡ n) × (lexemes r.2.now ≡ more))
+-- a reader answers what a loop ends by, and leaves these words
+abbrev pub AnswersBound : Option (LoopBound × Bor (List Token)) → WrittenBound → List Lexeme → Type 0
+AnswersBound answer bound more = IsSomeAnd answer (λ r. (written_bound r.0 ≡ bound) × (lexemes r.1.now ≡ more))
+
+-- a reader answers a text and what a loop ends by, and leaves these words
+abbrev pub AnswersTested : Option (Bor (List ℕ) × LoopBound × Bor (List Token)) → List ℕ → WrittenBound → List Lexeme → Type 0
+AnswersTested answer text bound more = IsSomeAnd answer (λ r. (r.0.now ≡ text) × (written_bound r.1 ≡ bound) × (lexemes r.2.now ≡ more))
+
+-- what a loop ends by stands in front, and its words end there
+abbrev pub BoundInFront : LoopBound → (words more : List Lexeme) → Type 0
+BoundInFront bound words more = (own : List Lexeme) × AreBoundWords (written_bound bound) own × BoundEnds (written_bound bound) more × (words ≡ own ++ more)
+
+-- UNTIL and its test do
+abbrev pub UntilInFront : List ℕ → LoopBound → (words more : List Lexeme) → Type 0
+UntilInFront name bound words more = (ws : List Lexeme) × IsUntil name (written_bound bound) ws × BoundEnds (written_bound bound) more × (words ≡ ws ++ more)
+
+-- so does the head of a loop
+abbrev pub HeadInFront : Loop → (words more : List Lexeme) → Type 0
+HeadInFront l words more = (ws : List Lexeme) × IsHead (written_loop l) ws × BoundEnds (written_bound l.bound) more × (words ≡ ws ++ more)
 
 -- IS stands in front, before these words; or it doesn't, and they are all
 abbrev pub AfterIs : List Lexeme → List Lexeme → Type 0
@@ -40,7 +63,7 @@ AfterIs words rest =
     ⊎ ((rest ≡ words) × ((is : Lexeme) (more : List Lexeme) → IsWord (codes "IS") is → words ≡ is ∷ more → ⊥))
 
 -- what stands in front, without where it lies in memory
-abbrev pub item_front : Item → PassageFront
+abbrev pub item_front : PassageItem → PassageFront
 item_front (item.Run words) = ARun (lexemes words.now)
 item_front item.Pause = APause
 item_front (item.Loop head body) = Looped (written_loop head) (lexemes body.now)
@@ -54,7 +77,7 @@ abbrev pub ClosedInFront : List Lexeme → List Lexeme → List Lexeme → Type 
 ClosedInFront own words more = (end : Lexeme) × (open_behind (Some 0) own ≡ Some 0) × IsLoopWord loop.EndPerform end × (words ≡ own ++ end ∷ more)
 
 -- a reader answers what stands in front, and leaves the words behind it
-abbrev pub AnswersFront : Option (Item × Bor (List Token)) → PassageFront → List Lexeme → Type 0
+abbrev pub AnswersFront : Option (PassageItem × Bor (List Token)) → PassageFront → List Lexeme → Type 0
 AnswersFront answer f more = IsSomeAnd answer (λ r. (item_front r.0 ≡ f) × (lexemes r.1.now ≡ more))
 
 -- where a loop stands in front, its statements are a passage

@@ -10,7 +10,7 @@ use Rattle.cob_copybook_clauses.specs.Terms.{word_class}
 use Rattle.cob_copybook_clauses.specs.declared.term.WordClass.{WordClass}
 use Rattle.cob_copybook_clauses.specs.declared.term.WordClass.TheVariants as term
 use Rattle.cob_limits.specs.Limits.{most_counter_digits}
-use Rattle.cob_move_loops.specs.Passages.{ALoop, Moves, NoMore, Passage, Pause, WrittenLoop}
+use Rattle.cob_move_loops.specs.Passages.{ALoop, Moves, NoMore, Passage, Pause, ToItem, ToNumber, WrittenBound, WrittenLoop}
 
 -- a counter and its number in a turn
 pub record Counted : Type 0 where
@@ -121,9 +121,14 @@ counter_at l i = record { name = l.counter; number = i }
 abbrev pub turns_between : ℕ → ℕ → ℕ → ℕ
 turns_between from by bound = if nat_lt bound from then 0 else (bound - from) / by + 1
 
+-- how many turns there are up to this bound; a loop to an item counts for one turn, since only its records say how many it has
+abbrev pub turns_up_to : ℕ → ℕ → WrittenBound → ℕ
+turns_up_to from by (ToNumber n) = turns_between from by n
+turns_up_to from by (ToItem ws) = 1
+
 -- how many turns a loop has
 abbrev pub turns_of : WrittenLoop → ℕ
-turns_of l = turns_between l.from l.by l.bound
+turns_of l = turns_up_to l.from l.by l.bound
 
 -- A passage written out, where the counters round it have these numbers: the words of MOVE statements, each turn's behind those of the turn before, each
 -- as they are in their turn.

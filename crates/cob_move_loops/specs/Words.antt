@@ -4,7 +4,10 @@ use Rattle.cob_limits.specs.Limits.{most_counter_digits}
 use Rattle.cob_source.specs.Tokens.{Lexeme}
 use Rattle.cob_source.specs.declared.token.TokenKind.{TokenKind}
 use Rattle.cob_source.specs.declared.token.TokenKind.TheVariants as kind
-use Rattle.cob_copybook_clauses.specs.Clauses.{IsNameWord}
+use Rattle.std.specs.List.{AllByRecursion}
+use Rattle.cob_copybook_clauses.specs.Clauses.{IsNameWord, IsWord}
+use Rattle.cob_copybook_clauses.specs.Terms.{word_class}
+use Rattle.cob_copybook_clauses.specs.declared.term.WordClass.TheVariants as term
 use Rattle.cob_copybook_entries.specs.Meaning.{IsIntegerText}
 use Rattle.cob_move_loops.specs.declared.words.LoopWord.{LoopWord}
 use Rattle.cob_move_loops.specs.declared.words.LoopWord.TheVariants as loop
@@ -69,3 +72,19 @@ pub record IsNumber (n : ℕ) (w : Lexeme) : Type 0 where
 abbrev pub first_line : List Lexeme → ℕ
 first_line [] = 1
 first_line (w ∷ ws) = w.line
+
+-- a word of a reference: no word of loops, not MOVE, and no period
+pub record IsItemWord (w : Lexeme) : Type 0 where
+  pub other : IsOther w
+  pub no_move : (word_class w ≡ term.Move) → ⊥
+  pub no_period : IsNoPeriod w
+
+-- no word of a reference comes first
+abbrev pub NoItemWord : List Lexeme → Type 0
+NoItemWord [] = Unit {0}
+NoItemWord (w ∷ ws) = IsItemWord w → ⊥
+
+-- words that may name an item: a name comes first, which is not THAN
+abbrev pub AreItemWords : List Lexeme → Type 0
+AreItemWords [] = ⊥
+AreItemWords (w ∷ ws) = IsNameWord w × (IsWord (codes "THAN") w → ⊥) × AllByRecursion IsItemWord (w ∷ ws)

@@ -5,7 +5,7 @@ ghost use Rattle.cob_source.specs.Tokens.{lexemes};
 ghost use Rattle.cob_move_loops.specs.Passages.{APause, ARun, Breaks, PassageFront, IsPassage, Looped, Passage};
 ghost use Rattle.cob_move_loops.specs.Reading.{HasPassages, BreaksWithin, item_front};
 
-use crate::front::{Item, item_at};
+use crate::front::{PassageItem, item_at};
 use crate::words::first_line;
 use cob_source::Token;
 
@@ -15,13 +15,13 @@ use cob_source::Token;
 ///
 /// The line where they are none.
 #[cycle(checking)]
-fn check_item(item: &Item<'_>) -> Result<(), u32>
+fn check_item(item: &PassageItem<'_>) -> Result<(), u32>
     ensures found { OnOk result (HasPassages (item_front item.now)) }
     ensures line { IfErr result (λ line. BreaksWithin (item_front item.now) line) }
 {
     match item {
-        Item::Loop { body, .. } => check(body),
-        Item::Run(_) | Item::Pause => Ok(()),
+        PassageItem::Loop { body, .. } => check(body),
+        PassageItem::Run(_) | PassageItem::Pause => Ok(()),
     }
 }
 

@@ -6,24 +6,35 @@ ghost use Rattle.cob_move_loops.specs.Few.{IsFew, IsShallow, loop_line, looped_o
 ghost use Rattle.cob_limits.specs.Limits.{most_written_out};
 ghost use Rattle.cob_move_loops.specs.Passages.{IsPassage, Passage};
 ghost use Rattle.cob_move_loops.specs.Reading.{Within, item_front, looped_front, statements_front, written_loop};
-ghost use Rattle.cob_move_loops.specs.Turns.{turns_of};
+ghost use Rattle.cob_move_loops.specs.Turns.{turns_between, turns_of};
 ghost use Rattle.cob_move_loops.specs.Words.{loop_word};
 
-use crate::front::{Item, depth_behind, item_at};
-use crate::parts::Loop;
+use crate::front::{PassageItem, depth_behind, item_at};
+use crate::parts::{Loop, LoopBound};
 use crate::words::{LoopWord, loop_word};
 use cob_copybook_clauses::{WordClass, is_term};
 use cob_limits::{MAX_OPEN, MAX_WRITTEN_OUT};
 use cob_source::Token;
 
-/// How many turns a loop has.
+/// How many turns there are from one number up to another.
+fn turns_to(from: u32, by: u32, bound: u32) -> u64
+    requires { 0 < by }
+    ensures { result ≡ turns_between from by bound }
+{
+    if bound < from {
+        return 0;
+    }
+    u64::from(bound - from) / u64::from(by) + 1
+}
+
+/// How many turns a loop has; one to an item counts for one.
 pub(crate) fn turns_of(head: &Loop<'_>) -> u64
     ensures { result ≡ turns_of (written_loop head.now) }
 {
-    if head.bound < head.from {
-        return 0;
+    match head.bound {
+        LoopBound::Number(bound) => turns_to(head.from, head.by, bound),
+        LoopBound::Item(_) => 1,
     }
-    u64::from(head.bound - head.from) / u64::from(head.by) + 1
 }
 
 /// A number of statements, where it is not over the most.
@@ -94,7 +105,7 @@ fn count_turns(head: &Loop<'_>, body: &[Token]) -> Option<u64>
 
 /// The statements of what stands in front once it is written out, where they are not over the most.
 #[cycle(counting)]
-fn count_item(item: &Item<'_>) -> Option<u64>
+fn count_item(item: &PassageItem<'_>) -> Option<u64>
     ensures some { IfSome result (λ n. (p : Passage) → Within (item_front item.now) p
         → n ≡ statements_front (item_front item.now) p) }
     ensures most { IfSome result (λ n. n ≤ most_written_out) }
@@ -102,9 +113,9 @@ fn count_item(item: &Item<'_>) -> Option<u64>
         → most_written_out < statements_front (item_front item.now) p) }
 {
     match item {
-        Item::Run(words) => statements_in(words),
-        Item::Pause => Some(0),
-        Item::Loop { head, body } => count_turns(head, body),
+        PassageItem::Run(words) => statements_in(words),
+        PassageItem::Pause => Some(0),
+        PassageItem::Loop { head, body } => count_turns(head, body),
     }
 }
 
@@ -129,7 +140,7 @@ pub(crate) fn count_all(words: &[Token]) -> Option<u64>
 }
 
 /// The statements of what stands in front once it is written out, if it is a loop, where they are not over the most.
-fn count_looped(item: &Item<'_>) -> Option<u64>
+fn count_looped(item: &PassageItem<'_>) -> Option<u64>
     ensures some { IfSome result (λ n. (p : Passage) → Within (item_front item.now) p
         → n ≡ looped_front (item_front item.now) p) }
     ensures most { IfSome result (λ n. n ≤ most_written_out) }
@@ -137,8 +148,8 @@ fn count_looped(item: &Item<'_>) -> Option<u64>
         → most_written_out < looped_front (item_front item.now) p) }
 {
     match item {
-        Item::Run(_) | Item::Pause => Some(0),
-        Item::Loop { head, body } => count_turns(head, body),
+        PassageItem::Run(_) | PassageItem::Pause => Some(0),
+        PassageItem::Loop { head, body } => count_turns(head, body),
     }
 }
 

@@ -4,11 +4,11 @@ ghost use Rattle.std.specs.Prelude.{◌≡◌, ◌↔◌, ℕ, ◌<◌, ◌≤�
 ghost use Rattle.std.specs.List.{AllByRecursion};
 ghost use Rattle.cob_source.specs.Tokens.{Lexeme, lexeme, lexemes};
 ghost use Rattle.cob_move_loops.specs.Words.{IsNoPeriod, IsOther, LoopWordFirst};
-ghost use Rattle.cob_move_loops.specs.Passages.{APause, ARun, PassageFront, FrontStands, IsLoopBody, IsRun, Looped, WrittenLoop, open_behind, open_by};
-ghost use Rattle.cob_move_loops.specs.Reading.{AnswersFront, ClosedInFront, item_front};
+ghost use Rattle.cob_move_loops.specs.Passages.{APause, ARun, BoundEnds, FrontStands, IsLoopBody, IsRun, Looped, PassageFront, WrittenLoop, open_behind, open_by};
+ghost use Rattle.cob_move_loops.specs.Reading.{AnswersFront, ClosedInFront, item_front, written_bound};
 
 use crate::head::head_at;
-use crate::parts::Loop;
+use crate::parts::{Loop, LoopBound};
 use crate::stops::{behind_stops, is_stop};
 use crate::words::{LoopWord, behind_loop_word, loop_word};
 use cob_copybook_clauses::{WordClass, front, is_term};
@@ -16,7 +16,7 @@ use cob_source::Token;
 
 /// What stands in front of a passage.
 #[derive(Clone, Copy)]
-pub(crate) enum Item<'a> {
+pub enum PassageItem<'a> {
     /// Words of MOVE statements.
     Run(&'a [Token]),
     /// CONTINUE.
@@ -63,7 +63,7 @@ fn is_run(words: &[Token]) -> bool
 }
 
 /// The words of MOVE statements in front, and what is behind them.
-fn run_at(words: &[Token]) -> Option<(Item<'_>, &[Token])>
+fn run_at(words: &[Token]) -> Option<(PassageItem<'_>, &[Token])>
     ensures found { IfSome result
         (λ r. FrontStands (item_front r.0) (lexemes words.now) (lexemes r.1.now)) }
     ensures only { (own more : List Lexeme) → FrontStands (ARun own) (lexemes words.now) more
@@ -73,18 +73,18 @@ fn run_at(words: &[Token]) -> Option<(Item<'_>, &[Token])>
     if !is_run(own) {
         return None;
     }
-    Some((Item::Run(own), rest))
+    Some((PassageItem::Run(own), rest))
 }
 
 /// CONTINUE in front, and what is behind it and its periods.
-fn pause_at(words: &[Token]) -> Option<(Item<'_>, &[Token])>
+fn pause_at(words: &[Token]) -> Option<(PassageItem<'_>, &[Token])>
     ensures found { IfSome result
         (λ r. FrontStands (item_front r.0) (lexemes words.now) (lexemes r.1.now)) }
     ensures only { (more : List Lexeme) → FrontStands APause (lexemes words.now) more
         → AnswersFront result APause more }
 {
     let rest = behind_loop_word(words, LoopWord::Continue)?;
-    Some((Item::Pause, behind_stops(rest)))
+    Some((PassageItem::Pause, behind_stops(rest)))
 }
 
 /// How many loops are open behind a word, where they are fewer than so many before; none where it ends one that is not there.
@@ -135,16 +135,17 @@ fn has_no_period(words: &[Token]) -> bool
     true
 }
 
-/// Whether words in which as many loops are closed as are opened may be the statements of a loop.
-fn is_body(words: &[Token]) -> bool
-    requires { open_behind (Some 0) (lexemes words.now) ≡ Some 0 }
-    ensures { IsTrue result ↔ IsLoopBody (lexemes words.now) }
+/// Whether words in which as many loops are closed as are opened may be the statements of a loop that ends by this.
+fn is_body(bound: &LoopBound<'_>, words: &[Token]) -> bool
+    requires closed { open_behind (Some 0) (lexemes words.now) ≡ Some 0 }
+    requires ends { BoundEnds (written_bound bound.now) (lexemes words.now) }
+    ensures { IsTrue result ↔ IsLoopBody (written_bound bound.now) (lexemes words.now) }
 {
     !words.is_empty() && has_no_period(words)
 }
 
 /// The loop in front, and what is behind it and its periods.
-fn loop_at(words: &[Token]) -> Option<(Item<'_>, &[Token])>
+fn loop_at(words: &[Token]) -> Option<(PassageItem<'_>, &[Token])>
     ensures found { IfSome result
         (λ r. FrontStands (item_front r.0) (lexemes words.now) (lexemes r.1.now)) }
     ensures only { (l : WrittenLoop) (own more : List Lexeme)
@@ -153,14 +154,14 @@ fn loop_at(words: &[Token]) -> Option<(Item<'_>, &[Token])>
 {
     let (head, inner) = head_at(words)?;
     let (body, rest) = body_at(inner)?;
-    if !is_body(body) {
+    if !is_body(&head.bound, body) {
         return None;
     }
-    Some((Item::Loop { head, body }, behind_stops(rest)))
+    Some((PassageItem::Loop { head, body }, behind_stops(rest)))
 }
 
 /// What stands in front of a passage, and what is behind it and its periods.
-pub(crate) fn item_at(words: &[Token]) -> Option<(Item<'_>, &[Token])>
+pub fn item_at(words: &[Token]) -> Option<(PassageItem<'_>, &[Token])>
     ensures found { IfSome result
         (λ r. FrontStands (item_front r.0) (lexemes words.now) (lexemes r.1.now)) }
     ensures only { (f : PassageFront) (more : List Lexeme) → FrontStands f (lexemes words.now) more

@@ -1,17 +1,19 @@
 //! The heads of loops.
 
-ghost use Rattle.std.specs.Prelude.{◌≡◌, ◌↔◌, ℕ, ◌∷◌, ◌++◌, List, IfSome, IsTrue};
+ghost use Rattle.std.specs.Prelude.{◌≡◌, ◌↔◌, ℕ, ◌∷◌, ◌++◌, List, IfNone, IfSome, IsTrue};
+ghost use Rattle.std.specs.List.{AllByRecursion};
 ghost use Rattle.cob_copybook_clauses.specs.Clauses.{IsNameWord};
 ghost use Rattle.cob_copybook_clauses.specs.Reading.{Answers, AnswersText, EachCut, Leaves, StandInFront};
 ghost use Rattle.cob_source.specs.Tokens.{Lexeme, lexeme, lexemes};
-ghost use Rattle.cob_move_loops.specs.Words.{IsCounter, IsOther};
-ghost use Rattle.cob_move_loops.specs.Passages.{IsGreater, IsHead, IsPastWord, IsStepping, IsUntil, IsVarying, NotThanFirst, WrittenLoop};
-ghost use Rattle.cob_move_loops.specs.Reading.{AfterIs, AnswersNamed, AnswersNumbers, AnswersTested, written_loop};
+ghost use Rattle.cob_move_loops.specs.Words.{AreItemWords, IsCounter, IsItemWord, IsOther, NoItemWord};
+ghost use Rattle.cob_move_loops.specs.Passages.{AreBoundWords, BoundEnds, IsGreater, IsHead, IsPastWord, IsStepping, IsUntil, IsVarying, NotThanFirst, ToItem, WrittenBound, WrittenLoop};
+ghost use Rattle.cob_move_loops.specs.Reading.{AfterIs, AnswersBound, AnswersNamed, AnswersNumbers, AnswersTested, BoundInFront, HeadInFront, UntilInFront, written_loop};
 
 use crate::number::number_at;
-use crate::parts::Loop;
-use crate::words::{LoopWord, behind_loop_word, behind_text, first_line, loop_word};
-use cob_copybook_clauses::is_name_word;
+use crate::parts::{Loop, LoopBound};
+use crate::stops::is_stop;
+use crate::words::{LoopWord, behind_loop_word, behind_text, first_line, is_that_word, loop_word};
+use cob_copybook_clauses::{WordClass, front, is_name_word, is_term};
 use cob_source::Token;
 
 /// Whether a word is a name that a counter may have.
@@ -96,26 +98,97 @@ fn behind_past(words: &[Token]) -> Option<&[Token]>
     behind_greater(skip_is(words))
 }
 
+/// Whether a word may be one of a reference.
+fn is_item_word(token: &Token) -> bool
+    ensures { IsTrue result ↔ IsItemWord (lexeme token.now) }
+{
+    loop_word(token).is_none() && !is_term(token, WordClass::Move) && !is_stop(token)
+}
+
+/// The words behind the one in front, if that may be one of a reference.
+fn behind_item_word(words: &[Token]) -> Option<&[Token]>
+    ensures found { IfSome result (λ r. (w : Lexeme) × IsItemWord w
+        × (lexemes words.now ≡ w ∷ lexemes r.now)) }
+    ensures none { IfNone result (NoItemWord (lexemes words.now)) }
+{
+    let (first, more) = words.split_first()?;
+    if !is_item_word(first) {
+        return None;
+    }
+    Some(more)
+}
+
+/// The words in front that may be those of a reference, as many as there are, and what is behind them.
+fn item_words_at(words: &[Token]) -> (&[Token], &[Token])
+    ensures are { AllByRecursion IsItemWord (lexemes result.0.now) }
+    ensures found { lexemes words.now ≡ lexemes result.0.now ++ lexemes result.1.now }
+    ensures ends { NoItemWord (lexemes result.1.now) }
+{
+    let mut rest = words;
+    while let Some(more) = behind_item_word(rest) {
+        rest = more;
+    }
+    (front(words, rest.len()), rest)
+}
+
+/// Whether words that may be those of a reference name an item: a name comes first.
+fn are_item_words(words: &[Token]) -> bool
+    requires { AllByRecursion IsItemWord (lexemes words.now) }
+    ensures { IsTrue result ↔ AreItemWords (lexemes words.now) }
+{
+    match words.split_first() {
+        Some((first, _)) => is_name_word(first) && !is_that_word(first, b"THAN"),
+        None => false,
+    }
+}
+
+/// The words that name an item in front, and what is behind them.
+fn item_bound_at(words: &[Token]) -> Option<(LoopBound<'_>, &[Token])>
+    ensures found { IfSome result (λ r. BoundInFront r.0 (lexemes words.now) (lexemes r.1.now)) }
+    ensures only { (own more : List Lexeme) → AreItemWords own → NoItemWord more
+        → lexemes words.now ≡ own ++ more → AnswersBound result (ToItem own) more }
+{
+    let (own, rest) = item_words_at(words);
+    if !are_item_words(own) {
+        return None;
+    }
+    Some((LoopBound::Item(own), rest))
+}
+
+/// What a loop ends by in front, and what is behind it.
+fn bound_at(words: &[Token]) -> Option<(LoopBound<'_>, &[Token])>
+    ensures found { IfSome result (λ r. BoundInFront r.0 (lexemes words.now) (lexemes r.1.now)) }
+    ensures only { (bound : WrittenBound) (own more : List Lexeme) → AreBoundWords bound own
+        → BoundEnds bound more → lexemes words.now ≡ own ++ more
+        → AnswersBound result bound more }
+{
+    if let Some((number, more)) = number_at(words) {
+        return Some((LoopBound::Number(number), more));
+    }
+    item_bound_at(words)
+}
+
 /// UNTIL and its test in front, and what is behind them.
-fn until_at(words: &[Token]) -> Option<(&[u8], u32, &[Token])>
-    ensures found { IfSome result (λ r. StandInFront (IsUntil r.0.now r.1) (lexemes words.now)
-        (lexemes r.2.now)) }
-    ensures only { (name : List ℕ) (bound : ℕ) (ws more : List Lexeme) → IsUntil name bound ws
-        → lexemes words.now ≡ ws ++ more → AnswersTested result name bound more }
+fn until_at(words: &[Token]) -> Option<(&[u8], LoopBound<'_>, &[Token])>
+    ensures found { IfSome result
+        (λ r. UntilInFront r.0.now r.1 (lexemes words.now) (lexemes r.2.now)) }
+    ensures only { (name : List ℕ) (bound : WrittenBound) (ws more : List Lexeme)
+        → IsUntil name bound ws → BoundEnds bound more → lexemes words.now ≡ ws ++ more
+        → AnswersTested result name bound more }
 {
     let tested = behind_text(words, b"UNTIL")?;
     let (name, compared) = counter_at(tested)?;
     let past = behind_past(compared)?;
-    let (bound, more) = number_at(past)?;
+    let (bound, more) = bound_at(past)?;
     Some((name, bound, more))
 }
 
 /// The head of a loop in front, and what is behind it.
 pub(crate) fn head_at(words: &[Token]) -> Option<(Loop<'_>, &[Token])>
-    ensures found { IfSome result (λ r. StandInFront (IsHead (written_loop r.0))
-        (lexemes words.now) (lexemes r.1.now)) }
+    ensures found { IfSome result (λ r. HeadInFront r.0 (lexemes words.now) (lexemes r.1.now)) }
     ensures only { (l : WrittenLoop) (ws more : List Lexeme) → IsHead l ws
-        → lexemes words.now ≡ ws ++ more → Answers written_loop result l more }
+        → BoundEnds l.bound more → lexemes words.now ≡ ws ++ more
+        → Answers written_loop result l more }
 {
     let (line, counter, stepped) = varying_at(words)?;
     let (from, by, ended) = stepping_at(stepped)?;

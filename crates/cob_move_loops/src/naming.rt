@@ -8,7 +8,7 @@ ghost use Rattle.cob_move_loops.specs.Few.{AreLoopsApart, IsApart, loops_of};
 ghost use Rattle.cob_move_loops.specs.Passages.{IsPassage, Passage};
 ghost use Rattle.cob_move_loops.specs.Reading.{AddsLoops, AddsLoopsFront, ClashesIn, ClashesInFront, IsClash, item_front, loop_in_front, written_loop, written_loops};
 
-use crate::front::{Item, item_at};
+use crate::front::{PassageItem, item_at};
 use crate::parts::Loop;
 use cob_source::Token;
 use std::alloc::{AllocError, AllocFailed, Global};
@@ -111,7 +111,7 @@ fn add_loop<'a>(
 #[cycle(naming)]
 fn add_item<'a>(
     alloc: Global,
-    item: &Item<'a>,
+    item: &PassageItem<'a>,
     around: &[Loop<'a>],
     out: &mut Vec<Loop<'a>>,
 ) -> Result<(), LoopFault>
@@ -121,8 +121,8 @@ fn add_item<'a>(
         (IsClash (ClashesInFront (written_loops around.now) (item_front item.now))) }
 {
     match item {
-        Item::Run(_) | Item::Pause => Ok(()),
-        Item::Loop { head, body } => add_loop(alloc, head, body, around, out),
+        PassageItem::Run(_) | PassageItem::Pause => Ok(()),
+        PassageItem::Loop { head, body } => add_loop(alloc, head, body, around, out),
     }
 }
 

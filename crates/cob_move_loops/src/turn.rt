@@ -158,7 +158,7 @@ fn word_in<'a>(
 }
 
 /// Whether brackets are open behind a word.
-fn opens(inside: bool, token: &Token) -> bool
+pub(crate) fn opens(inside: bool, token: &Token) -> bool
     ensures { result ≡ open_by inside (word_class (lexeme token.now)) }
 {
     match word_class(token) {

@@ -8,7 +8,7 @@ ghost use Rattle.cob_move_loops.specs.Reading.{AddsRuns, AddsRunsFront, all_runs
 ghost use Rattle.cob_move_loops.specs.Turns.{in_turn, turns_of, words_by_turn};
 
 use crate::counting::{count_all, turns_of};
-use crate::front::{Item, item_at};
+use crate::front::{PassageItem, item_at};
 use crate::parts::Loop;
 use crate::turn::Counter;
 use cob_source::Token;
@@ -46,7 +46,7 @@ fn push_run<'a>(
 /// # Errors
 ///
 /// Where no memory is left.
-fn with_counter<'a>(
+pub fn with_counter<'a>(
     alloc: Global,
     turn: &[Counter<'a>],
     counter: Counter<'a>,
@@ -71,7 +71,7 @@ fn holds_none(words: &[Token]) -> bool
 }
 
 /// How many turns of a loop are to be written out: all, or none where they come to no statement.
-fn turns_to_write(head: &Loop<'_>, body: &[Token]) -> u64
+pub fn turns_to_write(head: &Loop<'_>, body: &[Token]) -> u64
     ensures { (result ≡ turns_of (written_loop head.now))
         ⊎ ((result ≡ 0) × ((p : Passage) → IsPassage p (lexemes body.now)
         → statements_of p ≡ 0)) }
@@ -139,7 +139,7 @@ fn write_turns<'a>(
 #[cycle(writing_out)]
 fn write_item<'a>(
     alloc: Global,
-    item: &Item<'a>,
+    item: &PassageItem<'a>,
     turn: &[Counter<'a>],
     out: &mut Vec<Run<'a>>,
 ) -> Result<(), AllocError>
@@ -147,9 +147,9 @@ fn write_item<'a>(
         out.new.items) }
 {
     match item {
-        Item::Run(words) => push_run(alloc, words, turn, out),
-        Item::Pause => Ok(()),
-        Item::Loop { head, body } => write_turns(alloc, head, body, turn, out),
+        PassageItem::Run(words) => push_run(alloc, words, turn, out),
+        PassageItem::Pause => Ok(()),
+        PassageItem::Loop { head, body } => write_turns(alloc, head, body, turn, out),
     }
 }
 

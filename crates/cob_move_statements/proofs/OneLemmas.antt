@@ -10,7 +10,7 @@ use Rattle.cob_copybook_clauses.specs.Written.{WrittenValue, Word, Quoted, Figur
 use Rattle.cob_copybook_clauses.proofs.OneLemmas.{qualifiers_cut, constant_cut}
 use Rattle.cob_move_statements.specs.Written.{WrittenReference, WrittenSender, SentReference, SentConstant, WrittenAction, MoveTo, MoveCorresponding, WrittenStatement, word_texts}
 use Rattle.cob_move_statements.specs.Statements.{AreSubscripts, EndsReferences, FitsReference, FollowsStatements, IsAction, IsEndedStatement, IsHeading, IsNumeral, IsReference, IsStatement, IsWrittenSender, NoName, Several}
-use Rattle.cob_move_statements.specs.Laws.{OneListOfEnded, OneListOfStatements}
+use Rattle.cob_move_statements.specs.Laws.{OneListOfEnded, OneListOfStatements, OneReference}
 use Rattle.cob_move_statements.proofs.Runs.{IsRun, fits}
 use Rattle.cob_move_statements.proofs.ReferenceLemmas.{brackets, not_of, reference_split, same_reference, references_run}
 use Rattle.cob_move_statements.proofs.StatementLemmas.{to_fits, corresponding_split, move_split, same_move, never_both}
@@ -56,6 +56,9 @@ reference_one x y n m a b p q f g e =
     (not_of x.subscripts p.brackets a p.subscripted f.0) (not_of y.subscripts q.brackets b q.subscripted g.0) rest in
     let subs = subscripts_one x.subscripts y.subscripts p.brackets q.brackets a b p.subscripted q.subscripted f.1 g.1 quals.1 in
     (same_reference y x.name x.qualifiers x.subscripts (p.name ∙ ap (λ (w : Lexeme). w.text) named ∙ sym q.name) (p.qualifiers ∙ quals.0 ∙ sym q.qualifiers) subs.0, subs.1)
+
+pub one_reference : OneReference
+one_reference ws a b p q = (reference_one a b ws ws [] [] p q (tt, tt) (tt, tt) refl).0
 
 -- pieces one behind another are one list of pieces
 run_one : {V : Type 0} (Is : V → List Lexeme → Type 0) (Fits Ends : List Lexeme → Type 0) → IsRun Is Fits Ends

@@ -34,7 +34,8 @@ pub enum MoveRule {
     Twice,
     /// M10: an alphanumeric sender that is too long for a numeric receiver.
     TooLong,
-    /// M11: a loop that tests another name than its counter's, or whose counter has the name of an entry or of a counter round it.
+    /// M11: a loop that tests another name than its counter's, or whose counter has the name of an entry or of a counter round it; or one to an item that is
+    /// no whole number, or that nothing bounds.
     Counter,
     /// M12: loops that come to too many statements, or too many that hold one another.
     TooMany,

@@ -1,4 +1,4 @@
-ghost use Rattle.cob_move_statements.specs.Laws.{OneListOfEnded, OneListOfStatements};
+ghost use Rattle.cob_move_statements.specs.Laws.{OneListOfEnded, OneListOfStatements, OneReference};
 
 /// The words of a paragraph say its statements in one way.
 pub fn one_list_of_statements()
@@ -8,4 +8,9 @@ pub fn one_list_of_statements()
 /// Words are statements, each with the periods behind it, in one way.
 pub fn one_list_of_ended()
     ensures { OneListOfEnded }
+{}
+
+/// Words are one reference at most.
+pub fn one_reference()
+    ensures { OneReference }
 {}

@@ -8,7 +8,8 @@
 //! What is promised of [`statements`]: `Ok` has exactly the statements that the words say (clause `found`; `IsParagraph` of
 //! specs/Statements.antt); the words of a paragraph are read, memory aside, and say nothing else (`only`); a refusal is for want of
 //! memory, or the words are no paragraph (`fault`), and it names the line of the first word where no statement stands (`line`). Words are the
-//! statements of a paragraph in one way ([`one_list_of_statements`]).
+//! statements of a paragraph in one way ([`one_list_of_statements`]). [`whole_reference`] answers the reference that words are, which is one at most
+//! ([`one_reference`]).
 //!
 //! [`MoveRule`] names every rule that a paragraph may break, for all crates that read one, and prints as `M1` to `M12` and `M19`, or as the rule of
 //! the text; [`MoveFault`] adds the line.
@@ -28,6 +29,7 @@ mod senders;
 mod subscripts;
 
 pub use fault::{MoveFault, MoveRule};
-pub use laws::{one_list_of_ended, one_list_of_statements};
+pub use laws::{one_list_of_ended, one_list_of_statements, one_reference};
 pub use paragraph::{behind_heading, ended_statements, statements};
 pub use parts::{Action, Reference, Statement, StatementSender};
+pub use references::whole_reference;

@@ -1,4 +1,4 @@
-ghost use Rattle.std.specs.Prelude.{◌≡◌, List, ℕ, ◌∷◌, IfOk, IfSome, IsSomeAnd};
+ghost use Rattle.std.specs.Prelude.{◌≡◌, List, ℕ, ◌∷◌, IfNone, IfOk, IfSome, IsSomeAnd};
 ghost use Rattle.cob_source.specs.Tokens.{Lexeme, lexemes};
 ghost use Rattle.cob_copybook_clauses.specs.Clauses.{IsNameWord};
 ghost use Rattle.cob_copybook_clauses.specs.Reading.{Answers, AnswersText, EachCut, EachCutNeither, StandInFront};
@@ -45,6 +45,18 @@ pub fn reference_at(words: &[Token]) -> Option<(Reference<'_>, &[Token])>
         },
         more,
     ))
+}
+
+/// The reference that words are, if they are one.
+pub fn whole_reference(words: &[Token]) -> Option<Reference<'_>>
+    ensures found { IfSome result (λ r. IsReference (written_reference r) (lexemes words.now)) }
+    ensures none { IfNone result ((x : WrittenReference) → IsReference x (lexemes words.now) → ⊥) }
+{
+    let (reference, more) = reference_at(words)?;
+    if !more.is_empty() {
+        return None;
+    }
+    Some(reference)
 }
 
 /// The references in front, as many as there are, and what is behind them.

@@ -2,4 +2,4 @@ use Rattle.cob_move.proofs.ParagraphLemmas.{one_paragraph}
 use Rattle.cob_move.proofs.laws.one_paragraph.Goals as goal
 
 pub returns : goal.returns
-returns c = one_paragraph c.paragraph_words_are_one.ensures c.one_passage.ensures c.one_list_of_ended.ensures c.one_meant.ensures
+returns c = one_paragraph c.paragraph_words_are_one.ensures c.one_passage.ensures c.one_deeds.ensures

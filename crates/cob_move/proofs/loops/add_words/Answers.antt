@@ -1,7 +1,8 @@
-use Rattle.std.proofs.Common.{inl, inr}
+use Rattle.std.proofs.Common.{inl, inr, sym, ◌∙◌}
+use Rattle.std.proofs.lemmas.List.{length-map}
 use Rattle.std.proofs.lemmas.Result.{err_from_is_err_and}
 use Rattle.cob_source.specs.Tokens.{lexemes}
-use Rattle.cob_move_statements.specs.Written.{written_statements}
+use Rattle.cob_move_statements.specs.Written.{written_statement, written_statements}
 use Rattle.cob_move.proofs.LoopLemmas.{run_refused}
 use Rattle.cob_move.proofs.loops.add_words.Goals as goal
 
@@ -22,5 +23,6 @@ returns-clause-added c = record {
   own = c.in_ok-own.own.items;
   spelled = let is = c.in_ok-statements.ensures.found in rw c.as_slice.ensures.value is;
   meant = c.in_ok-own.ensures.found;
+  many = c.in_ok-own.ensures.many ∙ sym (length-map c.as_slice.result.now written_statement);
   added = c.in_ok-append.ensures.items;
 }

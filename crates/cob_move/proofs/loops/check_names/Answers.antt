@@ -2,7 +2,7 @@ use Rattle.std.proofs.Common.{◌≡◌, ℕ, refl, subst, sym}
 use Rattle.cob_move_loops.specs.Passages.{WrittenLoop}
 use Rattle.cob_move_loops.specs.Reading.{written_loop, written_loops}
 use Rattle.cob_move_names.specs.Directory.{entries_named}
-use Rattle.cob_move.specs.Paragraphs.{BreaksCounters, IsNoEntry}
+use Rattle.cob_move.specs.Bodies.{BreaksCounters, IsNoEntry}
 use Rattle.cob_move.proofs.LoopLemmas.{loops_end, loops_later, not_true}
 use Rattle.cob_move.proofs.SomeLemmas.{some_here, some_later}
 use Rattle.cob_move.proofs.loops.check_names.Goals as goal

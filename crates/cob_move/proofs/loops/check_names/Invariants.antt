@@ -2,7 +2,7 @@ use Rattle.std.proofs.Common.{ℕ, drop}
 use Rattle.std.specs.List.{AllByRecursion}
 use Rattle.cob_move_loops.specs.Reading.{written_loops}
 use Rattle.cob_move_names.specs.Directory.{entries_named}
-use Rattle.cob_move.specs.Paragraphs.{BreaksCounters, IsNoEntry}
+use Rattle.cob_move.specs.Bodies.{BreaksCounters, IsNoEntry}
 use Rattle.cob_move.proofs.loops.check_names.Given as goal
 
 abbrev pub invariant-loop-head : goal.invariant-loop-head

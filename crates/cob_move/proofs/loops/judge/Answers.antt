@@ -3,7 +3,7 @@ use Rattle.cob_source.specs.Tokens.{lexemes}
 use Rattle.cob_move_loops.specs.Reading.{written_loops}
 use Rattle.cob_move_names.specs.Directory.{entries_named}
 use Rattle.cob_move.specs.Loops.{AreItsLoops}
-use Rattle.cob_move.proofs.LoopLemmas.{clash_refused, judged, names_refused}
+use Rattle.cob_move.proofs.LoopLemmas.{clash_refused, judged, literal_so, names_refused}
 use Rattle.cob_move.proofs.loops.judge.Goals as goal
 
 pub returns-in_err-check_passage-clause-fault : goal.returns-in_err-check_passage-clause-fault
@@ -27,3 +27,8 @@ pub returns-clause-found : goal.returns-clause-found
 returns-clause-found c =
     let are : AreItsLoops (lexemes c.args.body.now) (written_loops c.as_slice.result.now) = rw c.as_slice.ensures.value c.in_ok-heads.ensures.found in
     judged (entries_named c.args.names.now) (lexemes c.args.body.now) (written_loops c.as_slice.result.now) c.in_ok-check_passage.ensures.found are c.in_ok-check_names.ensures.found
+
+pub returns-clause-literal : goal.returns-clause-literal
+returns-clause-literal c = λ p is.
+    let are : AreItsLoops (lexemes c.args.body.now) (written_loops c.as_slice-2.result.now) = rw c.as_slice-2.ensures.value c.in_ok-heads.ensures.found in
+    literal_so c.end_by_numbers.result p (written_loops c.as_slice-2.result.now) (are p is).1 c.end_by_numbers.ensures

@@ -1,4 +1,5 @@
-use Rattle.std.proofs.Common.{inr}
+use Rattle.std.proofs.Common.{inr, ap, arith, length, [], ◌∷◌}
+use Rattle.std.proofs.lemmas.List.{length-append}
 use Rattle.std.proofs.lemmas.Result.{err_from_is_err_and}
 use Rattle.cob_move.specs.Entries.{records_of}
 use Rattle.cob_move.specs.Refusals.{BreaksOn}
@@ -23,6 +24,7 @@ loop-statement-preserved c = record {
   broken = λ f h. c.loop-statement.invariant.broken f
       (some_later written_statement (BreaksOn f (entries_named c.args.entries.now.names.now) c.args.entries.now.input.now c.args.entries.now.output.now) c.args.statements.now c.loop-statement.statement-index c.statement-item.result
       c.loop-statement-test.true c.statement-item.is h);
+  many = omega (arith, c.loop-statement.invariant.many, ap length c.in_ok-push.ensures.items, length-append c.loop-statement.list.items (c.in_ok-own.own ∷ []));
   pairs = c.in_ok-own.ensures.pairs;
 }
 

@@ -1,4 +1,4 @@
-use Rattle.std.proofs.Common.{◌++◌, drop, List}
+use Rattle.std.proofs.Common.{◌≡◌, ◌++◌, drop, length, List}
 use Rattle.cob_move.specs.Between.{ArePairsOf}
 use Rattle.cob_move.specs.Entries.{records_of}
 use Rattle.cob_move.specs.Meaning.{AreMeanings}
@@ -16,5 +16,6 @@ invariant-loop-statement l = record {
       → AreMeanings (entries_named l.entries.names.now) l.entries.input.now l.entries.output.now (written_statements l.statements) (moves (records_of l.entries) l.list.items ++ more);
   broken : (f : MoveFault) → SomeOf (BreaksOn f (entries_named l.entries.names.now) l.entries.input.now l.entries.output.now) (written_statements (drop l.statement-index l.statements))
       → SomeOf (BreaksOn f (entries_named l.entries.names.now) l.entries.input.now l.entries.output.now) (written_statements l.statements);
+  many : length l.list.items ≡ l.statement-index;
   pairs : ArePairsOf (records_of l.entries) l.pairs;
 }

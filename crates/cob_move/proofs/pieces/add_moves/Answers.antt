@@ -1,5 +1,6 @@
-use Rattle.std.proofs.Common.{◌≡◌, true, false}
-use Rattle.cob_move_statements.specs.Written.{written_statements}
+use Rattle.std.proofs.Common.{◌≡◌, ◌∙◌, sym, true, false}
+use Rattle.std.proofs.lemmas.List.{length-map}
+use Rattle.cob_move_statements.specs.Written.{written_statement, written_statements}
 use Rattle.cob_move.proofs.pieces.add_moves.Goals as goal
 
 pub returns-in_default-clause-added : goal.returns-in_default-clause-added
@@ -15,5 +16,6 @@ returns-clause-added c = λ yes. record {
   plain = rw c.in-Some.is at c.in_ok-read.ensures.plain;
   spelled = let is = rw c.in-Some.is at c.in_ok-read.ensures.found in rw c.as_slice.ensures.value is;
   meant = rw c.in-Some-2.is at c.in_ok-own.ensures.found;
+  many = let is = rw c.in-Some-2.is at c.in_ok-own.ensures.many in is ∙ sym (length-map c.as_slice.result.now written_statement);
   added = c.in_ok-append.ensures.items;
 }

@@ -1,0 +1,497 @@
+use Rattle.std.proofs.Common.{◌≡◌, ◌+◌, ◌-◌, ◌++◌, ◌∷◌, [], List, ℕ, ◌∙◌, ap, arith, false, length, refl, subst, sym}
+use Rattle.std.specs.Prelude.{IfErr, OnOk}
+use Rattle.std.specs.Global.{Vec}
+use Rattle.std.proofs.lemmas.Result.{IfErr-weaker, IfOk-weaker, err_from_is_err_and}
+use Rattle.cob_source.specs.Tokens.{lexemes}
+use Rattle.cob_move_loops.specs.declared.front.PassageItem.{PassageItem}
+use Rattle.cob_move_loops.specs.Reading.{counters, item_front, written_bound, written_loop}
+use Rattle.cob_move_loops.specs.Passages.{ARun, PassageFront}
+use Rattle.cob_move_loops.specs.Turns.{Counted, counter_at, in_turn}
+use Rattle.cob_move_deeds.specs.declared.flow.Bound.{Bound}
+use Rattle.cob_move_deeds.specs.declared.flow.Flow.{Flow}
+use Rattle.cob_move.specs.declared.made.NotRead.{NotRead}
+use Rattle.cob_move_loops.proofs.FrontLemmas.{front_size, front_smaller}
+use Rattle.cob_move_loops.proofs.PassageLemmas.{shorter}
+use Rattle.cob_move_loops.proofs.WritingLemmas.{counters_more}
+use Rattle.cob_move.specs.DeedsRead.{AddsDeeds, AddsFront, AddsMoved, AddsTurns, FrontHasBounds, FrontRefused, HasGrown, IsMade, LeavesFront, LoopRefused, MadeLists, MovedRefused, ReadsTurns, TurnRefused, closed, flow_lists, in_its_turn, linked_turns, made_lists, open_statements, without_flows}
+use Rattle.cob_move.specs.Entries.{records_of}
+use Rattle.cob_move.proofs.MadeLemmas.{back_again, grown_both, grown_none, leaves_more, leaves_same, leaves_unbroken}
+use Rattle.cob_move.proofs.ReadingLemmas.{bounds_parted, deeds_end, deeds_first, deeds_more, deeds_refused, front_read, loop_bounds, pause_added}
+use Rattle.cob_move.proofs.TestedLemmas.{HasReadLoop, bound_for, bound_not_read, breaks_first, breaks_same, broken_left, closed_refused, emptied, first_refused, later_refused, loop_left, loop_same, never_refused, no_turn_comes, past_of, tested_added, tested_grown, tested_made, tried_first, tried_now, tried_step}
+use Rattle.cob_move.proofs.CloseLemmas.{closed_made, closed_open}
+use Rattle.cob_move.proofs.TurnsLemmas.{number_next, turn_refused, turns_begin, turns_end, turns_next}
+use Rattle.cob_move.proofs.deeds.+adding.Goals as goal
+
+pub add_passage-loop-item-init : goal.add_passage-loop-item-init
+add_passage-loop-item-init t c = record {
+  left = deeds_first c.args.entries.now (counters c.args.turn.now) (lexemes c.args.words.now) (made_lists c.args.made.now);
+  fewer = omega arith;
+  bounds = c.requires.bounds;
+  made = c.requires.made;
+  grown = grown_none (made_lists c.args.made.now);
+  pairs = c.requires.pairs;
+}
+
+pub add_passage-loop-item-preserved : goal.add_passage-loop-item-preserved
+add_passage-loop-item-preserved t c =
+    let f = item_front c.in-Some.item in
+    let rest = lexemes c.loop-item.rest.now in
+    let more = lexemes c.in-Some.more.now in
+    let less = shorter f rest more c.in-Some.ensures.found in record {
+      left = deeds_more c.one_deeds.ensures c.args.entries.now (counters c.args.turn.now) (lexemes c.args.words.now) rest more f (made_lists c.args.made.now) (made_lists c.loop-item.made) (made_lists c.add_item.new.made)
+          c.loop-item.invariant.left (omega (arith, less)) c.in-Some.ensures.only c.in_ok-add_item.ensures.grown c.in_ok-add_item.ensures.added;
+      fewer = omega (arith, c.loop-item.invariant.fewer, less);
+      bounds = (bounds_parted f rest more c.loop-item.invariant.bounds (omega (arith, less)) c.in-Some.ensures.only).1;
+      made = c.in_ok-add_item.ensures.made;
+      grown = grown_both (made_lists c.args.made.now) (made_lists c.loop-item.made) (made_lists c.add_item.new.made) c.loop-item.invariant.grown c.in_ok-add_item.ensures.grown;
+      pairs = c.in_ok-add_item.ensures.pairs;
+    }
+
+pub add_passage-loop-item-smaller : goal.add_passage-loop-item-smaller
+add_passage-loop-item-smaller t c = shorter (item_front c.in-Some.item) (lexemes c.loop-item.rest.now) (lexemes c.in-Some.more.now) c.in-Some.ensures.found
+
+pub add_passage-returns-in_err-add_item-clause-fault : goal.add_passage-returns-in_err-add_item-clause-fault
+add_passage-returns-in_err-add_item-clause-fault t c =
+    let f = item_front c.in-Some.item in
+    let rest = lexemes c.loop-item.rest.now in
+    let more = lexemes c.in-Some.more.now in
+    let less = shorter f rest more c.in-Some.ensures.found in
+    let p = err_from_is_err_and c.from_residual.result c.from_residual.ensures.1 in
+    rw (p.1, p.2) (deeds_refused c.deeds_break_no_rule.ensures c.in_err-add_item.field-0.0 c.args.entries.now (counters c.args.turn.now) (lexemes c.args.words.now) rest more f (made_lists c.args.made.now) (made_lists c.loop-item.made)
+    c.requires.named c.loop-item.invariant.left (omega (arith, less)) c.in-Some.ensures.only c.in_err-add_item.ensures.fault)
+
+pub add_passage-returns-in_err-add_item-clause-kept : goal.add_passage-returns-in_err-add_item-clause-kept
+add_passage-returns-in_err-add_item-clause-kept t c =
+    let p = err_from_is_err_and c.from_residual.result c.from_residual.ensures.1 in
+    rw (p.1, p.2) (leaves_more c.in_err-add_item.field-0.0 (made_lists c.args.made.now) (made_lists c.loop-item.made) (made_lists c.add_item.new.made) c.loop-item.invariant.grown c.in_err-add_item.ensures.kept)
+
+pub add_passage-returns-clause-added : goal.add_passage-returns-clause-added
+add_passage-returns-clause-added t c =
+    deeds_end c.args.entries.now (counters c.args.turn.now) (lexemes c.args.words.now) (lexemes c.loop-item.rest.now) (made_lists c.args.made.now) (made_lists c.loop-item.made)
+    c.loop-item.invariant.made c.loop-item.invariant.left c.in_default.ensures.only
+
+pub add_turn-returns-clause-added : goal.add_turn-returns-clause-added
+add_turn-returns-clause-added t c =
+    let ns = counters c.args.turn.now in
+    let l = written_loop c.args.head.now in
+    let inner : counters c.as_slice.result.now ≡ ns ++ counter_at l c.args.number ∷ [] = ap counters (c.as_slice.ensures.value ∙ c.in_ok-inner.ensures) ∙ counters_more c.args.turn.now _ in
+    subst (λ (n : List Counted). OnOk c.add_passage.result (AddsDeeds c.args.entries.now n (lexemes c.args.body.now) (made_lists c.args.made.now) (made_lists c.add_passage.new.made))) inner c.add_passage.ensures.added
+
+pub add_turn-returns-clause-fault : goal.add_turn-returns-clause-fault
+add_turn-returns-clause-fault t c =
+    let ns = counters c.args.turn.now in
+    let l = written_loop c.args.head.now in
+    let inner : counters c.as_slice.result.now ≡ ns ++ counter_at l c.args.number ∷ [] = ap counters (c.as_slice.ensures.value ∙ c.in_ok-inner.ensures) ∙ counters_more c.args.turn.now _ in
+    subst (λ (n : List Counted). IfErr c.add_passage.result (λ k. TurnRefused k c.args.entries.now n (lexemes c.args.body.now) (made_lists c.args.made.now))) inner c.add_passage.ensures.fault
+
+pub add_item-returns-in-Pause-clause-added : goal.add_item-returns-in-Pause-clause-added
+add_item-returns-in-Pause-clause-added t c =
+    subst (λ (f : PassageFront). AddsFront c.args.entries.now (counters c.args.turn.now) f (made_lists c.args.made.now) (made_lists c.args.made.now)) (sym (ap item_front c.in-Pause.is)) (pause_added c.args.entries.now (made_lists c.args.made.now) c.requires.made (counters c.args.turn.now))
+
+pub add_item-returns-in-Pause-clause-grown : goal.add_item-returns-in-Pause-clause-grown
+add_item-returns-in-Pause-clause-grown t c = grown_none (made_lists c.args.made.now)
+
+pub try_turn-returns-in-Err-Broken-clause-same : goal.try_turn-returns-in-Err-Broken-clause-same
+try_turn-returns-in-Err-Broken-clause-same t c = c.take_back.ensures ∙ back_again c.sizes-before.result (made_lists c.args.made.now) (made_lists c.add_turn.new.made) c.sizes-before.ensures (subst (λ (n : NotRead). LeavesFront n (made_lists c.args.made.now) (made_lists c.add_turn.new.made)) c.in-Err-Broken.field-0-is c.in-Err-Broken.ensures.kept)
+
+pub try_turn-returns-in-Err-Broken-clause-made : goal.try_turn-returns-in-Err-Broken-clause-made
+try_turn-returns-in-Err-Broken-clause-made t c = subst (λ (m : MadeLists). IsMade (records_of c.args.entries.now) m) (sym (c.take_back.ensures ∙ back_again c.sizes-before.result (made_lists c.args.made.now) (made_lists c.add_turn.new.made) c.sizes-before.ensures (subst (λ (n : NotRead). LeavesFront n (made_lists c.args.made.now) (made_lists c.add_turn.new.made)) c.in-Err-Broken.field-0-is c.in-Err-Broken.ensures.kept))) c.requires.made
+
+pub try_turn-returns-in-Err-Broken-clause-grown : goal.try_turn-returns-in-Err-Broken-clause-grown
+try_turn-returns-in-Err-Broken-clause-grown t c = subst (λ (m : MadeLists). HasGrown (made_lists c.args.made.now) m) (sym (c.take_back.ensures ∙ back_again c.sizes-before.result (made_lists c.args.made.now) (made_lists c.add_turn.new.made) c.sizes-before.ensures (subst (λ (n : NotRead). LeavesFront n (made_lists c.args.made.now) (made_lists c.add_turn.new.made)) c.in-Err-Broken.field-0-is c.in-Err-Broken.ensures.kept))) (grown_none (made_lists c.args.made.now))
+
+pub add_turns-loop-done-init : goal.add_turns-loop-done-init
+add_turns-loop-done-init t c = record {
+  few = omega arith;
+  at = omega arith;
+  adds = turns_begin c.args.entries.now (counters c.args.turn.now) (written_loop c.args.head.now) (lexemes c.args.body.now) (made_lists c.args.made.now) c.requires.made;
+  made = c.requires.made;
+  grown = grown_none (made_lists c.args.made.now);
+  pairs = c.requires.pairs;
+}
+
+pub add_turns-loop-done-preserved : goal.add_turns-loop-done-preserved
+add_turns-loop-done-preserved t c = record {
+  few = omega (arith, c.loop-done-test.true);
+  at = number_next c.args.head.now.from c.loop-done.done c.args.head.now.by c.loop-done.number _ c.loop-done.invariant.at c.in_ok-number.ensures;
+  adds = turns_next c.one_deeds.ensures c.args.entries.now (counters c.args.turn.now) (written_loop c.args.head.now) (lexemes c.args.body.now) c.loop-done.done c.loop-done.number (made_lists c.args.made.now) (made_lists c.loop-done.made) (made_lists c.add_turn.new.made) c.loop-done.invariant.at c.in_ok-add_turn.ensures.grown c.in_ok-add_turn.ensures.made
+      c.loop-done.invariant.adds c.in_ok-add_turn.ensures.added;
+  made = c.in_ok-add_turn.ensures.made;
+  grown = grown_both (made_lists c.args.made.now) (made_lists c.loop-done.made) (made_lists c.add_turn.new.made) c.loop-done.invariant.grown c.in_ok-add_turn.ensures.grown;
+  pairs = c.in_ok-add_turn.ensures.pairs;
+}
+
+pub add_turns-returns-in_err-add_turn-clause-fault : goal.add_turns-returns-in_err-add_turn-clause-fault
+add_turns-returns-in_err-add_turn-clause-fault t c =
+    let p = err_from_is_err_and c.from_residual.result c.from_residual.ensures.1 in
+    rw (p.1, p.2) (turn_refused c.one_deeds.ensures c.deeds_break_no_rule.ensures c.in_err-add_turn.field-0.0 c.args.entries.now (counters c.args.turn.now) (written_loop c.args.head.now) (lexemes c.args.body.now) c.turns_to_write-turns.result c.loop-done.done c.loop-done.number c.requires.number.0 (made_lists c.args.made.now) (made_lists c.loop-done.made) c.requires.named c.args.head.now.steps
+    c.requires.number.1 c.turns_to_write-turns.ensures c.loop-done-test.true c.loop-done.invariant.at c.loop-done.invariant.adds c.in_err-add_turn.ensures.fault)
+
+pub add_turns-returns-in_err-add_turn-clause-kept : goal.add_turns-returns-in_err-add_turn-clause-kept
+add_turns-returns-in_err-add_turn-clause-kept t c =
+    let p = err_from_is_err_and c.from_residual.result c.from_residual.ensures.1 in
+    rw (p.1, p.2) (leaves_more c.in_err-add_turn.field-0.0 (made_lists c.args.made.now) (made_lists c.loop-done.made) (made_lists c.add_turn.new.made) c.loop-done.invariant.grown c.in_err-add_turn.ensures.kept)
+
+pub add_turns-returns-clause-added : goal.add_turns-returns-clause-added
+add_turns-returns-clause-added t c =
+    let all : c.loop-done.done ≡ c.turns_to_write-turns.result = omega (arith, c.loop-done.invariant.few, c.loop-done-test.false) in
+    turns_end c.one_deeds.ensures c.args.entries.now (counters c.args.turn.now) (written_loop c.args.head.now) (lexemes c.args.body.now) c.turns_to_write-turns.result c.requires.number.0 (made_lists c.args.made.now) (made_lists c.loop-done.made) c.args.head.now.steps c.one_passage.ensures c.requires.bounds c.requires.number.1 c.turns_to_write-turns.ensures
+    (subst (λ (k : ℕ). AddsTurns c.args.entries.now (counters c.args.turn.now) (written_loop c.args.head.now) (lexemes c.args.body.now) k (made_lists c.args.made.now) (made_lists c.loop-done.made)) all c.loop-done.invariant.adds)
+
+pub try_turns-loop-step-init : goal.try_turns-loop-step-init
+try_turns-loop-step-init t c = record {
+  tried = tried_first c.args.entries.now (counters c.args.turn.now) (written_loop c.args.head.now) (lexemes c.args.body.now) (c.args.head.now.from + 0) c.args.head.now.from (flow_lists c.args.turns.now.items) (made_lists c.args.made.now) (omega arith) refl (ap flow_lists c.requires.none.1) c.requires.none.0 c.requires.marked c.requires.made;
+  pairs = c.requires.pairs;
+}
+
+pub try_turns-loop-step-preserved : goal.try_turns-loop-step-preserved
+try_turns-loop-step-preserved t c = record {
+  tried = tried_step c.one_deeds.ensures c.args.entries.now (counters c.args.turn.now) (written_loop c.args.head.now) (lexemes c.args.body.now) c.loop-step.step c.in_ok-number.number c.loop-step.next _ (flow_lists c.loop-step.turns.items) (flow_lists c.keep_turn.new.turns.items) c.sizes-before.result (made_lists c.args.made.now) (made_lists c.loop-step.made) (made_lists c.try_turn.new.made) (made_lists c.keep_turn.new.made)
+      c.args.head.now.steps c.in_ok-number.ensures c.loop-step.invariant.tried c.sizes-before.ensures c.in_ok-fault.ensures.made c.in_ok-fault.ensures.grown (rw c.in_default.is at c.in_ok-fault.ensures.added) c.in_ok-next.ensures.kept
+      (λ other. let k = c.in_ok-next.ensures.passed other in (k.0, k.1, ap flow_lists k.2));
+  pairs = c.in_ok-fault.ensures.pairs;
+}
+
+pub try_turns-returns-in_err-fault-clause-fault : goal.try_turns-returns-in_err-fault-clause-fault
+try_turns-returns-in_err-fault-clause-fault t c =
+    let k = tried_now c.args.entries.now (counters c.args.turn.now) (written_loop c.args.head.now) (lexemes c.args.body.now) (c.args.head.now.from + c.loop-step.step) c.in_ok-number.number c.loop-step.next (flow_lists c.loop-step.turns.items) (made_lists c.args.made.now) (made_lists c.loop-step.made) (made_lists c.loop-step.made) c.in_ok-number.ensures refl c.loop-step.invariant.tried in
+    let p = err_from_is_err_and c.from_residual-in_err-fault.result c.from_residual-in_err-fault.ensures.1 in
+    rw (p.1, p.2) (later_refused c.in_err-fault.field-0.0 c.args.entries.now (counters c.args.turn.now) (written_loop c.args.head.now) c.requires.item.0 (lexemes c.args.body.now) c.in_ok-number.number c.loop-step.next (flow_lists c.loop-step.turns.items) (made_lists c.args.made.now) (made_lists c.loop-step.made) c.requires.item.2 k.kept k.reads (omega (arith, c.in_ok-number.ensures, c.loop-step-test.true)) (c.requires.item.1, c.requires.item.3) c.in_err-fault.ensures.only c.in_err-fault.ensures.fault)
+
+pub try_turns-returns-in_err-fault-clause-kept : goal.try_turns-returns-in_err-fault-clause-kept
+try_turns-returns-in_err-fault-clause-kept t c =
+    let p = err_from_is_err_and c.from_residual-in_err-fault.result c.from_residual-in_err-fault.ensures.1 in
+    rw (p.1, p.2) (leaves_unbroken c.in_err-fault.field-0.0 (made_lists c.args.made.now) (made_lists c.try_turn.new.made) c.in_err-fault.ensures.only)
+
+pub try_turns-returns-then-step-eq0-clause-fault : goal.try_turns-returns-then-step-eq0-clause-fault
+try_turns-returns-then-step-eq0-clause-fault t c =
+    first_refused c.one_deeds.ensures c.deeds_break_no_rule.ensures c.in-Some.fault c.args.entries.now (counters c.args.turn.now) (written_loop c.args.head.now) c.requires.item.0 (lexemes c.args.body.now) c.in_ok-number.number (made_lists c.args.made.now) c.requires.named c.requires.item.2 (omega (arith, c.in_ok-number.ensures, c.if-step-eq0.true))
+    (breaks_first c.in-Some.fault c.args.entries.now (counters c.args.turn.now) (in_its_turn (counters c.args.turn.now) (written_loop c.args.head.now) c.in_ok-number.number) (written_loop c.args.head.now) (lexemes c.args.body.now) (c.args.head.now.from + c.loop-step.step) c.loop-step.next
+    (flow_lists c.loop-step.turns.items) (made_lists c.args.made.now) (made_lists c.loop-step.made) c.loop-step.invariant.tried (omega (arith, c.if-step-eq0.true)) (rw c.in-Some.is at c.in_ok-fault.ensures.refused))
+
+pub try_turns-returns-then-step-eq0-clause-kept : goal.try_turns-returns-then-step-eq0-clause-kept
+try_turns-returns-then-step-eq0-clause-kept t c =
+    broken_left c.in-Some.fault c.args.entries.now (counters c.args.turn.now) (written_loop c.args.head.now) (lexemes c.args.body.now) (c.args.head.now.from + c.loop-step.step) c.loop-step.next (flow_lists c.loop-step.turns.items) (made_lists c.args.made.now) (made_lists c.loop-step.made) (made_lists c.try_turn.new.made) c.loop-step.invariant.tried (rw c.in-Some.is at c.in_ok-fault.ensures.same)
+
+pub try_turns-returns-in-Some-clause-read : goal.try_turns-returns-in-Some-clause-read
+try_turns-returns-in-Some-clause-read t c =
+    let k = tried_now c.args.entries.now (counters c.args.turn.now) (written_loop c.args.head.now) (lexemes c.args.body.now) (c.args.head.now.from + c.loop-step.step) c.in_ok-number.number c.loop-step.next (flow_lists c.loop-step.turns.items) (made_lists c.args.made.now) (made_lists c.loop-step.made) (made_lists c.try_turn.new.made) c.in_ok-number.ensures (rw c.in-Some.is at c.in_ok-fault.ensures.same) c.loop-step.invariant.tried in
+    (c.loop-step.next, k.kept, k.reads)
+
+pub try_turns-returns-in-Some-clause-flows : goal.try_turns-returns-in-Some-clause-flows
+try_turns-returns-in-Some-clause-flows t c =
+    let k = tried_now c.args.entries.now (counters c.args.turn.now) (written_loop c.args.head.now) (lexemes c.args.body.now) (c.args.head.now.from + c.loop-step.step) c.in_ok-number.number c.loop-step.next (flow_lists c.loop-step.turns.items) (made_lists c.args.made.now) (made_lists c.loop-step.made) (made_lists c.try_turn.new.made) c.in_ok-number.ensures (rw c.in-Some.is at c.in_ok-fault.ensures.same) c.loop-step.invariant.tried in
+    k.none
+
+pub try_turns-returns-in-Some-clause-marked : goal.try_turns-returns-in-Some-clause-marked
+try_turns-returns-in-Some-clause-marked t c =
+    let k = tried_now c.args.entries.now (counters c.args.turn.now) (written_loop c.args.head.now) (lexemes c.args.body.now) (c.args.head.now.from + c.loop-step.step) c.in_ok-number.number c.loop-step.next (flow_lists c.loop-step.turns.items) (made_lists c.args.made.now) (made_lists c.loop-step.made) (made_lists c.try_turn.new.made) c.in_ok-number.ensures (rw c.in-Some.is at c.in_ok-fault.ensures.same) c.loop-step.invariant.tried in
+    k.marked
+
+pub try_turns-returns-in-Some-clause-made : goal.try_turns-returns-in-Some-clause-made
+try_turns-returns-in-Some-clause-made t c =
+    let k = tried_now c.args.entries.now (counters c.args.turn.now) (written_loop c.args.head.now) (lexemes c.args.body.now) (c.args.head.now.from + c.loop-step.step) c.in_ok-number.number c.loop-step.next (flow_lists c.loop-step.turns.items) (made_lists c.args.made.now) (made_lists c.loop-step.made) (made_lists c.try_turn.new.made) c.in_ok-number.ensures (rw c.in-Some.is at c.in_ok-fault.ensures.same) c.loop-step.invariant.tried in
+    k.made
+
+pub try_turns-returns-in-Some-clause-grown : goal.try_turns-returns-in-Some-clause-grown
+try_turns-returns-in-Some-clause-grown t c =
+    let k = tried_now c.args.entries.now (counters c.args.turn.now) (written_loop c.args.head.now) (lexemes c.args.body.now) (c.args.head.now.from + c.loop-step.step) c.in_ok-number.number c.loop-step.next (flow_lists c.loop-step.turns.items) (made_lists c.args.made.now) (made_lists c.loop-step.made) (made_lists c.try_turn.new.made) c.in_ok-number.ensures (rw c.in-Some.is at c.in_ok-fault.ensures.same) c.loop-step.invariant.tried in
+    k.grown
+
+pub try_turns-returns-in-Some-clause-past : goal.try_turns-returns-in-Some-clause-past
+try_turns-returns-in-Some-clause-past t c =
+    breaks_same c.in-Some.fault c.args.entries.now (in_its_turn (counters c.args.turn.now) (written_loop c.args.head.now) c.in_ok-number.number) (lexemes c.args.body.now) (made_lists c.loop-step.made) (made_lists c.try_turn.new.made) (rw c.in-Some.is at c.in_ok-fault.ensures.same) (rw c.in-Some.is at c.in_ok-fault.ensures.refused)
+
+pub try_turns-returns-clause-fault : goal.try_turns-returns-clause-fault
+try_turns-returns-clause-fault t c =
+    never_refused c.fault_of.result c.args.entries.now (counters c.args.turn.now) (written_loop c.args.head.now) c.requires.item.0 (lexemes c.args.body.now) (c.args.head.now.from + c.loop-step.step) (flow_lists c.loop-step.turns.items) (made_lists c.args.made.now) (made_lists c.loop-step.made) c.requires.item.2 c.fault_of.ensures.0 c.fault_of.ensures.1 (omega (arith, c.loop-step-test.false))
+    c.loop-step.invariant.tried.reads
+
+pub try_turns-returns-clause-kept : goal.try_turns-returns-clause-kept
+try_turns-returns-clause-kept t c = c.loop-step.invariant.tried.grown
+
+pub add_tested-returns-in_err-found-clause-fault : goal.add_tested-returns-in_err-found-clause-fault
+add_tested-returns-in_err-found-clause-fault t c =
+    let p = err_from_is_err_and c.from_residual.result c.from_residual.ensures.1 in
+    rw (p.1, p.2) (bound_not_read c.one_reference.ensures c.one_named.ensures c.named_break_no_rule.ensures c.in_err-found.field-0.0 c.args.entries.now (counters c.args.turn.now) (written_loop c.args.head.now) (lexemes c.args.words.now) (lexemes c.args.body.now) (made_lists c.args.made.now) c.requires.item c.in_err-found.ensures.fault)
+
+pub add_tested-returns-in_err-found-clause-kept : goal.add_tested-returns-in_err-found-clause-kept
+add_tested-returns-in_err-found-clause-kept t c =
+    let p = err_from_is_err_and c.from_residual.result c.from_residual.ensures.1 in
+    rw (p.1, p.2) (leaves_same c.in_err-found.field-0.0 (made_lists c.args.made.now))
+
+pub add_tested-try_turns-read-requires : goal.add_tested-try_turns-read-requires
+add_tested-try_turns-read-requires t c =
+    let b = c.in_ok-found.ensures.found in
+    let empty : c.replace-outside.new.dest.items ≡ [] = ap (λ (v : Vec Flow). v.items) c.replace-outside.ensures.after ∙ c.new.ensures.items in
+    let begin = emptied (made_lists c.close.new.self) c.replace-outside.new.dest.items empty ∙ ap without_flows c.in_ok-close.ensures.closed in (
+      omega (arith, c.decreases),
+      (
+        c.requires.named,
+        (
+          c.requires.pairs,
+          (
+            subst (λ (m : MadeLists). IsMade (records_of c.args.entries.now) m) (sym begin) (closed_made (records_of c.args.entries.now) (made_lists c.args.made.now) c.requires.made),
+            (
+              c.requires.bounds,
+              (
+                (empty, c.new-turns.ensures.items),
+                (
+                  ap open_statements begin ∙ closed_open (made_lists c.args.made.now),
+                  (
+                    lexemes c.args.words.now,
+                    past_of c.args.entries.now c.in_ok-found.found 0,
+                    c.requires.item,
+                    record { reference = b.reference; spelled = b.spelled; named = b.named; item = b.item },
+                  ),
+                ),
+              ),
+            ),
+          ),
+        ),
+      ),
+    )
+
+pub add_tested-returns-in_err-behind-clause-fault : goal.add_tested-returns-in_err-behind-clause-fault
+add_tested-returns-in_err-behind-clause-fault t c =
+    let empty : c.replace-outside.new.dest.items ≡ [] = ap (λ (v : Vec Flow). v.items) c.replace-outside.ensures.after ∙ c.new.ensures.items in
+    let begin = emptied (made_lists c.close.new.self) c.replace-outside.new.dest.items empty ∙ ap without_flows c.in_ok-close.ensures.closed in
+    let p = err_from_is_err_and c.from_residual-in_err-behind.result c.from_residual-in_err-behind.ensures.1 in
+    rw (p.1, p.2) (closed_refused c.in_err-behind.field-0.0 c.args.entries.now (counters c.args.turn.now) (written_loop c.args.head.now) (lexemes c.args.body.now) (made_lists c.args.made.now) (subst (λ (m : MadeLists). LoopRefused c.in_err-behind.field-0.0 c.args.entries.now (counters c.args.turn.now) (written_loop c.args.head.now) (lexemes c.args.body.now) m) begin c.in_err-behind.ensures.fault))
+
+pub add_tested-returns-in_err-behind-clause-kept : goal.add_tested-returns-in_err-behind-clause-kept
+add_tested-returns-in_err-behind-clause-kept t c =
+    let empty : c.replace-outside.new.dest.items ≡ [] = ap (λ (v : Vec Flow). v.items) c.replace-outside.ensures.after ∙ c.new.ensures.items in
+    let begin = emptied (made_lists c.close.new.self) c.replace-outside.new.dest.items empty ∙ ap without_flows c.in_ok-close.ensures.closed in
+    let outside : c.replace-outside.result.items ≡ (closed (made_lists c.args.made.now)).flows = ap (λ (v : Vec Flow). v.items) c.replace-outside.ensures.value ∙ ap (λ (m : MadeLists). m.flows) c.in_ok-close.ensures.closed in
+    let p = err_from_is_err_and c.from_residual-in_err-behind.result c.from_residual-in_err-behind.ensures.1 in
+    rw (p.1, p.2) (loop_left c.in_err-behind.field-0.0 (made_lists c.args.made.now) (made_lists c.try_turns-read.new.made) c.replace-outside.result.items outside (subst (λ (m : MadeLists). LeavesFront c.in_err-behind.field-0.0 m (made_lists c.try_turns-read.new.made)) begin c.in_err-behind.ensures.kept))
+
+pub add_tested-returns-clause-added : goal.add_tested-returns-clause-added
+add_tested-returns-clause-added t c =
+    let empty : c.replace-outside.new.dest.items ≡ [] = ap (λ (v : Vec Flow). v.items) c.replace-outside.ensures.after ∙ c.new.ensures.items in
+    let begin = emptied (made_lists c.close.new.self) c.replace-outside.new.dest.items empty ∙ ap without_flows c.in_ok-close.ensures.closed in
+    let outside : c.replace-outside.result.items ≡ (closed (made_lists c.args.made.now)).flows = ap (λ (v : Vec Flow). v.items) c.replace-outside.ensures.value ∙ ap (λ (m : MadeLists). m.flows) c.in_ok-close.ensures.closed in
+    let turns = flow_lists c.try_turns-read.new.turns.items in
+    let now = made_lists c.try_turns-read.new.made in
+    let bound : Bound = record { most = c.in_ok-behind.behind - 1; item = c.new-item.result } in
+    let linked = linked_turns (length now.bounds) c.args.head.now.by c.args.head.now.from turns in
+    let so : HasReadLoop c.args.entries.now (counters c.args.turn.now) (written_loop c.args.head.now) (lexemes c.args.body.now) c.in_ok-found.found c.in_ok-behind.behind turns bound (made_lists c.args.made.now) now = record {
+      made = c.requires.made;
+      after = c.in_ok-behind.ensures.made;
+      grown = subst (λ (m : MadeLists). HasGrown m now) begin c.in_ok-behind.ensures.grown;
+      none = c.in_ok-behind.ensures.flows;
+      marked = c.in_ok-behind.ensures.marked;
+      bound = bound_for c.args.entries.now (in_turn (counters c.args.turn.now) false 0 (lexemes c.args.words.now)) c.in_ok-found.found (c.in_ok-behind.behind - 1) c.new-item.result c.new-item.ensures.side c.new-item.ensures.entry c.new-item.ensures.placed c.in_ok-found.ensures.found;
+      reads = λ p is. subst (λ (m : MadeLists). ReadsTurns c.args.entries.now (counters c.args.turn.now) (written_loop c.args.head.now) p c.in_ok-behind.behind turns m now) begin (c.in_ok-behind.ensures.read.2 p is);
+    } in
+    let same = loop_same (made_lists c.args.made.now) now bound c.push.new.self.items c.link_turns.new.flows.items c.replace-outside.result.items linked c.in_ok-push.ensures.items
+    (c.in_ok-link_turns.ensures ∙ ap (λ (k : ℕ). c.replace-outside.result.items ++ linked_turns k c.args.head.now.by c.args.head.now.from (flow_lists c.as_slice.result.now)) (c.len-bound.ensures ∙ c.try_turns-read.new.made.bounds.ok.0)
+    ∙ ap (λ (ts : List (Vec Flow)). c.replace-outside.result.items ++ linked_turns (length now.bounds) c.args.head.now.by c.args.head.now.from (flow_lists ts)) c.as_slice.ensures.value) outside in
+    tested_added c.args.entries.now (counters c.args.turn.now) (written_loop c.args.head.now) (lexemes c.args.words.now) (lexemes c.args.body.now) c.in_ok-found.found c.in_ok-behind.behind c.in_ok-behind.ensures.read.0 turns bound (made_lists c.args.made.now) now (made_lists (record { list = c.try_turns-read.new.made.list; ends = c.try_turns-read.new.made.ends; bounds = c.push.new.self; flows = c.link_turns.new.flows })) c.requires.item c.in_ok-found.ensures.found c.in_ok-behind.ensures.read.1
+    c.in_ok-behind.ensures.some.0 c.in_ok-behind.ensures.some.1
+    (λ p is. no_turn_comes c.deeds_break_no_rule.ensures c.args.entries.now (in_its_turn (counters c.args.turn.now) (written_loop c.args.head.now) c.in_ok-behind.behind) p (lexemes c.args.body.now) c.requires.named (length now.list) c.in_ok-behind.ensures.past is) so c.in_ok-behind.ensures.past c.one_deeds.ensures same
+
+pub add_tested-returns-clause-made : goal.add_tested-returns-clause-made
+add_tested-returns-clause-made t c =
+    let empty : c.replace-outside.new.dest.items ≡ [] = ap (λ (v : Vec Flow). v.items) c.replace-outside.ensures.after ∙ c.new.ensures.items in
+    let begin = emptied (made_lists c.close.new.self) c.replace-outside.new.dest.items empty ∙ ap without_flows c.in_ok-close.ensures.closed in
+    let outside : c.replace-outside.result.items ≡ (closed (made_lists c.args.made.now)).flows = ap (λ (v : Vec Flow). v.items) c.replace-outside.ensures.value ∙ ap (λ (m : MadeLists). m.flows) c.in_ok-close.ensures.closed in
+    let turns = flow_lists c.try_turns-read.new.turns.items in
+    let now = made_lists c.try_turns-read.new.made in
+    let bound : Bound = record { most = c.in_ok-behind.behind - 1; item = c.new-item.result } in
+    let linked = linked_turns (length now.bounds) c.args.head.now.by c.args.head.now.from turns in
+    let so : HasReadLoop c.args.entries.now (counters c.args.turn.now) (written_loop c.args.head.now) (lexemes c.args.body.now) c.in_ok-found.found c.in_ok-behind.behind turns bound (made_lists c.args.made.now) now = record {
+      made = c.requires.made;
+      after = c.in_ok-behind.ensures.made;
+      grown = subst (λ (m : MadeLists). HasGrown m now) begin c.in_ok-behind.ensures.grown;
+      none = c.in_ok-behind.ensures.flows;
+      marked = c.in_ok-behind.ensures.marked;
+      bound = bound_for c.args.entries.now (in_turn (counters c.args.turn.now) false 0 (lexemes c.args.words.now)) c.in_ok-found.found (c.in_ok-behind.behind - 1) c.new-item.result c.new-item.ensures.side c.new-item.ensures.entry c.new-item.ensures.placed c.in_ok-found.ensures.found;
+      reads = λ p is. subst (λ (m : MadeLists). ReadsTurns c.args.entries.now (counters c.args.turn.now) (written_loop c.args.head.now) p c.in_ok-behind.behind turns m now) begin (c.in_ok-behind.ensures.read.2 p is);
+    } in
+    let same = loop_same (made_lists c.args.made.now) now bound c.push.new.self.items c.link_turns.new.flows.items c.replace-outside.result.items linked c.in_ok-push.ensures.items
+    (c.in_ok-link_turns.ensures ∙ ap (λ (k : ℕ). c.replace-outside.result.items ++ linked_turns k c.args.head.now.by c.args.head.now.from (flow_lists c.as_slice.result.now)) (c.len-bound.ensures ∙ c.try_turns-read.new.made.bounds.ok.0)
+    ∙ ap (λ (ts : List (Vec Flow)). c.replace-outside.result.items ++ linked_turns (length now.bounds) c.args.head.now.by c.args.head.now.from (flow_lists ts)) c.as_slice.ensures.value) outside in
+    tested_made c.args.entries.now (counters c.args.turn.now) (written_loop c.args.head.now) (lexemes c.args.body.now) c.in_ok-found.found c.in_ok-behind.behind turns bound (made_lists c.args.made.now) now (made_lists (record { list = c.try_turns-read.new.made.list; ends = c.try_turns-read.new.made.ends; bounds = c.push.new.self; flows = c.link_turns.new.flows })) c.requires.bounds so same
+
+pub add_tested-returns-clause-grown : goal.add_tested-returns-clause-grown
+add_tested-returns-clause-grown t c =
+    let empty : c.replace-outside.new.dest.items ≡ [] = ap (λ (v : Vec Flow). v.items) c.replace-outside.ensures.after ∙ c.new.ensures.items in
+    let begin = emptied (made_lists c.close.new.self) c.replace-outside.new.dest.items empty ∙ ap without_flows c.in_ok-close.ensures.closed in
+    let outside : c.replace-outside.result.items ≡ (closed (made_lists c.args.made.now)).flows = ap (λ (v : Vec Flow). v.items) c.replace-outside.ensures.value ∙ ap (λ (m : MadeLists). m.flows) c.in_ok-close.ensures.closed in
+    let turns = flow_lists c.try_turns-read.new.turns.items in
+    let now = made_lists c.try_turns-read.new.made in
+    let bound : Bound = record { most = c.in_ok-behind.behind - 1; item = c.new-item.result } in
+    let linked = linked_turns (length now.bounds) c.args.head.now.by c.args.head.now.from turns in
+    let so : HasReadLoop c.args.entries.now (counters c.args.turn.now) (written_loop c.args.head.now) (lexemes c.args.body.now) c.in_ok-found.found c.in_ok-behind.behind turns bound (made_lists c.args.made.now) now = record {
+      made = c.requires.made;
+      after = c.in_ok-behind.ensures.made;
+      grown = subst (λ (m : MadeLists). HasGrown m now) begin c.in_ok-behind.ensures.grown;
+      none = c.in_ok-behind.ensures.flows;
+      marked = c.in_ok-behind.ensures.marked;
+      bound = bound_for c.args.entries.now (in_turn (counters c.args.turn.now) false 0 (lexemes c.args.words.now)) c.in_ok-found.found (c.in_ok-behind.behind - 1) c.new-item.result c.new-item.ensures.side c.new-item.ensures.entry c.new-item.ensures.placed c.in_ok-found.ensures.found;
+      reads = λ p is. subst (λ (m : MadeLists). ReadsTurns c.args.entries.now (counters c.args.turn.now) (written_loop c.args.head.now) p c.in_ok-behind.behind turns m now) begin (c.in_ok-behind.ensures.read.2 p is);
+    } in
+    let same = loop_same (made_lists c.args.made.now) now bound c.push.new.self.items c.link_turns.new.flows.items c.replace-outside.result.items linked c.in_ok-push.ensures.items
+    (c.in_ok-link_turns.ensures ∙ ap (λ (k : ℕ). c.replace-outside.result.items ++ linked_turns k c.args.head.now.by c.args.head.now.from (flow_lists c.as_slice.result.now)) (c.len-bound.ensures ∙ c.try_turns-read.new.made.bounds.ok.0)
+    ∙ ap (λ (ts : List (Vec Flow)). c.replace-outside.result.items ++ linked_turns (length now.bounds) c.args.head.now.by c.args.head.now.from (flow_lists ts)) c.as_slice.ensures.value) outside in
+    tested_grown (made_lists c.args.made.now) now (made_lists (record { list = c.try_turns-read.new.made.list; ends = c.try_turns-read.new.made.ends; bounds = c.push.new.self; flows = c.link_turns.new.flows })) bound linked so.grown same
+
+pub add_passage-add_item-requires : goal.add_passage-add_item-requires
+add_passage-add_item-requires t c =
+    let less = front_smaller (item_front c.in-Some.item) (lexemes c.loop-item.rest.now) (lexemes c.in-Some.more.now) c.in-Some.ensures.found in
+    let short = shorter (item_front c.in-Some.item) (lexemes c.loop-item.rest.now) (lexemes c.in-Some.more.now) c.in-Some.ensures.found in (
+      omega (arith, c.decreases, less, c.loop-item.invariant.fewer),
+      (
+        c.requires.named,
+        (
+          c.loop-item.invariant.pairs,
+          (
+            c.loop-item.invariant.made,
+            (
+              front_read (item_front c.in-Some.item) (lexemes c.loop-item.rest.now) (lexemes c.in-Some.more.now) c.in-Some.ensures.found,
+              (bounds_parted (item_front c.in-Some.item) (lexemes c.loop-item.rest.now) (lexemes c.in-Some.more.now) c.loop-item.invariant.bounds (omega (arith, short)) c.in-Some.ensures.only).0,
+            ),
+          ),
+        ),
+      ),
+    )
+
+pub add_turn-returns-in_err-inner-clause-fault : goal.add_turn-returns-in_err-inner-clause-fault
+add_turn-returns-in_err-inner-clause-fault t c =
+    let p = err_from_is_err_and c.from_residual.result c.from_residual.ensures.1 in
+    rw (p.1, p.2) (λ p is. tt)
+
+pub add_turn-returns-in_err-inner-clause-kept : goal.add_turn-returns-in_err-inner-clause-kept
+add_turn-returns-in_err-inner-clause-kept t c =
+    let p = err_from_is_err_and c.from_residual.result c.from_residual.ensures.1 in
+    rw (p.1, p.2) tt
+
+pub add_turns-returns-in_err-number-clause-fault : goal.add_turns-returns-in_err-number-clause-fault
+add_turns-returns-in_err-number-clause-fault t c =
+    let p = err_from_is_err_and c.from_residual-in_err-number.result c.from_residual-in_err-number.ensures.1 in
+    rw (p.1, p.2) (λ p is. tt)
+
+pub add_turns-returns-in_err-number-clause-kept : goal.add_turns-returns-in_err-number-clause-kept
+add_turns-returns-in_err-number-clause-kept t c =
+    let p = err_from_is_err_and c.from_residual-in_err-number.result c.from_residual-in_err-number.ensures.1 in
+    rw (p.1, p.2) tt
+
+pub try_turns-returns-in_err-number-clause-fault : goal.try_turns-returns-in_err-number-clause-fault
+try_turns-returns-in_err-number-clause-fault t c =
+    let p = err_from_is_err_and c.from_residual.result c.from_residual.ensures.1 in
+    rw (p.1, p.2) (λ p is. tt)
+
+pub try_turns-returns-in_err-number-clause-kept : goal.try_turns-returns-in_err-number-clause-kept
+try_turns-returns-in_err-number-clause-kept t c =
+    let p = err_from_is_err_and c.from_residual.result c.from_residual.ensures.1 in
+    rw (p.1, p.2) tt
+
+pub try_turns-returns-in_err-next-clause-fault : goal.try_turns-returns-in_err-next-clause-fault
+try_turns-returns-in_err-next-clause-fault t c =
+    let p = err_from_is_err_and c.from_residual-in_err-next.result c.from_residual-in_err-next.ensures.1 in
+    rw (p.1, p.2) (λ p is. tt)
+
+pub try_turns-returns-in_err-next-clause-kept : goal.try_turns-returns-in_err-next-clause-kept
+try_turns-returns-in_err-next-clause-kept t c =
+    let p = err_from_is_err_and c.from_residual-in_err-next.result c.from_residual-in_err-next.ensures.1 in
+    rw (p.1, p.2) tt
+
+pub add_tested-returns-in_err-close-clause-fault : goal.add_tested-returns-in_err-close-clause-fault
+add_tested-returns-in_err-close-clause-fault t c =
+    let p = err_from_is_err_and c.from_residual-in_err-close.result c.from_residual-in_err-close.ensures.1 in
+    rw (p.1, p.2) (λ p is. tt)
+
+pub add_tested-returns-in_err-close-clause-kept : goal.add_tested-returns-in_err-close-clause-kept
+add_tested-returns-in_err-close-clause-kept t c =
+    let p = err_from_is_err_and c.from_residual-in_err-close.result c.from_residual-in_err-close.ensures.1 in
+    rw (p.1, p.2) tt
+
+pub add_tested-returns-in_err-push-clause-fault : goal.add_tested-returns-in_err-push-clause-fault
+add_tested-returns-in_err-push-clause-fault t c =
+    let p = err_from_is_err_and c.from_residual-in_err-push.result c.from_residual-in_err-push.ensures.1 in
+    rw (p.1, p.2) (λ p is. tt)
+
+pub add_tested-returns-in_err-push-clause-kept : goal.add_tested-returns-in_err-push-clause-kept
+add_tested-returns-in_err-push-clause-kept t c =
+    let p = err_from_is_err_and c.from_residual-in_err-push.result c.from_residual-in_err-push.ensures.1 in
+    rw (p.1, p.2) tt
+
+pub add_tested-returns-in_err-link_turns-clause-fault : goal.add_tested-returns-in_err-link_turns-clause-fault
+add_tested-returns-in_err-link_turns-clause-fault t c =
+    let p = err_from_is_err_and c.from_residual-in_err-link_turns.result c.from_residual-in_err-link_turns.ensures.1 in
+    rw (p.1, p.2) (λ p is. tt)
+
+pub add_tested-returns-in_err-link_turns-clause-kept : goal.add_tested-returns-in_err-link_turns-clause-kept
+add_tested-returns-in_err-link_turns-clause-kept t c =
+    let p = err_from_is_err_and c.from_residual-in_err-link_turns.result c.from_residual-in_err-link_turns.ensures.1 in
+    rw (p.1, p.2) tt
+
+pub add_item-add_turns-requires : goal.add_item-add_turns-requires
+add_item-add_turns-requires t c =
+    let size : front_size (item_front c.args.item.now) ≡ length (lexemes c.in-Loop.body.now) = ap (λ (i : PassageItem). front_size (item_front i)) c.in-Loop.is in (
+      omega (arith, c.decreases, size),
+      (
+        c.requires.named,
+        (
+          c.requires.pairs,
+          (
+            c.requires.made,
+            (
+              loop_bounds (written_loop c.in-Loop.head) (lexemes c.in-Loop.body.now) (subst (λ (f : PassageFront). FrontHasBounds f) (ap item_front c.in-Loop.is) c.requires.bounds),
+              (c.in-Number.field-0, ap written_bound c.in-Number.is),
+            ),
+          ),
+        ),
+      ),
+    )
+
+pub add_item-add_tested-requires : goal.add_item-add_tested-requires
+add_item-add_tested-requires t c =
+    let size : front_size (item_front c.args.item.now) ≡ length (lexemes c.in-Loop.body.now) = ap (λ (i : PassageItem). front_size (item_front i)) c.in-Loop.is in (
+      omega (arith, c.decreases, size),
+      (
+        c.requires.named,
+        (
+          c.requires.pairs,
+          (
+            c.requires.made,
+            (
+              loop_bounds (written_loop c.in-Loop.head) (lexemes c.in-Loop.body.now) (subst (λ (f : PassageFront). FrontHasBounds f) (ap item_front c.in-Loop.is) c.requires.bounds),
+              ap written_bound c.in-Item.is,
+            ),
+          ),
+        ),
+      ),
+    )
+
+pub add_tested-new-item-requires : goal.add_tested-new-item-requires
+add_tested-new-item-requires t c = record { operand = c.in_ok-found.ensures.operand }
+
+pub add_item-returns-in-Run-clause-added : goal.add_item-returns-in-Run-clause-added
+add_item-returns-in-Run-clause-added t c =
+    let e = c.args.entries.now in
+    let ns = counters c.args.turn.now in
+    let words = lexemes c.in-Run.words.now in
+    let old = made_lists c.args.made.now in
+    let new = made_lists c.add_moves.new.made in
+    subst (λ (f : PassageFront). OnOk c.add_moves.result (AddsFront e ns f old new)) (sym (ap item_front c.in-Run.is))
+    (IfOk-weaker c.add_moves.result (λ _. AddsMoved e ns words old new) (λ _. AddsFront e ns (ARun words) old new) (λ _ a p within. a) c.add_moves.ensures.added)
+
+pub add_item-returns-in-Run-clause-fault : goal.add_item-returns-in-Run-clause-fault
+add_item-returns-in-Run-clause-fault t c =
+    let e = c.args.entries.now in
+    let ns = counters c.args.turn.now in
+    let words = lexemes c.in-Run.words.now in
+    let old = made_lists c.args.made.now in
+    subst (λ (f : PassageFront). IfErr c.add_moves.result (λ n. FrontRefused n e ns f old)) (sym (ap item_front c.in-Run.is))
+    (IfErr-weaker c.add_moves.result (λ n. MovedRefused n e ns words old) (λ n. FrontRefused n e ns (ARun words) old) (λ n r p within. r) c.add_moves.ensures.fault)
+
+pub add_item-returns-in-Number-clause-fault : goal.add_item-returns-in-Number-clause-fault
+add_item-returns-in-Number-clause-fault t c =
+    subst (λ (f : PassageFront). IfErr c.add_turns.result (λ n. FrontRefused n c.args.entries.now (counters c.args.turn.now) f (made_lists c.args.made.now))) (sym (ap item_front c.in-Loop.is)) c.add_turns.ensures.fault
+
+pub add_item-returns-in-Item-clause-fault : goal.add_item-returns-in-Item-clause-fault
+add_item-returns-in-Item-clause-fault t c =
+    subst (λ (f : PassageFront). IfErr c.add_tested.result (λ n. FrontRefused n c.args.entries.now (counters c.args.turn.now) f (made_lists c.args.made.now))) (sym (ap item_front c.in-Loop.is)) c.add_tested.ensures.fault

@@ -1,0 +1,135 @@
+-- What a passage comes to between two records: moves, and tests of loops to items between them.
+use Rattle.std.specs.Prelude.{◌≡◌, ◌⊎◌, ℕ, zero, suc, ◌+◌, ◌*◌, ◌<◌, ◌≤◌, false, List, [], ◌∷◌, ◌++◌, length}
+use Rattle.cob_limits.specs.Limits.{longest_record, most_written_out}
+use Rattle.cob_source.specs.Tokens.{Lexeme}
+use Rattle.cob_copybook_tree.specs.declared.node.Item.{Item}
+use Rattle.cob_copybook_tree.specs.Forests.{Forest}
+use Rattle.cob_copybook_tree.specs.Nodes.{Resolved}
+use Rattle.cob_move_data.specs.Moves.{Move}
+use Rattle.cob_move_deeds.specs.Deeds.{Deeds, Nothing}
+use Rattle.cob_move_deeds.specs.Tests.{IsBoundItem, Past, with_number}
+use Rattle.cob_move_deeds.specs.Turns.{turns_from}
+use Rattle.cob_move_loops.specs.Passages.{ALoop, Moves, NoMore, Passage, Pause, ToItem, ToNumber, WrittenBound, WrittenLoop}
+use Rattle.cob_move_loops.specs.Turns.{Counted, counter_at, in_turn, turns_between}
+use Rattle.cob_move_names.specs.Candidates.{Candidate}
+use Rattle.cob_move_names.specs.References.{BreaksReference, NamesOperand}
+use Rattle.cob_move_data.specs.declared.operands.Operand.{Operand}
+use Rattle.cob_move_data.specs.declared.operands.Side.{Side}
+use Rattle.cob_move_statements.specs.declared.fault.MoveFault.{MoveFault}
+use Rattle.cob_move_statements.specs.declared.fault.MoveRule.{MoveRule}
+use Rattle.cob_move_statements.specs.declared.fault.MoveRule.TheVariants as rule
+use Rattle.cob_move_statements.specs.Statements.{IsEndedStatement, IsReference, Several}
+use Rattle.cob_move_statements.specs.Written.{WrittenReference, WrittenStatement}
+use Rattle.cob_move.specs.Joined.{before_deeds, joined_deeds}
+use Rattle.cob_move.specs.Meaning.{AreMeant}
+use Rattle.cob_move.specs.Bodies.{RunIsRefused}
+
+-- what so many turns of a loop come to, one turn's behind another's
+abbrev pub deeds_of_turns : {T : Type 0} → (ℕ → Deeds T) → (by n i : ℕ) → Deeds T
+deeds_of_turns f by zero i = Nothing
+deeds_of_turns f by (suc n) i = joined_deeds (f i) (deeds_of_turns f by n (i + by))
+
+-- how many statements they come to
+abbrev pub count_of_turns : (ℕ → ℕ) → (by n i : ℕ) → ℕ
+count_of_turns f by zero i = 0
+count_of_turns f by (suc n) i = f i + count_of_turns f by n (i + by)
+
+-- Words of MOVE statements are so many statements, and these mean the moves.
+pub record IsRunMeant (input output : Forest Resolved) (ws : List Lexeme) (ms : List Move) (count : ℕ) : Type 0 where
+  pub statements : List WrittenStatement
+  pub spelled : Several IsEndedStatement statements ws
+  pub meant : AreMeant input output statements ms
+  pub many : count ≡ length statements
+
+-- Words name the item of a bound: an entry of either record that is a whole number, as a table's count is, though a subscript may stand behind it.
+pub record IsBoundOf (all : List Candidate) (ws : List Lexeme) (t : Past) : Type 0 where
+  pub reference : WrittenReference
+  pub spelled : IsReference reference ws
+  pub named : NamesOperand all reference t.side t.bound
+  pub item : (i : Item) × IsBoundItem t.bound.kind i
+
+-- What a loop comes to, where a turn with this number comes to deeds and to so many statements: up to a number, its turns, one behind another. To an item, its
+-- turns up to the greatest number whose turn still has the elements that it names, each behind its test; the first one has them, and so many numbers as
+-- no table has elements none has (M11).
+abbrev pub IsLoopOf : List Candidate → List Counted → WrittenLoop → WrittenBound → (ℕ → Deeds Past → ℕ → Type 0) → (ℕ → Deeds Past) → (ℕ → ℕ) → Deeds Past → ℕ → Type 0
+IsLoopOf all ns l (ToNumber n) meant f count own many =
+    ((k : ℕ) → k < turns_between l.from l.by n → meant (l.from + k * l.by) (f (l.from + k * l.by)) (count (l.from + k * l.by)))
+    × (own ≡ deeds_of_turns f l.by (turns_between l.from l.by n) l.from) × (many ≡ count_of_turns count l.by (turns_between l.from l.by n) l.from)
+IsLoopOf all ns l (ToItem ws) meant f count own many = (t : Past)
+    × IsBoundOf all (in_turn ns false 0 ws) t × (l.from ≤ t.most) × (t.most < l.from + longest_record)
+    × ((i : ℕ) → l.from ≤ i → i ≤ t.most → meant i (f i) (count i))
+    × ((d : Deeds Past) (c : ℕ) → meant (t.most + 1) d c → ⊥)
+    × (own ≡ turns_from (with_number t) f l.by (turns_between l.from l.by t.most) l.from) × (many ≡ count_of_turns count l.by (turns_between l.from l.by t.most) l.from)
+
+-- What a passage comes to where the counters round it have these numbers, and to how many statements within loops and outside of them.
+abbrev pub AreDeeds : List Candidate → Forest Resolved → Forest Resolved → List Counted → Passage → Deeds Past → ℕ → Type 0
+AreDeeds all input output ns NoMore d many = (d ≡ Nothing) × (many ≡ 0)
+AreDeeds all input output ns (Moves own more) d many = (ms : List Move) × (next : Deeds Past) × (count rest : ℕ)
+    × IsRunMeant input output (in_turn ns false 0 own) ms count × AreDeeds all input output ns more next rest × (d ≡ before_deeds ms next) × (many ≡ count + rest)
+AreDeeds all input output ns (Pause more) d many = AreDeeds all input output ns more d many
+AreDeeds all input output ns (ALoop l body more) d many = (f : ℕ → Deeds Past) × (count : ℕ → ℕ) × (own next : Deeds Past) × (turned rest : ℕ)
+    × IsLoopOf all ns l l.bound (λ i e c. AreDeeds all input output (ns ++ counter_at l i ∷ []) body e c) f count own turned
+    × AreDeeds all input output ns more next rest × (d ≡ joined_deeds own next) × (many ≡ turned + rest)
+
+-- ---- how much is read
+
+-- So many statements come first in a loop: those of the turns in front of one, and of that one so many. Of a loop to an item, whose bound is one, each number up
+-- to that of a turn is looked at, so far as a table may have elements, and those are the turns in front that the counter takes.
+abbrev pub ComeFirstInLoop : List Candidate → List Counted → WrittenLoop → WrittenBound → (whole part : ℕ → ℕ → Type 0) → ℕ → Type 0
+ComeFirstInLoop all ns l (ToNumber n) whole part many = (k own : ℕ) × (count : ℕ → ℕ)
+    × (k < turns_between l.from l.by n) × ((j : ℕ) → j < k → whole (l.from + j * l.by) (count (l.from + j * l.by)))
+    × part (l.from + k * l.by) own × (many ≡ count_of_turns count l.by k l.from + own)
+ComeFirstInLoop all ns l (ToItem ws) whole part many = (t : Past) × (i own kept : ℕ) × (count : ℕ → ℕ)
+    × IsBoundOf all (in_turn ns false 0 ws) t × (l.from ≤ i) × (i ≤ l.from + longest_record) × ((j : ℕ) → l.from ≤ j → j < i → whole j (count j))
+    × (i ≤ l.from + kept * l.by) × ((k : ℕ) → k < kept → l.from + k * l.by < i) × part i own × (many ≡ count_of_turns count l.by kept l.from + own)
+
+-- So many statements come first in what a passage comes to, where the counters round it have these numbers: before the first thing that has no meaning, if
+-- there is one.
+abbrev pub ComeFirst : List Candidate → Forest Resolved → Forest Resolved → List Counted → Passage → ℕ → Type 0
+ComeFirst all input output ns NoMore many = many ≡ 0
+ComeFirst all input output ns (Moves own more) many =
+    (many ≡ 0)
+    ⊎ ((ms : List Move) × (count rest : ℕ) × IsRunMeant input output (in_turn ns false 0 own) ms count × ComeFirst all input output ns more rest × (many ≡ count + rest))
+ComeFirst all input output ns (Pause more) many = ComeFirst all input output ns more many
+ComeFirst all input output ns (ALoop l body more) many =
+    (many ≡ 0)
+    ⊎ (ComeFirstInLoop all ns l l.bound (λ i c. (d : Deeds Past) × AreDeeds all input output (ns ++ counter_at l i ∷ []) body d c) (λ i c. ComeFirst all input output (ns ++ counter_at l i ∷ []) body c) many
+    ⊎ ((f : ℕ → Deeds Past) × (count : ℕ → ℕ) × (own : Deeds Past) × (turned rest : ℕ)
+    × IsLoopOf all ns l l.bound (λ i e c. AreDeeds all input output (ns ++ counter_at l i ∷ []) body e c) f count own turned
+    × ComeFirst all input output ns more rest × (many ≡ turned + rest)))
+
+-- M12: however far a passage with loops to items is read, it comes to few statements
+abbrev pub IsFewRead : List Candidate → Forest Resolved → Forest Resolved → Passage → Type 0
+IsFewRead all input output p = (many : ℕ) → ComeFirst all input output [] p many → many ≤ most_written_out
+
+-- ---- what refuses a passage in a turn
+
+-- The words of a bound break the rule: they are no reference (M1), it names no entry, or several, or its subscripts aren't those of the entry's tables (M2, M3,
+-- M4), or the entry is no whole number (M11).
+abbrev pub IsBoundRefusal : MoveRule → List Candidate → List Lexeme → Type 0
+IsBoundRefusal rule.Grammar all ws = (w : WrittenReference) → IsReference w ws → ⊥
+IsBoundRefusal rule.Unknown all ws = (w : WrittenReference) × IsReference w ws × BreaksReference rule.Unknown all w
+IsBoundRefusal rule.Ambiguous all ws = (w : WrittenReference) × IsReference w ws × BreaksReference rule.Ambiguous all w
+IsBoundRefusal rule.Subscripts all ws = (w : WrittenReference) × IsReference w ws × BreaksReference rule.Subscripts all w
+IsBoundRefusal rule.Counter all ws = (w : WrittenReference) × (side : Side) × (o : Operand)
+    × IsReference w ws × NamesOperand all w side o × ((i : Item) → IsBoundItem o.kind i → ⊥)
+IsBoundRefusal other all ws = ⊥
+
+-- A loop is refused: a turn up to its number is; or of one to an item the bound is, on its line, or the first turn is, or nothing bounds it (M11, on its
+-- line): as many turns have a meaning as no table has elements.
+abbrev pub IsLoopRefused : MoveFault → List Candidate → List Counted → WrittenLoop → WrittenBound → (refused : ℕ → Type 0) → (meant : ℕ → Type 0) → Type 0
+IsLoopRefused f all ns l (ToNumber n) refused meant = (k : ℕ) × (k < turns_between l.from l.by n) × refused (l.from + k * l.by)
+IsLoopRefused f all ns l (ToItem ws) refused meant =
+    (IsBoundRefusal f.rule all (in_turn ns false 0 ws) × (f.line ≡ l.line))
+    ⊎ (refused l.from
+    ⊎ ((f.rule ≡ rule.Counter) × (f.line ≡ l.line) × ((i : ℕ) → l.from ≤ i → i ≤ l.from + longest_record → meant i)))
+
+-- A passage is refused where the counters round it have these numbers: words of MOVE statements in it are, or a loop is.
+abbrev pub IsTurnRefused : MoveFault → List Candidate → Forest Resolved → Forest Resolved → List Counted → Passage → Type 0
+IsTurnRefused f all input output ns NoMore = ⊥
+IsTurnRefused f all input output ns (Moves own more) = RunIsRefused f all input output (in_turn ns false 0 own) ⊎ IsTurnRefused f all input output ns more
+IsTurnRefused f all input output ns (Pause more) = IsTurnRefused f all input output ns more
+IsTurnRefused f all input output ns (ALoop l body more) =
+    IsLoopRefused f all ns l l.bound (λ i. IsTurnRefused f all input output (ns ++ counter_at l i ∷ []) body)
+    (λ i. (d : Deeds Past) × (c : ℕ) × AreDeeds all input output (ns ++ counter_at l i ∷ []) body d c)
+    ⊎ IsTurnRefused f all input output ns more

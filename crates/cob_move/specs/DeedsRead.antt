@@ -1,0 +1,425 @@
+-- What the readers of paragraphs with loops to items say of what they answer.
+use Rattle.std.specs.Prelude.{◌≡◌, ◌⊎◌, ℕ, zero, suc, ◌+◌, ◌-◌, ◌*◌, ◌<◌, ◌≤◌, nat_eq, false, Bool, true, List, [], ◌∷◌, ◌++◌, drop, length, map, take}
+use Rattle.std.specs.Global.{Vec}
+use Rattle.std.specs.List.{AllByRecursion}
+use Rattle.cob_codec.specs.declared.reading.Reading.TheVariants.{Pictured}
+use Rattle.cob_copybook_tree.specs.declared.node.Item.{Item}
+use Rattle.cob_limits.specs.Limits.{longest_record, most_written_out}
+use Rattle.cob_source.specs.Tokens.{Lexeme}
+use Rattle.cob_move_apply.specs.Marked.{RiseUpTo, ends_of_marks}
+use Rattle.cob_move_data.specs.declared.operands.StatementMoves.{StatementMoves}
+use Rattle.cob_move_data.specs.Moves.{AreMoves, Move, Records, moves, operand_in, record_of}
+use Rattle.cob_move_deeds.specs.declared.flow.Bound.{Bound}
+use Rattle.cob_move_deeds.specs.declared.flow.Flow.{Flow}
+use Rattle.cob_move_deeds.specs.declared.flow.Flow.TheVariants as flow
+use Rattle.cob_move_deeds.specs.Deeds.{Choice, Deeds, IsStraight, Moving, Nothing, both_deeds, moves_of_deeds}
+use Rattle.cob_move_deeds.specs.Flows.{AreFlows, FlowSupport, deeds_from}
+use Rattle.cob_move_deeds.specs.Prepared.{AreDeedsPrepared, deeds_of}
+use Rattle.cob_move_deeds.specs.declared.ready.ReadyDeeds.{ReadyDeeds}
+use Rattle.cob_move_apply.specs.Prepared.{moves_of}
+use Rattle.cob_move_deeds.specs.Tests.{IsBound, IsBoundItem, Past}
+use Rattle.cob_move_loops.specs.Bounded.{AreBounded, BoundedFront}
+use Rattle.cob_move_loops.specs.Few.{loop_line}
+use Rattle.cob_move_loops.specs.Passages.{APause, ARun, IsPassage, IsRun, Looped, Passage, PassageFront, WrittenLoop}
+use Rattle.cob_move_loops.specs.Reading.{Within}
+use Rattle.cob_move_loops.specs.Turns.{Counted, counter_at, in_turn, turns as loop_turns}
+use Rattle.cob_move_statements.specs.declared.fault.MoveFault.{MoveFault}
+use Rattle.cob_move_statements.specs.declared.fault.MoveRule.{MoveRule}
+use Rattle.cob_move_statements.specs.declared.fault.MoveRule.TheVariants as rule
+use Rattle.cob_move_statements.specs.Statements.{IsReference}
+use Rattle.cob_move_statements.specs.Written.{WrittenReference}
+use Rattle.cob_move.specs.declared.made.Made.{Made}
+use Rattle.cob_move.specs.declared.made.NotRead.{NotRead}
+use Rattle.cob_move.specs.declared.made.NotRead.TheVariants as why
+use Rattle.cob_move.specs.declared.made.Sizes.{Sizes}
+use Rattle.cob_move.specs.declared.entries.Entries.{Entries}
+use Rattle.cob_move.specs.declared.entries.NamedEntry.{NamedEntry}
+use Rattle.cob_move.specs.Among.{NamesAmong, nameable}
+use Rattle.cob_move.specs.Deeds.{AreDeeds, ComeFirst, ComeFirstInLoop, IsBoundRefusal, IsLoopOf, IsLoopRefused, IsRunMeant, IsTurnRefused, count_of_turns}
+use Rattle.cob_move.specs.Entries.{records_of}
+use Rattle.cob_move.specs.Joined.{joined_deeds}
+use Rattle.cob_move.specs.Loops.{HasJudged}
+use Rattle.cob_move.specs.Bodies.{RunIsRefused}
+use Rattle.cob_move.specs.Paragraphs.{ComesToFew, IsBodyRefusal, IsLiteral}
+use Rattle.cob_move.specs.Pieces.{IsRefusedMemory}
+
+-- ---- what is made so far
+
+-- what is made so far, wherever it lies in memory
+pub record MadeLists : Type 0 where
+  pub list : List StatementMoves
+  pub ends : List ℕ
+  pub bounds : List Bound
+  pub flows : List Flow
+
+abbrev pub made_lists : Made → MadeLists
+made_lists m = record { list = m.list.items; ends = m.ends.items; bounds = m.bounds.items; flows = m.flows.items }
+
+-- nothing yet
+abbrev pub nothing_made : MadeLists
+nothing_made = record { list = []; ends = []; bounds = []; flows = [] }
+
+-- the last of some numbers, or this one where there is none
+abbrev pub last_marked : ℕ → List ℕ → ℕ
+last_marked before [] = before
+last_marked before (end ∷ ends) = last_marked end ends
+
+-- the statements behind the last mark
+abbrev pub open_statements : MadeLists → List StatementMoves
+open_statements m = drop (last_marked 0 m.ends) m.list
+
+-- what statements come to
+abbrev pub open_deeds : Records → List StatementMoves → Deeds Past
+open_deeds r [] = Nothing
+open_deeds r (s ∷ ss) = Moving (moves r (s ∷ ss)) Nothing
+
+-- What is made so far is the front of what deeds rest on, whatever comes behind it.
+pub record IsFrontOf (m : MadeLists) (on : FlowSupport) : Type 0 where
+  pub reading : on.moves.moves.reading ≡ Pictured
+  pub statements : (more : List StatementMoves) × (on.moves.moves.statements.items ≡ m.list ++ more)
+  pub marks : (more : List ℕ) × (ends_of_marks on.moves ≡ 0 ∷ (m.ends ++ more))
+  pub bounds : (more : List Bound) × (on.bounds ≡ m.bounds ++ more)
+
+-- what flows come to
+abbrev pub all_deeds : Records → FlowSupport → List Flow → Deeds Past
+all_deeds r on fs = deeds_from r on (length fs) fs
+
+-- what is made so far comes to: what its flows do, and then the statements behind the last mark
+abbrev pub made_deeds : Records → FlowSupport → MadeLists → Deeds Past
+made_deeds r on m = both_deeds (all_deeds r on m.flows) (open_deeds r (open_statements m))
+
+-- what is done is nothing, or ends in a test; and behind moves stands one
+abbrev pub AreParted : {T : Type 0} → Deeds T → Type 0
+AreParted Nothing = Unit {0}
+AreParted (Moving ms Nothing) = ⊥
+AreParted (Moving ms (Moving own more)) = ⊥
+AreParted (Moving ms (Choice t holding lacking more)) = AreParted more
+AreParted (Choice t holding lacking more) = AreParted more
+
+-- What is made so far may be carried out: the moves are such between the records, marks rise, bounds are such, and flows name what is there and end in a
+-- test.
+pub record IsMade (r : Records) (m : MadeLists) : Type 0 where
+  pub moves : AreMoves r (moves r m.list)
+  pub ends : RiseUpTo 0 (last_marked 0 m.ends) m.ends
+  pub behind : last_marked 0 m.ends ≤ length m.list
+  pub bounds : AllByRecursion (IsBound r) m.bounds
+  pub flows : (on : FlowSupport) → IsFrontOf m on → AreFlows on m.flows
+  pub parted : (on : FlowSupport) → IsFrontOf m on → AreParted (all_deeds r on m.flows)
+
+-- More was made: what was there stands in front.
+pub record HasGrown (old new : MadeLists) : Type 0 where
+  pub list : (more : List StatementMoves) × (new.list ≡ old.list ++ more)
+  pub ends : (more : List ℕ) × (new.ends ≡ old.ends ++ more)
+  pub bounds : (more : List Bound) × (new.bounds ≡ old.bounds ++ more)
+  pub flows : (more : List Flow) × (new.flows ≡ old.flows ++ more)
+
+-- the moves behind the last mark are a flow, and a mark stands behind them
+abbrev pub marked_behind : MadeLists → MadeLists
+marked_behind m = record { list = m.list; ends = m.ends ++ length m.list ∷ []; bounds = m.bounds; flows = m.flows ++ flow.Moves (length m.ends) ∷ [] }
+
+-- so it is where there are some
+abbrev pub closed_where : Bool → MadeLists → MadeLists
+closed_where true m = m
+closed_where false m = marked_behind m
+
+abbrev pub closed : MadeLists → MadeLists
+closed m = closed_where (nat_eq (length m.list) (last_marked 0 m.ends)) m
+
+-- the same without its flows
+abbrev pub without_flows : MadeLists → MadeLists
+without_flows m = record { list = m.list; ends = m.ends; bounds = m.bounds; flows = [] }
+
+-- how much of each there is
+pub record IsSizeOf (m : MadeLists) (s : Sizes) : Type 0 where
+  pub list : s.list ≡ length m.list
+  pub ends : s.ends ≡ length m.ends
+  pub bounds : s.bounds ≡ length m.bounds
+  pub flows : s.flows ≡ length m.flows
+
+-- so much of each
+abbrev pub taken_back : Sizes → MadeLists → MadeLists
+taken_back s m = record { list = take s.list m.list; ends = take s.ends m.ends; bounds = take s.bounds m.bounds; flows = take s.flows m.flows }
+
+-- what stands in front, if it is no loop, is words of MOVE statements
+abbrev pub IsFrontRead : PassageFront → Type 0
+IsFrontRead (ARun own) = IsRun own
+IsFrontRead APause = Unit {0}
+IsFrontRead (Looped l own) = Unit {0}
+
+-- words are a passage whose loops to items are bounded
+abbrev pub HasBounds : List Lexeme → Type 0
+HasBounds words = (p : Passage) × IsPassage p words × AreBounded p
+
+-- the statements of what stands in front, if it is a loop, are such a passage, and it is bounded itself
+abbrev pub FrontHasBounds : PassageFront → Type 0
+FrontHasBounds f = (p : Passage) × Within f p × BoundedFront f p
+
+-- ---- what readers add
+
+-- behind so many statements, if these are few, those that come first are few
+abbrev pub FewWith : (ℕ → Type 0) → ℕ → Type 0
+FewWith first before = before ≤ most_written_out → (many : ℕ) → first many → before + many ≤ most_written_out
+
+-- Deeds that are meant so, with so many statements, stand behind what was made before, with as many statements. The statements' moves are those that may be
+-- carried out, in their order, and a mark came where there is a test. They are few, and so are those that come first.
+pub record AddsMade (e : Entries) (meant : Deeds Past → ℕ → Type 0) (first : ℕ → Type 0) (old new : MadeLists) : Type 0 where
+  pub deeds : Deeds Past
+  pub many : ℕ
+  pub are : meant deeds many
+  pub added : (on : FlowSupport) → IsFrontOf new on → made_deeds (records_of e) on new ≡ joined_deeds (made_deeds (records_of e) on old) deeds
+  pub longer : length new.list ≡ length old.list + many
+  pub whole : moves (records_of e) new.list ≡ moves (records_of e) old.list ++ moves_of_deeds deeds
+  pub straight : IsStraight deeds → new.ends ≡ old.ends
+  pub fits : length old.list ≤ most_written_out → length new.list ≤ most_written_out
+  pub few : FewWith first (length old.list)
+
+-- Why it is not read: memory was refused; or more statements come first than may be, with those so far (M12); or it breaks a rule so, and those that come first
+-- are few.
+abbrev pub RefusedMade : NotRead → (MoveFault → Type 0) → (ℕ → Type 0) → MadeLists → Type 0
+RefusedMade why.Memory refused first old = Unit {0}
+RefusedMade why.TooMany refused first old = (many : ℕ) × first many × (most_written_out < length old.list + many)
+RefusedMade (why.Broken f) refused first old = ((f.rule ≡ rule.Memory) → ⊥) × refused f × FewWith first (length old.list)
+
+-- it breaks no rule
+abbrev pub IsNotBroken : NotRead → Type 0
+IsNotBroken why.Memory = Unit {0}
+IsNotBroken why.TooMany = Unit {0}
+IsNotBroken (why.Broken f) = ⊥
+
+-- where a rule is broken, what was there stands in front of what was made, so that this can be taken back
+abbrev pub LeavesFront : NotRead → (old new : MadeLists) → Type 0
+LeavesFront why.Memory old new = Unit {0}
+LeavesFront why.TooMany old new = Unit {0}
+LeavesFront (why.Broken f) old new = HasGrown old new
+
+-- the fault of words behind a heading that are not read: where they come to too much, on the line of the first loop
+abbrev pub TellsFault : NotRead → MoveFault → List Lexeme → Type 0
+TellsFault why.Memory f body = IsRefusedMemory f
+TellsFault why.TooMany f body = (f.rule ≡ rule.TooMany) × (f.line ≡ loop_line body)
+TellsFault (why.Broken g) f body = f ≡ g
+
+-- words of MOVE statements, in a turn, come to one thing
+abbrev pub RunComesTo : Entries → List Counted → List Lexeme → Deeds Past → ℕ → Type 0
+RunComesTo e ns own d many = (ms : List Move) × IsRunMeant e.input.now e.output.now (in_turn ns false 0 own) ms many × (d ≡ Moving ms Nothing)
+
+-- a passage, in a turn, comes to these deeds
+abbrev pub PassageComesTo : Entries → List Counted → Passage → Deeds Past → ℕ → Type 0
+PassageComesTo e ns p d many = AreDeeds (nameable e) e.input.now e.output.now ns p d many
+
+-- the counters round a turn of a loop, and its own with this number
+abbrev pub in_its_turn : List Counted → WrittenLoop → ℕ → List Counted
+in_its_turn ns l number = ns ++ counter_at l number ∷ []
+
+-- a loop with this passage comes to them
+abbrev pub LoopComesTo : Entries → List Counted → WrittenLoop → Passage → Deeds Past → ℕ → Type 0
+LoopComesTo e ns l p d many = (f : ℕ → Deeds Past) × (count : ℕ → ℕ)
+    × IsLoopOf (nameable e) ns l l.bound (λ i k c. PassageComesTo e (ns ++ counter_at l i ∷ []) p k c) f count d many
+
+-- what stands in front comes to them, where its statements, if it is a loop, are this passage
+abbrev pub FrontComesTo : Entries → List Counted → PassageFront → Passage → Deeds Past → ℕ → Type 0
+FrontComesTo e ns (ARun own) p d many = RunComesTo e ns own d many
+FrontComesTo e ns APause p d many = (d ≡ Nothing) × (many ≡ 0)
+FrontComesTo e ns (Looped l own) p d many = LoopComesTo e ns l p d many
+
+-- words of MOVE statements are refused in a turn
+abbrev pub RunRefusedIn : MoveFault → Entries → List Counted → List Lexeme → Type 0
+RunRefusedIn f e ns own = RunIsRefused f (nameable e) e.input.now e.output.now (in_turn ns false 0 own)
+
+-- a passage is refused in a turn
+abbrev pub IsRefusedIn : MoveFault → Entries → List Counted → Passage → Type 0
+IsRefusedIn f e ns p = IsTurnRefused f (nameable e) e.input.now e.output.now ns p
+
+-- a loop with this passage is refused
+abbrev pub LoopIsRefused : MoveFault → Entries → List Counted → WrittenLoop → Passage → Type 0
+LoopIsRefused f e ns l p =
+    IsLoopRefused f (nameable e) ns l l.bound (λ i. IsRefusedIn f e (ns ++ counter_at l i ∷ []) p)
+    (λ i. (d : Deeds Past) × (c : ℕ) × PassageComesTo e (ns ++ counter_at l i ∷ []) p d c)
+
+-- what stands in front is refused
+abbrev pub FrontIsRefused : MoveFault → Entries → List Counted → PassageFront → Passage → Type 0
+FrontIsRefused f e ns (ARun own) p = RunRefusedIn f e ns own
+FrontIsRefused f e ns APause p = ⊥
+FrontIsRefused f e ns (Looped l own) p = LoopIsRefused f e ns l p
+
+-- so many statements come first in a passage
+abbrev pub FirstIn : Entries → List Counted → Passage → ℕ → Type 0
+FirstIn e ns p many = ComeFirst (nameable e) e.input.now e.output.now ns p many
+
+-- in words of MOVE statements
+abbrev pub FirstInRun : Entries → List Counted → List Lexeme → ℕ → Type 0
+FirstInRun e ns own many = (ms : List Move) × IsRunMeant e.input.now e.output.now (in_turn ns false 0 own) ms many
+
+-- in a loop with this passage
+abbrev pub FirstInLoop : Entries → List Counted → WrittenLoop → Passage → ℕ → Type 0
+FirstInLoop e ns l p many =
+    ComeFirstInLoop (nameable e) ns l l.bound (λ i c. (d : Deeds Past) × PassageComesTo e (ns ++ counter_at l i ∷ []) p d c) (λ i c. FirstIn e (ns ++ counter_at l i ∷ []) p c) many
+
+-- in so many turns of a loop to a number
+abbrev pub FirstInTurns : Entries → List Counted → WrittenLoop → Passage → ℕ → ℕ → Type 0
+FirstInTurns e ns l p done many = (k own : ℕ) × (count : ℕ → ℕ)
+    × (k < done) × ((j : ℕ) → j < k → (d : Deeds Past) × PassageComesTo e (ns ++ counter_at l (l.from + j * l.by) ∷ []) p d (count (l.from + j * l.by)))
+    × FirstIn e (ns ++ counter_at l (l.from + k * l.by) ∷ []) p own × (many ≡ count_of_turns count l.by k l.from + own)
+
+-- in the turns of a loop to an item whose numbers stand below one
+abbrev pub FirstBelow : Entries → List Counted → WrittenLoop → Passage → ℕ → ℕ → Type 0
+FirstBelow e ns l p behind many = (i own kept : ℕ) × (count : ℕ → ℕ)
+    × (l.from ≤ i) × (i < behind) × ((j : ℕ) → l.from ≤ j → j < i → (d : Deeds Past) × PassageComesTo e (ns ++ counter_at l j ∷ []) p d (count j))
+    × (i ≤ l.from + kept * l.by) × ((k : ℕ) → k < kept → l.from + k * l.by < i) × FirstIn e (ns ++ counter_at l i ∷ []) p own × (many ≡ count_of_turns count l.by kept l.from + own)
+
+-- in what stands in front
+abbrev pub FirstInFront : Entries → List Counted → PassageFront → Passage → ℕ → Type 0
+FirstInFront e ns (ARun own) p many = FirstInRun e ns own many
+FirstInFront e ns APause p many = ⊥
+FirstInFront e ns (Looped l own) p many = FirstInLoop e ns l p many
+
+-- Whatever passage words are, what it comes to in a turn stands behind what was made before.
+abbrev pub AddsDeeds : Entries → List Counted → List Lexeme → (old new : MadeLists) → Type 0
+AddsDeeds e ns words old new = (p : Passage) → IsPassage p words → AddsMade e (λ d many. PassageComesTo e ns p d many) (λ many. FirstIn e ns p many) old new
+
+-- whatever passage the statements of a loop are, so it is of the loop
+abbrev pub AddsLoop : Entries → List Counted → WrittenLoop → List Lexeme → (old new : MadeLists) → Type 0
+AddsLoop e ns l body old new = (p : Passage) → IsPassage p body → AddsMade e (λ d many. LoopComesTo e ns l p d many) (λ many. FirstInLoop e ns l p many) old new
+
+-- whatever passage the statements of what stands in front are, if it is a loop, so it is of it
+abbrev pub AddsFront : Entries → List Counted → PassageFront → (old new : MadeLists) → Type 0
+AddsFront e ns f old new = (p : Passage) → Within f p → AddsMade e (λ d many. FrontComesTo e ns f p d many) (λ many. FirstInFront e ns f p many) old new
+
+-- what words of MOVE statements come to in a turn stands behind what was made before
+abbrev pub AddsMoved : Entries → List Counted → List Lexeme → (old new : MadeLists) → Type 0
+AddsMoved e ns words old new = AddsMade e (λ d many. RunComesTo e ns words d many) (λ many. FirstInRun e ns words many) old new
+
+-- words of MOVE statements are not read in a turn, with what was made before
+abbrev pub MovedRefused : NotRead → Entries → List Counted → List Lexeme → MadeLists → Type 0
+MovedRefused n e ns words old = RefusedMade n (λ f. RunRefusedIn f e ns words) (λ many. FirstInRun e ns words many) old
+
+-- whatever passage words are, it is not read in a turn
+abbrev pub TurnRefused : NotRead → Entries → List Counted → List Lexeme → MadeLists → Type 0
+TurnRefused n e ns words old = (p : Passage) → IsPassage p words → RefusedMade n (λ f. IsRefusedIn f e ns p) (λ many. FirstIn e ns p many) old
+
+-- whatever passage the statements of a loop are, the loop is not read
+abbrev pub LoopRefused : NotRead → Entries → List Counted → WrittenLoop → List Lexeme → MadeLists → Type 0
+LoopRefused n e ns l body old = (p : Passage) → IsPassage p body → RefusedMade n (λ f. LoopIsRefused f e ns l p) (λ many. FirstInLoop e ns l p many) old
+
+-- nor is what stands in front
+abbrev pub FrontRefused : NotRead → Entries → List Counted → PassageFront → MadeLists → Type 0
+FrontRefused n e ns front old = (p : Passage) → Within front p → RefusedMade n (λ f. FrontIsRefused f e ns front p) (λ many. FirstInFront e ns front p many) old
+
+-- whatever passage words are, it breaks a rule in a turn, and behind so many statements those that come first are few
+abbrev pub BreaksInTurn : MoveFault → Entries → List Counted → List Lexeme → ℕ → Type 0
+BreaksInTurn f e ns words before = (p : Passage) → IsPassage p words → ((f.rule ≡ rule.Memory) → ⊥) × IsRefusedIn f e ns p × FewWith (λ many. FirstIn e ns p many) before
+
+-- so it does, whatever the fault is
+abbrev pub HasNoTurn : Entries → List Counted → List Lexeme → ℕ → Type 0
+HasNoTurn e ns words before = (f : MoveFault) × BreaksInTurn f e ns words before
+
+-- ---- turns of a loop
+
+-- So many turns come to these deeds, one turn's behind another's, and to so many statements.
+abbrev pub AreTurnsMeant : (ℕ → Deeds Past → ℕ → Type 0) → (by n i : ℕ) → Deeds Past → ℕ → Type 0
+AreTurnsMeant meant by zero i d many = (d ≡ Nothing) × (many ≡ 0)
+AreTurnsMeant meant by (suc n) i d many = (own next : Deeds Past) × (count rest : ℕ)
+    × meant i own count × AreTurnsMeant meant by n (i + by) next rest × (d ≡ joined_deeds own next) × (many ≡ count + rest)
+
+-- what the turn of a loop with this passage comes to
+abbrev pub TurnComesTo : Entries → List Counted → WrittenLoop → Passage → ℕ → Deeds Past → ℕ → Type 0
+TurnComesTo e ns l p i d many = PassageComesTo e (in_its_turn ns l i) p d many
+
+-- whatever passage the statements of a loop are, so many of its turns stand behind what was made before
+abbrev pub AddsTurns : Entries → List Counted → WrittenLoop → List Lexeme → ℕ → (old new : MadeLists) → Type 0
+AddsTurns e ns l body done old new =
+    (p : Passage) → IsPassage p body
+    → AddsMade e (λ d many. AreTurnsMeant (λ i k c. TurnComesTo e ns l p i k c) l.by done l.from d many) (λ many. FirstInTurns e ns l p done many) old new
+
+-- flows of turns come to what the turns do
+abbrev pub AreTurns : Records → FlowSupport → (ℕ → Deeds Past) → ℕ → ℕ → List (List Flow) → Type 0
+AreTurns r on f by i [] = Unit {0}
+AreTurns r on f by i (fs ∷ turns) = AreFlows on fs × (all_deeds r on fs ≡ f i) × AreTurns r on f by (i + by) turns
+
+-- The turns of a loop whose numbers stand below one are read, behind what was made before: each comes to something, and those that the counter takes are kept,
+-- each with its flows.
+pub record ReadsTurns (e : Entries) (ns : List Counted) (l : WrittenLoop) (p : Passage) (behind : ℕ) (turns : List (List Flow)) (old new : MadeLists) : Type 0 where
+  pub comes : ℕ → Deeds Past
+  pub count : ℕ → ℕ
+  pub are : (i : ℕ) → l.from ≤ i → i < behind → PassageComesTo e (in_its_turn ns l i) p (comes i) (count i)
+  pub flows : (on : FlowSupport) → IsFrontOf new on → AreTurns (records_of e) on comes l.by l.from turns
+  pub longer : length new.list ≡ length old.list + count_of_turns count l.by (length turns) l.from
+  pub whole : moves (records_of e) new.list ≡ moves (records_of e) old.list ++ loop_turns (λ i. moves_of_deeds (comes i)) l.by (length turns) l.from
+  pub fits : length old.list ≤ most_written_out → length new.list ≤ most_written_out
+  pub few : FewWith (λ many. FirstBelow e ns l p behind many) (length old.list)
+
+-- So many turns are kept of those whose numbers stand below one: the counter takes the next number then.
+pub record AreKept (from by kept behind next : ℕ) : Type 0 where
+  pub at : next ≡ from + kept * by
+  pub first : from ≤ behind
+  pub below : behind ≤ next
+  pub last : (0 < kept) → next < behind + by
+  pub none : (kept ≡ 0) → behind ≡ from
+
+-- ---- bounds
+
+-- words name an entry that is a whole number
+pub record IsBoundRead (e : Entries) (words : List Lexeme) (n : NamedEntry) : Type 0 where
+  pub reference : WrittenReference
+  pub spelled : IsReference reference words
+  pub named : NamesAmong e reference n.side n.entry
+  pub item : (i : Item) × IsBoundItem (operand_in (record_of (records_of e) n.side) n.entry).kind i
+
+-- the words of a bound break the rule
+abbrev pub BoundRefused : MoveRule → Entries → List Lexeme → Type 0
+BoundRefused r e words = IsBoundRefusal r (nameable e) words
+
+-- a bound on this line isn't read: memory was refused, or its words break a rule there
+abbrev pub BoundNotRead : NotRead → Entries → ℕ → List Lexeme → Type 0
+BoundNotRead why.Memory e line words = Unit {0}
+BoundNotRead why.TooMany e line words = ⊥
+BoundNotRead (why.Broken f) e line words = ((f.rule ≡ rule.Memory) → ⊥) × (f.line ≡ line) × BoundRefused f.rule e words
+
+-- ---- the flows of a loop to an item
+
+-- a test that passes over all that is behind it
+abbrev pub tested : ℕ → ℕ → List Flow → List Flow
+tested bound number rest = flow.Until bound number (length rest) ∷ rest
+
+-- the turns of a loop, each behind its test, and the test behind the last
+abbrev pub linked_turns : ℕ → ℕ → ℕ → List (List Flow) → List Flow
+linked_turns bound by i [] = tested bound i []
+linked_turns bound by i (fs ∷ turns) = tested bound i (fs ++ linked_turns bound by (i + by) turns)
+
+-- how many flows they are
+abbrev pub linked_size : List (List Flow) → ℕ
+linked_size [] = 1
+linked_size (fs ∷ turns) = length fs + 1 + linked_size turns
+
+-- flows, wherever they lie in memory
+abbrev pub flow_lists : List (Vec Flow) → List (List Flow)
+flow_lists vs = map (λ v. v.items) vs
+
+-- ---- words behind a heading
+
+-- They are a passage that is not empty, with few loops in one another, which come to few statements, with counters of their own, and whose loops to items are
+-- bounded; and this is what it comes to, and it comes to few statements.
+pub record SaysDeeds (e : Entries) (body : List Lexeme) (d : Deeds Past) : Type 0 where
+  pub judged : HasJudged (nameable e) body
+  pub bounded : AreBounded judged.passage
+  pub many : ℕ
+  pub comes : PassageComesTo e [] judged.passage d many
+  pub few : ComesToFew (nameable e) e.input.now e.output.now judged.passage
+
+-- They are refused.
+abbrev pub DeedsRefused : MoveFault → Entries → List Lexeme → Type 0
+DeedsRefused f e body = IsBodyRefusal f (nameable e) e.input.now e.output.now body
+
+-- some passage that words are has a loop to an item
+abbrev pub HasItemLoop : List Lexeme → Type 0
+HasItemLoop body = (p : Passage) → IsPassage p body → IsLiteral p → ⊥
+
+-- what is to be done is what is made so far, whatever it rests on
+abbrev pub IsWhatIsMade : Records → MadeLists → Deeds Past → Type 0
+IsWhatIsMade r m d = (own : Deeds Past) → ((on : FlowSupport) → IsFrontOf m on → made_deeds r on m ≡ own) → d ≡ own
+
+-- what is made so far is made ready: its moves, in their order, up to a mark behind them
+pub record IsReadied (r : Records) (m : MadeLists) (d : ReadyDeeds) : Type 0 where
+  pub prepared : AreDeedsPrepared r d
+  pub comes : IsWhatIsMade r m (deeds_of r d)
+  pub moves : moves_of r d.moves.moves ≡ moves r m.list
+  pub ends : ends_of_marks d.moves ≡ 0 ∷ (closed m).ends

@@ -1,0 +1,33 @@
+//! What follows from the definitions of what passages come to.
+
+ghost use Rattle.cob_move.specs.DeedsLaws.{DeedsBreakNoRule, JoinedIsBoth, OneDeeds};
+
+use crate::meaning_laws::{meant_break_no_rule, one_meant};
+use cob_move_names::{named_break_no_rule, one_named};
+use cob_move_statements::{one_list_of_ended, one_reference};
+
+/// A law: moves that meet are together, and what is done is the same.
+pub fn joined_is_both()
+    ensures { JoinedIsBoth }
+{}
+
+/// A law: in a turn a passage comes to one thing at most.
+pub fn one_deeds()
+    ensures { OneDeeds }
+{
+    one_list_of_ended();
+    one_meant();
+    one_reference();
+    one_named();
+}
+
+/// A law: a passage that comes to something in a turn breaks no rule there.
+pub fn deeds_break_no_rule()
+    ensures { DeedsBreakNoRule }
+{
+    one_list_of_ended();
+    meant_break_no_rule();
+    one_reference();
+    one_named();
+    named_break_no_rule();
+}

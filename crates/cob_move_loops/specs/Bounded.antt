@@ -1,0 +1,60 @@
+-- Which loops to items are bounded: by a table that their counter is a subscript of.
+use Rattle.std.specs.Prelude.{◌≡◌, ◌⊎◌, ℕ, ◌||◌, ◌&&◌, nat_lt, bytes_eq, Bool, true, false, List, [], ◌∷◌}
+use Rattle.cob_source.specs.Tokens.{Lexeme}
+use Rattle.cob_copybook_clauses.specs.Terms.{word_class}
+use Rattle.cob_move_loops.specs.Passages.{ALoop, APause, ARun, Looped, Moves, NoMore, Passage, PassageFront, Pause, ToItem, ToNumber, WrittenBound}
+use Rattle.cob_move_loops.specs.Turns.{open_by, turns_of}
+
+-- a word with this name stands within brackets
+abbrev pub is_subscripted : List ℕ → Bool → List Lexeme → Bool
+is_subscripted name inside [] = false
+is_subscripted name inside (w ∷ ws) = (inside && bytes_eq w.text name) || is_subscripted name (open_by inside (word_class w)) ws
+
+-- the words of a bound
+abbrev pub words_of_bound : WrittenBound → List Lexeme
+words_of_bound (ToNumber n) = []
+words_of_bound (ToItem ws) = ws
+
+-- A counter with this name is a subscript in a passage: in a statement, or in what a loop of it ends by; a loop of no turn has none.
+abbrev pub has_subscript : List ℕ → Passage → Bool
+has_subscript name NoMore = false
+has_subscript name (Moves own more) = is_subscripted name false own || has_subscript name more
+has_subscript name (Pause more) = has_subscript name more
+has_subscript name (ALoop l body more) =
+    (is_subscripted name false (words_of_bound l.bound) || (nat_lt 0 (turns_of l) && has_subscript name body)) || has_subscript name more
+
+-- the same of what stands in front, where its statements, if it is a loop, are this passage
+abbrev pub subscript_front : List ℕ → PassageFront → Passage → Bool
+subscript_front name (ARun own) p = is_subscripted name false own
+subscript_front name APause p = false
+subscript_front name (Looped l own) p = is_subscripted name false (words_of_bound l.bound) || (nat_lt 0 (turns_of l) && has_subscript name p)
+
+-- M11: the counter of a loop to an item is a subscript in its statements
+abbrev pub IsBounded : WrittenBound → List ℕ → Passage → Type 0
+IsBounded (ToNumber n) name body = Unit {0}
+IsBounded (ToItem ws) name body = has_subscript name body ≡ true
+
+-- each loop of a passage is so
+abbrev pub AreBounded : Passage → Type 0
+AreBounded NoMore = Unit {0}
+AreBounded (Moves own more) = AreBounded more
+AreBounded (Pause more) = AreBounded more
+AreBounded (ALoop l body more) = IsBounded l.bound l.counter body × AreBounded body × AreBounded more
+
+-- a loop on this line is not so
+abbrev pub LacksBound : Passage → ℕ → Type 0
+LacksBound NoMore line = ⊥
+LacksBound (Moves own more) line = LacksBound more line
+LacksBound (Pause more) line = LacksBound more line
+LacksBound (ALoop l body more) line = ((line ≡ l.line) × (IsBounded l.bound l.counter body → ⊥)) ⊎ (LacksBound body line ⊎ LacksBound more line)
+
+-- the same of what stands in front
+abbrev pub BoundedFront : PassageFront → Passage → Type 0
+BoundedFront (ARun own) p = Unit {0}
+BoundedFront APause p = Unit {0}
+BoundedFront (Looped l own) p = IsBounded l.bound l.counter p × AreBounded p
+
+abbrev pub LacksBoundFront : PassageFront → Passage → ℕ → Type 0
+LacksBoundFront (ARun own) p line = ⊥
+LacksBoundFront APause p line = ⊥
+LacksBoundFront (Looped l own) p line = ((line ≡ l.line) × (IsBounded l.bound l.counter p → ⊥)) ⊎ LacksBound p line
