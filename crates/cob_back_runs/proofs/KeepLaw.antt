@@ -21,6 +21,9 @@ use Rattle.cob_move_initial.specs.Laws.{OneInitial}
 use Rattle.cob_back_moves.specs.Apart.{VaryNone}
 use Rattle.cob_back_moves.specs.Laws.{ReturnsKeep}
 use Rattle.cob_back_moves.proofs.KeepsLaw.{length_tree}
+use Rattle.cob_move_apply.specs.Applied.{done}
+use Rattle.cob_move_deeds.specs.Deeds.{moves_of_deeds}
+use Rattle.cob_move_deeds.specs.Laws.{StraightIsApplied}
 use Rattle.cob_back_runs.specs.Laws.{LosslessKeep}
 
 -- ---- records in which no table varies
@@ -73,8 +76,8 @@ all_written Variable t storage num none size =
 all_written (Blocked most) t storage num none size =
     (greatest_counts t, counts_there t storage none, sym (ap (λ (n : ℕ). take n storage) (all_of_it t num) ∙ take_whole (greatest_length t) storage size))
 
-pub lossless_keep : ReturnsKeep → OneInitial → RecordsAreSound → RecordsTakeBytes → LosslessKeep
-lossless_keep law one sound some there back ready ready_back lossless = record {
+pub lossless_keep : StraightIsApplied → ReturnsKeep → OneInitial → RecordsAreSound → RecordsTakeBytes → LosslessKeep
+lossless_keep straight law one sound some there back ready ready_back (straight_there, straight_back, lossless) = record {
   turned = lossless.turned;
   each = λ input written sized becomes.
       let num_in = (sound there.records.input ready.input).numbered in
@@ -85,9 +88,10 @@ lossless_keep law one sound some there back ready ready_back lossless = record {
       let (start, starts, start_size) = ready_back.image in
       let same : becomes.initial ≡ image = one there.records.output becomes.initial image becomes.begins is in
       let long = sized_long there.in_form there.records.input input num_in lossless.input.steady sized in
-      let (after_size, kept) = law there.records back.records there.moves back.moves input becomes.initial becomes.last start
+      let (after_size, kept) = law there.records back.records (moves_of_deeds there.deeds) (moves_of_deeds back.deeds) input becomes.initial becomes.last start
       ready.input ready.output ready_back.input ready_back.output lossless.turned lossless.input lossless.output lossless.input_back lossless.output_back
-      ready.moves ready_back.moves lossless.returns long (ap length same ∙ size) start_size becomes.applied in
+      ready.moves ready_back.moves lossless.returns long (ap length same ∙ size) start_size
+      ((straight there.records there.deeds input becomes.initial (done becomes.last) straight_there).0 becomes.carried) in
       let (last, applied, last_size, again) = kept in
       let all : written ≡ becomes.last = written_all there.out_form there.records.output becomes.last written num_out lossless.output.steady after_size becomes.writes in
       let middle : length written ≡ greatest_length back.records.input =
@@ -100,7 +104,7 @@ lossless_keep law one sound some there back ready ready_back lossless = record {
           initial = start;
           begins = starts;
           last = last;
-          applied = rw all applied;
+          carried = (straight back.records back.deeds written start (done last) straight_back).1 (rw all applied);
           writes = all_written back.out_form back.records.output last num_end lossless.output_back.steady last_size;
         };
         again = again;

@@ -4,12 +4,14 @@ use Rattle.cob_records.specs.Frame.{IsRecord}
 use Rattle.cob_convert_stream.specs.Sizes.{IsSized}
 use Rattle.cob_convert_record.specs.Becoming.{Becomes}
 use Rattle.cob_convert_record.specs.Conversion.{Conversion, in_length}
+use Rattle.cob_move_deeds.specs.Deeds.{IsStraight, moves_of_deeds}
 use Rattle.cob_back_moves.specs.Lossless.{IsLossless}
 use Rattle.cob_back_moves.specs.Returns.{AreTurned, HoldsAgain}
 
--- The conversions lose nothing: their records agree crosswise, and the moves of the one bring back what those of the other take.
+-- The conversions lose nothing: neither has a test, their records agree crosswise, and the moves of the one bring back what those of the other take.
 abbrev pub AreLossless : Conversion → Conversion → Type 0
-AreLossless there back = IsLossless there.records back.records there.moves back.moves
+AreLossless there back =
+    IsStraight there.deeds × IsStraight back.deeds × IsLossless there.records back.records (moves_of_deeds there.deeds) (moves_of_deeds back.deeds)
 
 -- What an input record became is a record of the conversion back, which it converts without a stop, and what that writes holds again what the input
 -- record holds: each occurrence of each named elementary item represents the same value, or has the same bytes where it is of characters.

@@ -8,6 +8,7 @@ use Rattle.cob_convert_stream.specs.Input.{records_in}
 pub use Rattle.cob_convert_record.specs.Conversion.{HasImage}
 use Rattle.cob_convert_record.specs.Conversion.{Conversion, out_length}
 use Rattle.cob_convert.specs.Converted.{Converted}
+use Rattle.cob_move_deeds.specs.Deeds.{moves_of_deeds}
 use Rattle.cob_convert.specs.Run.{records_out}
 use Rattle.cob_back_moves.specs.Returns.{HoldsAgain}
 use Rattle.cob_back_runs.specs.Keeps.{AreLossless, Keeps}
@@ -17,7 +18,7 @@ pub record IsPrepared (conversion : Conversion) : Type 0 where
   pub input : IsRecordDescription conversion.records.input
   pub output : IsRecordDescription conversion.records.output
   pub image : HasImage conversion.records.output
-  pub moves : AreMoves conversion.records conversion.moves
+  pub moves : AreMoves conversion.records (moves_of_deeds conversion.deeds)
 
 -- law: conversions that lose nothing keep what the first one converts
 abbrev pub LosslessKeep : Type 0

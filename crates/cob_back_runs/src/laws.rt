@@ -5,6 +5,7 @@ ghost use Rattle.cob_back_runs.specs.Laws.{LosslessKeep, LosslessRuns};
 use cob_back_moves::returns_keep;
 use cob_copybook::records_take_bytes;
 use cob_layout::records_are_sound;
+use cob_move_deeds::straight_is_applied;
 use cob_move_initial::one_initial;
 
 /// Conversions that lose nothing keep what the first one converts.
@@ -12,6 +13,7 @@ use cob_move_initial::one_initial;
 pub fn lossless_keep()
     ensures { LosslessKeep }
 {
+    straight_is_applied();
     returns_keep();
     one_initial();
     records_are_sound();

@@ -4,7 +4,8 @@ use Rattle.cob_copybook_tree.specs.Forests.{Forest}
 use Rattle.cob_copybook_tree.specs.Nodes.{Resolved}
 use Rattle.cob_copybook.specs.Books.{IsBookOf}
 use Rattle.cob_copybook.specs.declared.role.Role.TheVariants.{In, Out}
-use Rattle.cob_move_data.specs.Moves.{Move}
+use Rattle.cob_move_deeds.specs.Deeds.{Deeds}
+use Rattle.cob_move_deeds.specs.Tests.{Past}
 use Rattle.cob_move.specs.Paragraphs.{IsParagraphOf, IsRefusalOf}
 use Rattle.cob_move_statements.specs.declared.fault.MoveFault.{MoveFault}
 use Rattle.cob_move_statements.specs.declared.fault.MoveRule.{MoveRule}
@@ -73,9 +74,9 @@ pub refused_memory : (f : MoveFault) → f.rule ≡ rule.Memory → moves_refusa
 refused_memory f is = ap (λ (r : MoveRule). moves_refusal_by r f) is
 
 -- a paragraph between two records is one between the same records
-pub paragraph_too : (moves : List ℕ) (input output a b : Forest Resolved) (ms : List Move) → input ≡ a → output ≡ b → IsParagraphOf moves a b ms
-    → IsParagraphOf moves input output ms
-paragraph_too moves input output a b ms p q h = rw (p, q) h
+pub paragraph_too : (moves : List ℕ) (input output a b : Forest Resolved) (d : Deeds Past) → input ≡ a → output ≡ b → IsParagraphOf moves a b d
+    → IsParagraphOf moves input output d
+paragraph_too moves input output a b d p q h = rw (p, q) h
 
 -- and what refuses it between them refuses it between the same
 pub refusal_too : (f : MoveFault) (moves : List ℕ) (a b input output : Forest Resolved) → a ≡ input → b ≡ output → IsRefusalOf f moves a b

@@ -17,11 +17,11 @@ use Rattle.cob_move_statements.specs.declared.fault.MoveRule.TheVariants as rule
 use Rattle.cob_convert.specs.declared.fault.PrepareFault.{PrepareFault}
 use Rattle.cob_convert.specs.declared.fault.PrepareFault.TheVariants.{InBook, OutBook, Moves, Block, Memory}
 
--- The texts say this conversion: the books describe its records, and the paragraph says its moves.
+-- The texts say this conversion: the books describe its records, and the paragraph says what is done between them.
 pub record Means (in_book out_book moves : List ℕ) (conversion : Conversion) : Type 0 where
   pub input : IsBookOf In in_book conversion.records.input
   pub output : IsBookOf Out out_book conversion.records.output
-  pub paragraph : IsParagraphOf moves conversion.records.input conversion.records.output conversion.moves
+  pub paragraph : IsParagraphOf moves conversion.records.input conversion.records.output conversion.deeds
 
 -- The texts say this conversion with its binary senders read so: they say one, and it is the same with the senders of its moves read so.
 abbrev pub MeansBy : Reading → List ℕ → List ℕ → List ℕ → Conversion → Type 0

@@ -4,7 +4,8 @@ ghost use Rattle.cob_records.specs.Device.{counted, Told};
 ghost use Rattle.cob_move.specs.Paragraphs.{IsParagraphOf};
 ghost use Rattle.cob_limits.specs.Limits.{longest_record};
 ghost use Rattle.cob_convert_record.specs.Conversion.{conversion_by, in_length, out_length, Conversion as Meant, IsImage};
-ghost use Rattle.cob_move_data.specs.Moves.{Move};
+ghost use Rattle.cob_move_deeds.specs.Deeds.{Deeds, moves_of_deeds};
+ghost use Rattle.cob_move_deeds.specs.Tests.{Past};
 ghost use Rattle.cob_convert.specs.declared.fault.PrepareFault.TheVariants.{Memory};
 ghost use Rattle.cob_convert.specs.Unique.{HasBytes};
 ghost use Rattle.cob_records.specs.Forms.{FitsForm, HasBlockSize, outlet_of};
@@ -135,8 +136,8 @@ fn conversion_of(
     ensures forms { IfOk result (λ made. (made.in_form ≡ in_form) × (made.out_form ≡ out_form)) }
     ensures input { IfOk result (λ made. made.records.input ≡ input) }
     ensures output { IfOk result (λ made. made.records.output ≡ output) }
-    ensures paragraph { IfOk result (λ made. IsParagraphOf moves.now input output made.moves) }
-    ensures only { (ms : List Move) → IsParagraphOf moves.now input output ms
+    ensures paragraph { IfOk result (λ made. IsParagraphOf moves.now input output made.deeds) }
+    ensures only { (d : Deeds Past) → IsParagraphOf moves.now input output d
         → IfErr result (λ fault. fault ≡ Memory) }
     ensures refused { IfErr result (λ fault. IsMovesRefusal fault moves.now input output) }
 {
@@ -149,7 +150,7 @@ fn conversion_of(
         in_layout,
         out_layout,
         image,
-        paragraph.into_moves(),
+        paragraph.into_deeds(),
     ))
 }
 
@@ -304,9 +305,10 @@ impl Converter {
         self.conversion.out_length()
     }
 
-    /// How many single moves there are, each of a sender to one of its receivers; the greatest number of 32 bits where there are more.
+    /// How many single moves there may be, each of a sender to one of its receivers, and each turn of a loop with its own; the greatest number of 32 bits
+    /// where there are more.
     pub fn moves(&self) -> u32
-        ensures { result ≡ min (single_moves self.now.moves) most_moves_told }
+        ensures { result ≡ min (single_moves (moves_of_deeds self.now.deeds)) most_moves_told }
     {
         self.conversion.single_moves()
     }

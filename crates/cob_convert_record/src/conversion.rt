@@ -10,13 +10,14 @@ use crate::rejection::Rejection;
 use crate::room::Room;
 use cob_codec::Reading;
 use cob_convert_stream::{Reason, judge, next_whole, read_record, sized_are_storages};
-use cob_move_apply::{Book, Layout, Moves, Scratch, Stop};
+use cob_move_apply::{Book, Layout, Scratch, Stop};
+use cob_move_deeds::ReadyDeeds;
 use cob_move_initial::initial;
 use cob_records::{Form, Source};
 use std::alloc::{AllocError, Global};
 use std::marker::Model;
 
-/// What is done to each record of a stream: the forms in which records come and go, the layouts of both records, the moves between them, and the
+/// What is done to each record of a stream: the forms in which records come and go, the layouts of both records, what is done between them, and the
 /// storage that each output record begins from.
 #[derive(Drop)]
 pub struct Conversion {
@@ -24,33 +25,39 @@ pub struct Conversion {
     out_form: Form,
     input: Layout,
     output: Layout,
-    moves: Moves,
+    deeds: ReadyDeeds,
     image: Vec<u8>,
 }
 
 impl Model for Conversion {
-    ghost use Rattle.std.specs.Prelude.{◌≡◌, length};
+    ghost use Rattle.std.specs.Prelude.{◌≡◌, length, List};
     ghost use Rattle.cob_layout.specs.Storage.{greatest_length};
     ghost use Rattle.cob_move_initial.specs.Initial.{IsInitial};
     ghost use Rattle.cob_records.specs.Forms.{HasBlockSize};
     ghost use Rattle.cob_convert_record.specs.Conversion.{Conversion};
-    ghost use Rattle.cob_move_apply.specs.Prepared.{ArePrepared, moves_of};
-    ghost use Rattle.std.specs.Coded.{codes};
+    ghost use Rattle.cob_move_deeds.specs.Codes.{coded_deeds};
+    ghost use Rattle.cob_move_deeds.specs.Prepared.{AreDeedsPrepared, HaveAllMoves, deeds_of};
+    ghost use Rattle.std.specs.Coded.{Coded, codes};
+    ghost use Rattle.cob_move_data.specs.Moves.{Move};
+    ghost use Rattle.cob_move_deeds.specs.Tests.{Past};
     ghost use Rattle.cob_copybook.specs.Codes.{coded_forest};
 
     ghost Value = { Conversion };
 
-    ghost coded = { Prim.hlevel (codes, coded_forest) };
+    ghost coded = { let ms : Coded (List Move) = Prim.hlevel (codes, coded_forest) in
+        let tests : Coded Past = Prim.hlevel (codes, coded_forest) in
+        Prim.hlevel (codes, coded_forest, coded_deeds {T = Past} ms tests) };
 
     ghost view = { λ c. record {
       in_form = c.in_form;
       out_form = c.out_form;
       records = record { input = c.input; output = c.output };
-      moves = moves_of (record { input = c.input; output = c.output }) c.moves;
+      deeds = deeds_of (record { input = c.input; output = c.output }) c.deeds;
     } };
 
     ghost invariant = { λ c.
-        ArePrepared (record { input = c.input; output = c.output }) c.moves
+        AreDeedsPrepared (record { input = c.input; output = c.output }) c.deeds
+        × HaveAllMoves (record { input = c.input; output = c.output }) c.deeds
         × IsInitial c.output c.image.items
         × (length c.image.items ≡ greatest_length c.output)
         × HasBlockSize c.in_form
@@ -74,7 +81,9 @@ pub fn image_of(alloc: Global, layout: &Layout, book: &Book) -> Result<Vec<u8>, 
 impl Conversion {
     ghost use Rattle.cob_records.specs.Forms.{HasBlockSize};
     ghost use Rattle.cob_records.specs.Frame.{IsRecord};
-    ghost use Rattle.cob_move_apply.specs.Prepared.{ArePrepared, most_moves_told, moves_of, single_moves};
+    ghost use Rattle.cob_move_apply.specs.Prepared.{most_moves_told, single_moves};
+    ghost use Rattle.cob_move_deeds.specs.Deeds.{moves_of_deeds};
+    ghost use Rattle.cob_move_deeds.specs.Prepared.{AreDeedsPrepared, HaveAllMoves, deeds_of};
     ghost use Rattle.cob_move_apply.specs.Room.{room_of};
     ghost use Rattle.cob_layout.specs.Kept.{AreKeptOf};
     ghost use Rattle.cob_layout.specs.Storage.{IsStorage};
@@ -90,28 +99,29 @@ impl Conversion {
     ghost use Rattle.cob_convert_record.specs.Rejecting.{BecomesWhole, IsRejectedFor};
     ghost use Rattle.cob_convert_record.specs.Rooms.{capacity_for};
 
-    /// The conversion of records of these forms and layouts by these moves, whose output records begin from this storage: [`image_of`] makes it.
+    /// The conversion of records of these forms and layouts by these deeds, whose output records begin from this storage: [`image_of`] makes it.
     pub fn new(
         in_form: Form,
         out_form: Form,
         input: Layout,
         output: Layout,
         image: Vec<u8>,
-        moves: Moves,
+        deeds: ReadyDeeds,
     ) -> Conversion
         requires in_block { HasBlockSize in_form }
         requires out_block { HasBlockSize out_form }
-        requires moves { ArePrepared (record { input = input; output = output }) moves }
+        requires deeds { AreDeedsPrepared (record { input = input; output = output }) deeds }
+        requires whole { HaveAllMoves (record { input = input; output = output }) deeds }
         requires image { IsImage output image.items }
         ensures { result ≡ conversion_for in_form out_form
-            (record { input = input; output = output }) moves }
+            (record { input = input; output = output }) deeds }
     {
         Conversion {
             in_form,
             out_form,
             input,
             output,
-            moves,
+            deeds,
             image,
         }
     }
@@ -125,7 +135,7 @@ impl Conversion {
             out_form: self.out_form,
             input: self.input,
             output: self.output,
-            moves: self.moves.with_reading(reading),
+            deeds: self.deeds.with_reading(reading),
             image: self.image,
         }
     }
@@ -153,13 +163,15 @@ impl Conversion {
         (&self.input, &self.output)
     }
 
-    /// The moves, which are moves between its records. Its output record has a storage before the first of them.
-    pub fn moves(&self) -> &Moves
-        ensures value { moves_of self.now.records result.now ≡ self.now.moves }
-        ensures between { AreMoves self.now.records self.now.moves }
+    /// What is done, whose moves are moves between its records. Its output record has a storage before the first of them.
+    pub fn deeds(&self) -> &ReadyDeeds
+        ensures value { deeds_of self.now.records result.now ≡ self.now.deeds }
+        ensures prepared { AreDeedsPrepared self.now.records result.now }
+        ensures whole { HaveAllMoves self.now.records result.now }
+        ensures between { AreMoves self.now.records (moves_of_deeds self.now.deeds) }
         ensures image { HasImage self.now.records.output }
     {
-        &self.moves
+        &self.deeds
     }
 
     /// How many bytes an input record has at most.
@@ -180,11 +192,11 @@ impl Conversion {
         self.output.greatest()
     }
 
-    /// How many single moves there are, each of a sender to one of its receivers; the greatest number of 32 bits where there are more.
+    /// How many single moves there may be, each of a sender to one of its receivers, and each turn of a loop with its own; the greatest number of 32 bits where there are more.
     pub fn single_moves(&self) -> u32
-        ensures { result ≡ min (single_moves self.now.moves) most_moves_told }
+        ensures { result ≡ min (single_moves (moves_of_deeds self.now.deeds)) most_moves_told }
     {
-        self.moves.single_moves()
+        self.deeds.single_moves()
     }
 
     /// Reads the next input record into the front of the slice, judges it by the input layout, and answers how many bytes it has, or `None`
@@ -275,12 +287,12 @@ impl Conversion {
         output.copy_from_slice(self.image.as_slice());
     }
 
-    /// Makes the output record of an input record: from the initial storage, by each move in turn. The answer is how many bytes of the storage
+    /// Makes the output record of an input record: from the initial storage, by each move and each test in turn. The answer is how many bytes of the storage
     /// are written. It asks for no memory, which tests show.
     ///
     /// # Errors
     ///
-    /// The first move that stops; or behind all moves the first count of the output that isn't valid.
+    /// The first move or test that stops; or behind all of them the first count of the output that isn't valid.
     #[inline(always)]
     pub fn convert(&self, input: &[u8], output: &mut [u8], room: &mut Room) -> Result<usize, Stop>
         requires input { IsStorage self.now.records.input input.now }
@@ -320,7 +332,7 @@ impl Conversion {
         ensures room { scratch.new.room ≡ scratch.old.room }
     {
         self.begin(output);
-        self.moves
+        self.deeds
             .apply_kept(&self.input, &self.output, input, output, scratch)?;
         kept_output_length(&self.output, self.out_form, output, scratch)
     }

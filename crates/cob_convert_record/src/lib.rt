@@ -1,19 +1,19 @@
 //! What becomes of one record (ANSI X3.23-1985, Nucleus: the MOVE statement, and the OCCURS clause with DEPENDING ON; z/OS DFSMS Using Data
 //! Sets, record formats F and V).
 //!
-//! A [`Conversion`] has the forms in which records come and go, the layouts of both records, the moves between them and the storage that each
+//! A [`Conversion`] has the forms in which records come and go, the layouts of both records, what is done between them and the storage that each
 //! output record begins from. What is promised:
 //!
 //! - [`image_of`] makes the storage that each output record begins from (its clause, by `IsImage` of specs/Conversion.antt), so that the book isn't needed
-//!   any more. [`Conversion::new`] keeps what it is given (its clause), and [`Conversion::moves`] are moves between its records (`between`), of which the
+//!   any more. [`Conversion::new`] keeps what it is given (its clause), and the moves of [`Conversion::deeds`] are moves between its records (`between`), of which the
 //!   output record has a storage before the first move (`image`).
 //! - [`Conversion::next_input`] reads the next record that comes in and judges it by the input layout (`reads`, `judged`, `reason`, `cause`), as
 //!   `cob_convert_stream` says it, in the form in which records come.
 //! - [`Conversion::next_whole`] reads the next record as it came, and [`Conversion::judge`] judges one that was read so, for who sets aside what
 //!   isn't one of the layout (`reads`, `whole`, `sized`, `misfit`).
-//! - [`Conversion::convert`] makes the output record: its storage goes from the initial values through all moves, and then every count of the
+//! - [`Conversion::convert`] makes the output record: its storage goes from the initial values through all that is done, and then every count of the
 //!   output is valid; what is written is the whole storage in form f, and its current part in forms v and b (`converts`, by `Becomes` of
-//!   specs/Becoming.antt). Nothing of an earlier record is left in it. It stops at the first move that stops, or behind all moves at the first
+//!   specs/Becoming.antt). Nothing of an earlier record is left in it. It stops at the first move or test that stops, or behind all of them at the first
 //!   count of the output that isn't valid, in both forms (`stops`, by `StopsAt`).
 //! - [`Conversion::convert_whole`] makes the output record of one that came whole, where it is one of the layout (`converts`, by `BecomesWhole` of
 //!   specs/Rejecting.antt), and else tells by a [`Rejection`] why it has none, as [`Conversion::judge`] and [`Conversion::convert`] do (`rejects`, by
@@ -25,7 +25,7 @@
 //!
 //! # Where it is proved
 //!
-//! The clauses of `image_of`, `Conversion::new`, `next_input`, `next_whole`, `judge`, `convert`, `convert_whole`, `moves` and `stop_reason`; the law
+//! The clauses of `image_of`, `Conversion::new`, `next_input`, `next_whole`, `judge`, `convert`, `convert_whole`, `deeds` and `stop_reason`; the law
 //! `conversions_are_decided`.
 #![tactic(auto)]
 
@@ -37,7 +37,8 @@ mod rejection;
 mod room;
 
 pub use cob_convert_stream::{Cause, MeasureFault, Reason};
-pub use cob_move_apply::{Book, Layout, Moves, Side, Stop, StopCause};
+pub use cob_move_apply::{Book, Layout, Side, Stop, StopCause};
+pub use cob_move_deeds::ReadyDeeds;
 pub use conversion::{Conversion, image_of};
 pub use laws::conversions_are_decided;
 pub use reasons::{cause_from, stop_reason};

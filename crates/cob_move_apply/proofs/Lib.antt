@@ -14,6 +14,7 @@ pub mod PlainLemmas
 pub mod JoinLemmas
 pub mod PlanLemmas
 pub mod MarkLemmas
+pub mod BetweenLemmas
 pub mod ReadsLemmas
 pub mod InLemmas
 pub mod PartLemmas

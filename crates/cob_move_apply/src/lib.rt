@@ -53,6 +53,7 @@
 
 mod application;
 mod basis;
+mod between;
 mod constant;
 mod cutting;
 mod laws;

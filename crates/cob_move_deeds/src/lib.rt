@@ -12,6 +12,8 @@
 //!   moves of as many turns as it says are carried out one behind another ([`CountedLoop`]).
 //! - [`ReadyDeeds::new`] puts them together (`deeds`), and they may be carried out where the moves were made ready, the bounds are whole numbers, and the
 //!   flows name what is there (`prepared`); [`ReadyDeeds::with_reading`] are the same with their binary senders read otherwise.
+//! - For who tells what is done: [`ReadyDeeds::flows`], with their bounds and loops, and the statements between marks; [`ReadyDeeds::is_straight`] says whether
+//!   there is no test, and [`ReadyDeeds::bound_number`] what a bound gives in two storages.
 //! - Laws: what is done without a test is what its moves come to ([`straight_is_applied`]), and ends in one way ([`one_carried`]); a loop to the number
 //!   that an item holds is what it is written out as ([`loop_is_its_turns`], by `Performed` of specs/Turns.antt, which is the loop in the standard's own
 //!   words), and a loop with a literal bound is the moves of its turns ([`literal_loop_is_its_moves`]); so is one whose bound stands in the input record, up to
@@ -29,6 +31,7 @@ mod flow;
 mod laws;
 mod ready;
 mod sides;
+mod told;
 
 pub use flow::{Bound, CountedLoop, Flow};
 pub use laws::{

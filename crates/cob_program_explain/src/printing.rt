@@ -1,6 +1,6 @@
 //! Single moves, printed as they are carried out.
 
-use cob_report_explain::{CarriedMove, Qualifying, SingleText, Teller};
+use cob_report_explain::{CarriedMove, Qualifying, SingleText, Teller, TestText};
 use std::io;
 use std::io::Print;
 
@@ -53,6 +53,13 @@ impl<R: Print> Teller for MovePrinter<'_, R> {
         if self.printed.is_ok() {
             let text = SingleText { line, records, one };
             self.printed = print!(self.rt; "{text}");
+        }
+    }
+
+    fn tell_test(&mut self, one: &TestText<'_>) {
+        self.begin();
+        if self.printed.is_ok() {
+            self.printed = print!(self.rt; "{one}");
         }
     }
 }

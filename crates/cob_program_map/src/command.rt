@@ -11,7 +11,7 @@ use cob_convert::{Converter, Status};
 use cob_convert_record::Conversion;
 use cob_program_faults::{CommandFault, FileName, judge_lrecl, text_of};
 use cob_program_line::MapLine;
-use cob_report_lossless::lines_of;
+use cob_report_lossless::lines_of_deeds;
 use std::io::{Eprint, Input, Print};
 use std::rt::Files;
 
@@ -25,8 +25,8 @@ fn print_lined<R: AllocGlobal + Files + Input + Print>(
     requires { 0 < line.now.record }
     ensures { IfErr result MayNotMap }
 {
-    match lines_of(rt.alloc(), moves) {
-        Ok(lines) => print_conversion(rt, line, conversion, lines),
+    match lines_of_deeds(rt.alloc(), moves, conversion.deeds()) {
+        Ok(lines) => print_conversion(rt, line, conversion, lines.statements),
         // The paragraph was read before, so that only memory can lack.
         Err(_) => Err(Unmapped::Fault(CommandFault::Memory)),
     }

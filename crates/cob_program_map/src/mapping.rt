@@ -10,7 +10,7 @@ use crate::drawn::{converted_of, record_shown};
 use crate::ends::Unmapped;
 use crate::shown::Shown;
 use cob_back_losses::{Losses, Unkept, descriptions_lost};
-use cob_back_runs::{MovesBetween, carried};
+use cob_back_runs::{MovesBetween, carried, tested_statements};
 use cob_convert_record::Conversion;
 use cob_program_faults::CommandFault;
 use cob_program_line::MapLine;
@@ -20,11 +20,12 @@ use std::alloc::{AllocError, Global};
 use std::io::{Input, Print};
 use std::rt::Files;
 
-/// What stands on the page beside both records and their moves: the lines of the statements, the bytes of the output record that are covered, what single
+/// What stands on the page beside both records and their moves: the lines of the statements, before which of them a test stands, the bytes of the output record that are covered, what single
 /// moves may lose, by which bytes they may lose their description, and the record that is shown, where one is.
 #[derive(Drop)]
 struct PageMarks {
     lines: Vec<u32>,
+    tested: Vec<bool>,
     covered: Vec<bool>,
     losses: Vec<Losses>,
     descriptions: Vec<Option<Unkept>>,
@@ -41,11 +42,12 @@ impl PageMarks {
     }
 }
 
-/// What stands on the page of these moves, of whose statements these are the lines.
+/// What stands on the page of these moves, of whose statements these are the lines; and before which of them a test stands.
 fn marks_of(
     alloc: Global,
     moves: &MovesBetween<'_>,
     lines: Vec<u32>,
+    tested: Vec<bool>,
     shown: Option<Shown>,
 ) -> Result<PageMarks, AllocError>
     ensures covered { IfOk result
@@ -60,6 +62,7 @@ fn marks_of(
     let descriptions = descriptions_lost(alloc, moves)?;
     Ok(PageMarks {
         lines,
+        tested,
         covered,
         losses,
         descriptions,
@@ -92,6 +95,7 @@ fn mapping_of<'a>(
         output: moves.layouts.output,
         statements: moves.statements,
         lines: marks.lines.as_slice(),
+        tested: marks.tested.as_slice(),
         names,
         covered: marks.covered.as_slice(),
         losses: marks.losses.as_slice(),
@@ -144,6 +148,7 @@ pub(crate) fn print_conversion<R: AllocGlobal + Files + Input + Print>(
 {
     let shown = record_shown(rt, conversion, line)?;
     let moves = carried(conversion);
-    let marks = marks_of(rt.alloc(), &moves, lines, shown)?;
+    let tested = tested_statements(rt.alloc(), conversion)?;
+    let marks = marks_of(rt.alloc(), &moves, lines, tested, shown)?;
     print_marked(rt, line, &moves, &marks)
 }

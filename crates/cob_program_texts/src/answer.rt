@@ -7,11 +7,11 @@ ghost use Rattle.cob_program_texts.specs.Answers.{is_yes, IsAnswer, IsRefusal, I
 ghost use Rattle.cob_program_texts.specs.LosslessEnds.{RefusesConversion};
 
 use crate::refusals::{refused_back, refused_there};
-use cob_back_runs::{Loss, carried, first_loss};
+use cob_back_runs::{ConversionLoss, Direction, Loss, carried, first_loss};
 use cob_convert::{Converter, PrepareFault};
 use cob_program_faults::CommandFault;
 use cob_records::Form;
-use cob_report_lossless::{LinedMoves, lines_of, told_loss};
+use cob_report_lossless::{DeedLines, LinedMoves, lines_of_deeds, told_loss, told_test};
 use std::alloc::Global;
 
 /// The conversion of records of fixed length that three texts say.
@@ -85,11 +85,11 @@ struct Paragraphs<'a> {
     back: &'a [u8],
 }
 
-/// The lines of the statements of a paragraph that was read before, so that only memory can lack.
-fn statement_lines(alloc: Global, text: &[u8]) -> Result<Vec<u32>, CommandFault>
+/// The lines of the paragraph of a conversion. It was read before, so that only memory can lack.
+fn deed_lines(alloc: Global, converter: &Converter, text: &[u8]) -> Result<DeedLines, CommandFault>
     ensures { IfErr result (λ fault. fault ≡ Memory) }
 {
-    match lines_of(alloc, text) {
+    match lines_of_deeds(alloc, text, converter.conversion().deeds()) {
         Ok(lines) => Ok(lines),
         Err(_) => Err(CommandFault::Memory),
     }
@@ -120,8 +120,26 @@ fn words_on<'a>(
     }
 }
 
-/// A point in which conversions may lose something, in words.
-fn words_of(
+/// The first test of a conversion, in words.
+fn words_of_test(
+    alloc: Global,
+    converter: &Converter,
+    text: &[u8],
+    way: Direction,
+) -> Result<String, CommandFault>
+    ensures { IfErr result (λ fault. fault ≡ Memory) }
+{
+    let lines = deed_lines(alloc, converter, text)?;
+    let conversion = converter.conversion();
+    let layouts = carried(conversion).layouts;
+    match told_test(layouts, conversion.deeds(), &lines, way) {
+        Some(told) => Ok(format!(in alloc; "{told}")?),
+        None => Ok(String::new(alloc)),
+    }
+}
+
+/// A point in which the moves of conversions may lose something, in words.
+fn words_of_moves(
     alloc: Global,
     forth: &Converter,
     home: &Converter,
@@ -130,10 +148,38 @@ fn words_of(
 ) -> Result<String, CommandFault>
     ensures { IfErr result (λ fault. fault ≡ Memory) }
 {
-    let lines = statement_lines(alloc, paragraphs.there)?;
-    let lines_back = statement_lines(alloc, paragraphs.back)?;
-    let words = words_on(alloc, forth, home, &lines, &lines_back, loss)?;
+    let lines = deed_lines(alloc, forth, paragraphs.there)?;
+    let lines_back = deed_lines(alloc, home, paragraphs.back)?;
+    let words = words_on(
+        alloc,
+        forth,
+        home,
+        &lines.statements,
+        &lines_back.statements,
+        loss,
+    )?;
     Ok(words)
+}
+
+/// A point in which conversions may lose something, in words.
+fn words_of(
+    alloc: Global,
+    forth: &Converter,
+    home: &Converter,
+    paragraphs: Paragraphs<'_>,
+    loss: ConversionLoss,
+) -> Result<String, CommandFault>
+    ensures { IfErr result (λ fault. fault ≡ Memory) }
+{
+    match loss {
+        ConversionLoss::Test(Direction::There) => {
+            words_of_test(alloc, forth, paragraphs.there, Direction::There)
+        }
+        ConversionLoss::Test(Direction::Back) => {
+            words_of_test(alloc, home, paragraphs.back, Direction::Back)
+        }
+        ConversionLoss::Moves(loss) => words_of_moves(alloc, forth, home, paragraphs, loss),
+    }
 }
 
 /// Whether two conversions lose nothing, and the first point in which they may lose something, in words.

@@ -5,13 +5,13 @@ ghost use Rattle.cob_program_faults.specs.declared.fault.CommandFault.TheVariant
 ghost use Rattle.cob_program_texts.specs.CheckEnds.{MayEndCheck};
 
 use crate::checking::Checked;
-use cob_back_runs::carried;
+use cob_back_runs::{carried, untested};
 use cob_convert::Converter;
 use cob_program_faults::{CommandFault, FileName, text_of};
 use cob_program_line::CheckLine;
 use cob_records::Form;
 use cob_report_cover::{CoverText, cover_text};
-use cob_report_lossless::{LinedMoves, lines_of};
+use cob_report_lossless::{LinedMoves, lines_of_deeds};
 use std::alloc::Global;
 use std::rt::Files;
 
@@ -32,7 +32,8 @@ fn lists_on(alloc: Global, converter: &Converter, lines: &[u32]) -> Result<Cover
         moves: carried(converter.conversion()),
         lines,
     };
-    Ok(cover_text(alloc, &lined)?)
+    let always = untested(alloc, converter.conversion())?;
+    Ok(cover_text(alloc, &lined, &always)?)
 }
 
 /// The lists of a conversion of this paragraph, where they are asked for.
@@ -50,8 +51,8 @@ fn lists_of(
             is_open: false,
         });
     }
-    match lines_of(alloc, moves) {
-        Ok(lines) => lists_on(alloc, converter, &lines),
+    match lines_of_deeds(alloc, moves, converter.conversion().deeds()) {
+        Ok(lines) => lists_on(alloc, converter, &lines.statements),
         // The paragraph was read before: only memory can lack.
         Err(_) => Err(CommandFault::Memory),
     }

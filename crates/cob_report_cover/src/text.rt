@@ -4,6 +4,7 @@ use crate::items::{marks_at, push_items, run_end};
 use crate::marks::{bytes_covered, bytes_taken};
 use crate::occurrences::{PlacedOccurrence, occurrences_of};
 use crate::open_moves::push_open_moves;
+use cob_back_moves::MovesBetween;
 use cob_copybook_tree::Node;
 use cob_layout::{Layout, Place};
 use cob_report_lossless::LinedMoves;
@@ -271,6 +272,59 @@ fn push_covered(
     push_open(alloc, &record, &items, text)
 }
 
+/// Of each byte, whether it is marked in the first list and not in the second.
+fn marked_apart(alloc: Global, marks: &[bool], others: &[bool]) -> Result<Vec<bool>, AllocError> {
+    let mut apart = Vec::with_capacity(alloc, marks.len())?;
+    for (mark, other) in marks.iter().zip(others.iter()) {
+        apart.push(*mark && !*other)?;
+    }
+    Ok(apart)
+}
+
+/// Of each byte, whether it is not marked.
+fn unmarked(alloc: Global, marks: &[bool]) -> Result<Vec<bool>, AllocError> {
+    let mut others = Vec::with_capacity(alloc, marks.len())?;
+    for mark in marks {
+        others.push(!*mark)?;
+    }
+    Ok(others)
+}
+
+/// Of each byte of the output record, whether it is covered and a test stands before all moves to it.
+fn covered_where_something_holds(
+    alloc: Global,
+    moves: &LinedMoves<'_>,
+    untested: &[MovesBetween<'_>],
+) -> Result<Vec<bool>, AllocError> {
+    let mut marks = bytes_covered(alloc, &moves.moves)?;
+    for always in untested {
+        let own = bytes_covered(alloc, always)?;
+        marks = marked_apart(alloc, &marks, &own)?;
+    }
+    Ok(marks)
+}
+
+/// Adds the lines of the bytes of the output record that only moves cover that a test stands before.
+fn push_tested(
+    alloc: Global,
+    moves: &LinedMoves<'_>,
+    untested: &[MovesBetween<'_>],
+    text: &mut String,
+) -> Result<(), AllocError> {
+    let layout = moves.moves.layouts.output;
+    let covered = covered_where_something_holds(alloc, moves, untested)?;
+    let marks = unmarked(alloc, &covered)?;
+    let mut items = Vec::new(alloc);
+    push_items(layout.root(), &mut items)?;
+    let record = Marked {
+        words: "covered only where something holds:",
+        shifted: SHIFTED,
+        layout,
+        marks: &marks,
+    };
+    push_open(alloc, &record, &items, text)
+}
+
 /// Adds the lines of the items of the input record that no sender takes.
 fn push_taken(alloc: Global, moves: &LinedMoves<'_>, text: &mut String) -> Result<(), AllocError> {
     let layout = moves.moves.layouts.input;
@@ -289,22 +343,27 @@ fn push_taken(alloc: Global, moves: &LinedMoves<'_>, text: &mut String) -> Resul
 /// What a paragraph leaves open, in lines.
 #[derive(Drop)]
 pub struct CoverText {
-    /// The lines: of the bytes of the output record that no receiver covers, of the items of the input record that no sender takes, and of the single moves
+    /// The lines: of the bytes of the output record that no receiver covers, of those that are covered only where something holds, of the items of the input record that no sender takes, and of the single moves
     /// that may lose something or have no number.
     pub text: String,
     /// Whether some byte is not covered, or some single move may lose something or have no number: an item that no sender takes leaves nothing open.
     pub is_open: bool,
 }
 
-/// The lines of what a paragraph leaves open, and whether it leaves anything open.
+/// The lines of what a paragraph leaves open, and whether it leaves anything open. Those of its moves that no test stands before are given too.
 ///
 /// # Errors
 ///
 /// Where no memory is left.
-pub fn cover_text(alloc: Global, moves: &LinedMoves<'_>) -> Result<CoverText, AllocError> {
+pub fn cover_text(
+    alloc: Global,
+    moves: &LinedMoves<'_>,
+    untested: &[MovesBetween<'_>],
+) -> Result<CoverText, AllocError> {
     let mut text = String::new(alloc);
     push_covered(alloc, moves, &mut text)?;
     let is_covered = text.is_empty();
+    push_tested(alloc, moves, untested, &mut text)?;
     push_taken(alloc, moves, &mut text)?;
     let loses = push_open_moves(alloc, moves, &mut text)?;
     Ok(CoverText {

@@ -2,3 +2,4 @@ pub mod EachLemmas
 pub mod LawLemmas
 pub mod WalkLemmas
 pub mod ReadLemmas
+pub mod FlowingLemmas

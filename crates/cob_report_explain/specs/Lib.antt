@@ -3,4 +3,5 @@ pub mod Seen
 pub mod Room
 pub mod Told
 pub mod Walked
+pub mod Flowing
 pub mod Explained

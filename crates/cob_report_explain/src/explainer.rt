@@ -12,7 +12,7 @@ ghost use Rattle.cob_report_explain.specs.Walked.{HasWalkRoom};
 
 use crate::moves::{Teller, Watching};
 use crate::reading::{Refused, input_record};
-use crate::stops::{Scene, count_words, move_words};
+use crate::stops::{Scene, count_words, move_words, test_words};
 use crate::walk::{RecordStop, WalkRoom, walk_record};
 use cob_convert_record::{Cause, Conversion, Room, Side, stop_reason};
 use cob_convert_stream::RunFault;
@@ -22,7 +22,7 @@ use cob_move_initial::initial;
 use cob_records::Source;
 use cob_records_parts::Numbered;
 use cob_report_faults::{Asker, Qualifying, frame_words};
-use cob_report_lossless::lines_of;
+use cob_report_lossless::{DeedLines, lines_of_deeds};
 use std::alloc::{AllocError, Global};
 
 /// What is told of a record that stops a run: its fault, and what is wrong in words, where there are some.
@@ -71,9 +71,13 @@ fn begin_output(
     Ok(())
 }
 
-/// The lines of the statements of a paragraph that was read before, so that only memory can lack.
-fn statement_lines(alloc: Global, text: &[u8]) -> Result<Vec<u32>, AllocError> {
-    match lines_of(alloc, text) {
+/// The lines of the paragraph of a conversion. It was read before, so that only memory can lack.
+fn deed_lines(
+    alloc: Global,
+    text: &[u8],
+    conversion: &Conversion,
+) -> Result<DeedLines, AllocError> {
+    match lines_of_deeds(alloc, text, conversion.deeds()) {
         Ok(lines) => Ok(lines),
         Err(_) => Err(AllocError),
     }
@@ -91,7 +95,7 @@ fn records_of(conversion: &Conversion) -> Qualifying<'_> {
 /// Carries the single moves of a record out, has each told, and answers where they stop. The output holds the storage before the first move.
 fn tell_moves<T: Teller>(
     conversion: &Conversion,
-    lines: &[u32],
+    lines: &DeedLines,
     input: &[u8],
     output: &mut [u8],
     room: &mut WalkRoom,
@@ -110,6 +114,7 @@ fn tell_moves<T: Teller>(
 fn stop_words(alloc: Global, scene: &Scene<'_>, stop: &RecordStop) -> Result<String, AllocError> {
     match stop {
         RecordStop::AtMove(stop) => move_words(alloc, scene, stop),
+        RecordStop::AtTest(stop) => test_words(alloc, scene, stop),
         RecordStop::BehindMoves(stop) => {
             count_words(alloc, scene, stop.side, stop.offset, Asker::Written)
         }
@@ -134,7 +139,7 @@ fn stopped_at(
 fn explained<T: Teller>(
     alloc: Global,
     conversion: &Conversion,
-    lines: &[u32],
+    lines: &DeedLines,
     number: u64,
     input: &[u8],
     output: &mut [u8],
@@ -168,10 +173,14 @@ fn refusal_words(
     refused: Refused,
     bytes: &[u8],
 ) -> Result<String, AllocError> {
+    let lines = DeedLines {
+        statements: Vec::new(alloc),
+        loops: Vec::new(alloc),
+    };
     let scene = Scene {
         conversion,
         records: records_of(conversion),
-        lines: &[],
+        lines: &lines,
         input: bytes,
         output: &[],
         content: &[],
@@ -207,7 +216,7 @@ fn refused_at(
 fn explained_from<R: Source, T: Teller>(
     alloc: Global,
     conversion: &Conversion,
-    lines: &[u32],
+    lines: &DeedLines,
     source: &mut R,
     number: u64,
     slot: &mut [u8],
@@ -254,7 +263,7 @@ pub fn explain<R: Source, T: Teller>(
     requires { IsBookOf Out texts.out_book.now conversion.now.records.output }
     ensures { IfOk result IsExplanation }
 {
-    let lines = statement_lines(alloc, texts.moves)?;
+    let lines = deed_lines(alloc, texts.moves, conversion)?;
     let mut output = vec![in alloc; 0u8; usize::from(conversion.out_length())]?;
     let output = output.as_mut_slice();
     begin_output(alloc, texts.out_book, conversion, output)?;

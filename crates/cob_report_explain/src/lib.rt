@@ -44,6 +44,9 @@
 //! and each as soon as it is done, so that no text of them is kept. Where the record does not convert, the answer has the fault that a run has, and what is
 //! wrong in words.
 //!
+//! Where a paragraph has loops to a count, its flows are carried out one behind another, each stretch of moves by [`each`], and each test is handed out too
+//! ([`TakenTest`]; [`TestText`] prints it in one line).
+//!
 //! What is promised: what becomes of a record is what a run makes of it (`converts`, `stops` of [`walk_record`], by `Becomes` and `StopsAt` of
 //! `cob_convert_record`). Which words tell it is shown by `cob_test_jobs`.
 //!
@@ -57,6 +60,7 @@
 #![tactic(auto)]
 
 mod explainer;
+mod flows;
 mod giving;
 mod moves;
 mod places;
@@ -66,6 +70,7 @@ mod senders;
 mod single;
 mod statements;
 mod stops;
+mod tests;
 mod values;
 mod walk;
 mod walking;
@@ -77,7 +82,8 @@ pub use explainer::{Explanation, ReadAgain, StoppedRecord, explain};
 pub use moves::{Silent, SingleText, Teller, Watching};
 pub use room::{EachRoom, RecordLayouts};
 pub use single::{Asked, CarriedMove, MoveStop, SingleNumber};
-pub use stops::{Scene, count_words, move_words};
-pub use walk::{RecordStop, WalkRoom, walk_record};
+pub use stops::{Scene, count_words, move_words, test_words};
+pub use tests::{TakenTest, TestText};
+pub use walk::{RecordStop, TestStop, WalkRoom, walk_record};
 pub use walking::each;
 pub use watcher::Watcher;

@@ -3,13 +3,14 @@
 ghost use Rattle.std.specs.Prelude.{None};
 
 use crate::single::CarriedMove;
+use crate::tests::{TakenTest, TestText};
 use crate::values::HeldText;
 use crate::watcher::Watcher;
 use cob_layout::Place;
 use cob_move_data::Side;
 use cob_move_receive::Sent;
 use cob_report_faults::{Occurrence, Qualifying, SentText};
-use cob_report_lossless::line_at;
+use cob_report_lossless::{DeedLines, line_at};
 use std::fmt;
 
 /// The bytes of a place of a storage; none where it ends past it.
@@ -74,10 +75,13 @@ impl fmt::Display for SingleText<'_> {
     }
 }
 
-/// Who tells single moves.
+/// Who tells single moves, and tests of loops.
 pub trait Teller {
     /// Tells a single move between these records, which was carried out just now. Its statement stands on this line.
     fn tell(&mut self, line: u32, records: Qualifying<'_>, one: &CarriedMove<'_>);
+
+    /// Tells a test that was taken just now, of this loop.
+    fn tell_test(&mut self, one: &TestText<'_>);
 }
 
 /// A teller that tells nothing.
@@ -86,6 +90,8 @@ pub struct Silent;
 
 impl Teller for Silent {
     fn tell(&mut self, _line: u32, _records: Qualifying<'_>, _one: &CarriedMove<'_>) {}
+
+    fn tell_test(&mut self, _one: &TestText<'_>) {}
 }
 
 /// Who watches the single moves of a record, and has each of them told.
@@ -93,13 +99,16 @@ impl Teller for Silent {
 pub struct Watching<'a, T> {
     teller: &'a mut T,
     records: Qualifying<'a>,
-    /// The lines of the statements.
-    lines: &'a [u32],
+    lines: &'a DeedLines,
 }
 
 impl<'a, T> Watching<'a, T> {
-    /// Has the moves of statements on these lines told by a teller.
-    pub fn new(teller: &'a mut T, records: Qualifying<'a>, lines: &'a [u32]) -> Watching<'a, T> {
+    /// Has what is done in these lines told by a teller.
+    pub fn new(
+        teller: &'a mut T,
+        records: Qualifying<'a>,
+        lines: &'a DeedLines,
+    ) -> Watching<'a, T> {
         Watching {
             teller,
             records,
@@ -112,7 +121,19 @@ impl<T: Teller> Watcher for Watching<'_, T> {
     ghost seen = { λ watching. None };
 
     fn see(&mut self, one: &CarriedMove<'_>) {
-        let line = line_at(self.lines, one.number.statement);
+        let line = line_at(&self.lines.statements, one.number.statement);
         self.teller.tell(line, self.records, one);
+    }
+
+    fn see_test(&mut self, one: &TakenTest<'_>) {
+        let lines = self.lines;
+        if let Some(of) = lines.loops.get(one.bound) {
+            self.teller.tell_test(&TestText {
+                line: of.line,
+                counter: of.counter.as_str(),
+                records: self.records,
+                one,
+            });
+        }
     }
 }

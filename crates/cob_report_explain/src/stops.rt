@@ -2,13 +2,15 @@
 
 use crate::moves::bytes_at;
 use crate::single::{Asked, MoveStop, SingleNumber};
+use crate::walk::TestStop;
 use cob_convert_record::{Conversion, Side, Stop, StopCause};
 use cob_layout::Layout;
 use cob_move_data::{Sent, single_at};
 use cob_report_faults::{
-    Asker, AskingMove, CountTable, Occurrence, Qualifying, SentText, StopCase, StopText, counted_at,
+    Asker, AskingLoop, AskingMove, CountTable, Occurrence, Qualifying, SentText, StopCase,
+    StopText, counted_at,
 };
-use cob_report_lossless::line_at;
+use cob_report_lossless::{DeedLines, line_at};
 use std::alloc::{AllocError, Global};
 
 /// A conversion and what is known of one record.
@@ -16,8 +18,8 @@ use std::alloc::{AllocError, Global};
 pub struct Scene<'a> {
     pub conversion: &'a Conversion,
     pub records: Qualifying<'a>,
-    /// The lines of the statements.
-    pub lines: &'a [u32],
+    /// The lines of the paragraph.
+    pub lines: &'a DeedLines,
     pub input: &'a [u8],
     /// The storage of the output record, as the moves before the stop left it.
     pub output: &'a [u8],
@@ -40,11 +42,11 @@ fn sent_text<'a>(records: Qualifying<'a>, sent: Sent<'a>) -> SentText<'a> {
 
 /// The single move with this number. One of two groups has a pair's number, and one of a single sender has a receiver's; the other number is 0.
 fn asking<'a>(scene: &Scene<'a>, number: SingleNumber) -> Option<AskingMove<'a>> {
-    let statement = scene.conversion.moves().statements().get(number.statement)?;
+    let statement = scene.conversion.deeds().statements().get(number.statement)?;
     let place = number.pair.saturating_add(number.receiver);
     let single = single_at(number.statement, statement, place)?;
     Some(AskingMove {
-        line: line_at(scene.lines, single.statement),
+        line: line_at(&scene.lines.statements, single.statement),
         sender: sent_text(scene.records, single.sent),
         receiver: Occurrence {
             records: scene.records,
@@ -142,7 +144,7 @@ fn value_text<'a>(scene: &Scene<'a>, stop: Stop, asked: AskingMove<'a>) -> Optio
             item,
             bytes,
             record: scene.input,
-            reading: scene.conversion.moves().reading(),
+            reading: scene.conversion.deeds().reading(),
         },
         asked: Asker::Move(asked),
     })
@@ -179,5 +181,77 @@ pub fn move_words(alloc: Global, scene: &Scene<'_>, stop: &MoveStop) -> Result<S
             let Stop { side, offset, .. } = stop.stop;
             count_words(alloc, scene, side, offset, Asker::Move(asked))
         }
+    }
+}
+
+/// The test of the loop that ends by the bound with this number.
+fn asking_loop<'a>(scene: &Scene<'a>, bound: usize) -> Option<AskingLoop<'a>> {
+    let of = scene.lines.loops.get(bound)?;
+    let item = &scene.conversion.deeds().bounds().get(bound)?.item;
+    Some(AskingLoop {
+        line: of.line,
+        counter: of.counter.as_str(),
+        bound: Occurrence::of(scene.records, item.side(), item.entry()),
+    })
+}
+
+/// What is wrong with what the bound of a loop holds.
+fn bound_text<'a>(scene: &Scene<'a>, at: &TestStop, asked: AskingLoop<'a>) -> Option<StopText<'a>> {
+    let subject = asked.bound;
+    let item = subject.item()?;
+    let most = scene.conversion.deeds().bounds().get(at.bound)?.most;
+    let (_, storage) = side_of(scene, at.stop.side);
+    Some(StopText {
+        subject,
+        offset: at.stop.offset,
+        case: StopCase::Bound {
+            item,
+            bytes: bytes_at(storage, at.stop.offset as usize, usize::from(item.size())),
+            most,
+        },
+        asked: Asker::Loop(asked),
+    })
+}
+
+/// What is wrong with the subscript of the bound of a loop.
+fn bound_subscript<'a>(at: &TestStop, asked: AskingLoop<'a>) -> StopText<'a> {
+    StopText {
+        subject: asked.bound,
+        offset: at.stop.offset,
+        case: StopCase::Subscript,
+        asked: Asker::Loop(asked),
+    }
+}
+
+/// What is wrong with a count that the place of a bound needs, in words; or with what the bound holds, where no other table's count stands there.
+fn bound_words(
+    alloc: Global,
+    scene: &Scene<'_>,
+    at: &TestStop,
+    asked: AskingLoop<'_>,
+) -> Result<String, AllocError> {
+    let Stop { side, offset, .. } = at.stop;
+    let (layout, storage) = side_of(scene, side);
+    match counted_at(alloc, layout, storage, offset)? {
+        Some(table) if table.count != asked.bound.number => written(
+            alloc,
+            count_text(scene, side, offset, table, Asker::Loop(asked)),
+        ),
+        _ => written(alloc, bound_text(scene, at, asked)),
+    }
+}
+
+/// Why the test of a loop stops, in words.
+///
+/// # Errors
+///
+/// Where no memory is left.
+pub fn test_words(alloc: Global, scene: &Scene<'_>, at: &TestStop) -> Result<String, AllocError> {
+    let Some(asked) = asking_loop(scene, at.bound) else {
+        return Ok(String::new(alloc));
+    };
+    match at.stop.cause {
+        StopCause::Subscript => written(alloc, Some(bound_subscript(at, asked))),
+        StopCause::Count | StopCause::NoValue => bound_words(alloc, scene, at, asked),
     }
 }

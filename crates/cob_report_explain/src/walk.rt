@@ -7,25 +7,35 @@ ghost use Rattle.cob_move_initial.specs.Initial.{IsInitial};
 ghost use Rattle.cob_convert_record.specs.Becoming.{Becomes, IsCountStop, StopsAt};
 ghost use Rattle.cob_convert_record.specs.Conversion.{out_length};
 ghost use Rattle.cob_convert_stream.specs.Output.{IsOutputOf};
-ghost use Rattle.cob_move_apply.specs.Applied.{Applied};
-ghost use Rattle.cob_report_explain.specs.Each.{each_ending, plain_ending};
-ghost use Rattle.cob_report_explain.specs.Room.{HasEachRoom};
+ghost use Rattle.cob_move_deeds.specs.Deeds.{Carried};
+ghost use Rattle.cob_move_deeds.specs.Tests.{Judged};
+ghost use Rattle.cob_report_explain.specs.Flowing.{walked_ending};
 ghost use Rattle.cob_report_explain.specs.Walked.{HasWalkRoom, plain_stop};
 
+use crate::flows::{Walk, walk_flows};
 use crate::room::{EachRoom, RecordLayouts};
 use crate::single::MoveStop;
-use crate::walking::each;
 use crate::watcher::Watcher;
 use cob_convert_record::{Conversion, Side, Stop, StopCause};
 use cob_convert_stream::written_length;
 use cob_layout::Counts;
+use cob_move_apply::Scratch;
 use std::alloc::{AllocError, Global};
+
+/// Why the test of a loop stops at a record: the number of the bound, and what is missing for it.
+#[derive(Clone, Copy, PartialEq, Eq)]
+pub struct TestStop {
+    pub bound: usize,
+    pub stop: Stop,
+}
 
 /// Where the conversion of a record stops.
 #[derive(Clone, Copy, PartialEq, Eq)]
 pub enum RecordStop {
     /// At a single move.
     AtMove(MoveStop),
+    /// At the test of a loop.
+    AtTest(TestStop),
     /// Behind all moves, at a count of the output record.
     BehindMoves(Stop),
 }
@@ -37,6 +47,7 @@ impl RecordStop {
     {
         match self {
             RecordStop::AtMove(at) => at.stop,
+            RecordStop::AtTest(at) => at.stop,
             RecordStop::BehindMoves(at) => at,
         }
     }
@@ -46,6 +57,7 @@ impl RecordStop {
 #[derive(Drop)]
 pub struct WalkRoom {
     pub(crate) each: EachRoom,
+    pub(crate) scratch: Scratch,
     pub(crate) out_counts: Counts,
 }
 
@@ -60,8 +72,13 @@ impl WalkRoom {
     {
         let (input, output) = conversion.layouts();
         let each = EachRoom::new(alloc, input, output)?;
+        let scratch = Scratch::new(alloc, input, output)?;
         let out_counts = output.new_counts(alloc)?;
-        Ok(WalkRoom { each, out_counts })
+        Ok(WalkRoom {
+            each,
+            scratch,
+            out_counts,
+        })
     }
 
     /// What the last sender that lay in the output record gave, in front.
@@ -70,34 +87,37 @@ impl WalkRoom {
     }
 }
 
-/// Carries out the moves of a conversion on the storage of an output record, and hands each single move to the watcher.
+/// Carries out what a conversion does on the storage of an output record, and hands each single move and each test to the watcher.
 ///
 /// # Errors
 ///
-/// The first single move that stops.
-fn walk_moves<W: Watcher>(
+/// The first single move or test that stops.
+fn walk_deeds<W: Watcher>(
     conversion: &Conversion,
     input: &[u8],
     output: &mut [u8],
-    room: &mut EachRoom,
+    room: &mut WalkRoom,
     watcher: &mut W,
-) -> Result<(), MoveStop>
+) -> Result<(), RecordStop>
     requires input { IsStorage conversion.now.records.input input.now }
     requires output { length output.old ≡ out_length conversion.now }
-    requires room { HasEachRoom conversion.now.records room.old }
-    ensures applied { Applied conversion.now.records conversion.now.moves input.now output.old
-        (plain_ending (each_ending result output.new)) }
-    ensures room { HasEachRoom conversion.now.records room.new }
+    requires room { HasWalkRoom conversion.now.records room.old }
+    ensures carried { Carried (Judged conversion.now.records) conversion.now.records
+        conversion.now.deeds input.now output.old (walked_ending result output.new) }
+    ensures room { HasWalkRoom conversion.now.records room.new }
 {
     let (input_layout, output_layout) = conversion.layouts();
-    let moves = conversion.moves();
-    let layouts = RecordLayouts {
-        input: input_layout,
-        output: output_layout,
-        reading: moves.reading(),
+    let deeds = conversion.deeds();
+    let walk = Walk {
+        layouts: RecordLayouts {
+            input: input_layout,
+            output: output_layout,
+            reading: deeds.reading(),
+        },
+        deeds,
+        input,
     };
-    let statements = moves.statements();
-    each(&layouts, statements, input, output, room, watcher)
+    walk_flows(&walk, output, room, watcher)
 }
 
 /// How many bytes of the output record's storage are written.
@@ -124,12 +144,12 @@ fn written_part(conversion: &Conversion, storage: &[u8], counts: &mut Counts) ->
     }
 }
 
-/// Makes the output record of an input record, as `Conversion::convert` does, and hands each single move to the watcher. The output holds the storage
-/// before the first move. The answer is how many bytes of it are written then.
+/// Makes the output record of an input record, as `Conversion::convert` does, and hands each single move and each test to the watcher. The output
+/// holds the storage before the first move. The answer is how many bytes of it are written then.
 ///
 /// # Errors
 ///
-/// The first single move that stops; or behind all moves the first count of the output that isn't valid.
+/// The first single move or test that stops; or behind all of them the first count of the output that isn't valid.
 pub fn walk_record<W: Watcher>(
     conversion: &Conversion,
     input: &[u8],
@@ -146,8 +166,8 @@ pub fn walk_record<W: Watcher>(
     ensures stops { IfErr result (λ stop. StopsAt conversion.now input.now (plain_stop stop)) }
     ensures room { HasWalkRoom conversion.now.records room.new }
 {
-    match walk_moves(conversion, input, output, &mut room.each, watcher) {
-        Err(stop) => Err(RecordStop::AtMove(stop)),
+    match walk_deeds(conversion, input, output, room, watcher) {
+        Err(stop) => Err(stop),
         Ok(()) => match written_part(conversion, output, &mut room.out_counts) {
             Ok(count) => Ok(count),
             Err(stop) => Err(RecordStop::BehindMoves(stop)),

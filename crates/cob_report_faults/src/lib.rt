@@ -33,5 +33,5 @@ pub use counts::{CountTable, counted_at};
 pub use flaws::number_flaw;
 pub use frames::frame_words;
 pub use occurrences::{Occurrence, Qualifying, SentText};
-pub use stops::{Asker, AskingMove, StopCase, StopText};
+pub use stops::{Asker, AskingLoop, AskingMove, StopCase, StopText};
 pub use words::FlawText;

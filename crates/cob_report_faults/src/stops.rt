@@ -31,6 +31,12 @@ pub enum StopCase<'a> {
         least: u32,
         most: u32,
     },
+    /// The bytes of this item, by which a loop ends, give no number from 0 to the greatest up to which its turns name elements of their tables.
+    Bound {
+        item: &'a Item,
+        bytes: &'a [u8],
+        most: u32,
+    },
     /// The element is past its table's count.
     Subscript,
 }
@@ -44,11 +50,23 @@ pub struct AskingMove<'a> {
     pub receiver: Occurrence<'a>,
 }
 
+/// The test of the loop that asked.
+#[derive(Clone, Copy)]
+pub struct AskingLoop<'a> {
+    /// The line of the loop.
+    pub line: u32,
+    /// The name of its counter.
+    pub counter: &'a str,
+    pub bound: Occurrence<'a>,
+}
+
 /// Who asked.
 #[derive(Clone, Copy)]
 pub enum Asker<'a> {
     /// A single move.
     Move(AskingMove<'a>),
+    /// The test of a loop.
+    Loop(AskingLoop<'a>),
     /// The record that came, whose length its counts say.
     Came,
     /// The record that is to be written, behind all moves.
@@ -181,6 +199,14 @@ fn count_advice(side: Side) -> &'static str {
     }
 }
 
+/// What to do where the bound of a loop, in the record of this side, is none.
+fn bound_advice(side: Side) -> &'static str {
+    match side {
+        Side::Out => "move such a number to the bound before the loop",
+        Side::In => "correct the bound, or give the tables of the loop more elements",
+    }
+}
+
 impl StopText<'_> {
     /// Writes what is wrong.
     fn write_case<W: fmt::Write>(&self, f: &mut fmt::Formatter<W>) -> fmt::Result {
@@ -209,6 +235,12 @@ impl StopText<'_> {
                 let table = table.qualified();
                 write!(f, ", and {table} occurs from {least} to {most} times")
             }
+            StopCase::Bound { item, bytes, most } => {
+                let what = ItemText { item };
+                write!(f, "{name}, {what}, at offset {}: ", self.offset)?;
+                write_count_flaw(f, item, bytes)?;
+                write!(f, ", and the loop's turns go to {most}")
+            }
             StopCase::Subscript => {
                 write!(f, "{name} would begin at offset {}: ", self.offset)?;
                 write!(f, "a subscript is past the count of its table")
@@ -223,6 +255,11 @@ impl StopText<'_> {
                 f,
                 "asked by moves line {}: {} to {}",
                 asked.line, asked.sender, asked.receiver
+            ),
+            Asker::Loop(asked) => write!(
+                f,
+                "asked by moves line {}: UNTIL {} > {}",
+                asked.line, asked.counter, asked.bound
             ),
             Asker::Came => write!(f, "asked before all moves, by the record that came"),
             Asker::Written => {
@@ -244,6 +281,7 @@ impl StopText<'_> {
                 ..
             } => value_advice(self.subject.side, item, record, bytes),
             StopCase::Count { .. } => count_advice(self.subject.side),
+            StopCase::Bound { .. } => bound_advice(self.subject.side),
             StopCase::Subscript => {
                 "put the table under a group of its own and move the group, which has as many elements as its count says"
             }

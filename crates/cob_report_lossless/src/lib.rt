@@ -24,9 +24,11 @@ mod lines;
 mod reasons;
 mod singles;
 mod storage;
+mod turned;
 mod words;
 
 pub use lacks::{Lack, lack_of};
 pub use lines::{line_at, lines_of};
-pub use reasons::{LinedMoves, LossPosition, LossReason, ToldLoss, named_in, told_loss};
+pub use reasons::{LinedMoves, LossPosition, LossReason, ToldLoss, named_in, told_loss, told_test};
 pub use singles::{LinedSingle, singles_of};
+pub use turned::{DeedLines, LoopLine, lines_of_deeds};

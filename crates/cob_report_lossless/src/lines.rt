@@ -26,7 +26,7 @@ fn first_lines(alloc: Global, statements: &[Statement<'_>]) -> Result<Vec<u32>, 
 }
 
 /// The lines of the statements that words are.
-fn statement_lines(alloc: Global, words: &[Token]) -> Result<Vec<u32>, MoveFault>
+pub(crate) fn statement_lines(alloc: Global, words: &[Token]) -> Result<Vec<u32>, MoveFault>
     ensures found { IfOk result (λ lines. AreStatementLines (lexemes words.now) lines.items) }
     ensures only { (lines : List ℕ) → AreStatementLines (lexemes words.now) lines
         → IsOrLacksMemory (λ v. v.items ≡ lines) result }
@@ -68,7 +68,7 @@ fn all_lines(alloc: Global, runs: &[Run<'_>]) -> Result<Vec<u32>, MoveFault>
 }
 
 /// The words behind a heading, if there is one, which are a passage.
-fn body_of(words: &[Token]) -> Result<&[Token], MoveFault>
+pub(crate) fn body_of(words: &[Token]) -> Result<&[Token], MoveFault>
     ensures found { IfOk result (λ body. HasBody (lexemes words.now) (lexemes body.now)) }
     ensures only { (body : List Lexeme) (has : HasBody (lexemes words.now) body)
         → IsOkAnd result (λ own. (p : Passage) → IsPassage p (lexemes own.now)

@@ -4,10 +4,12 @@ use crate::items::{Stay, Ways, first_stay};
 use crate::lacks::Lack;
 use crate::singles::{LinedSingle, singles_of, twice};
 use crate::storage::first_otherwise;
-use cob_back_moves::{Direction, Loss, MovesBetween};
+use crate::turned::DeedLines;
+use cob_back_moves::{BothLayouts, Direction, Loss, MovesBetween};
 use cob_copybook_tree::{Item, Kind, Name, Node, Value};
 use cob_layout::Layout;
 use cob_move_data::{Element, Sent, Side};
+use cob_move_deeds::{Flow, ReadyDeeds};
 use cob_report_words::{NamedOccurrence, entry_of};
 use std::alloc::{AllocError, Global};
 
@@ -21,6 +23,8 @@ pub struct LinedMoves<'a> {
 /// Why conversions may lose something.
 #[derive(Drop)]
 pub enum LossReason<'a> {
+    /// There is a loop to the number that this item holds.
+    LoopTo(NamedOccurrence<'a>),
     /// The records of the conversion back aren't those of the one there.
     Records,
     /// The entry redefines this one.
@@ -376,4 +380,35 @@ pub fn told_loss<'a>(
         Loss::Item(number) => told_item(to, &forth, &home, number),
     };
     Ok(told)
+}
+
+/// The number of the bound of the first test.
+fn first_bound(deeds: &ReadyDeeds) -> Option<usize> {
+    for flow in deeds.flows() {
+        match *flow {
+            Flow::Moves(_) => {}
+            Flow::Turns(number) => return Some(deeds.loops().get(number)?.bound),
+            Flow::Until { bound, .. } => return Some(bound),
+        }
+    }
+    None
+}
+
+/// What is to be told of the first test of what a conversion does between these layouts; its loops stand on these lines.
+pub fn told_test<'a>(
+    layouts: BothLayouts<'a>,
+    deeds: &'a ReadyDeeds,
+    lines: &DeedLines,
+    way: Direction,
+) -> Option<ToldLoss<'a>> {
+    let number = first_bound(deeds)?;
+    let item = &deeds.bounds().get(number)?.item;
+    let layout = match item.side() {
+        Side::In => layouts.input,
+        Side::Out => layouts.output,
+    };
+    let entry = item.entry();
+    let named = NamedOccurrence::new(layout.root(), entry.node, entry.subscripts.as_slice());
+    let line = lines.loops.get(number)?.line;
+    Some(told_on(LossReason::LoopTo(named), way, line))
 }

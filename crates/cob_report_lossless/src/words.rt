@@ -203,6 +203,7 @@ impl ItemPair<'_, '_> {
 impl fmt::Display for LossReason<'_> {
     fn fmt<W: fmt::Write>(&self, f: &mut fmt::Formatter<W>) -> fmt::Result {
         match self {
+            LossReason::LoopTo(item) => write!(f, "a loop to {item}"),
             LossReason::Records => write!(f, "the records of back are not those of there"),
             LossReason::Redefines(entry, area) => write!(f, "{entry} redefines {area}"),
             LossReason::Varies(entry) => write!(f, "{entry} is a table that varies"),

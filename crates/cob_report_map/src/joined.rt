@@ -77,3 +77,32 @@ pub(crate) fn marked_ends(
     }
     Ok(marks)
 }
+
+/// Of each single move of statements, of which it is said what it joins and of which statements it is whether a test stands before them, whether one stands
+/// before all that join the same.
+///
+/// # Errors
+///
+/// Where no memory is left.
+pub(crate) fn tested_ends(
+    alloc: Global,
+    statements: &[StatementMoves],
+    ends: &[JoinedEnds],
+    tested: &[bool],
+) -> Result<Vec<bool>, AllocError> {
+    let mut always = IndexMap::new(alloc);
+    let mut rest = ends;
+    for single in Singles::new(statements) {
+        if let Some((own, more)) = rest.split_first() {
+            if !matches!(tested.get(single.statement), Some(true)) {
+                always.insert(*own, true)?;
+            }
+            rest = more;
+        }
+    }
+    let mut marks = Vec::new(alloc);
+    for ends in ends {
+        marks.push(always.get(ends).is_none())?;
+    }
+    Ok(marks)
+}

@@ -27,6 +27,22 @@ pub struct Sides<'a> {
     pub output: Drawn<'a>,
 }
 
+/// The dashes of a line of moves that a test stands before.
+const DASHES: &str = " stroke-dasharray=\"1 3\"";
+
+/// Single moves that join the same.
+#[derive(Clone, Copy)]
+pub struct Group<'a> {
+    /// The first of them.
+    pub first: LinedSingle<'a>,
+    /// How many they are.
+    pub count: usize,
+    /// What they may lose.
+    pub lost: Lost,
+    /// Whether a test stands before all of them.
+    pub tested: bool,
+}
+
 /// An occurrence of an entry of one of the records.
 fn named_in<'a>(sides: &'a Sides<'_>, side: Side, element: Element<'_>) -> NamedOccurrence<'a> {
     let drawn = match side {
@@ -92,18 +108,20 @@ fn write_losses<W: fmt::Write>(f: &mut fmt::Formatter<W>, lost: Lost) -> fmt::Re
 fn write_title<'a, W: fmt::Write>(
     f: &mut fmt::Formatter<W>,
     sides: &Sides<'a>,
-    single: LinedSingle<'a>,
-    count: usize,
-    lost: Lost,
+    group: Group<'a>,
 ) -> fmt::Result {
+    let single = group.first;
     let sent = EscapedSent {
         sides,
         sent: single.sent,
     };
     let receiver = receiver_of(sides, single);
     write!(f, "<title>line {}: {sent} to {receiver}", single.line)?;
-    write_more(f, count)?;
-    write_losses(f, lost)?;
+    write_more(f, group.count)?;
+    if group.tested {
+        write!(f, ", only where something holds")?;
+    }
+    write_losses(f, group.lost)?;
     write!(f, "</title>")
 }
 
@@ -198,13 +216,12 @@ fn write_shape<'a, W: fmt::Write>(
 pub fn write_line<'a, W: fmt::Write>(
     f: &mut fmt::Formatter<W>,
     sides: &Sides<'a>,
-    single: LinedSingle<'a>,
-    count: usize,
-    lost: Lost,
+    group: Group<'a>,
 ) -> fmt::Result {
-    let class = class_of(lost);
-    write!(f, "<g{class}>")?;
-    write_title(f, sides, single, count, lost)?;
-    write_shape(f, sides, single)?;
+    let class = class_of(group.lost);
+    let dashes = if group.tested { DASHES } else { "" };
+    write!(f, "<g{class}{dashes}>")?;
+    write_title(f, sides, group)?;
+    write_shape(f, sides, group.first)?;
     writeln!(f, "</g>")
 }

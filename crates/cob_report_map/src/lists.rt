@@ -1,11 +1,9 @@
 //! The lists below the drawing: the moves, and the bytes that no receiver covers.
 
-use crate::lines::{EscapedSent, Sides, class_of, receiver_of};
-use crate::lost::Lost;
+use crate::lines::{EscapedSent, Group, Sides, class_of, receiver_of};
 use cob_layout::{Kind, Node, Spot};
 use cob_report_boxes::{Drawn, told_length};
 use cob_report_html::bare_length;
-use cob_report_lossless::LinedSingle;
 use cob_report_words::NamedOccurrence;
 use std::fmt;
 
@@ -13,10 +11,14 @@ use std::fmt;
 pub fn write_move<'a, W: fmt::Write>(
     f: &mut fmt::Formatter<W>,
     sides: &Sides<'a>,
-    single: LinedSingle<'a>,
-    count: usize,
-    lost: Lost,
+    group: Group<'a>,
 ) -> fmt::Result {
+    let Group {
+        first: single,
+        count,
+        lost,
+        ..
+    } = group;
     let class = class_of(lost);
     let sent = EscapedSent {
         sides,

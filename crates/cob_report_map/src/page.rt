@@ -4,13 +4,13 @@ ghost use Rattle.std.specs.Prelude.{IfOk};
 ghost use Rattle.cob_report_map.specs.Joined.{ends_in};
 ghost use Rattle.cob_report_html.specs.Ends.{AreCountsAtFirsts};
 
-use crate::joined::{ends_of, marked_ends};
-use crate::lines::{Sides, write_line};
+use crate::joined::{ends_of, marked_ends, tested_ends};
+use crate::lines::{Group, Sides, write_line};
 use crate::lists::{write_move, write_runs};
 use crate::lost::Lost;
 use crate::style::{
     BARE_HEAD, DRAWING_END, HEAD, KEY, LINES_END, LINES_HEAD, LIST_END, MOVES_HEAD, PAGE_END,
-    SIDE_HEAD, STYLE,
+    SIDE_HEAD, STYLE, TESTED_KEY,
 };
 use cob_back_losses::{Losses, Unkept};
 use cob_layout::{Layout, Spot};
@@ -54,6 +54,8 @@ pub struct Mapping<'a> {
     pub statements: &'a [StatementMoves],
     /// The lines of the statements.
     pub lines: &'a [u32],
+    /// Of each statement, whether a test stands before it.
+    pub tested: &'a [bool],
     pub names: TextNames<'a>,
     /// Of each byte of the output record, whether a receiver covers it.
     pub covered: &'a [bool],
@@ -65,13 +67,14 @@ pub struct Mapping<'a> {
     pub converted: Option<Converted<'a>>,
 }
 
-/// The single moves, and of each how many join the same, where it is the first of them, and whether one of those that join the same may lose its
-/// description.
+/// The single moves, and of each how many join the same, where it is the first of them, whether one of those that join the same may lose its
+/// description, and whether a test stands before all of them.
 #[derive(Drop)]
 struct Joins<'a> {
     singles: Vec<LinedSingle<'a>>,
     counts: Vec<Option<usize>>,
     undescribed: Vec<bool>,
+    tested: Vec<bool>,
 }
 
 /// A mapping, which prints as a page.
@@ -133,15 +136,23 @@ fn undescribed_in(alloc: Global, mapping: &Mapping<'_>) -> Result<Vec<bool>, All
     marked_ends(alloc, &ends, mapping.descriptions)
 }
 
+/// Of each single move of a mapping whether a test stands before all of those that join the same.
+fn tested_in(alloc: Global, mapping: &Mapping<'_>) -> Result<Vec<bool>, AllocError> {
+    let ends = ends_of(alloc, mapping.statements)?;
+    tested_ends(alloc, mapping.statements, &ends, mapping.tested)
+}
+
 /// The single moves of a mapping, and how many join the same.
 fn joins_of<'a>(alloc: Global, mapping: &Mapping<'a>) -> Result<Joins<'a>, AllocError> {
     let singles = singles_of(alloc, mapping.statements, mapping.lines)?;
     let undescribed = undescribed_in(alloc, mapping)?;
+    let tested = tested_in(alloc, mapping)?;
     match counts_in(alloc, mapping.statements) {
         Ok(counts) => Ok(Joins {
             singles,
             counts,
             undescribed,
+            tested,
         }),
         Err(refused) => Err(refused),
     }
@@ -180,14 +191,12 @@ fn write_one<'a, W: fmt::Write>(
     f: &mut fmt::Formatter<W>,
     page: &Page<'a>,
     writing: Writing,
-    single: LinedSingle<'a>,
-    count: usize,
-    lost: Lost,
+    group: Group<'a>,
 ) -> fmt::Result {
-    match (writing, single.sent) {
-        (Writing::Row, _) => write_move(f, &page.sides, single, count, lost),
+    match (writing, group.first.sent) {
+        (Writing::Row, _) => write_move(f, &page.sides, group),
         (Writing::EntryLine, Sent::Entry { .. }) | (Writing::ConstantLine, Sent::Constant(_)) => {
-            write_line(f, &page.sides, single, count, lost)
+            write_line(f, &page.sides, group)
         }
         _ => Ok(()),
     }
@@ -201,8 +210,10 @@ fn write_joined<W: fmt::Write>(
 ) -> fmt::Result {
     let joins = &page.joins;
     let losses = page.mapping.losses.iter();
-    let marks = losses.zip(joins.undescribed.iter());
-    for ((single, count), (losses, undescribed)) in joins
+    let marks = losses
+        .zip(joins.undescribed.iter())
+        .zip(joins.tested.iter());
+    for ((single, count), ((losses, undescribed), tested)) in joins
         .singles
         .iter()
         .zip(joins.counts.iter())
@@ -213,7 +224,13 @@ fn write_joined<W: fmt::Write>(
                 losses: *losses,
                 description: *undescribed,
             };
-            write_one(f, page, writing, *single, *count, lost)?;
+            let group = Group {
+                first: *single,
+                count: *count,
+                lost,
+                tested: *tested,
+            };
+            write_one(f, page, writing, group)?;
         }
     }
     Ok(())
@@ -352,6 +369,9 @@ impl fmt::Display for Page<'_> {
         write_names(f, &self.mapping)?;
         write_summary(f, &self.mapping)?;
         f.write_str(KEY)?;
+        if !self.mapping.tested.iter().all(|tested| !*tested) {
+            f.write_str(TESTED_KEY)?;
+        }
         write_drawing(f, self)?;
         write_moves(f, self)?;
         write_bare_bytes(f, self)?;

@@ -99,6 +99,11 @@ pub(crate) const KEY: &str = "<p class=\"k\"><span><i></i>bytes of an item, in r
 <span><i class=\"k4\"></i>a redefinition, joined to what it redefines</span></p>
 ";
 
+/// What dashed lines mean, where there are some.
+pub(crate) const TESTED_KEY: &str =
+    "<p>dotted lines: moves of loops to a count, in as many turns as the count says</p>
+";
+
 /// What stands behind the name of a record in the line above its boxes.
 pub(crate) const SIDE_HEAD: &str =
     "<span class=\"o\">offset</span><span class=\"o\">length</span></div>

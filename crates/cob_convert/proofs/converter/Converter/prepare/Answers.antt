@@ -29,7 +29,7 @@ returns-in_err-conversion-clause-only c = λ m says fits.
     let p = err_from_is_err_and c.from_residual-in_err-conversion.result c.from_residual-in_err-conversion.ensures.1 in
     let input = (c.in_ok-input.ensures.only m.records.input says.input).0 in
     let output = (c.in_ok-output.ensures.only m.records.output says.output).0 in
-    rw (p.1, p.2) (c.in_err-conversion.ensures.only m.moves (paragraph_too c.args.moves.now _ _ _ _ m.moves input output says.paragraph))
+    rw (p.1, p.2) (c.in_err-conversion.ensures.only m.deeds (paragraph_too c.args.moves.now _ _ _ _ m.deeds input output says.paragraph))
 
 pub returns-in_err-check_block-clause-only : goal.returns-in_err-check_block-clause-only
 returns-in_err-check_block-clause-only c = λ m says fits.
@@ -46,7 +46,7 @@ returns-in_err-check_block-clause-refused c =
     let means : Means c.args.in_book.now c.args.out_book.now c.args.moves.now made = record {
       input = subst (IsBookOf In c.args.in_book.now) (sym input) c.in_ok-input.ensures.found;
       output = subst (IsBookOf Out c.args.out_book.now) (sym output) c.in_ok-output.ensures.found;
-      paragraph = paragraph_too c.args.moves.now _ _ _ _ made.moves input output c.in_ok-conversion.ensures.paragraph;
+      paragraph = paragraph_too c.args.moves.now _ _ _ _ made.deeds input output c.in_ok-conversion.ensures.paragraph;
     } in
     rw (p.1, p.2) (block_refused c.args.out_form c.in_err-check_block.field-0.0 c.out_length.result c.args.in_book.now c.args.out_book.now c.args.moves.now made means c.out_length.ensures.value c.in_err-check_block.ensures.refused)
 
@@ -58,6 +58,6 @@ returns-clause-means c =
     let means : Means c.args.in_book.now c.args.out_book.now c.args.moves.now made = record {
       input = subst (IsBookOf In c.args.in_book.now) (sym input) c.in_ok-input.ensures.found;
       output = subst (IsBookOf Out c.args.out_book.now) (sym output) c.in_ok-output.ensures.found;
-      paragraph = paragraph_too c.args.moves.now _ _ _ _ made.moves input output c.in_ok-conversion.ensures.paragraph;
+      paragraph = paragraph_too c.args.moves.now _ _ _ _ made.deeds input output c.in_ok-conversion.ensures.paragraph;
     } in
     subst (Means c.args.in_book.now c.args.out_book.now c.args.moves.now) (sym c.in_ok-of.ensures.made) means

@@ -1,0 +1,89 @@
+use Rattle.std.proofs.Common.{◌∷◌, arith, sym, subst}
+use Rattle.std.proofs.lemmas.Result.{err_from_is_err_and}
+use Rattle.std.proofs.lemmas.Option.{slice_get_within}
+use Rattle.cob_move_data.specs.Moves.{Records}
+use Rattle.cob_move_deeds.specs.Carrying.{LeavesFlows, StopsFlows}
+use Rattle.cob_move_deeds.specs.Flows.{FlowSupport, IsFlow}
+use Rattle.cob_move_deeds.specs.Prepared.{flow_support}
+use Rattle.cob_move_deeds.specs.declared.flow.Flow.{Flow}
+use Rattle.cob_move_deeds.proofs.FlowLemmas.{loop_here, moves_leave, moves_stop, not_past_leaves, past_leaves, test_stops, there, turns_leave, turns_stop}
+use Rattle.cob_report_explain.specs.Flowing.{records_walked}
+use Rattle.cob_report_explain.specs.Walked.{plain_stop}
+use Rattle.cob_report_explain.proofs.flows.next.Goals as goal
+
+pub returns-in_err-walk_between-in-Moves-clause-stops : goal.returns-in_err-walk_between-in-Moves-clause-stops
+returns-in_err-walk_between-in-Moves-clause-stops g c =
+    let r : Records = records_walked c.args.walk.now in
+    let on : FlowSupport = flow_support c.args.walk.now.deeds.now in
+    let more = c.args.more.now in
+    let p = err_from_is_err_and c.from_residual.result c.from_residual.ensures.1 in
+    rw (p.1, p.2) (subst (λ (f : Flow). StopsFlows r on (f ∷ more) c.args.walk.now.input.now c.args.output.now (plain_stop c.in_err-walk_between-in-Moves.field-0.0) c.walk_between.new.output) (sym c.in-Moves.is)
+    (moves_stop r on c.in-Moves.number more c.args.walk.now.input.now c.args.output.now c.walk_between.new.output (plain_stop c.in_err-walk_between-in-Moves.field-0.0) c.in_err-walk_between-in-Moves.ensures.applied))
+
+pub returns-in_ok-walk_between-in-Moves-clause-leaves : goal.returns-in_ok-walk_between-in-Moves-clause-leaves
+returns-in_ok-walk_between-in-Moves-clause-leaves g c =
+    let r : Records = records_walked c.args.walk.now in
+    let on : FlowSupport = flow_support c.args.walk.now.deeds.now in
+    let more = c.args.more.now in
+    subst (λ (f : Flow). LeavesFlows r on (f ∷ more) more c.args.walk.now.input.now c.args.output.now c.walk_between.new.output) (sym c.in-Moves.is)
+    (moves_leave r on c.in-Moves.number more c.args.walk.now.input.now c.args.output.now c.walk_between.new.output c.in_ok-walk_between-in-Moves.ensures.applied)
+
+pub walk_turns-requires-clause-counted : goal.walk_turns-requires-clause-counted
+walk_turns-requires-clause-counted g c =
+    let on : FlowSupport = flow_support c.args.walk.now.deeds.now in
+    let (l, at, is) = subst (λ (f : Flow). IsFlow on f) c.in-Turns.is c.requires.flow in
+    loop_here on c.in-Turns.number l c.index.result.now at is c.index.ensures
+
+pub returns-in_ok-walk_turns-in-Turns-clause-leaves : goal.returns-in_ok-walk_turns-in-Turns-clause-leaves
+returns-in_ok-walk_turns-in-Turns-clause-leaves g c =
+    let r : Records = records_walked c.args.walk.now in
+    let on : FlowSupport = flow_support c.args.walk.now.deeds.now in
+    let more = c.args.more.now in
+    let (l, at, is) = subst (λ (f : Flow). IsFlow on f) c.in-Turns.is c.requires.flow in
+    subst (λ (f : Flow). LeavesFlows r on (f ∷ more) more c.args.walk.now.input.now c.args.output.now c.walk_turns.new.output) (sym c.in-Turns.is)
+    (turns_leave r on c.in-Turns.number more c.index.result.now c.args.walk.now.input.now c.args.output.now c.walk_turns.new.output (there on c.in-Turns.number l c.index.result.now at c.index.ensures) c.in_ok-walk_turns-in-Turns.ensures.carried)
+
+pub returns-in_err-walk_turns-in-Turns-clause-stops : goal.returns-in_err-walk_turns-in-Turns-clause-stops
+returns-in_err-walk_turns-in-Turns-clause-stops g c =
+    let r : Records = records_walked c.args.walk.now in
+    let on : FlowSupport = flow_support c.args.walk.now.deeds.now in
+    let more = c.args.more.now in
+    let (l, at, is) = subst (λ (f : Flow). IsFlow on f) c.in-Turns.is c.requires.flow in
+    let p = err_from_is_err_and c.from_residual-in_err-walk_turns-in-Turns.result c.from_residual-in_err-walk_turns-in-Turns.ensures.1 in
+    rw (p.1, p.2) (subst (λ (f : Flow). StopsFlows r on (f ∷ more) c.args.walk.now.input.now c.args.output.now (plain_stop c.in_err-walk_turns-in-Turns.field-0.0) c.walk_turns.new.output) (sym c.in-Turns.is)
+    (turns_stop r on c.in-Turns.number more c.index.result.now c.args.walk.now.input.now c.args.output.now c.walk_turns.new.output (plain_stop c.in_err-walk_turns-in-Turns.field-0.0) (there on c.in-Turns.number l c.index.result.now at c.index.ensures) c.in_err-walk_turns-in-Turns.ensures.carried))
+
+pub returns-in_err-gave-in-Until-clause-stops : goal.returns-in_err-gave-in-Until-clause-stops
+returns-in_err-gave-in-Until-clause-stops g c =
+    let r : Records = records_walked c.args.walk.now in
+    let on : FlowSupport = flow_support c.args.walk.now.deeds.now in
+    let more = c.args.more.now in
+    let (b, at) = subst (λ (f : Flow). IsFlow on f) c.in-Until.is c.requires.flow in
+    let p = err_from_is_err_and c.from_residual-in_err-gave-in-Until.result c.from_residual-in_err-gave-in-Until.ensures.1 in
+    rw (p.1, p.2) (subst (λ (f : Flow). StopsFlows r on (f ∷ more) c.args.walk.now.input.now c.args.output.now (plain_stop c.in_err-gave-in-Until.field-0.0) c.args.output.now) (sym c.in-Until.is)
+    (test_stops r on c.in-Until.bound c.in-Until.number c.in-Until.skip more b c.args.walk.now.input.now c.args.output.now (plain_stop c.in_err-gave-in-Until.field-0.0) at (c.in_err-gave-in-Until.ensures.says b at)))
+
+pub returns-then-gave-number-clause-leaves : goal.returns-then-gave-number-clause-leaves
+returns-then-gave-number-clause-leaves g c =
+    let r : Records = records_walked c.args.walk.now in
+    let on : FlowSupport = flow_support c.args.walk.now.deeds.now in
+    let more = c.args.more.now in
+    let (b, at) = subst (λ (f : Flow). IsFlow on f) c.in-Until.is c.requires.flow in
+    subst (λ (f : Flow). LeavesFlows r on (f ∷ more) c.behind.result.now c.args.walk.now.input.now c.args.output.now c.args.output.now) (sym c.in-Until.is)
+    (past_leaves r on c.in-Until.bound c.in-Until.number c.in-Until.skip more c.behind.result.now b c.args.walk.now.input.now c.args.output.now c.in_ok-gave-in-Until.gave at (c.in_ok-gave-in-Until.ensures.says b at)
+    (grind (arith, c.if-gave-number.true)) c.behind.ensures.value)
+
+pub returns-else-gave-number-clause-leaves : goal.returns-else-gave-number-clause-leaves
+returns-else-gave-number-clause-leaves g c =
+    let r : Records = records_walked c.args.walk.now in
+    let on : FlowSupport = flow_support c.args.walk.now.deeds.now in
+    let more = c.args.more.now in
+    let (b, at) = subst (λ (f : Flow). IsFlow on f) c.in-Until.is c.requires.flow in
+    subst (λ (f : Flow). LeavesFlows r on (f ∷ more) more c.args.walk.now.input.now c.args.output.now c.args.output.now) (sym c.in-Until.is)
+    (not_past_leaves r on c.in-Until.bound c.in-Until.number c.in-Until.skip more b c.args.walk.now.input.now c.args.output.now c.in_ok-gave-in-Until.gave at (c.in_ok-gave-in-Until.ensures.says b at) (grind (arith, c.if-gave-number.false)))
+
+pub bound_given-gave-requires-clause-within : goal.bound_given-gave-requires-clause-within
+bound_given-gave-requires-clause-within g c =
+    let on : FlowSupport = flow_support c.args.walk.now.deeds.now in
+    let (b, at) = subst (λ (f : Flow). IsFlow on f) c.in-Until.is c.requires.flow in
+    slice_get_within on.bounds c.in-Until.bound b at

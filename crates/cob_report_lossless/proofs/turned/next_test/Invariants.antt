@@ -1,0 +1,8 @@
+use Rattle.std.proofs.Common.{◌≤◌, length}
+use Rattle.cob_report_lossless.proofs.turned.next_test.Given as goal
+
+abbrev pub invariant-loop-flow : goal.invariant-loop-flow
+invariant-loop-flow l = length l.rest ≤ length l.flows
+
+abbrev pub decreases-loop-flow : goal.decreases-loop-flow
+decreases-loop-flow l = length l.rest
