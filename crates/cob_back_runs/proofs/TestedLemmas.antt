@@ -1,8 +1,9 @@
 -- Moves that no test stands before, flow by flow.
-use Rattle.std.proofs.Common.{◌≡◌, ℕ, zero, suc, ◌+◌, ◌≤◌, Bool, true, false, List, [], ◌∷◌, ◌++◌, Option, Some, None, arith, ap, append-nil, append_assoc, drop, length, length-append, length-drop, refl, replicate, subst, sym, take, ◌∙◌}
+use Rattle.std.proofs.Common.{◌≡◌, ℕ, zero, suc, ◌+◌, ◌≤◌, Bool, true, false, List, [], ◌∷◌, ◌++◌, Option, Some, None, arith, ap, append-nil, append_assoc, drop, get_or, length, length-append, length-drop, refl, replicate, subst, sym, take, ◌∙◌}
 use Rattle.std.specs.List.{AllByRecursion, flat_map, slice_get}
 use Rattle.std.proofs.lemmas.Grind.{flat_map-append}
 use Rattle.std.proofs.lemmas.List.{length-map, replicate-append-replicate, take-append-drop}
+use Rattle.std.proofs.lemmas.Option.{slice_get-get_or, slice_get_within}
 use Rattle.cob_codec.specs.declared.reading.Reading.{Reading}
 use Rattle.cob_move_data.specs.declared.operands.StatementMoves.{StatementMoves}
 use Rattle.cob_move_data.specs.declared.operands.StatementMoves.TheVariants.{Single, Pairs}
@@ -264,6 +265,12 @@ moves_of_turns until body by zero i = refl
 moves_of_turns until body by (suc n) i =
     append-nil (body i ++ moves_of_deeds (turns_from until (λ j. Moving (body j) Nothing) by n (i + by)))
     ∙ ap (λ (ms : List Move). body i ++ ms) (moves_of_turns until body by n (i + by))
+
+-- the loop with a number that is there
+pub loop_there : (P : CountedLoop → Type 0) (given own : List CountedLoop) (n : ℕ) (d : CountedLoop) → own ≡ given → (l : CountedLoop) × (slice_get given n ≡ Some l) × P l → slice_get given n ≡ Some (get_or own n d)
+loop_there P given own n d same (l, at, is) =
+    ap (λ (ls : List CountedLoop). slice_get ls n) (sym same)
+    ∙ slice_get-get_or own n d (slice_get_within own n l (ap (λ (ls : List CountedLoop). slice_get ls n) same ∙ at))
 
 -- they lie between the mark before the first and the mark behind the last
 pub loop_moves : (r : Records) (on : FlowSupport) (l : CountedLoop) → AreMarkedPrepared r on.moves → IsLoop on l

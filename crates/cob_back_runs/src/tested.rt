@@ -2,7 +2,6 @@
 
 ghost use Rattle.std.specs.Prelude.{◌≡◌, ◌+◌, ◌++◌, ◌<◌, ◌≤◌, drop, false, get_or, length, map, replicate, take, true, IfOk, OnOk, Some};
 ghost use Rattle.std.specs.List.{AllByRecursion, flat_map};
-ghost use Rattle.cob_back_moves.specs.Brought.{moves_between};
 ghost use Rattle.cob_back_moves.specs.Tested.{layout_records};
 ghost use Rattle.cob_back_runs.specs.Tested.{AreBetween, flow_marks, flow_moves, move_count, moves_counted, moves_told, passed_of, statement_marks, stretches_of, tested_moves, untested_moves};
 ghost use Rattle.cob_move_apply.specs.Marked.{moves_between_marks};
@@ -30,11 +29,7 @@ fn passed_over(flow: &Flow, rest: &[Flow]) -> usize
 }
 
 /// The moves of deeds between the mark with this number and the next one.
-fn stretch<'a>(
-    layouts: &BothLayouts<'a>,
-    deeds: &'a ReadyDeeds,
-    number: usize,
-) -> MovesBetween<'a>
+fn stretch<'a>(layouts: &BothLayouts<'a>, deeds: &'a ReadyDeeds, number: usize) -> MovesBetween<'a>
     requires prepared { (r : Records) × AreDeedsPrepared r deeds.now }
     requires within { number + 1 < length deeds.now.moves.marks.items }
     requires reading { layouts.now.reading ≡ deeds.now.moves.moves.reading }
@@ -77,10 +72,7 @@ fn push_stretch<'a>(
 /// # Errors
 ///
 /// Where no memory is left.
-pub fn untested(
-    alloc: Global,
-    conversion: &Conversion,
-) -> Result<Vec<MovesBetween<'_>>, AllocError>
+pub fn untested(alloc: Global, conversion: &Conversion) -> Result<Vec<MovesBetween<'_>>, AllocError>
     ensures records { IfOk result (λ stretches.
         AllByRecursion (AreBetween conversion.now.records) stretches.items) }
     ensures moves { IfOk result (λ stretches.
