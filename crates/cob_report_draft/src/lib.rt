@@ -25,6 +25,7 @@
 //! (`subscripts_of`); the law `loops_name_elements`. The text is shown by rows, which read it back and ask what its moves may lose.
 #![tactic(auto)]
 
+mod counts;
 mod drafting;
 mod held;
 mod instead;
@@ -39,4 +40,4 @@ mod words;
 mod writing;
 
 pub use drafting::{Draft, Lacking, draft_of};
-pub use loops::loops_name_elements;
+pub use loops::{counted_loops_name_elements, loops_name_elements};
