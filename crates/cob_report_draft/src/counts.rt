@@ -7,7 +7,7 @@ use std::alloc::{AllocError, Global};
 /// What a draft has done with the counts of the output record.
 #[derive(Drop)]
 pub(crate) struct CountProgress {
-    /// The moves to them that stand.
+    /// The moves to them that stand where their tables are filled.
     moved: Vec<CountMove>,
     /// The numbers of those that may be moved.
     filled: Vec<usize>,
@@ -61,21 +61,29 @@ impl CountProgress {
         Ok(())
     }
 
+    /// Notes the move of a pair against which nothing is but that it may be to a count whose table is not filled.
+    pub(crate) fn note_move(&mut self, pair: &PartnerPair<'_, '_>) -> Result<(), AllocError> {
+        if is_count(pair.to) {
+            self.moved.push(CountMove {
+                from: number_of(pair.from),
+                to: number_of(pair.to),
+            })?;
+        }
+        Ok(())
+    }
+
     /// Notes the statement of a pair.
-    pub(crate) fn note(&mut self, pair: &PartnerPair<'_, '_>) -> Result<(), AllocError> {
+    pub(crate) fn note_statement(
+        &mut self,
+        pair: &PartnerPair<'_, '_>,
+    ) -> Result<(), AllocError> {
         let receiving = pair.to;
         for table in receiving.entry.tables.as_slice() {
             if let Some(count) = table.count {
                 self.note_filled(count)?;
             }
         }
-        if is_count(receiving) {
-            self.moved.push(CountMove {
-                from: number_of(pair.from),
-                to: number_of(receiving),
-            })?;
-        }
-        Ok(())
+        self.note_move(pair)
     }
 
     /// The numbers of the counts whose tables have statements.

@@ -109,8 +109,8 @@ fn counters_of(alloc: Global, records: &Records<'_>) -> Result<CounterNames, All
     Ok(counters)
 }
 
-/// What a draft comes to. The move of a count stands only where its table is filled. What fills it is found out where the move stands: so a draft of tables that
-/// vary is made once more, with the moves of those counts alone.
+/// What a draft comes to. The move of a count stands only where a statement fills its table, which is found out where all such moves stand. So a draft of tables
+/// that vary is made once more, where the moves of those counts stand alone.
 fn progress_of<'s, 'a>(
     alloc: Global,
     records: &'s Records<'a>,

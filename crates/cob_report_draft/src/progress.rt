@@ -124,7 +124,7 @@ impl<'s, 'a> DraftProgress<'s, 'a> {
         }
         self.push_piece(pair.to, Saying::Statement(*pair))?;
         self.pairs.push(*pair)?;
-        self.counts.note(pair)?;
+        self.counts.note_statement(pair)?;
         self.note_moves(pair);
         Ok(())
     }
@@ -139,6 +139,9 @@ impl<'s, 'a> DraftProgress<'s, 'a> {
         let counts = self.counts.so_far(records);
         match objection_to(self.alloc, counts, &sending.entry, &receiving.entry)? {
             Some(objection) => {
+                if matches!(objection, Objection::Counts) {
+                    self.counts.note_move(pair)?;
+                }
                 let reason = ObjectionReason {
                     records,
                     pair: *pair,

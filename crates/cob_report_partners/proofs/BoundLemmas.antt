@@ -34,14 +34,15 @@ both_hold false b is = no_both is
 -- a count that was moved from this entry has its number
 moved_agree : (input output : ℕ → ℕ) (sent count : ℕ) (ms : List CountMove) → AreMoved input output ms → is_moved_from ms sent count ≡ true → output count ≡ input sent
 moved_agree input output sent count [] are is = no_both is
-moved_agree input output sent count (m ∷ ms) are is = by (nat_eq m.to count && nat_eq m.from sent) refl is
+moved_agree input output sent count (m ∷ ms) are is = by (moved_agree input output sent count ms are.1) (nat_eq m.to count && nat_eq m.from sent) refl is
   where
     here : (nat_eq m.to count ≡ true) × (nat_eq m.from sent ≡ true) → output count ≡ input sent
     here e = ap output (sym (one_number m.to count e.0)) ∙ are.0 ∙ ap input (one_number m.from sent e.1)
 
-    by : (b : Bool) → (nat_eq m.to count && nat_eq m.from sent) ≡ b → (b || is_moved_from ms sent count) ≡ true → output count ≡ input sent
-    by true e either = here (both_hold (nat_eq m.to count) (nat_eq m.from sent) e)
-    by false e either = moved_agree input output sent count ms are.1 either
+    by : (is_moved_from ms sent count ≡ true → output count ≡ input sent) → (b : Bool) → (nat_eq m.to count && nat_eq m.from sent) ≡ b
+        → (b || is_moved_from ms sent count) ≡ true → output count ≡ input sent
+    by more true e either = here (both_hold (nat_eq m.to count) (nat_eq m.from sent) e)
+    by more false e either = more either
 
 abbrev Stays : (input output : ℕ → ℕ) (sent count : Option ℕ) → Option LoopBound → Type 0
 Stays input output sent count b = IfSome b (λ b. IsWithin (number_at input output b) input sent × IsWithin (number_at input output b) output count)

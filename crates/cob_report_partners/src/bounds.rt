@@ -28,9 +28,9 @@ pub struct CountMove {
 pub struct DraftCounts<'t> {
     /// The numbers of the input record's counts that a statement can name.
     pub named: &'t [usize],
-    /// The moves to counts that stand before.
+    /// The moves to the output record's counts that stand before, where their tables are filled.
     pub moved: &'t [CountMove],
-    /// The numbers of the output record's counts whose tables are filled.
+    /// The numbers of those of these counts whose tables are filled.
     pub filled: &'t [usize],
 }
 
