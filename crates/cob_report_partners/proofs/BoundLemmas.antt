@@ -78,7 +78,7 @@ none_so are none (f ∷ from) [] = refl
 none_so are none (f ∷ from) (t ∷ to) = ap (λ b. b || some_level are from to) (none f t) ∙ none_so are none from to
 
 -- why no loop ends over some two tables is against the move
-pub objects : (counts : DraftCounts) (from to : DraftEntry) (o : Objection) → IsTrue (some_level (is_so counts o) from.tables.items to.tables.items)
+objects : (counts : DraftCounts) (from to : DraftEntry) (o : Objection) → IsTrue (some_level (is_so counts o) from.tables.items to.tables.items)
     → (sent room : ℕ) → Objects counts from sent to room o
 objects counts from to objection.Unnamed is sent room = is
 objects counts from to objection.Unmoved is sent room = is
@@ -88,3 +88,11 @@ objects counts from to objection.Counts is sent room = no_both (sym (none_so (is
 objects counts from to (objection.Refused r) is sent room = no_both (sym (none_so (is_so counts (objection.Refused r)) (λ f t. refl) from.tables.items to.tables.items) ∙ is)
 objects counts from to (objection.Loses l) is sent room = no_both (sym (none_so (is_so counts (objection.Loses l)) (λ f t. refl) from.tables.items to.tables.items) ∙ is)
 objects counts from to (objection.Description u) is sent room = no_both (sym (none_so (is_so counts (objection.Description u)) (λ f t. refl) from.tables.items to.tables.items) ∙ is)
+
+-- and so it is where these are the tables of the two
+pub objects_of : (counts : DraftCounts) (from to : DraftEntry) (o : Objection) (fs ts : List TableSize) → fs ≡ from.tables.items → ts ≡ to.tables.items
+    → IsTrue (some_level (is_so counts o) fs ts) → (sent room : ℕ) → Objects counts from sent to room o
+objects_of counts from to o fs ts sending receiving is =
+    objects counts from to o
+    (subst (λ (l : List TableSize). IsTrue (some_level (is_so counts o) l to.tables.items)) sending
+    (subst (λ (l : List TableSize). IsTrue (some_level (is_so counts o) fs l)) receiving is))

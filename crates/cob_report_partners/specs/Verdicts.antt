@@ -103,7 +103,7 @@ abbrev pub JudgesKinds : DraftEntry → ℕ → DraftEntry → ℕ → Option Ob
 JudgesKinds from sent to room None = IsAllowed (Entry (kind_there from)) (kind_there to) × KeepsAll (kind_there from) sent (kind_there to) room
 JudgesKinds from sent to room (Some o) = (counts : DraftCounts) → Objects counts from sent to room o
 
--- nothing is against it by their bytes, or this is
-abbrev pub JudgesBytes : DraftEntry → DraftEntry → Option Objection → Type 0
-JudgesBytes from to None = KeepsDescription (Element (node from.entry.now)) (node to.entry.now) Nothing
-JudgesBytes from to (Some o) = (counts : DraftCounts) (sent room : ℕ) → Objects counts from sent to room o
+-- nothing is against it by their bytes or as the move of a count, or this is
+abbrev pub JudgesBytes : DraftCounts → DraftEntry → DraftEntry → Option Objection → Type 0
+JudgesBytes counts from to None = KeepsDescription (Element (node from.entry.now)) (node to.entry.now) Nothing × IsFalse (is_open_count counts to)
+JudgesBytes counts from to (Some o) = (sent room : ℕ) → Objects counts from sent to room o

@@ -144,16 +144,18 @@ fn objection_of_kinds(
     }
 }
 
-/// What is against the move of an entry to another one by their bytes.
+/// What is against the move of an entry to another one by their bytes, or since it is that of a count whose table is not filled.
 fn objection_of_bytes(
     alloc: Global,
+    counts: DraftCounts<'_>,
     from: &DraftEntry<'_>,
     to: &DraftEntry<'_>,
 ) -> Result<Option<Objection>, AllocError>
-    ensures { IfOk result (λ objection. JudgesBytes from.now to.now objection) }
+    ensures { IfOk result (λ objection. JudgesBytes counts.entry from.now to.now objection) }
 {
     match description_lost(alloc, &JudgedSent::Entry(from.entry), to.entry)? {
         Some(unkept) => Ok(Some(Objection::Description(unkept))),
+        None if is_open_count(counts, to) => Ok(Some(Objection::Counts)),
         None => Ok(None),
     }
 }
@@ -183,13 +185,7 @@ pub fn objection_to(
     if let Some(objection) = objection_of_kinds(from, sent, to, room) {
         return Ok(Some(objection));
     }
-    if let Some(objection) = objection_of_bytes(alloc, from, to)? {
-        return Ok(Some(objection));
-    }
-    if is_open_count(counts, to) {
-        return Ok(Some(Objection::Counts));
-    }
-    Ok(None)
+    objection_of_bytes(alloc, counts, from, to)
 }
 
 /// How long one element of an entry is at most.
