@@ -2,3 +2,4 @@ pub mod KeepLaw
 pub mod ComeLemmas
 pub mod RunLaw
 pub mod AnswerLemmas
+pub mod TestedLemmas

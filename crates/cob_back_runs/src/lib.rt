@@ -4,8 +4,9 @@
 //!
 //! - [`lossless`] answers of two converters whether they lose nothing (`exactly`, by `AreLossless` of specs/Keeps.antt); where it says yes, the second one
 //!   keeps what the first one converts (`keeps`, by `Keeps`). [`first_loss`] answers the first point in which they may lose something, none exactly where
-//!   they lose nothing; [`carried`] are the moves of a conversion, between the layouts of its records, those of each turn of its loops. [`untested`] are those of
-//!   them that no test stands before.
+//!   they lose nothing; [`carried`] are the moves of a conversion, between the layouts of its records, those of each turn of its loops.
+//! - [`untested`] are those of them that no test stands before, stretch by stretch (`moves`, by `untested_moves` of specs/Tested.antt), and
+//!   [`tested_statements`] says of each statement whether a test stands before its first move (by `tested_moves` and `statement_marks`).
 //! - Conversions that lose nothing keep what the first one converts ([`lossless_keep`]). They lose nothing (`AreLossless` of specs/Keeps.antt) where neither
 //!   has a test, their records agree crosswise, but for the names of the records, stand in one way, without redefinitions and tables that vary, and the moves of the one
 //!   bring back what those of the other take (`IsLossless` of cob_back_moves). They keep it (`Keeps`) where each input record that the first one
@@ -19,7 +20,7 @@
 //!
 //! # Where it is proved
 //!
-//! The clauses `exactly`, `keeps` of `lossless`, those of `first_loss`; the laws `lossless_keep`, `lossless_runs`.
+//! The clauses `exactly`, `keeps` of `lossless`, those of `first_loss`, `untested` and `tested_statements`; the laws `lossless_keep`, `lossless_runs`.
 #![tactic(auto)]
 
 mod converters;

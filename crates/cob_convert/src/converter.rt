@@ -1,4 +1,4 @@
-ghost use Rattle.std.specs.Prelude.{◌≡◌, ◌<◌, ◌≤◌, List, IfOk, IfErr, OnOk, min, vec_len};
+ghost use Rattle.std.specs.Prelude.{◌≡◌, ◌<◌, ◌≤◌, IfOk, IfErr, OnOk, min, vec_len};
 ghost use Rattle.cob_move_apply.specs.Prepared.{most_moves_told, single_moves};
 ghost use Rattle.cob_records.specs.Device.{counted, Told};
 ghost use Rattle.cob_move.specs.Paragraphs.{IsParagraphOf};

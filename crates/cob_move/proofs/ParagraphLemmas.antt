@@ -52,14 +52,14 @@ source_refused source.TooLong line text input output is = inl is
 source_refused source.UnknownIndicator line text input output is = inl is
 
 -- so does what refuses the words behind its heading
-pub body_refused : (text : List ℕ) (words body : List Lexeme) (e : Entries) (f : MoveFault) → AreParagraphWordsOf text words → IsBodyIn words body → DeedsRefused f e body → AllMayBeNamed e
-    → IsRefusalOf f text e.input.now e.output.now
-body_refused text words body e f are is refused named = inr (record {
+pub body_refused : (text : List ℕ) (words body : List Lexeme) (all : List Candidate) (input output : Forest Resolved) (f : MoveFault) → AreParagraphWordsOf text words → IsBodyIn words body
+    → IsBodyRefusal f all input output body → all ≡ all_entries input output → IsRefusalOf f text input output
+body_refused text words body all input output f are is refused named = inr (record {
   words = words;
   body = body;
   are_words = are;
   is_body = is;
-  refused = subst (λ (all : List Candidate). IsBodyRefusal f all e.input.now e.output.now body) named refused;
+  refused = subst (λ (every : List Candidate). IsBodyRefusal f every input output body) named refused;
 })
 
 -- ---- what a text does

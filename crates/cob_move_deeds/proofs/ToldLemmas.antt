@@ -1,14 +1,14 @@
 -- Whether there is a test.
-use Rattle.std.proofs.Common.{◌≡◌, ℕ, zero, suc, ◌+◌, ◌≤◌, List, [], ◌∷◌, Option, Some, arith, drop, length, subst, take, tt, absurd}
+use Rattle.std.proofs.Common.{◌≡◌, ℕ, zero, suc, ◌+◌, ◌≤◌, List, [], ◌∷◌, Option, Some, arith, drop, length, subst, take}
 use Rattle.std.specs.List.{AllByRecursion, slice_get}
 use Rattle.cob_move_data.specs.Moves.{Records}
 use Rattle.cob_move_deeds.specs.declared.flow.Bound.{Bound}
 use Rattle.cob_move_deeds.specs.declared.flow.CountedLoop.{CountedLoop}
 use Rattle.cob_move_deeds.specs.declared.flow.Flow.{Flow}
 use Rattle.cob_move_deeds.specs.declared.flow.Flow.TheVariants as flow
-use Rattle.cob_move_deeds.specs.Deeds.{Deeds, IsStraight, both_deeds}
-use Rattle.cob_move_deeds.specs.Flows.{FlowSupport, IsFlow, deeds_from, loop_done, turns_to, unless_past}
-use Rattle.cob_move_deeds.specs.Tests.{Past}
+use Rattle.cob_move_deeds.specs.Deeds.{Deeds, IsStraight, Moving, Nothing, both_deeds}
+use Rattle.cob_move_deeds.specs.Flows.{FlowSupport, IsFlow, deeds_from, loop_done, moves_of_turn, turns_to, unless_past}
+use Rattle.cob_move_deeds.specs.Tests.{Past, past_bound}
 use Rattle.cob_move_deeds.specs.Turns.{turns_from}
 use Rattle.cob_move_deeds.specs.Told.{MovesAlone}
 
@@ -19,7 +19,7 @@ turns_tested until body by (suc n) i d s = s
 
 loop_tested : (r : Records) (on : FlowSupport) (l : CountedLoop) (b : Bound) (d : Deeds Past) → slice_get on.bounds l.bound ≡ Some b → IsStraight (both_deeds (loop_done r on (Some l)) d) → ⊥
 loop_tested r on l b d at s =
-    turns_tested _ _ l.by l.turns l.from d (subst (λ (o : Option Bound). IsStraight (both_deeds (turns_to r on.moves l o) d)) at s)
+    turns_tested (λ number. past_bound r b number) (λ number. Moving (moves_of_turn r on.moves l number) Nothing) l.by l.turns l.from d (subst (λ (o : Option Bound). IsStraight (both_deeds (turns_to r on.moves l o) d)) at s)
 
 -- flows that move alone come to no test
 pub move_straight : (r : Records) (on : FlowSupport) (n : ℕ) (fs : List Flow) → AllByRecursion MovesAlone fs → IsStraight (deeds_from r on n fs)

@@ -148,7 +148,7 @@ pub(crate) fn print_conversion<R: AllocGlobal + Files + Input + Print>(
 {
     let shown = record_shown(rt, conversion, line)?;
     let moves = carried(conversion);
-    let tested = tested_statements(rt.alloc(), conversion)?;
+    let tested = tested_statements(rt.alloc(), conversion, moves.statements)?;
     let marks = marks_of(rt.alloc(), &moves, lines, tested, shown)?;
     print_marked(rt, line, &moves, &marks)
 }

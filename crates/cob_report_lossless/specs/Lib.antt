@@ -1,2 +1,3 @@
 pub mod Lacks
 pub mod Lines
+pub mod Turned

@@ -10,12 +10,14 @@
 //!
 //! What is promised: of two items, what the second one lacks ([`lack_of`]; `Lacks` of specs/Lacks.antt), nothing exactly where it loses nothing of the
 //! first (`LosesNothing` of `cob_back_moves`); and the lines of the statements that a paragraph comes to, those of a loop once for each of its turns
-//! ([`lines_of`]; `AreLinesOf` of specs/Lines.antt), which are answered, memory aside, of each text that has such lines. Which words tell
-//! a loss is shown by `cob_test_jobs`.
+//! ([`lines_of`]; `AreLinesOf` of specs/Lines.antt), which are answered, memory aside, of each text that has such lines. Of a paragraph with loops to items
+//! the lines are told beside the flows that it comes to: as many turns of such a loop as have a test that passes over them, and its own line and counter
+//! ([`lines_of_deeds`]; `AreDeedLinesOf` of specs/Turned.antt). Which words tell a loss is shown by `cob_test_jobs`.
 //!
 //! # Where it is proved
 //!
-//! The clauses `none`, `lost`, `lacks` of `lack_of`, and `found`, `only` of `lines_of`: a text that has lines is refused for want of memory alone; which words tell a loss is shown by rows.
+//! The clauses `none`, `lost`, `lacks` of `lack_of`, `found`, `only` of `lines_of`, and `straight`, `tested` of `lines_of_deeds`: a text that has lines is
+//! refused by `lines_of` for want of memory alone; which words tell a loss is shown by rows.
 #![tactic(auto)]
 
 mod items;

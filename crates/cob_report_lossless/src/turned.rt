@@ -1,10 +1,15 @@
 //! The lines of what a paragraph comes to: of the statements, those of a loop once for each of its turns, and of what loops end by.
 
-ghost use Rattle.std.specs.Prelude.{◌<◌, ◌≤◌, length, IfOk, IfSome};
+ghost use Rattle.std.specs.Prelude.{◌≡◌, ◌<◌, ◌≤◌, ◌+◌, ◌∷◌, ◌++◌, ℕ, List, [], encode_utf8_all, false, length, map, replicate, slice_set, string_bytes, IfNone, IfOk, IfSome, None, OnOk, Some};
+ghost use Rattle.cob_move_data.specs.Moves.{Records};
 ghost use Rattle.cob_move_deeds.specs.Deeds.{IsStraight};
 ghost use Rattle.cob_move_deeds.specs.Prepared.{AreDeedsPrepared, deeds_of};
-ghost use Rattle.cob_move_data.specs.Moves.{Records};
-ghost use Rattle.cob_report_lossless.specs.Lines.{AreLinesOf};
+ghost use Rattle.cob_move_loops.specs.Passages.{IsPassage, Passage};
+ghost use Rattle.cob_move_loops.specs.Reading.{counters, item_front, written_loop, Within};
+ghost use Rattle.cob_move_loops.specs.Turns.{counter_at, in_turn};
+ghost use Rattle.cob_report_lossless.specs.Lines.{AreLinesOf, AreStatementLines};
+ghost use Rattle.cob_report_lossless.specs.Turned.{first_test, found_test, told_lines, told_loop, told_of, unknown_loop, with_loop, with_statements, AreDeedLinesOf, TellFront, TellPassage, TellTested, TellTurned};
+ghost use Rattle.cob_source.specs.Tokens.{lexemes};
 
 use crate::lines::{body_of, lines_of, statement_lines};
 use cob_move_deeds::{Flow, ReadyDeeds};
@@ -31,18 +36,79 @@ pub struct DeedLines {
     pub loops: Vec<LoopLine>,
 }
 
-/// The test in front of flows, or behind the moves in front of them: the number of its bound, how many flows it may pass over, and the flows behind it.
-fn next_test(flows: &[Flow]) -> Option<(usize, usize, &[Flow])>
-    ensures { IfSome result (λ test. length test.2.now < length flows.now) }
+/// A test among flows.
+#[derive(Clone, Copy)]
+struct NextTest<'a> {
+    /// The number of its bound.
+    bound: usize,
+    /// How many flows it may pass over.
+    skip: usize,
+    /// The flows behind it.
+    behind: &'a [Flow],
+}
+
+/// The test that a flow is, if it is one.
+fn test_at<'a>(flow: &Flow, more: &'a [Flow]) -> Option<NextTest<'a>>
+    ensures found { IfSome result
+        (λ test. first_test (flow.now ∷ more.now) ≡ Some (found_test test)) }
+    ensures none { IfNone result (first_test (flow.now ∷ more.now) ≡ first_test more.now) }
+    ensures fewer { IfSome result (λ test. length test.behind.now ≤ length more.now) }
+{
+    match *flow {
+        Flow::Moves(_) => None,
+        Flow::Turns(_) => None,
+        Flow::Until { bound, skip, .. } => Some(NextTest {
+            bound,
+            skip,
+            behind: more,
+        }),
+    }
+}
+
+/// The first test of flows.
+fn next_test(flows: &[Flow]) -> Option<NextTest<'_>>
+    ensures found { IfSome result (λ test. first_test flows.now ≡ Some (found_test test)) }
+    ensures none { IfNone result (first_test flows.now ≡ None) }
+    ensures fewer { IfSome result (λ test. length test.behind.now < length flows.now) }
 {
     let mut rest = flows;
     while let Some((flow, more)) = rest.split_first() {
-        if let Flow::Until { bound, skip, .. } = *flow {
-            return Some((bound, skip, more));
+        if let Some(test) = test_at(flow, more) {
+            return Some(test);
         }
         rest = more;
     }
     None
+}
+
+/// The name of a counter as a text.
+fn counter_text(alloc: Global, name: &[u8]) -> Result<String, AllocError>
+    ensures { IfOk result (λ text. string_bytes text ≡ encode_utf8_all name.now) }
+{
+    let mut text = String::new(alloc);
+    for byte in name {
+        text.push(char::from(*byte))?;
+    }
+    Ok(text)
+}
+
+/// The line of a loop, and the name of its counter.
+fn loop_line(alloc: Global, head: &Loop<'_>) -> Result<LoopLine, AllocError>
+    ensures { IfOk result (λ line. told_loop line ≡ told_of (written_loop head.now)) }
+{
+    Ok(LoopLine {
+        line: head.line,
+        counter: counter_text(alloc, head.counter)?,
+    })
+}
+
+/// Puts what is known of a loop in the place of what was, where there is one.
+fn put(bound: usize, one: LoopLine, loops: &mut [LoopLine])
+    ensures { loops.new ≡ slice_set loops.old bound one }
+{
+    if bound < loops.len() {
+        loops[bound] = one;
+    }
 }
 
 /// Notes of the bound with this number that it is this loop's.
@@ -51,18 +117,40 @@ fn note(
     bound: usize,
     head: &Loop<'_>,
     lines: &mut DeedLines,
-) -> Result<(), AllocError> {
-    if let Some(one) = lines.loops.get_mut(bound) {
-        let mut counter = String::new(alloc);
-        for byte in head.counter {
-            counter.push(char::from(*byte))?;
-        }
-        *one = LoopLine {
-            line: head.line,
-            counter,
-        };
-    }
+) -> Result<(), AllocError>
+    ensures { OnOk result
+        (told_lines lines.new ≡ with_loop bound (written_loop head.now) (told_lines lines.old)) }
+{
+    let one = loop_line(alloc, head)?;
+    put(bound, one, lines.loops.as_mut_slice());
     Ok(())
+}
+
+/// Adds the lines of the statements that words are in a turn.
+fn add_statements(
+    alloc: Global,
+    words: &[Token],
+    turn: &[Counter<'_>],
+    lines: &mut DeedLines,
+) -> Result<(), MoveFault>
+    ensures { OnOk result ((own : List ℕ)
+        × AreStatementLines (in_turn (counters turn.now) false 0 (lexemes words.now)) own
+        × (told_lines lines.new ≡ with_statements own (told_lines lines.old))) }
+{
+    let words = in_turn(alloc, words, turn)?;
+    let mut own = statement_lines(alloc, words.as_slice())?;
+    lines.statements.append(&mut own)?;
+    Ok(())
+}
+
+/// The number of a counter in the next turn. No number of a loop comes near 32 bits.
+fn next_number(number: u32, by: u32) -> Result<u32, AllocError>
+    ensures { IfOk result (λ next. next ≡ number + by) }
+{
+    match number.checked_add(by) {
+        Some(next) => Ok(next),
+        None => Err(AllocError),
+    }
 }
 
 /// Reads the turn of a loop in which its counter has this number.
@@ -76,7 +164,10 @@ fn read_turn<'a>(
     flows: &'a [Flow],
     lines: &mut DeedLines,
 ) -> Result<&'a [Flow], MoveFault>
-    ensures { IfOk result (λ left. length left.now ≤ length flows.now) }
+    ensures fewer { IfOk result (λ left. length left.now ≤ length flows.now) }
+    ensures told { IfOk result (λ left. (p : Passage) → IsPassage p (lexemes body.now)
+        → TellPassage (counters turn.now ++ counter_at (written_loop head.now) number ∷ []) p
+        flows.now (told_lines lines.old) left.now (told_lines lines.new)) }
 {
     let counter = Counter {
         name: head.counter,
@@ -96,16 +187,21 @@ fn read_turns<'a>(
     flows: &'a [Flow],
     lines: &mut DeedLines,
 ) -> Result<&'a [Flow], MoveFault>
-    ensures { IfOk result (λ left. length left.now ≤ length flows.now) }
+    ensures fewer { IfOk result (λ left. length left.now ≤ length flows.now) }
+    ensures told { IfOk result (λ left. (p : Passage) → IsPassage p (lexemes body.now)
+        → TellTurned
+        (λ i. TellPassage (counters turn.now ++ counter_at (written_loop head.now) i ∷ []) p)
+        (written_loop head.now) p flows.now (told_lines lines.old) left.now
+        (told_lines lines.new)) }
 {
     let turns = turns_to_write(head, body);
     let mut rest = flows;
-    let mut done: u64 = 0;
+    let mut left = turns;
     let mut number = head.from;
-    while done < turns {
+    while left > 0 {
         rest = read_turn(alloc, head, number, body, turn, rest, lines)?;
-        done += 1;
-        number = number.saturating_add(head.by);
+        number = next_number(number, head.by)?;
+        left -= 1;
     }
     Ok(rest)
 }
@@ -120,18 +216,22 @@ fn read_tested<'a>(
     flows: &'a [Flow],
     lines: &mut DeedLines,
 ) -> Result<&'a [Flow], MoveFault>
-    ensures { IfOk result (λ left. length left.now ≤ length flows.now) }
+    ensures fewer { IfOk result (λ left. length left.now ≤ length flows.now) }
+    ensures told { IfOk result (λ left. (p : Passage) → IsPassage p (lexemes body.now)
+        → TellTested
+        (λ i. TellPassage (counters turn.now ++ counter_at (written_loop head.now) i ∷ []) p)
+        (written_loop head.now) flows.now (told_lines lines.old) left.now
+        (told_lines lines.new)) }
 {
     let mut rest = flows;
     let mut number = head.from;
-    while let Some((bound, skip, behind)) = next_test(rest) {
-        rest = behind;
-        if skip == 0 {
-            note(alloc, bound, head, lines)?;
-            break;
+    while let Some(test) = next_test(rest) {
+        if test.skip == 0 {
+            note(alloc, test.bound, head, lines)?;
+            return Ok(test.behind);
         }
-        rest = read_turn(alloc, head, number, body, turn, rest, lines)?;
-        number = number.saturating_add(head.by);
+        rest = read_turn(alloc, head, number, body, turn, test.behind, lines)?;
+        number = next_number(number, head.by)?;
     }
     Ok(rest)
 }
@@ -145,13 +245,14 @@ fn read_item<'a>(
     flows: &'a [Flow],
     lines: &mut DeedLines,
 ) -> Result<&'a [Flow], MoveFault>
-    ensures { IfOk result (λ left. length left.now ≤ length flows.now) }
+    ensures fewer { IfOk result (λ left. length left.now ≤ length flows.now) }
+    ensures told { IfOk result (λ left. (p : Passage) → Within (item_front item.now) p
+        → TellFront (counters turn.now) (item_front item.now) p flows.now (told_lines lines.old)
+        left.now (told_lines lines.new)) }
 {
     match item {
         PassageItem::Run(words) => {
-            let words = in_turn(alloc, words, turn)?;
-            let mut own = statement_lines(alloc, words.as_slice())?;
-            lines.statements.append(&mut own)?;
+            add_statements(alloc, words, turn, lines)?;
             Ok(flows)
         }
         PassageItem::Pause => Ok(flows),
@@ -171,7 +272,10 @@ fn read_passage<'a>(
     flows: &'a [Flow],
     lines: &mut DeedLines,
 ) -> Result<&'a [Flow], MoveFault>
-    ensures { IfOk result (λ left. length left.now ≤ length flows.now) }
+    ensures fewer { IfOk result (λ left. length left.now ≤ length flows.now) }
+    ensures told { IfOk result (λ left. (p : Passage) → IsPassage p (lexemes words.now)
+        → TellPassage (counters turn.now) p flows.now (told_lines lines.old) left.now
+        (told_lines lines.new)) }
 {
     let mut rest = flows;
     let mut left = words;
@@ -182,10 +286,12 @@ fn read_passage<'a>(
     Ok(rest)
 }
 
-/// A line for each bound, not yet known.
-fn unknown_loops(alloc: Global, count: usize) -> Result<Vec<LoopLine>, AllocError> {
+/// A loop for each bound, not yet known.
+fn unknown_loops(alloc: Global, count: usize) -> Result<Vec<LoopLine>, AllocError>
+    ensures { IfOk result (λ loops. map told_loop loops.items ≡ replicate count unknown_loop) }
+{
     let mut loops = Vec::with_capacity(alloc, count)?;
-    for _ in 0..count {
+    for i in 0..count {
         loops.push(LoopLine {
             line: 0,
             counter: String::new(alloc),
@@ -195,14 +301,17 @@ fn unknown_loops(alloc: Global, count: usize) -> Result<Vec<LoopLine>, AllocErro
 }
 
 /// The lines of a paragraph that comes to these deeds and has a test among them.
-fn tested_lines(alloc: Global, text: &[u8], deeds: &ReadyDeeds) -> Result<DeedLines, MoveFault> {
+fn tested_lines(alloc: Global, text: &[u8], deeds: &ReadyDeeds) -> Result<DeedLines, MoveFault>
+    ensures { IfOk result (λ lines. AreDeedLinesOf text.now (length deeds.now.bounds.items)
+        deeds.now.flows.items (told_lines lines)) }
+{
     let words = paragraph_tokens(alloc, text)?;
     let body = body_of(words.as_slice())?;
     let mut lines = DeedLines {
         statements: Vec::new(alloc),
         loops: unknown_loops(alloc, deeds.bounds().len())?,
     };
-    let _ = read_passage(alloc, body, &[], deeds.flows(), &mut lines)?;
+    read_passage(alloc, body, &[], deeds.flows(), &mut lines)?;
     Ok(lines)
 }
 
@@ -220,6 +329,10 @@ pub fn lines_of_deeds(
     // Where there is no test they are the text's lines.
     ensures straight { (r : Records) → IsStraight (deeds_of r deeds.now)
         → IfOk result (λ lines. AreLinesOf text.now lines.statements.items) }
+    // Where there is one, what is told of the text's passage beside what it comes to.
+    ensures tested { (r : Records) → (IsStraight (deeds_of r deeds.now) → ⊥)
+        → IfOk result (λ lines. AreDeedLinesOf text.now (length deeds.now.bounds.items)
+        deeds.now.flows.items (told_lines lines)) }
 {
     if deeds.is_straight() {
         let statements = lines_of(alloc, text)?;

@@ -7,12 +7,12 @@ use Rattle.cob_back_runs.proofs.converters.lossless.Goals as goal
 
 pub returns-clause-exactly : goal.returns-clause-exactly
 returns-clause-exactly c =
-    subst (λ (x : Conversion). Decides c.lose_nothing.result (AreLossless x c.args.back.now)) c.conversion.ensures
-    (subst (λ (x : Conversion). Decides c.lose_nothing.result (AreLossless c.conversion.result.now x)) c.conversion-2.ensures c.lose_nothing.ensures)
+    subst (λ (x : Conversion). Decides c.lose_nothing.result (AreLossless x c.args.back.now)) c.conversion-first.ensures
+    (subst (λ (x : Conversion). Decides c.lose_nothing.result (AreLossless c.conversion-first.result.now x)) c.conversion-second.ensures c.lose_nothing.ensures)
 
 pub returns-clause-keeps : goal.returns-clause-keeps
 returns-clause-keeps c =
     kept c.lossless_keep.ensures c.lose_nothing.result c.args.there.now c.args.back.now
-    (rw c.conversion.ensures at c.carried.ensures.prepared) (rw c.conversion-2.ensures at c.carried-2.ensures.prepared)
-    (subst (λ (x : Conversion). Decides c.lose_nothing.result (AreLossless x c.args.back.now)) c.conversion.ensures
-    (subst (λ (x : Conversion). Decides c.lose_nothing.result (AreLossless c.conversion.result.now x)) c.conversion-2.ensures c.lose_nothing.ensures))
+    (rw c.conversion-first.ensures at c.carried.ensures.prepared) (rw c.conversion-second.ensures at c.carried-2.ensures.prepared)
+    (subst (λ (x : Conversion). Decides c.lose_nothing.result (AreLossless x c.args.back.now)) c.conversion-first.ensures
+    (subst (λ (x : Conversion). Decides c.lose_nothing.result (AreLossless c.conversion-first.result.now x)) c.conversion-second.ensures c.lose_nothing.ensures))

@@ -18,4 +18,4 @@ pub returns-in_err-deeds-clause-fault : goal.returns-in_err-deeds-clause-fault
 returns-in_err-deeds-clause-fault c =
     let p = err_from_is_err_and c.from_residual-in_err-deeds.result c.from_residual-in_err-deeds.ensures.1 in
     let are : AreParagraphWordsOf c.args.text.now (lexemes c.as_slice.result.now) = rw c.as_slice.ensures.value c.in_ok-words.ensures.words in
-    rw (p.1, p.2) (body_refused c.args.text.now (lexemes c.as_slice.result.now) (lexemes c.body_of-body.result.now) _ c.in_err-deeds.field-0.0 are c.body_of-body.ensures c.in_err-deeds.ensures.fault c.in_ok-names.ensures)
+    rw (p.1, p.2) (body_refused c.args.text.now (lexemes c.as_slice.result.now) (lexemes c.body_of-body.result.now) _ c.args.input.now c.args.output.now c.in_err-deeds.field-0.0 are c.body_of-body.ensures c.in_err-deeds.ensures.fault c.in_ok-names.ensures)

@@ -1,12 +1,9 @@
-use Rattle.std.proofs.Common.{arith, subst, sym}
+use Rattle.std.proofs.Common.{sym}
 use Rattle.cob_move_apply.specs.Marked.{moves_between_marks}
 use Rattle.cob_report_explain.specs.Each.{each_ending, plain_ending}
 use Rattle.cob_report_explain.specs.Flowing.{records_walked}
 use Rattle.cob_report_explain.proofs.FlowingLemmas.{applied_some, some_are_moves}
 use Rattle.cob_report_explain.proofs.flows.walk_between.Goals as goal
-
-pub statements_before-first-requires-clause-within : goal.statements_before-first-requires-clause-within
-statements_before-first-requires-clause-within g c = omega (arith, c.requires.rises, c.requires.within)
 
 pub statements_between-statements-requires-clause-prepared : goal.statements_between-statements-requires-clause-prepared
 statements_between-statements-requires-clause-prepared g c = (records_walked c.args.walk.now, c.requires.walk.prepared)

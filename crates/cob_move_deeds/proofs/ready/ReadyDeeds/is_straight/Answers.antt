@@ -5,7 +5,7 @@ use Rattle.cob_move_deeds.specs.Prepared.{flow_support}
 use Rattle.cob_move_deeds.specs.Told.{MovesAlone}
 use Rattle.cob_move_deeds.specs.declared.flow.Flow.{Flow}
 use Rattle.cob_move_deeds.proofs.ToldLemmas.{move_straight, straight_move}
-use Rattle.cob_move_deeds.proofs.told.ReadyDeeds.is_straight.Goals as goal
+use Rattle.cob_move_deeds.proofs.ready.ReadyDeeds.is_straight.Goals as goal
 
 pub returns : goal.returns
 returns c = λ r.

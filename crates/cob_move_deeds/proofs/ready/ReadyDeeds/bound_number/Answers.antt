@@ -6,7 +6,7 @@ use Rattle.cob_move_data.specs.Moves.{Records}
 use Rattle.cob_move_deeds.specs.Tests.{BoundSays, past_bound}
 use Rattle.cob_move_deeds.specs.declared.flow.Bound.{Bound}
 use Rattle.cob_move_deeds.proofs.FlowLemmas.{all_at}
-use Rattle.cob_move_deeds.proofs.told.ReadyDeeds.bound_number.Goals as goal
+use Rattle.cob_move_deeds.proofs.ready.ReadyDeeds.bound_number.Goals as goal
 
 pub number_of-requires-clause-bound : goal.number_of-requires-clause-bound
 number_of-requires-clause-bound c =

@@ -5,7 +5,7 @@ use Rattle.cob_move_apply.specs.Steps.{support_of}
 use Rattle.cob_move_apply.specs.declared.marking.Mark.{Mark}
 use Rattle.cob_move_apply.proofs.BetweenLemmas.{same_between, statement_within}
 use Rattle.cob_move_apply.proofs.MarkLemmas.{mark_read}
-use Rattle.cob_move_apply.proofs.between.MarkedMoves.statements_between.Goals as goal
+use Rattle.cob_move_apply.proofs.marked.MarkedMoves.statements_between.Goals as goal
 
 pub statements_from-requires-clause-rises : goal.statements_from-requires-clause-rises
 statements_from-requires-clause-rises c =

@@ -1,0 +1,21 @@
+use Rattle.std.proofs.Common.{◌∙◌, List, length, map, subst}
+use Rattle.cob_move_data.specs.Moves.{Move, Records}
+use Rattle.cob_move_deeds.specs.declared.flow.Flow.{Flow}
+use Rattle.cob_move_deeds.specs.Flows.{FlowSupport}
+use Rattle.cob_move_deeds.specs.Prepared.{flow_support}
+use Rattle.cob_back_runs.specs.Tested.{moves_told}
+use Rattle.cob_back_runs.proofs.TestedLemmas.{LeftOf, untested_behind, untested_from}
+use Rattle.cob_back_runs.proofs.tested.untested.Goals as goal
+
+pub loop-flow-preserved : goal.loop-flow-preserved
+loop-flow-preserved c =
+    let r : Records = record { input = c.layouts.result.0.now; output = c.layouts.result.1.now } in
+    let fs : List Flow = c.deeds-deeds.result.now.flows.items in
+    let on : FlowSupport = flow_support c.deeds-deeds.result.now in
+    let so : List (List Move) = map moves_told c.loop-flow.stretches.items in
+    let whole : List (List Move) = untested_from r on (length fs) fs in record {
+      left = untested_behind r on c.in-Some.flow.now c.in-Some.more.now c.split_at.result.1.now so (map moves_told c.push_stretch.new.stretches.items) whole
+          (subst (λ (gs : List Flow). LeftOf (List Move) on (untested_from r on) gs so whole) c.in-Some.ensures.cases.0 c.loop-flow.invariant.left)
+          c.in_ok-push_stretch.ensures.moves (c.split_at.ensures.back ∙ c.passed_over.ensures.behind);
+      records = c.in_ok-push_stretch.ensures.records;
+    }

@@ -1,0 +1,131 @@
+-- The lines of what a paragraph comes to, where it has loops to items: they are told passage by passage, beside the flows that it comes to.
+use Rattle.std.specs.Prelude.{◌≡◌, ◌⊎◌, ℕ, zero, suc, ◌+◌, ◌<◌, false, encode_utf8_all, List, [], ◌∷◌, ◌++◌, length, map, replicate, slice_set, string_bytes, Option, Some, None}
+use Rattle.cob_source.specs.Tokens.{Lexeme}
+use Rattle.cob_source.specs.Words.{AreParagraphWordsOf}
+use Rattle.cob_move_deeds.specs.declared.flow.Flow.{Flow}
+use Rattle.cob_move_deeds.specs.declared.flow.Flow.TheVariants as flow
+use Rattle.cob_move_loops.specs.Few.{statements_of}
+use Rattle.cob_move_loops.specs.Passages.{ALoop, APause, ARun, Looped, Moves, NoMore, Passage, PassageFront, Pause, ToItem, ToNumber, WrittenBound, WrittenLoop}
+use Rattle.cob_move_loops.specs.Turns.{Counted, counter_at, in_turn, turns_of}
+use Rattle.cob_report_lossless.specs.Lines.{AreStatementLines, HasBody}
+use Rattle.cob_report_lossless.specs.declared.turned.DeedLines.{DeedLines}
+use Rattle.cob_report_lossless.specs.declared.turned.LoopLine.{LoopLine}
+use Rattle.cob_report_lossless.specs.declared.turned.NextTest.{NextTest}
+
+-- ---- what is told
+
+-- the line of a loop, and the name of its counter as a text
+pub record ToldLoop : Type 0 where
+  pub line : ℕ
+  pub counter : List ℕ
+
+-- the lines of statements, and for each bound the loop that ends by it
+pub record ToldLines : Type 0 where
+  pub statements : List ℕ
+  pub loops : List ToldLoop
+
+-- without where they lie in memory
+abbrev pub told_loop : LoopLine → ToldLoop
+told_loop l = record { line = l.line; counter = string_bytes l.counter }
+
+abbrev pub told_lines : DeedLines → ToldLines
+told_lines d = record { statements = d.statements.items; loops = map told_loop d.loops.items }
+
+-- this loop
+abbrev pub told_of : WrittenLoop → ToldLoop
+told_of l = record { line = l.line; counter = encode_utf8_all l.counter }
+
+-- a loop of which nothing is known yet
+abbrev pub unknown_loop : ToldLoop
+unknown_loop = record { line = 0; counter = [] }
+
+-- nothing is known yet of so many bounds
+abbrev pub unknown_lines : ℕ → ToldLines
+unknown_lines bounds = record { statements = []; loops = replicate bounds unknown_loop }
+
+-- the lines of statements stand behind those so far
+abbrev pub with_statements : List ℕ → ToldLines → ToldLines
+with_statements own lines = record { statements = lines.statements ++ own; loops = lines.loops }
+
+-- the loop that ends by the bound with this number is known
+abbrev pub with_loop : ℕ → WrittenLoop → ToldLines → ToldLines
+with_loop bound l lines = record { statements = lines.statements; loops = slice_set lines.loops bound (told_of l) }
+
+-- ---- how
+
+-- from flows and what is told so far, the flows that are left and what is told then
+abbrev pub Telling : Type 1
+Telling = List Flow → ToldLines → List Flow → ToldLines → Type 0
+
+-- a test: the number of its bound, how many flows it may pass over, and the flows behind it
+pub record FoundTest : Type 0 where
+  pub bound : ℕ
+  pub skip : ℕ
+  pub behind : List Flow
+
+-- without where the flows lie in memory
+abbrev pub found_test : NextTest → FoundTest
+found_test t = record { bound = t.bound; skip = t.skip; behind = t.behind.now }
+
+-- the first test of flows
+abbrev pub first_test : List Flow → Option FoundTest
+first_test [] = None
+first_test (flow.Moves number ∷ more) = first_test more
+first_test (flow.Turns number ∷ more) = first_test more
+first_test (flow.Until bound number skip ∷ more) = Some (record { bound = bound; skip = skip; behind = more })
+
+-- so many turns, one behind another
+abbrev pub TellTurns : (ℕ → Telling) → (by n i : ℕ) → List Flow → ToldLines → List Flow → ToldLines → Type 0
+TellTurns one by zero i fs before left after = (left ≡ fs) × (after ≡ before)
+TellTurns one by (suc n) i fs before left after =
+    (rest : List Flow) × (between : ToldLines) × one i fs before rest between × TellTurns one by n (i + by) rest between left after
+
+-- The test behind the last turn, which passes over nothing, says which bound the loop has. Where no test is left, nothing is known of it.
+abbrev pub TellLast : WrittenLoop → Option FoundTest → List Flow → ToldLines → List Flow → ToldLines → Type 0
+TellLast l None fs before left after = (left ≡ fs) × (after ≡ before)
+TellLast l (Some test) fs before left after = (test.skip ≡ 0) × (left ≡ test.behind) × (after ≡ with_loop test.bound l before)
+
+-- so many turns, each behind a test that passes over what comes of it and of those behind it; and the last test
+abbrev pub TellTests : (ℕ → Telling) → WrittenLoop → (n i : ℕ) → List Flow → ToldLines → List Flow → ToldLines → Type 0
+TellTests one l zero i fs before left after = TellLast l (first_test fs) fs before left after
+TellTests one l (suc n) i fs before left after = (test : FoundTest) × (rest : List Flow) × (between : ToldLines)
+    × (first_test fs ≡ Some test) × (0 < test.skip) × one i test.behind before rest between × TellTests one l n (i + l.by) rest between left after
+
+-- all turns of a loop to a number; or none, where its statements are none
+abbrev pub TellTurned : (ℕ → Telling) → WrittenLoop → Passage → List Flow → ToldLines → List Flow → ToldLines → Type 0
+TellTurned one l body fs before left after = (count : ℕ)
+    × ((count ≡ turns_of l) ⊎ ((count ≡ 0) × (statements_of body ≡ 0))) × TellTurns one l.by count l.from fs before left after
+
+-- of a loop to an item as many turns as have a test that passes over something
+abbrev pub TellTested : (ℕ → Telling) → WrittenLoop → List Flow → ToldLines → List Flow → ToldLines → Type 0
+TellTested one l fs before left after = (count : ℕ) × TellTests one l count l.from fs before left after
+
+-- a loop, by what it ends by
+abbrev pub TellLoop : (ℕ → Telling) → WrittenLoop → Passage → WrittenBound → List Flow → ToldLines → List Flow → ToldLines → Type 0
+TellLoop one l body (ToNumber n) fs before left after = TellTurned one l body fs before left after
+TellLoop one l body (ToItem ws) fs before left after = TellTested one l fs before left after
+
+-- a passage, where the counters round it have these numbers
+abbrev pub TellPassage : List Counted → Passage → List Flow → ToldLines → List Flow → ToldLines → Type 0
+TellPassage ns NoMore fs before left after = (left ≡ fs) × (after ≡ before)
+TellPassage ns (Moves own more) fs before left after = (lines : List ℕ)
+    × AreStatementLines (in_turn ns false 0 own) lines × TellPassage ns more fs (with_statements lines before) left after
+TellPassage ns (Pause more) fs before left after = TellPassage ns more fs before left after
+TellPassage ns (ALoop l body more) fs before left after = (rest : List Flow) × (between : ToldLines)
+    × TellLoop (λ i. TellPassage (ns ++ counter_at l i ∷ []) body) l body l.bound fs before rest between × TellPassage ns more rest between left after
+
+-- what stands in front of a passage, where its statements, if it is a loop, are this passage
+abbrev pub TellFront : List Counted → PassageFront → Passage → List Flow → ToldLines → List Flow → ToldLines → Type 0
+TellFront ns (ARun own) body fs before left after = (lines : List ℕ)
+    × AreStatementLines (in_turn ns false 0 own) lines × (left ≡ fs) × (after ≡ with_statements lines before)
+TellFront ns APause body fs before left after = (left ≡ fs) × (after ≡ before)
+TellFront ns (Looped l own) body fs before left after = TellLoop (λ i. TellPassage (ns ++ counter_at l i ∷ []) body) l body l.bound fs before left after
+
+-- The words of the text have a passage behind their heading. Beside the flows that it comes to, with so many bounds, this is told of it.
+pub record AreDeedLinesOf (text : List ℕ) (bounds : ℕ) (flows : List Flow) (lines : ToldLines) : Type 0 where
+  pub words : List Lexeme
+  pub body : List Lexeme
+  pub left : List Flow
+  pub are_words : AreParagraphWordsOf text words
+  pub has : HasBody words body
+  pub told : TellPassage [] has.passage flows (unknown_lines bounds) left lines
