@@ -73,10 +73,7 @@ impl CountProgress {
     }
 
     /// Notes the statement of a pair.
-    pub(crate) fn note_statement(
-        &mut self,
-        pair: &PartnerPair<'_, '_>,
-    ) -> Result<(), AllocError> {
+    pub(crate) fn note_statement(&mut self, pair: &PartnerPair<'_, '_>) -> Result<(), AllocError> {
         let receiving = pair.to;
         for table in receiving.entry.tables.as_slice() {
             if let Some(count) = table.count {

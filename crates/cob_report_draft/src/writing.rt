@@ -49,9 +49,7 @@ fn count_reference<'s, 'a>(
 ) -> Option<WrittenBound<'s, 'a>> {
     let bearer = entries.get(number)?;
     let qualifiers = qualifiers_of(&records.both, bearer)?;
-    Some(WrittenBound::Item(NamedReference::single(
-        bearer, qualifiers,
-    )))
+    Some(WrittenBound::Item(NamedReference::single(bearer, qualifiers)))
 }
 
 /// By what a loop ends, as it is written.

@@ -1,5 +1,5 @@
 -- By what loops end, and why none does.
-use Rattle.std.proofs.Common.{◌≡◌, ℕ, ◌+◌, ◌≤◌, Bool, true, false, ◌&&◌, ◌||◌, List, [], ◌∷◌, refl, sym, ap, subst, ◌∙◌, arith, inl, inr, Option, Some, None, IfSome}
+use Rattle.std.proofs.Common.{◌≡◌, ℕ, ◌≤◌, Bool, true, false, ◌&&◌, ◌||◌, List, [], ◌∷◌, refl, sym, ap, subst, ◌∙◌, arith, inl, inr, Option, Some, None, IfSome}
 use Rattle.std.specs.Prelude.{IsTrue, min, nat_eq}
 use Rattle.std.proofs.lemmas.Bool.Decides.{eqb_tells}
 use Rattle.cob_report_partners.specs.Bounds.{AreMoved, IsWithin, StaysWithin, bound_by, bound_of, bound_where, is_among, is_moved, is_moved_from, number_at, some_level}

@@ -85,9 +85,7 @@ pub fn bound_of(counts: DraftCounts<'_>, from: TableSize, to: TableSize) -> Opti
 {
     match (from.count, to.count) {
         (None, None) => Some(LoopBound::Number(from.most.min(to.most))),
-        (Some(sent), None) => {
-            bound_where(is_among(counts.named, sent), LoopBound::Input(sent))
-        }
+        (Some(sent), None) => { bound_where(is_among(counts.named, sent), LoopBound::Input(sent)) }
         (None, Some(count)) => {
             bound_where(is_moved(counts.moved, count), LoopBound::Output(count))
         }

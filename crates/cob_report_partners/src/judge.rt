@@ -44,11 +44,7 @@ fn losses_between(from: &Kind, sent: u32, to: &Kind, room: u32) -> Option<Losses
 }
 
 /// Why no loop over the elements of a table of the input record and of one of the output record may end, if none may.
-fn objection_of_level(
-    counts: DraftCounts<'_>,
-    from: TableSize,
-    to: TableSize,
-) -> Option<Objection>
+fn objection_of_level(counts: DraftCounts<'_>, from: TableSize, to: TableSize) -> Option<Objection>
     ensures { JudgesLevel counts.entry from to result }
 {
     match (from.count, to.count) {
@@ -115,9 +111,11 @@ fn objection_of_places(
     if from.tables.len() != to.tables.len() {
         return Some(Objection::Tables);
     }
-    if let Some(objection) =
-        objection_of_levels(counts, from.tables.as_slice(), to.tables.as_slice())
-    {
+    if let Some(objection) = objection_of_levels(
+        counts,
+        from.tables.as_slice(),
+        to.tables.as_slice(),
+    ) {
         return Some(objection);
     }
     if holds_count(counts, to) {
