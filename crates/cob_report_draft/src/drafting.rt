@@ -1,5 +1,6 @@
 //! A paragraph to begin with.
 
+use crate::counts::counts_among;
 use crate::instead::{SEVERAL, UNNAMED};
 use crate::pairs::{Records, is_own_group, is_own_item, paired};
 use crate::progress::{DraftProgress, Saying};
@@ -108,6 +109,23 @@ fn counters_of(alloc: Global, records: &Records<'_>) -> Result<CounterNames, All
     Ok(counters)
 }
 
+/// What a draft comes to. The move of a count stands only where a statement fills its table, which is found out where all such moves stand. So a draft of tables
+/// that vary is made once more, where the moves of those counts stand alone.
+fn progress_of<'s, 'a>(
+    alloc: Global,
+    records: &'s Records<'a>,
+) -> Result<DraftProgress<'s, 'a>, AllocError> {
+    let counts = counts_among(alloc, records.both.outputs())?;
+    let mut first = DraftProgress::new(alloc, records, counts)?;
+    first.push_statements(records)?;
+    if !records.output.varies() {
+        return Ok(first);
+    }
+    let mut progress = DraftProgress::new(alloc, records, first.counts.into_filling())?;
+    progress.push_statements(records)?;
+    Ok(progress)
+}
+
 /// A paragraph to begin with, between the records of two layouts.
 ///
 /// # Errors
@@ -115,9 +133,7 @@ fn counters_of(alloc: Global, records: &Records<'_>) -> Result<CounterNames, All
 /// Where no memory is left.
 pub fn draft_of(alloc: Global, input: &Layout, output: &Layout) -> Result<Draft, AllocError> {
     let records = Records::of(alloc, input, output)?;
-    let (inputs, outputs) = (records.both.inputs().len(), records.both.outputs().len());
-    let mut progress = DraftProgress::new(alloc, inputs, outputs)?;
-    progress.push_statements(&records)?;
+    let progress = progress_of(alloc, &records)?;
     let mut text = DraftText::new(alloc, counters_of(alloc, &records)?);
     text.push_pieces(&records, &progress)?;
     text.push_unfilled(&records, &progress.received)?;

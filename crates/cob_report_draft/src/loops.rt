@@ -1,16 +1,18 @@
-//! Which loops a statement of a draft stands in: one for each table whose elements are moved, where it has several that both records have.
+//! Which loops a statement of a draft stands in: one for each table whose elements are moved, where it has several that both records have, or where a count
+//! says how many it has.
 
 ghost use Rattle.std.specs.Prelude.{◌≡◌, ◌+◌, ◌<◌, ◌≤◌, ◌++◌, ℕ, List, length, map};
 ghost use Rattle.std.specs.List.{AllByRecursion};
 ghost use Rattle.cob_limits.specs.Limits.{most_dimensions};
-ghost use Rattle.cob_report_draft.specs.Loops.{all_turns, elements, lesser, loops_over, subscript_from, subscript_in, subscripts_from, turning};
+ghost use Rattle.cob_report_draft.specs.Loops.{AreFixed, HaveElements, all_turns, elements, greatest, has_loop, lesser, level_of, levels, loops_along, loops_over, mosts, numbers_at, subscript_from, subscript_in, subscripts_from, turning, turns_at};
+ghost use Rattle.cob_report_draft.specs.declared.loops.LoopLevel.{LoopLevel};
 
 use crate::pairs::{PartnerPair, Records, number_of};
 use crate::words::Subscript;
 use arrayvec::ArrayVec;
 use cob_layout::is_table;
 use cob_limits::MAX_SUBSCRIPTS;
-use cob_report_partners::{DraftBearer, GreatestNumbers};
+use cob_report_partners::{DraftBearer, DraftCounts, LoopBound, TableSize, bound_of};
 use std::alloc::{AllocError, Global};
 
 /// The loop over the elements of a table of the output record that the input record has too.
@@ -22,9 +24,26 @@ pub(crate) struct TableLoop {
     last: usize,
     /// How many tables hold it.
     depth: usize,
-    /// How many elements both records have.
-    pub(crate) turns: u32,
+    /// How many elements both records have at most.
+    turns: u32,
+    /// By what it ends.
+    pub(crate) bound: LoopBound,
 }
+
+/// A table of the input record and one of the output record, over whose elements a statement goes.
+#[derive(Clone, Copy, PartialEq, Eq, Default)]
+pub(crate) struct LoopLevel {
+    /// How many elements both have at most.
+    most: u32,
+    /// By what a loop over these ends.
+    bound: LoopBound,
+}
+
+/// Tables in one another, the outermost first.
+pub(crate) type LoopLevels = ArrayVec<LoopLevel, MAX_SUBSCRIPTS>;
+
+/// Numbers of elements, that of the outermost table first.
+pub(crate) type ElementCounts = ArrayVec<u32, MAX_SUBSCRIPTS>;
 
 /// Loops in one another, the outermost first.
 pub(crate) type TableLoops = ArrayVec<TableLoop, MAX_SUBSCRIPTS>;
@@ -121,34 +140,65 @@ fn outer_table(of_entries: &[Option<usize>], table: Option<usize>) -> Option<usi
     }
 }
 
-/// The loops over the elements of a table and of those that hold it, of which both records have so many.
-fn loops_over(records: &Records<'_>, innermost: Option<usize>, turns: &[u32]) -> TableLoops
-    requires few { length turns.now ≤ most_dimensions }
-    ensures loops { map turning result.items ≡ loops_over turns.now }
-    ensures few { length result.items ≤ length turns.now }
+/// Whether a table has a loop that ends so.
+fn has_loop(bound: LoopBound) -> bool
+    ensures { result ≡ has_loop bound }
 {
-    let Some((own, outer)) = turns.split_last() else {
+    match bound {
+        LoopBound::Number(count) => 1 < count,
+        LoopBound::Input(_) => true,
+        LoopBound::Output(_) => true,
+    }
+}
+
+/// The loops over the elements of a table of the output record and of those that hold it, which are these with tables of the input record.
+fn loops_over(records: &Records<'_>, innermost: Option<usize>, levels: &[LoopLevel]) -> TableLoops
+    requires few { length levels.now ≤ most_dimensions }
+    ensures loops { map turning result.items ≡ loops_along levels.now }
+    ensures few { length result.items ≤ length levels.now }
+{
+    let Some((own, outer)) = levels.split_last() else {
         return ArrayVec::new();
     };
     let holding = outer_table(records.tables.of_entries.as_slice(), innermost);
     let mut loops = loops_over(records, holding, outer);
-    if 1 < *own {
+    if has_loop(own.bound) {
         let last = last_beneath(records.both.outputs(), innermost);
         loops.push(TableLoop {
             table: innermost,
             last,
             depth: outer.len(),
-            turns: *own,
+            turns: own.most,
+            bound: own.bound,
         });
         return loops;
     }
     loops
 }
 
-/// Adds how many elements two entries both have of each table.
-fn push_lesser(from: &[u32], to: &[u32], tables: &mut GreatestNumbers)
+/// A table of the input record and one of the output record: how many elements both have at most, and by what a loop over these ends.
+fn level_of(counts: DraftCounts<'_>, from: TableSize, to: TableSize) -> LoopLevel
+    ensures { result ≡ level_of counts.entry from to }
+{
+    let most = from.most.min(to.most);
+    match bound_of(counts, from, to) {
+        Some(bound) => LoopLevel { most, bound },
+        None => LoopLevel {
+            most,
+            bound: LoopBound::Number(most),
+        },
+    }
+}
+
+/// Adds each two tables of two entries.
+fn push_levels(
+    counts: DraftCounts<'_>,
+    from: &[TableSize],
+    to: &[TableSize],
+    tables: &mut LoopLevels,
+)
     requires room { length tables.old.items + length from.now ≤ most_dimensions }
-    ensures { tables.new.items ≡ tables.old.items ++ lesser from.now to.now }
+    ensures { tables.new.items ≡ tables.old.items ++ levels counts.entry from.now to.now }
 {
     let Some((one, more)) = from.split_first() else {
         return;
@@ -156,47 +206,61 @@ fn push_lesser(from: &[u32], to: &[u32], tables: &mut GreatestNumbers)
     let Some((other, others)) = to.split_first() else {
         return;
     };
-    tables.push((*one).min(*other));
-    push_lesser(more, others, tables);
+    tables.push(level_of(counts, *one, *other));
+    push_levels(counts, more, others, tables);
 }
 
-/// How many elements two entries both have of each table, the outermost first.
-fn lesser(from: &[u32], to: &[u32]) -> GreatestNumbers
+/// Each two tables of two entries, the outermost first.
+fn levels(counts: DraftCounts<'_>, from: &[TableSize], to: &[TableSize]) -> LoopLevels
     requires few { length from.now ≤ most_dimensions }
-    ensures { result.items ≡ lesser from.now to.now }
+    ensures { result.items ≡ levels counts.entry from.now to.now }
 {
     let mut tables = ArrayVec::new();
-    push_lesser(from, to, &mut tables);
+    push_levels(counts, from, to, &mut tables);
     tables
 }
 
-/// How many elements both entries of a pair have of the tables that they stand in.
-pub(crate) fn turns_of(pair: &PartnerPair<'_, '_>) -> GreatestNumbers
-    ensures { result.items ≡ lesser pair.now.from.now.entry.tables.items pair.now.to.now.entry.tables.items }
+/// Each two of the tables that the entries of a pair stand in.
+pub(crate) fn levels_of(counts: DraftCounts<'_>, pair: &PartnerPair<'_, '_>) -> LoopLevels
+    ensures { result.items ≡ levels counts.entry pair.now.from.now.entry.tables.items
+        pair.now.to.now.entry.tables.items }
 {
     let (sending, receiving) = (pair.from, pair.to);
-    lesser(
+    levels(
+        counts,
         sending.entry.tables.as_slice(),
         receiving.entry.tables.as_slice(),
     )
 }
 
-/// How many statements a statement comes to that stands in loops of so many turns.
-pub(crate) fn times(turns: &[u32]) -> u64 {
+/// How many statements a statement comes to at most that goes over these tables.
+pub(crate) fn times(levels: &[LoopLevel]) -> u64 {
     let mut product: u64 = 1;
-    for own in turns {
-        product = product.saturating_mul(u64::from(*own));
+    for own in levels {
+        product = product.saturating_mul(u64::from(own.most));
     }
     product
 }
 
 /// The loops that the statement of a pair stands in.
-pub(crate) fn loops_of(records: &Records<'_>, pair: &PartnerPair<'_, '_>) -> TableLoops
-    ensures { map turning result.items
-        ≡ loops_over (lesser pair.now.from.now.entry.tables.items pair.now.to.now.entry.tables.items) }
+pub(crate) fn loops_of(
+    records: &Records<'_>,
+    counts: DraftCounts<'_>,
+    pair: &PartnerPair<'_, '_>,
+) -> TableLoops
+    ensures loops { map turning result.items ≡ loops_along (levels counts.entry
+        pair.now.from.now.entry.tables.items pair.now.to.now.entry.tables.items) }
+    ensures fixed { AreFixed pair.now.from.now.entry.tables.items
+        → AreFixed pair.now.to.now.entry.tables.items → map turning result.items
+        ≡ loops_over (lesser (mosts pair.now.from.now.entry.tables.items)
+        (mosts pair.now.to.now.entry.tables.items)) }
 {
-    let turns = turns_of(pair);
-    loops_over(records, records.tables.innermost(pair.to), turns.as_slice())
+    let levels = levels_of(counts, pair);
+    loops_over(
+        records,
+        records.tables.innermost(pair.to),
+        levels.as_slice(),
+    )
 }
 
 /// Whether a loop goes over a table that holds the entry with this number, or that it is.
@@ -265,18 +329,34 @@ pub(crate) fn subscripts_of(loops: &[TableLoop], counts: &[u32]) -> LoopSubscrip
     subscripts
 }
 
-/// Of the elements of an entry's tables as many as another entry has, and all of tables that the other has not.
-pub(crate) fn counts_beside(own: &[u32], others: &[u32]) -> GreatestNumbers {
+/// Of the elements of an entry's tables at most as many as another entry has, and all of tables that the other has not.
+pub(crate) fn counts_beside(own: &[TableSize], others: &[TableSize]) -> ElementCounts {
     let mut counts = ArrayVec::new();
-    for (depth, count) in own.iter().enumerate() {
-        let other = *others.get(depth).unwrap_or(count);
-        let _ = counts.try_push((*count).min(other));
+    for (depth, size) in own.iter().enumerate() {
+        let other = others.get(depth).unwrap_or(size);
+        let _ = counts.try_push(size.most.min(other.most));
     }
     counts
+}
+
+/// The subscripts of the last element that tables may have.
+pub(crate) fn greatest_subscripts(tables: &[TableSize]) -> ElementCounts {
+    let mut subscripts = ArrayVec::new();
+    for size in tables {
+        let _ = subscripts.try_push(size.most);
+    }
+    subscripts
 }
 
 /// A law: the loops of tables, turn by turn, name each of their elements once, in order.
 pub fn loops_name_elements()
     ensures { (ns : List ℕ) → AllByRecursion (λ n. 0 < n) ns
         → map (λ turn. map (subscript_in turn) (subscripts_from (loops_over ns) 0 ns)) (all_turns (loops_over ns)) ≡ elements ns }
+{}
+
+/// A law: the loops over tables of which some vary, turn by turn, name each element that is there under the counts of the two records once, in order.
+pub fn counted_loops_name_elements()
+    ensures { (input output : ℕ → ℕ) (ls : List LoopLevel) → HaveElements ls
+        → map (λ turn. map (subscript_in turn) (subscripts_from (loops_along ls) 0 (greatest ls)))
+        (turns_at input output (loops_along ls)) ≡ elements (numbers_at input output ls) }
 {}

@@ -1,6 +1,7 @@
 //! The lists of what a draft does not move.
 
 use crate::held::{ItemContent, held_at, held_in};
+use crate::loops::greatest_subscripts;
 use crate::pairs::{Records, is_own_item, number_of};
 use crate::shares::{Share, Shares};
 use crate::words::NamedReference;
@@ -42,7 +43,8 @@ fn stays(layout: &Layout, item: &DraftBearer<'_>) -> bool {
     if !layout.varies() {
         return true;
     }
-    match layout.reference(number_of(item), item.entry.tables.as_slice()) {
+    let last = greatest_subscripts(item.entry.tables.as_slice());
+    match layout.reference(number_of(item), last.as_slice()) {
         Some(reference) => is_steady(layout, &reference),
         None => true,
     }

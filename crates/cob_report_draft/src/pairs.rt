@@ -1,5 +1,6 @@
 //! Entries of the two records, and pairs of them.
 
+use crate::counts::is_count;
 use crate::loops::HoldingTables;
 use crate::words::{NamedReference, WrittenSubscripts};
 use cob_copybook_tree::Kind;
@@ -15,6 +16,24 @@ pub(crate) struct Records<'a> {
     pub(crate) output: &'a Layout,
     /// The tables of the output record.
     pub(crate) tables: HoldingTables,
+    /// The numbers of the input record's counts that a statement can name.
+    pub(crate) named: Vec<usize>,
+}
+
+/// With how many qualifiers an entry is named; `None` where it isn't told from another one.
+pub(crate) fn qualifiers_of(records: &BothRecords<'_>, bearer: &DraftBearer<'_>) -> Option<usize> {
+    qualifiers_needed(records, bearer.name?, bearer.above.as_slice())
+}
+
+/// The numbers of the counts of the input record that a statement can name.
+fn named_counts(alloc: Global, records: &BothRecords<'_>) -> Result<Vec<usize>, AllocError> {
+    let mut named = Vec::new(alloc);
+    for entry in records.inputs() {
+        if is_count(entry) && qualifiers_of(records, entry).is_some() {
+            named.push(number_of(entry))?;
+        }
+    }
+    Ok(named)
 }
 
 impl<'a> Records<'a> {
@@ -26,11 +45,13 @@ impl<'a> Records<'a> {
     ) -> Result<Records<'a>, AllocError> {
         let both = BothRecords::of(alloc, input, output)?;
         let tables = HoldingTables::of(alloc, both.outputs())?;
+        let named = named_counts(alloc, &both)?;
         Ok(Records {
             both,
             input,
             output,
             tables,
+            named,
         })
     }
 }
@@ -73,8 +94,8 @@ pub(crate) fn paired<'s, 'a>(
     from: &'s DraftBearer<'a>,
     to: &'s DraftBearer<'a>,
 ) -> Option<PartnerPair<'s, 'a>> {
-    let from_qualifiers = qualifiers_needed(records, from.name?, from.above.as_slice())?;
-    let to_qualifiers = qualifiers_needed(records, to.name?, to.above.as_slice())?;
+    let from_qualifiers = qualifiers_of(records, from)?;
+    let to_qualifiers = qualifiers_of(records, to)?;
     Some(PartnerPair {
         from,
         to,

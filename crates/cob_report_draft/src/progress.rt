@@ -1,6 +1,7 @@
 //! What a draft says of the entries of the output record, in their order.
 
-use crate::loops::{loops_of, times, turns_of};
+use crate::counts::CountProgress;
+use crate::loops::{levels_of, loops_of, times};
 use crate::pairs::{PartnerPair, Records, is_item, number_of};
 use crate::reasons::ObjectionReason;
 use crate::shares::{Shares, share_of};
@@ -41,6 +42,8 @@ pub(crate) struct DraftProgress<'s, 'a> {
     pub(crate) is_full: bool,
     /// How many statements the loops come to.
     written_out: u64,
+    /// The counts of the output record.
+    pub(crate) counts: CountProgress,
     /// What is moved of each entry of the input record.
     pub(crate) sent: Shares,
     /// What is moved to each entry of the output record.
@@ -48,20 +51,21 @@ pub(crate) struct DraftProgress<'s, 'a> {
 }
 
 impl<'s, 'a> DraftProgress<'s, 'a> {
-    /// Nothing yet, of records of so many entries.
+    /// Nothing yet, where the counts with these numbers may be moved.
     pub(crate) fn new(
         alloc: Global,
-        inputs: usize,
-        outputs: usize,
+        records: &Records<'_>,
+        filled: Vec<usize>,
     ) -> Result<DraftProgress<'s, 'a>, AllocError> {
-        let sent = Shares::nothing(alloc, inputs)?;
-        let received = Shares::nothing(alloc, outputs)?;
+        let sent = Shares::nothing(alloc, records.both.inputs().len())?;
+        let received = Shares::nothing(alloc, records.both.outputs().len())?;
         Ok(DraftProgress {
             alloc,
             pieces: Vec::new(alloc),
             pairs: Vec::new(alloc),
             is_full: false,
             written_out: 0,
+            counts: CountProgress::new(alloc, filled),
             sent,
             received,
         })
@@ -79,25 +83,28 @@ impl<'s, 'a> DraftProgress<'s, 'a> {
 
     /// Notes what is moved where the elements of a pair are moved that both entries have: of the entries with those beneath them, and of what the sender
     /// redefines.
-    fn note_moves(&mut self, pair: &PartnerPair<'_, '_>, tables: &[u32]) {
+    fn note_moves(&mut self, pair: &PartnerPair<'_, '_>) {
         let (sending, receiving) = (pair.from, pair.to);
-        let sent = share_of(sending.entry.tables.as_slice(), tables);
+        let from = sending.entry.tables.as_slice();
+        let to = receiving.entry.tables.as_slice();
+        let sent = share_of(from, to);
         self.sent.note(number_of(sending), sending.entry.last, sent);
         if let Some(redefined) = sending.entry.redefined {
             self.sent.note(redefined, redefined, sent);
         }
-        let received = share_of(receiving.entry.tables.as_slice(), tables);
+        let received = share_of(to, from);
         self.received
             .note(number_of(receiving), receiving.entry.last, received);
     }
 
     /// Counts what the statement of a pair comes to in its loops, and answers whether a paragraph has room for it.
     fn has_room(&mut self, records: &Records<'_>, pair: &PartnerPair<'_, '_>) -> bool {
-        if loops_of(records, pair).is_empty() {
+        let counts = self.counts.so_far(records);
+        if loops_of(records, counts, pair).is_empty() {
             return true;
         }
-        let turns = turns_of(pair);
-        let written_out = self.written_out.saturating_add(times(turns.as_slice()));
+        let levels = levels_of(counts, pair);
+        let written_out = self.written_out.saturating_add(times(levels.as_slice()));
         if written_out > MAX_WRITTEN_OUT {
             self.is_full = true;
             return false;
@@ -117,8 +124,8 @@ impl<'s, 'a> DraftProgress<'s, 'a> {
         }
         self.push_piece(pair.to, Saying::Statement(*pair))?;
         self.pairs.push(*pair)?;
-        let turns = turns_of(pair);
-        self.note_moves(pair, turns.as_slice());
+        self.counts.note_statement(pair)?;
+        self.note_moves(pair);
         Ok(())
     }
 
@@ -129,8 +136,12 @@ impl<'s, 'a> DraftProgress<'s, 'a> {
         pair: &PartnerPair<'s, 'a>,
     ) -> Result<Option<Objection>, AllocError> {
         let (sending, receiving) = (pair.from, pair.to);
-        match objection_to(self.alloc, &sending.entry, &receiving.entry)? {
+        let counts = self.counts.so_far(records);
+        match objection_to(self.alloc, counts, &sending.entry, &receiving.entry)? {
             Some(objection) => {
+                if matches!(objection, Objection::Counts) {
+                    self.counts.note_move(pair)?;
+                }
                 let reason = ObjectionReason {
                     records,
                     pair: *pair,

@@ -1,5 +1,6 @@
 //! How much of each entry a draft moves.
 
+use cob_report_partners::TableSize;
 use std::alloc::{AllocError, Global};
 
 /// How much of an entry a draft moves.
@@ -17,13 +18,20 @@ pub(crate) struct Shares {
     of_entries: Vec<Share>,
 }
 
+/// Whether all elements of a table are moved that a record has, where this is the table of the other record.
+fn is_whole(own: TableSize, other: TableSize) -> bool {
+    // Of a table that varies each element is moved, or the record stops.
+    own.count.is_some() || (other.count.is_none() && own.most <= other.most)
+}
+
 /// What of an entry in these tables is moved where the elements are moved that both entries have.
-pub(crate) fn share_of(own: &[u32], shared: &[u32]) -> Share {
-    if own == shared {
-        Share::All
-    } else {
-        Share::Part
+pub(crate) fn share_of(own: &[TableSize], others: &[TableSize]) -> Share {
+    for (own, other) in own.iter().zip(others.iter()) {
+        if !is_whole(*own, *other) {
+            return Share::Part;
+        }
     }
+    Share::All
 }
 
 /// Notes that so much is moved of the entries from the first of these numbers to the last one.

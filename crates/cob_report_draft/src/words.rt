@@ -34,9 +34,17 @@ pub(crate) struct NamedReference<'s, 'a, 'w> {
 impl<'s, 'a> NamedReference<'s, 'a, 's> {
     /// A reference to an entry, or to all its elements, by its name and all its qualifiers.
     pub(crate) fn whole(bearer: &'s DraftBearer<'a>) -> NamedReference<'s, 'a, 's> {
+        NamedReference::single(bearer, bearer.above.len())
+    }
+
+    /// A reference without subscripts, by a name and so many of its qualifiers.
+    pub(crate) fn single(
+        bearer: &'s DraftBearer<'a>,
+        qualifiers: usize,
+    ) -> NamedReference<'s, 'a, 's> {
         NamedReference {
             bearer,
-            qualifiers: bearer.above.len(),
+            qualifiers,
             written: WrittenSubscripts {
                 subscripts: &[],
                 counters: &[],
@@ -53,21 +61,39 @@ fn write_name<W: fmt::Write>(f: &mut fmt::Formatter<W>, name: &[u8]) -> fmt::Res
     Ok(())
 }
 
-/// The head of a loop: its counter, and how many turns it has.
+/// By what a loop ends, as it is written.
 #[derive(Clone, Copy)]
-pub(crate) struct LoopHead<'s> {
-    pub(crate) counter: &'s [u8],
-    pub(crate) turns: u32,
+pub(crate) enum WrittenBound<'s, 'a> {
+    /// A number.
+    Number(u32),
+    /// An item.
+    Item(NamedReference<'s, 'a, 's>),
 }
 
-impl fmt::Display for LoopHead<'_> {
+/// The head of a loop: its counter, and by what it ends.
+#[derive(Clone, Copy)]
+pub(crate) struct LoopHead<'s, 'a> {
+    pub(crate) counter: &'s [u8],
+    pub(crate) bound: WrittenBound<'s, 'a>,
+}
+
+impl fmt::Display for WrittenBound<'_, '_> {
+    fn fmt<W: fmt::Write>(&self, f: &mut fmt::Formatter<W>) -> fmt::Result {
+        match self {
+            WrittenBound::Number(number) => write!(f, "{number}"),
+            WrittenBound::Item(item) => write!(f, "{item}"),
+        }
+    }
+}
+
+impl fmt::Display for LoopHead<'_, '_> {
     fn fmt<W: fmt::Write>(&self, f: &mut fmt::Formatter<W>) -> fmt::Result {
         write!(f, "PERFORM VARYING ")?;
         write_name(f, self.counter)?;
         write!(f, " FROM 1 BY 1 UNTIL ")?;
         write_name(f, self.counter)?;
-        let turns = self.turns;
-        write!(f, " > {turns}")
+        let bound = self.bound;
+        write!(f, " > {bound}")
     }
 }
 

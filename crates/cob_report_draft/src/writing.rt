@@ -4,12 +4,14 @@ use crate::lines::{DraftLineKind, DraftLines};
 use crate::loops::{
     TableLoop, TableLoops, count_holding, count_same, counts_beside, loops_of, subscripts_of,
 };
-use crate::pairs::{PartnerPair, Records};
+use crate::pairs::{PartnerPair, Records, qualifiers_of};
 use crate::progress::{DraftPiece, DraftProgress, Saying};
 use crate::reasons::ObjectionReason;
-use crate::words::{CounterNames, LoopHead, NamedReference, Subscript, WrittenSubscripts};
+use crate::words::{
+    CounterNames, LoopHead, NamedReference, Subscript, WrittenBound, WrittenSubscripts,
+};
 use arrayvec::ArrayVec;
-use cob_report_partners::DraftBearer;
+use cob_report_partners::{DraftBearer, DraftCounts, LoopBound};
 use std::alloc::{AllocError, Global};
 
 /// The text of a draft, as far as it is written, and the loops that are open at its end.
@@ -25,16 +27,41 @@ pub(crate) struct DraftText {
 /// The loops of the next statement that an entry of the output record stands in too.
 fn loops_ahead(
     records: &Records<'_>,
+    counts: DraftCounts<'_>,
     next: Option<&PartnerPair<'_, '_>>,
     to: &DraftBearer<'_>,
 ) -> TableLoops {
     let Some(pair) = next else {
         return ArrayVec::new();
     };
-    let mut loops = loops_of(records, pair);
+    let mut loops = loops_of(records, counts, pair);
     let count = count_holding(loops.as_slice(), to);
     loops.truncate(count);
     loops
+}
+
+/// A reference to the count with this number, of a record that has these entries, with the qualifiers that it needs. A count stands in no table, so it has no
+/// subscripts.
+fn count_reference<'s, 'a>(
+    records: &Records<'_>,
+    entries: &'s [DraftBearer<'a>],
+    number: usize,
+) -> Option<WrittenBound<'s, 'a>> {
+    let bearer = entries.get(number)?;
+    let qualifiers = qualifiers_of(&records.both, bearer)?;
+    Some(WrittenBound::Item(NamedReference::single(bearer, qualifiers)))
+}
+
+/// By what a loop ends, as it is written.
+fn written_bound<'s, 'a>(
+    records: &'s Records<'a>,
+    bound: LoopBound,
+) -> Option<WrittenBound<'s, 'a>> {
+    match bound {
+        LoopBound::Number(number) => Some(WrittenBound::Number(number)),
+        LoopBound::Input(count) => count_reference(records, records.both.inputs(), count),
+        LoopBound::Output(count) => count_reference(records, records.both.outputs(), count),
+    }
 }
 
 impl DraftText {
@@ -58,13 +85,16 @@ impl DraftText {
     }
 
     /// Opens a loop, if the text has room for it.
-    fn open_loop(&mut self, own: &TableLoop) -> Result<(), AllocError> {
-        let turns = own.turns;
+    fn open_loop(&mut self, records: &Records<'_>, own: &TableLoop) -> Result<(), AllocError> {
+        let Some(bound) = written_bound(records, own.bound) else {
+            self.lines.is_cut = true;
+            return Ok(());
+        };
         let Some(counter) = self.counters.get(self.open.len()) else {
             self.lines.is_cut = true;
             return Ok(());
         };
-        let head = LoopHead { counter, turns };
+        let head = LoopHead { counter, bound };
         let words = format!(in self.alloc; "{head}")?;
         if self.lines.open_loop(&words)? {
             let _ = self.open.try_push(*own);
@@ -76,10 +106,11 @@ impl DraftText {
     fn turn_to(
         &mut self,
         records: &Records<'_>,
+        counts: DraftCounts<'_>,
         piece: &DraftPiece<'_, '_>,
         next: Option<&PartnerPair<'_, '_>>,
     ) -> Result<(), AllocError> {
-        let ahead = loops_ahead(records, next, piece.to);
+        let ahead = loops_ahead(records, counts, next, piece.to);
         let same = count_same(self.open.as_slice(), ahead.as_slice());
         let kept = match piece.saying {
             Saying::Statement(_) => same,
@@ -88,7 +119,7 @@ impl DraftText {
         self.close_to(kept)?;
         if kept == same {
             for own in ahead.as_slice().iter().skip(same) {
-                self.open_loop(own)?;
+                self.open_loop(records, own)?;
             }
         }
         Ok(())
@@ -162,9 +193,10 @@ impl DraftText {
         records: &Records<'_>,
         progress: &DraftProgress<'_, '_>,
     ) -> Result<(), AllocError> {
+        let counts = progress.counts.so_far(records);
         let mut next = 0;
         for piece in progress.pieces.iter() {
-            self.turn_to(records, piece, progress.pairs.get(next))?;
+            self.turn_to(records, counts, piece, progress.pairs.get(next))?;
             self.push_piece(piece)?;
             if let Saying::Statement(_) = piece.saying {
                 next += 1;

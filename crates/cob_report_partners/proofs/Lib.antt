@@ -2,3 +2,4 @@ pub mod NamingLemmas
 pub mod RecordLemmas
 pub mod SoughtLemmas
 pub mod CounterLemmas
+pub mod BoundLemmas

@@ -1,12 +1,14 @@
 -- The entries of two records, as a draft sees them.
 use Rattle.std.specs.Borrow.{Bor}
 use Rattle.std.specs.List.{list_any}
-use Rattle.std.specs.Prelude.{◌≡◌, ℕ, Bool, true, ◌&&◌, nat_le, not, is_some, List, [], ◌∷◌, ◌++◌, map, Option, Some, None}
+use Rattle.std.specs.Prelude.{◌≡◌, ℕ, Bool, true, false, ◌&&◌, nat_le, not, is_some, List, [], ◌∷◌, ◌++◌, map, Option, Some, None}
 use Rattle.cob_copybook_tree.specs.declared.node.Kind.{Kind}
 use Rattle.cob_copybook_tree.specs.declared.node.Node.{Node}
 use Rattle.cob_copybook_tree.specs.declared.node.Node.TheViews.{out-Node}
 use Rattle.cob_copybook_tree.specs.Forests.{Forest, NoEntries, AnEntry, Tree}
-use Rattle.cob_copybook_tree.specs.Nodes.{Resolved, is_varying, node, tree_of}
+use Rattle.cob_copybook_tree.specs.Nodes.{Resolved, node, tree_of}
+use Rattle.cob_copybook_tree.specs.declared.node.ResolvedOccurs.{ResolvedOccurs}
+use Rattle.cob_copybook_tree.specs.declared.node.ResolvedOccurs.TheVariants.{Once, Fixed, Varying}
 use Rattle.cob_copybook_tree.specs.Lengths.{greatest_number}
 use Rattle.cob_copybook_names.specs.declared.bearer.Bearer.{Bearer as Listed}
 use Rattle.cob_copybook_names.specs.Listed.{bearer_by, texts}
@@ -15,31 +17,28 @@ use Rattle.cob_layout_places.specs.Counts.{tables_of}
 use Rattle.cob_layout_places.specs.Places.{is_table}
 use Rattle.cob_move_data.specs.declared.operands.Side.{Side}
 use Rattle.cob_layout_places.specs.declared.varying.Table.{Table}
-use Rattle.cob_move_names.specs.Candidates.{with_table}
+use Rattle.cob_report_partners.specs.declared.bounds.TableSize.{TableSize}
 use Rattle.cob_report_partners.specs.declared.entries.DraftEntry.{DraftEntry as ListedEntry}
 use Rattle.cob_report_partners.specs.declared.entries.Setting.{Setting as StoredSetting}
 use Rattle.cob_report_partners.specs.declared.entries.PartnerSource.{PartnerSource as StoredSource}
 
--- What is known of an entry besides its names: its record, its number and that of the last entry beneath it (its own where there is none), the greatest
--- number of each table that holds it or that it is, the outermost first, what it describes, whether none of these tables varies, whether it stands in no
--- redefinition, the number of the entry that it redefines, or that the outermost redefinition redefines in which it stands, and whether it is the count of
--- a table of its record, or holds one.
+-- What is known of an entry besides its names: its record, its number and that of the last entry beneath it (its own where there is none), how many elements
+-- each table has that holds it or that it is, the outermost first, what it describes, whether it stands in no redefinition, the number of the entry that it
+-- redefines, or that the outermost redefinition redefines in which it stands, and whether it is the count of a table of its record, or holds one.
 pub record DraftEntry : Type 0 where
   pub side : Side
   pub number : ℕ
   pub last : ℕ
-  pub tables : List ℕ
+  pub tables : List TableSize
   pub kind : Kind
-  pub steady : Bool
   pub own : Bool
   pub redefined : Option ℕ
   pub counts : Bool
 
--- Where an entry stands: within these tables, whether none of them varies, whether in no redefinition, the entry that is redefined by the outermost
--- redefinition around it, and the last entry before it in its row that redefines nothing.
+-- Where an entry stands: within these tables, whether in no redefinition, the entry that is redefined by the outermost redefinition around it, and the last
+-- entry before it in its row that redefines nothing.
 pub record Setting : Type 0 where
-  pub tables : List ℕ
-  pub steady : Bool
+  pub tables : List TableSize
   pub own : Bool
   pub redefined : Option ℕ
   pub latest : Option ℕ
@@ -55,11 +54,25 @@ redefined_at (Some n) redefines latest = Some n
 redefined_at None (Some name) latest = latest
 redefined_at None None latest = None
 
+-- the number of the entry of a table's count, if the table varies
+abbrev pub count_by : ResolvedOccurs → Option ℕ
+count_by Once = None
+count_by (Fixed n) = None
+count_by (Varying least most count) = Some count
+
+-- how many elements a table has
+abbrev pub size_of : Resolved → TableSize
+size_of e = record { most = greatest_number e; count = count_by e.occurs }
+
+-- a table stands within those that hold it
+abbrev pub with_size : Bool → TableSize → List TableSize → List TableSize
+with_size false size tables = tables
+with_size true size tables = tables ++ size ∷ []
+
 -- where the entries beneath an entry stand
 abbrev pub inside : Setting → Resolved → Setting
 inside w e = record {
-  tables = with_table (is_table e.occurs) (greatest_number e) w.tables;
-  steady = w.steady && not (is_varying e.occurs);
+  tables = with_size (is_table e.occurs) (size_of e) w.tables;
   own = w.own && not (is_some e.redefines);
   redefined = redefined_at w.redefined e.redefines w.latest;
   latest = None;
@@ -76,7 +89,7 @@ latest_behind latest e = latest_at e.redefines e.number latest
 
 -- where the entries behind an entry in its row stand
 abbrev pub beside : Setting → Resolved → Setting
-beside w e = record { tables = w.tables; steady = w.steady; own = w.own; redefined = w.redefined; latest = latest_behind w.latest e }
+beside w e = record { tables = w.tables; own = w.own; redefined = w.redefined; latest = latest_behind w.latest e }
 
 -- the number of the last of these entries; this one where there is none
 abbrev pub last_entry_number : ℕ → Forest Resolved → ℕ
@@ -95,7 +108,6 @@ entry_inside source w t = record {
   last = last_entry_number t.top.number t.beneath;
   tables = (inside w t.top).tables;
   kind = t.top.kind;
-  steady = (inside w t.top).steady;
   own = (inside w t.top).own;
   redefined = (inside w t.top).redefined;
   counts = holds_count source.varying t.top.number (last_entry_number t.top.number t.beneath);
@@ -114,7 +126,7 @@ draft_entries source above w (AnEntry e children more) =
 
 -- where an entry stands, without where that lies in memory
 abbrev pub seen_setting : StoredSetting → Setting
-seen_setting w = record { tables = w.tables.items; steady = w.steady; own = w.own; redefined = w.redefined; latest = w.latest }
+seen_setting w = record { tables = w.tables.items; own = w.own; redefined = w.redefined; latest = w.latest }
 
 -- the record that has the entries, without where its tables lie
 abbrev pub seen_source : StoredSource → Source
@@ -132,7 +144,6 @@ draft_entry e = record {
   last = e.last;
   tables = e.tables.items;
   kind = (out-Node e.entry.now).kind;
-  steady = e.steady;
   own = e.own;
   redefined = e.redefined;
   counts = e.counts;
@@ -153,7 +164,7 @@ ListsTree source above w n before after =
 
 -- a record stands in no table and in no redefinition
 abbrev pub outside : Setting
-outside = record { tables = []; steady = true; own = true; redefined = None; latest = None }
+outside = record { tables = []; own = true; redefined = None; latest = None }
 
 -- the entries of a record
 abbrev pub record_entries : Side → Forest Resolved → List (Bearer DraftEntry)

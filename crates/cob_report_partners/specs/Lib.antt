@@ -4,3 +4,4 @@ pub mod Partners
 pub mod Verdicts
 pub mod Naming
 pub mod Counters
+pub mod Bounds

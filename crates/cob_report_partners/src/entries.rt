@@ -1,26 +1,25 @@
 //! The entries of a record, with what a statement needs to name them.
 
 ghost use Rattle.std.specs.Prelude.{◌≡◌, ◌+◌, ◌≤◌, [], ◌∷◌, length, OnOk};
-ghost use Rattle.cob_copybook_tree.specs.Lengths.{greatest_number};
 ghost use Rattle.cob_copybook_tree.specs.Nodes.{node, resolved_entry, tree_of};
 ghost use Rattle.cob_copybook_tree.specs.declared.node.Node.TheViews.{out-Node};
 ghost use Rattle.cob_layout.specs.Sound.{AreNested, own_dimension};
 ghost use Rattle.cob_layout_places.specs.Places.{is_table};
 ghost use Rattle.cob_limits.specs.Limits.{most_dimensions};
-ghost use Rattle.cob_move_names.specs.Candidates.{with_table};
-ghost use Rattle.cob_report_partners.specs.Entries.{ListsBehind, ListsTree, draft_entry, entry_inside, holds_count, inside, last_entry_number, latest_behind, node_bearer, outside, record_entries, redefined_at, seen_setting, seen_source};
+ghost use Rattle.cob_report_partners.specs.Entries.{ListsBehind, ListsTree, count_by, draft_entry, entry_inside, holds_count, inside, last_entry_number, latest_behind, node_bearer, outside, record_entries, redefined_at, seen_setting, seen_source, size_of, with_size};
 
+use crate::bounds::TableSize;
 use arrayvec::ArrayVec;
 use cob_copybook_names::{Bearer, name_of, names_beneath};
-use cob_copybook_tree::Node;
+use cob_copybook_tree::{Node, ResolvedOccurs};
 use cob_layout::{Layout, is_table, records_are_sound};
 use cob_layout_places::{Table, tables};
 use cob_limits::MAX_SUBSCRIPTS;
 use cob_move_data::Side;
 use std::alloc::{AllocError, Global};
 
-/// The greatest numbers of tables, one inside the other, the outermost first.
-pub type GreatestNumbers = ArrayVec<u32, MAX_SUBSCRIPTS>;
+/// How many elements tables have, one inside the other, the outermost first.
+pub type TableSizes = ArrayVec<TableSize, MAX_SUBSCRIPTS>;
 
 /// An entry of one of the two records.
 #[derive(Drop)]
@@ -30,9 +29,7 @@ pub struct DraftEntry<'a> {
     /// The number of the last entry beneath it, or its own where there is none.
     pub last: usize,
     /// The tables that hold it or that it is.
-    pub tables: GreatestNumbers,
-    /// Whether none of these varies.
-    pub steady: bool,
+    pub tables: TableSizes,
     /// Whether it stands in no redefinition.
     pub own: bool,
     /// The number of the entry that it redefines, or that the outermost redefinition redefines in which it stands.
@@ -54,8 +51,7 @@ struct PartnerSource<'t> {
 /// Where an entry stands.
 #[derive(Drop)]
 struct Setting {
-    tables: GreatestNumbers,
-    steady: bool,
+    tables: TableSizes,
     own: bool,
     redefined: Option<usize>,
     /// The number of the last entry before it in its row that redefines nothing.
@@ -63,7 +59,7 @@ struct Setting {
 }
 
 /// The same tables once more.
-fn copied(tables: &[u32]) -> GreatestNumbers
+fn copied(tables: &[TableSize]) -> TableSizes
     requires { length tables.now ≤ most_dimensions }
     ensures { result.items ≡ tables.now }
 {
@@ -74,16 +70,36 @@ fn copied(tables: &[u32]) -> GreatestNumbers
     own
 }
 
+/// The number of the entry of a table's count, if the table varies.
+fn count_of(occurs: ResolvedOccurs) -> Option<usize>
+    ensures { result ≡ count_by occurs }
+{
+    match occurs {
+        ResolvedOccurs::Varying { count, .. } => Some(count),
+        _ => None,
+    }
+}
+
+/// How many elements a table has.
+fn size_of(entry: &Node) -> TableSize
+    ensures { result ≡ size_of (resolved_entry (out-Node entry.now)) }
+{
+    TableSize {
+        most: entry.occurs.most(),
+        count: count_of(entry.occurs),
+    }
+}
+
 /// The tables that hold an entry, and itself if it is one.
-fn tables_with(entry: &Node, holding: &[u32]) -> GreatestNumbers
+fn tables_with(entry: &Node, holding: &[TableSize]) -> TableSizes
     requires nested { length holding.now + own_dimension (out-Node entry.now).occurs
         ≤ most_dimensions }
-    ensures { result.items ≡ with_table (is_table (out-Node entry.now).occurs)
-        (greatest_number (resolved_entry (out-Node entry.now))) holding.now }
+    ensures { result.items ≡ with_size (is_table (out-Node entry.now).occurs)
+        (size_of (resolved_entry (out-Node entry.now))) holding.now }
 {
     let mut tables = copied(holding);
     if is_table(entry.occurs) {
-        tables.push(entry.occurs.most());
+        tables.push(size_of(entry));
     }
     tables
 }
@@ -119,7 +135,6 @@ fn inside(outer: &Setting, entry: &Node) -> Setting
 {
     Setting {
         tables: tables_with(entry, outer.tables.as_slice()),
-        steady: outer.steady && !entry.occurs.is_varying(),
         own: outer.own && entry.redefines.is_none(),
         redefined: redefined_at(outer, entry),
         latest: None,
@@ -160,7 +175,6 @@ fn entry_inside<'a>(source: PartnerSource<'_>, outer: &Setting, entry: &'a Node)
         entry,
         last,
         tables: inner.tables,
-        steady: inner.steady,
         own: inner.own,
         redefined: inner.redefined,
         counts: holds_count(source.varying, entry.number, last),
@@ -223,7 +237,6 @@ fn outside() -> Setting
 {
     Setting {
         tables: ArrayVec::new(),
-        steady: true,
         own: true,
         redefined: None,
         latest: None,

@@ -11,9 +11,11 @@
 //!   sent (`candidates_within`);
 //! - [`only_item_beneath`] answers the only item of a group that an item may receive in the group's place (`items_beneath`): the only one with a name that is
 //!   a number where the item is one, or the only one of characters where it has characters;
-//! - [`objection_to`] answers what is against a move, and nothing exactly where both stand in as many tables, none of which varies, the receiver is the
-//!   count of no table and holds none, the table of categories has the move, it can lose nothing, and where it copies bytes each byte of the receiver is
-//!   described as what it gets (`MayStand` and `Objects` of specs/Verdicts.antt);
+//! - [`objection_to`] answers what is against a move, and nothing exactly where both stand in as many tables, a loop over each of these may end, the receiver
+//!   is no count but that of a table that is filled, and holds none, the table of categories has the move, it can lose nothing, and where it copies bytes each
+//!   byte of the receiver is described as what it gets (`MayStand` and `Objects` of specs/Verdicts.antt);
+//! - [`bound_of`] answers by what a loop over two tables ends, if it may end: by a number, or by the count of one of them, where the counts are moved before
+//!   (`bound_of` of specs/Bounds.antt). The law [`loops_stay_within_counts`] says that such a loop goes past the count of neither table;
 //! - [`qualifiers_needed`] answers the least number of qualifiers with which a name names one entry of both records alone (`IsNeeded` of
 //!   specs/Naming.antt);
 //! - [`counter_name`] answers a name for the counter of a loop that no entry of both records has (`IsCounterName` of specs/Counters.antt), and the law
@@ -23,10 +25,11 @@
 //!
 //! # Where it is proved
 //!
-//! The clauses of `entries_of`, `partner_of`, `partner_within`, `only_item_beneath`, `objection_to`, `qualifiers_needed` and `counter_name`; the law
-//! `counters_are_apart`.
+//! The clauses of `entries_of`, `partner_of`, `partner_within`, `only_item_beneath`, `objection_to`, `bound_of`, `qualifiers_needed` and `counter_name`; the
+//! laws `counters_are_apart` and `loops_stay_within_counts`.
 #![tactic(auto)]
 
+mod bounds;
 mod counters;
 mod entries;
 mod groups;
@@ -37,8 +40,11 @@ mod partners;
 mod records;
 mod words;
 
+pub use bounds::{
+    CountMove, DraftCounts, LoopBound, TableSize, bound_of, loops_stay_within_counts,
+};
 pub use counters::{counter_name, counters_are_apart};
-pub use entries::{DraftBearer, DraftEntry, GreatestNumbers, entries_of};
+pub use entries::{DraftBearer, DraftEntry, TableSizes, entries_of};
 pub use judge::{Objection, objection_to};
 pub use naming::qualifiers_needed;
 pub use partners::{Partner, only_item_beneath, partner_of, partner_within};

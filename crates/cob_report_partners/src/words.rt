@@ -8,7 +8,11 @@ impl fmt::Display for Objection {
     fn fmt<W: fmt::Write>(&self, f: &mut fmt::Formatter<W>) -> fmt::Result {
         match self {
             Objection::Tables => write!(f, "They stand in tables that are not as many"),
-            Objection::Varies => write!(f, "A table that varies holds one of them"),
+            Objection::Unnamed => {
+                write!(f, "The count of the sender's table has no name of its own")
+            }
+            Objection::Unmoved => write!(f, "The count of its table is not moved"),
+            Objection::Apart => write!(f, "The counts of their tables do not match"),
             Objection::Counts => write!(f, "The table that it counts is not filled"),
             Objection::Refused(Refusal::NotAllowed) => write!(f, "There is no such move"),
             Objection::Refused(Refusal::Literal) => write!(f, "The literal is not as asked"),
