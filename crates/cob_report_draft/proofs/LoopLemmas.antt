@@ -252,7 +252,7 @@ none_inside ls l is = behind 0 ls l ∙ ap (λ (ts : List Turning). loops_along 
 
 -- a table of fixed size ends its loop by a number
 fixed_bound : (counts : DraftCounts) (n : ℕ) (sent count : Option ℕ) → sent ≡ None → count ≡ None → bound_or n (bound_by counts n sent count) ≡ Number n
-fixed_bound counts n sent count no none = rw (no, none) refl
+fixed_bound counts n sent count first second = rw (first, second) refl
 
 -- where no table varies, tables are as their smaller numbers say
 fixed_levels : (counts : DraftCounts) (from to : List TableSize) → AreFixed from → AreFixed to → levels counts from to ≡ map literal (lesser (mosts from) (mosts to))
