@@ -1,6 +1,6 @@
 //! What a conversion does to a record, flow by flow, its single moves and its tests handed out.
 
-ghost use Rattle.std.specs.Prelude.{◌≡◌, ◌<◌, ◌≤◌, ◌∷◌, ℕ, drop, length, IfErr, IfOk, None, Some};
+ghost use Rattle.std.specs.Prelude.{◌≡◌, ◌<◌, ◌≤◌, ◌∷◌, ℕ, drop, length, slice_index_or, IfErr, IfOk, None, Some};
 ghost use Rattle.std.specs.List.{slice_get};
 ghost use Rattle.cob_layout.specs.Storage.{greatest_length};
 ghost use Rattle.cob_move_apply.specs.Applied.{Applied};
@@ -206,6 +206,14 @@ fn walk_turns<W: Watcher>(
     Ok(())
 }
 
+/// The loop with this number.
+fn loop_numbered(deeds: &ReadyDeeds, number: usize) -> &CountedLoop
+    requires within { number < length deeds.now.loops.items }
+    ensures { result.now ≡ slice_index_or deeds.now.loops.items number result.now }
+{
+    &deeds.loops()[number]
+}
+
 /// Those behind so many.
 fn behind(flows: &[Flow], count: usize) -> &[Flow]
     ensures value { result.now ≡ drop count flows.now }
@@ -247,7 +255,8 @@ fn next<'f, W: Watcher>(
             Ok(more)
         }
         Flow::Turns(number) => {
-            walk_turns(walk, &walk.deeds.loops()[number], output, room, watcher)?;
+            let one = loop_numbered(walk.deeds, number);
+            walk_turns(walk, one, output, room, watcher)?;
             Ok(more)
         }
         Flow::Until {

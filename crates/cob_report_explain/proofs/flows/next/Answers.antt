@@ -32,7 +32,7 @@ pub walk_turns-requires-clause-counted : goal.walk_turns-requires-clause-counted
 walk_turns-requires-clause-counted g c =
     let on : FlowSupport = flow_support c.args.walk.now.deeds.now in
     let (l, at, is) = subst (λ (f : Flow). IsFlow on f) c.in-Turns.is c.requires.flow in
-    loop_here on c.in-Turns.number l c.index.result.now at is c.index.ensures
+    loop_here on c.in-Turns.number l c.loop_numbered-one.result.now at is c.loop_numbered-one.ensures
 
 pub returns-in_ok-walk_turns-in-Turns-clause-leaves : goal.returns-in_ok-walk_turns-in-Turns-clause-leaves
 returns-in_ok-walk_turns-in-Turns-clause-leaves g c =
@@ -41,7 +41,7 @@ returns-in_ok-walk_turns-in-Turns-clause-leaves g c =
     let more = c.args.more.now in
     let (l, at, is) = subst (λ (f : Flow). IsFlow on f) c.in-Turns.is c.requires.flow in
     subst (λ (f : Flow). LeavesFlows r on (f ∷ more) more c.args.walk.now.input.now c.args.output.now c.walk_turns.new.output) (sym c.in-Turns.is)
-    (turns_leave r on c.in-Turns.number more c.index.result.now c.args.walk.now.input.now c.args.output.now c.walk_turns.new.output (there on c.in-Turns.number l c.index.result.now at c.index.ensures) c.in_ok-walk_turns-in-Turns.ensures.carried)
+    (turns_leave r on c.in-Turns.number more c.loop_numbered-one.result.now c.args.walk.now.input.now c.args.output.now c.walk_turns.new.output (there on c.in-Turns.number l c.loop_numbered-one.result.now at c.loop_numbered-one.ensures) c.in_ok-walk_turns-in-Turns.ensures.carried)
 
 pub returns-in_err-walk_turns-in-Turns-clause-stops : goal.returns-in_err-walk_turns-in-Turns-clause-stops
 returns-in_err-walk_turns-in-Turns-clause-stops g c =
@@ -51,7 +51,7 @@ returns-in_err-walk_turns-in-Turns-clause-stops g c =
     let (l, at, is) = subst (λ (f : Flow). IsFlow on f) c.in-Turns.is c.requires.flow in
     let p = err_from_is_err_and c.from_residual-in_err-walk_turns-in-Turns.result c.from_residual-in_err-walk_turns-in-Turns.ensures.1 in
     rw (p.1, p.2) (subst (λ (f : Flow). StopsFlows r on (f ∷ more) c.args.walk.now.input.now c.args.output.now (plain_stop c.in_err-walk_turns-in-Turns.field-0.0) c.walk_turns.new.output) (sym c.in-Turns.is)
-    (turns_stop r on c.in-Turns.number more c.index.result.now c.args.walk.now.input.now c.args.output.now c.walk_turns.new.output (plain_stop c.in_err-walk_turns-in-Turns.field-0.0) (there on c.in-Turns.number l c.index.result.now at c.index.ensures) c.in_err-walk_turns-in-Turns.ensures.carried))
+    (turns_stop r on c.in-Turns.number more c.loop_numbered-one.result.now c.args.walk.now.input.now c.args.output.now c.walk_turns.new.output (plain_stop c.in_err-walk_turns-in-Turns.field-0.0) (there on c.in-Turns.number l c.loop_numbered-one.result.now at c.loop_numbered-one.ensures) c.in_err-walk_turns-in-Turns.ensures.carried))
 
 pub returns-in_err-gave-in-Until-clause-stops : goal.returns-in_err-gave-in-Until-clause-stops
 returns-in_err-gave-in-Until-clause-stops g c =
@@ -82,8 +82,14 @@ returns-else-gave-number-clause-leaves g c =
     subst (λ (f : Flow). LeavesFlows r on (f ∷ more) more c.args.walk.now.input.now c.args.output.now c.args.output.now) (sym c.in-Until.is)
     (not_past_leaves r on c.in-Until.bound c.in-Until.number c.in-Until.skip more b c.args.walk.now.input.now c.args.output.now c.in_ok-gave-in-Until.gave at (c.in_ok-gave-in-Until.ensures.says b at) (grind (arith, c.if-gave-number.false)))
 
-pub bound_given-gave-requires-clause-within : goal.bound_given-gave-requires-clause-within
-bound_given-gave-requires-clause-within g c =
+pub bound_given-requires-clause-within : goal.bound_given-requires-clause-within
+bound_given-requires-clause-within g c =
     let on : FlowSupport = flow_support c.args.walk.now.deeds.now in
     let (b, at) = subst (λ (f : Flow). IsFlow on f) c.in-Until.is c.requires.flow in
     slice_get_within on.bounds c.in-Until.bound b at
+
+pub loop_numbered-requires : goal.loop_numbered-requires
+loop_numbered-requires g c =
+    let on : FlowSupport = flow_support c.args.walk.now.deeds.now in
+    let (l, at, is) = subst (λ (f : Flow). IsFlow on f) c.in-Turns.is c.requires.flow in
+    record { within = slice_get_within on.loops c.in-Turns.number l at }

@@ -29,8 +29,8 @@ walk_between-requires-clause-within g c =
     let few = few_turns c.args.one.now.from c.args.one.now.by c.in_ok-gave.gave is.bound.most c.args.one.now.turns is.grows below is.far in
     omega (arith, few, is.marks, c.turns_up_to-turns.ensures)
 
-pub bound_given-gave-requires-clause-within : goal.bound_given-gave-requires-clause-within
-bound_given-gave-requires-clause-within g c =
+pub bound_given-requires-clause-within : goal.bound_given-requires-clause-within
+bound_given-requires-clause-within g c =
     let on : FlowSupport = flow_support c.args.walk.now.deeds.now in
     let is = c.requires.counted in
     slice_get_within on.bounds c.args.one.now.bound is.bound is.at
