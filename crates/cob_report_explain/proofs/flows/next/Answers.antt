@@ -88,8 +88,8 @@ bound_given-requires-clause-within g c =
     let (b, at) = subst (λ (f : Flow). IsFlow on f) c.in-Until.is c.requires.flow in
     slice_get_within on.bounds c.in-Until.bound b at
 
-pub loop_numbered-requires : goal.loop_numbered-requires
-loop_numbered-requires g c =
+pub loop_numbered-one-requires : goal.loop_numbered-one-requires
+loop_numbered-one-requires g c =
     let on : FlowSupport = flow_support c.args.walk.now.deeds.now in
     let (l, at, is) = subst (λ (f : Flow). IsFlow on f) c.in-Turns.is c.requires.flow in
     record { within = slice_get_within on.loops c.in-Turns.number l at }
