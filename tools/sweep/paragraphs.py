@@ -7,7 +7,8 @@ from .books import MOST_BYTES, MOST_DIGITS, MOST_LITERAL
 from .entries import Constant, number_of
 from .faults import Refused
 from .layouts import Ref
-from .statements import MOST_WRITTEN_OUT, Loop, Named, count_of, ends_by_item, in_turn, named_in_turn, numbers_of, statements_of
+from .statements import (
+    MOST_WRITTEN_OUT, Broken, Loop, Named, Statement, count_of, ends_by_item, in_turn, named_in_turn, numbers_of, statements_of)
 from .trees import above, bears, dimensions, size_of
 
 # A single statement: one sender and its receivers, each a reference; the sender's side and theirs.
@@ -42,8 +43,12 @@ class Paragraph:
         """What is carried out of statements in order, where the counters round them have these numbers; those of a loop once for each turn."""
         found = []
         for item in block:
-            if not isinstance(item, Loop):
+            if isinstance(item, Broken):
+                raise item.fault
+            if isinstance(item, Statement):
                 found += self.statement(in_turn(item, numbers))
+            elif not isinstance(item, Loop):
+                continue
             elif isinstance(item.bound, Named):
                 found.append(self.tested(item, numbers))
             elif self.is_tested or count_of(item.body):

@@ -16,6 +16,9 @@ Named = namedtuple("Named", "name qualifiers subscripts")
 Counted = namedtuple("Counted", "counter added")
 # A MOVE: its line, whether it is CORRESPONDING, the sender and the receivers.
 Statement = namedtuple("Statement", "line together sender receivers")
+# Words that are only looked over, and what is wrong with words of MOVE statements.
+Skipped = namedtuple("Skipped", "words")
+Broken = namedtuple("Broken", "fault words")
 # A loop: its line, its counter, the first number and how much is added, the number or the item that it ends by, and its statements.
 Loop = namedtuple("Loop", "line counter first step bound body")
 
@@ -128,8 +131,22 @@ class Statements(Words):
 
     def passed_over(self):
         """Words of MOVE statements of which only the beginning is looked at."""
+        found = []
         while self.words and self.next() not in LOOP_WORDS:
-            self.take()
+            found.append(self.take())
+        return Skipped(found)
+
+    def moves(self):
+        """MOVE statements up to a word of loops, or what is wrong with them."""
+        found, words = [], list(self.words)
+        try:
+            while self.words and self.next() not in LOOP_WORDS:
+                self.line = self.words[0].line
+                found.append(self.move())
+        except Refused as fault:
+            self.passed_over()
+            return [Broken(fault, words[:len(words) - len(self.words)])]
+        return found
 
     def block(self, has_turns):
         """The statements up to the end of their loop, or of the paragraph; of those in a loop of no turn only the beginnings are looked at."""
@@ -143,9 +160,9 @@ class Statements(Words):
             elif self.next() != "MOVE":
                 self.refuse("M1")
             elif has_turns:
-                found.append(self.move())
+                found += self.moves()
             else:
-                self.passed_over()
+                found.append(self.passed_over())
         return found
 
     def loop(self, has_turns):
@@ -195,7 +212,7 @@ class Statements(Words):
             self.take_if("IS")
             self.expect("GREATER")
             self.take_if("THAN")
-        return counter, first, step, tested, self.named() if self.is_name_here() else self.number()
+        return counter, first, step, tested, self.named() if self.is_name_here() and self.next() != "THAN" else self.number()
 
     def counter(self):
         if not is_name(self.next()) or self.next() in LOOP_WORDS:
@@ -221,9 +238,20 @@ def statements_of(text, entries):
     found = reader.block(True)
     if any(ends_by_item(item) for item in found):
         check_bounds(found)
-    elif sum(count_of([item]) for item in found if isinstance(item, Loop)) > MOST_WRITTEN_OUT:
+    else:
+        check_grammar(found)
+    if sum(count_of([item]) for item in found if isinstance(item, Loop)) > MOST_WRITTEN_OUT:
         raise Refused("M12", reader.first_loop)
     return found, reader.first_loop
+
+
+def check_grammar(block):
+    """Where all loops end by numbers, what is wrong with words is told before what statements mean."""
+    for item in block:
+        if isinstance(item, Broken):
+            raise item.fault
+        if isinstance(item, Loop):
+            check_grammar(item.body)
 
 
 def numbers_of(loop):
@@ -232,8 +260,12 @@ def numbers_of(loop):
 
 
 def count_of(block):
-    """How many MOVE statements are carried out, where all loops end by numbers."""
-    return sum(len(numbers_of(item)) * count_of(item.body) if isinstance(item, Loop) else 1 for item in block)
+    """How many MOVE statements are carried out at least: a loop to an item has a turn."""
+    return sum(turns_of(item) * count_of(item.body) if isinstance(item, Loop) else isinstance(item, Statement) for item in block)
+
+
+def turns_of(loop):
+    return 1 if isinstance(loop.bound, Named) else len(numbers_of(loop))
 
 
 def ends_by_item(item):
@@ -253,14 +285,26 @@ def check_bounds(block):
 def is_subscript(counter, block):
     """Whether a counter is a subscript in statements, or in what a loop among them ends by. A loop of no turn has none."""
     for item in block:
+        if isinstance(item, (Broken, Skipped)) and is_within_brackets(counter, item.words):
+            return True
+        places = []
         if isinstance(item, Statement):
             places = [item.sender, *item.receivers]
-        else:
+        elif isinstance(item, Loop):
             places = [item.bound]
-            if (isinstance(item.bound, Named) or len(numbers_of(item))) and is_subscript(counter, item.body):
+            if turns_of(item) and is_subscript(counter, item.body):
                 return True
         if any(isinstance(s, Counted) and s.counter == counter for place in places if isinstance(place, Named) for s in place.subscripts):
             return True
+    return False
+
+
+def is_within_brackets(name, words):
+    inside = False
+    for word in words:
+        if inside and word.text == name:
+            return True
+        inside = word.text == "(" or inside and word.text != ")"
     return False
 
 
