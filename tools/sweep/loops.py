@@ -3,6 +3,8 @@
 from .draw import Draw, rows_of, value
 
 MARGIN = "           "
+# Items of the input record that loops end by, and two that none may end by.
+BOUNDS = ["05  BI PIC 9(3).", "05  BP PIC S9(3) COMP-3.", "05  BE PIC 9 OCCURS 3.", "05  BF PIC 9V9.", "05  BX PIC X."]
 # Receivers of a counter, and of a group.
 COUNTED = ("PIC 9(3)", "PIC X(4)", "PIC ZZ9", "PIC S9(5) COMP-3", "PIC 9(4) COMP", "PIC X(3) JUST", "PIC $$$9.99", "PIC 9")
 TESTS = ((">",), ("GREATER",), ("GREATER", "THAN"), ("IS", "GREATER"), ("IS", "GREATER", "THAN"))
@@ -11,6 +13,9 @@ COUNTERS = ("I", "J", "K", "L", "THE-COUNTER", "FROM", "UNTIL", "N_1", "VARYING"
 NO_NUMBERS = ("0", "000", "1234567890", "-1", "+1", "1.5", "I", "ONE", "(1)", '"1"', "1.")
 NO_TESTS = ("<", ">=", "=", "IS >", "NOT <", "GREATER OR EQUAL", "THAN", "> THAN", "EXCEEDS", "")
 NO_SUMS = ("%s+1", "%s +1", "%s+ 1", "1 + %s", "%s * 2", "%s + 1234567890", "%s +", "+ %s", "%s - -1", "%s + 1 + 1", "%s + %s", "%s ( 1 )", "- 1")
+# What is written in the place of the item that a loop ends by, some of it none.
+NO_ITEMS = (("BF",), ("BX",), ("BE",), ("BE", "(", "4", ")"), ("BE", "(", "0", ")"), ("BI", "OF", "OUT-REC"), ("BI", "(", "1", ")"), ("IN-REC",), ("NO-ENTRY",),
+            ("BI", "BP"), ("BI", "OF"), ("BI", "THAN"), ("BO", "OF", "BO"), ("MOVE",), ("BE", "(", "I", ")"), ("BE", "(", "J", "+", "1", ")"), ("CT1",), ("BR",))
 STRAY = ("FOO", "5", '"A"', "TO", "MOVED", "END-IF", "( 1 )", "IF A1")
 
 
@@ -26,11 +31,11 @@ class Loop:
 
     def __init__(self, counter, first, step, last, test, body):
         self.counter, self.tested, self.test, self.body = counter, counter, test, body
-        self.first, self.step, self.last = str(first), str(step), str(last)
+        self.first, self.step, self.last = str(first), str(step), last if isinstance(last, list) else [str(last)]
         self.front, self.end = ("PERFORM", "VARYING"), "END-PERFORM"
 
     def head(self):
-        return [*self.front, self.counter, "FROM", self.first, "BY", self.step, "UNTIL", self.tested, *self.test, self.last]
+        return [*self.front, self.counter, "FROM", self.first, "BY", self.step, "UNTIL", self.tested, *self.test, *self.last]
 
 
 class Table:
@@ -47,26 +52,47 @@ class Table:
         self.rows = [items[draw.below(len(items))] for _ in range(1 + draw.below(3))]
         self.received = [row.receivers[draw.below(len(row.receivers))] for row in self.rows]
         self.counted, self.turned = COUNTED[draw.below(len(COUNTED))], draw.below(2) == 0
+        # whether the outermost table of the input, and of the output, varies
+        self.varies = [draw.below(3) == 0, draw.below(4) == 0]
 
     def sending(self):
-        return self.groups("G", self.sizes, list(range(len(self.sizes))), [row.clauses for row in self.rows])
+        return self.groups(0, self.sizes, list(range(len(self.sizes))), [row.clauses for row in self.rows])
 
     def receiving(self):
         lines = [self.item("H", n, clauses) for n, clauses in enumerate(self.received)] + ["20  NO%d %s." % (self.number, self.counted)]
-        return self.groups("H", self.others, self.order, None)[:len(self.sizes)] + (lines[::-1] if self.turned else lines)
+        return self.groups(1, self.others, self.order, None)[:len(self.sizes)] + (lines[::-1] if self.turned else lines)
 
     def item(self, letter, number, clauses):
         return "20  A%d%d %s." % (self.number, number, clauses)
 
-    def groups(self, letter, sizes, order, clauses):
+    def groups(self, side, sizes, order, clauses):
         """The lines of groups in one another, each a table, and of the items in the innermost."""
-        lines = ["%02d  %s%d%d OCCURS %d." % (5 + place, letter, self.number, dimension, sizes[dimension]) for place, dimension in enumerate(order)]
+        letter = "GH"[side]
+        lines = []
+        for place, dimension in enumerate(order):
+            least, count = ("0 TO ", " DEPENDING ON CT%d" % self.number) if self.varies[side] and place == 0 else ("", "")
+            lines.append("%02d  %s%d%d OCCURS %s%d%s." % (5 + place, letter, self.number, dimension, least, sizes[dimension], count))
         return lines + [self.item(letter, n, text) for n, text in enumerate(clauses or [])]
 
-    def data(self, draw):
-        """The bytes of its elements."""
-        content, count = b"", 1
+    def counts(self, side):
+        """The line of its count, where it varies."""
+        return ["05  CT%d PIC 9(2)%s." % (self.number, " VALUE 2" if side else "")] if self.varies[side] else []
+
+    def drawn_count(self, draw):
+        """How many elements its outermost table has in a record."""
+        return draw.below(self.sizes[0] + 1) if self.varies[0] else self.sizes[0]
+
+    def length(self):
+        """How many bytes its elements have where it has its greatest number of them."""
+        own = sum(len(row.halves) // 2 for row in self.rows)
         for size in self.sizes:
+            own *= size
+        return own
+
+    def data(self, draw, count):
+        """The bytes of its elements, of the outermost table so many."""
+        content = b""
+        for size in self.sizes[1:]:
             count *= size
         for _ in range(count):
             content += b"".join(value(draw, row.halves, 1) for row in self.rows)
@@ -76,8 +102,8 @@ class Table:
 class Sketch:
     """The statements of a table, with loops for some of its dimensions."""
 
-    def __init__(self, draw, table, counters):
-        self.draw, self.table = draw, table
+    def __init__(self, draw, table, counters, records):
+        self.draw, self.table, self.records = draw, table, records
         depth = len(table.sizes)
         self.loops, self.places = [], []
         for dimension in range(depth):
@@ -97,8 +123,19 @@ class Sketch:
         bound = last - (last - first) % step + draw.below(step) if draw.below(2) else last
         if draw.below(12) == 0:
             first, bound = bound + 1 + draw.below(3), bound
+        if draw.below(3) == 0:
+            bound = self.item()
         self.loops.append([counters.pop(), first, step, bound])
         return tuple(self.sum(self.loops[-1][0], plus) for plus in added)
+
+    def item(self):
+        """The words of an item that a loop ends by."""
+        draw, table = self.draw, self.table
+        found = [["CT%d" % table.number, "OF", self.records[side]] for side in (0, 1) if table.varies[side]]
+        found += [["BI"], ["BI", "OF", self.records[0]], ["BP"], ["BO"]]
+        outer = [loop[0] for loop in self.loops] or ["1"]
+        found += [["BE", "(", outer[draw.below(len(outer))], ")"], ["BE", "(", str(1 + draw.below(3)), ")"]]
+        return found[draw.below(len(found))]
 
     def sum(self, counter, plus):
         if plus == 0:
@@ -144,10 +181,11 @@ class Sketch:
     def statements(self):
         """All statements, in their loops."""
         draw, found = self.draw, self.moves()
-        for counter, first, step, bound in self.loops[::-1] if draw.below(2) else self.loops:
+        # (the bound of a loop may have the counters of those before it as subscripts)
+        for counter, first, step, bound in self.loops[::-1] if draw.below(4) else self.loops:
             if draw.below(8) == 0:
                 found.insert(draw.below(len(found) + 1), Move("CONTINUE"))
-            if first > bound and draw.below(2):
+            if not isinstance(bound, list) and first > bound and draw.below(2):
                 found = [Move("MOVE", "ANYTHING", "(", "THAT", "5", "STANDS", counter)] + found
             zeros = "0" * draw.below(3) if draw.below(5) == 0 else ""
             found = [Loop(counter, zeros + str(first), step, bound, TESTS[draw.below(len(TESTS))], found)]
@@ -181,7 +219,8 @@ class Spoiler:
 
     def head(self):
         loop, _ = self.one_of(self.loops)
-        setattr(loop, self.one_of(("first", "step", "last", "counter", "tested")), self.one_of(NO_NUMBERS))
+        name, words = self.one_of(("first", "step", "last", "counter", "tested")), self.one_of(NO_NUMBERS)
+        setattr(loop, name, [words] if name == "last" else words)
 
     def test(self):
         self.one_of(self.loops)[0].test = self.one_of(NO_TESTS).split()
@@ -226,7 +265,10 @@ class Spoiler:
 
     def bound(self):
         loop, _ = self.one_of(self.loops)
-        loop.last = str(int(loop.last) + 1 + self.draw.below(3))
+        if loop.last[0].isdigit():
+            loop.last = [str(int(loop.last[0]) + 1 + self.draw.below(3))]
+        else:
+            loop.last = list(self.one_of(NO_ITEMS))
 
     def shift(self):
         """A number more behind a counter."""
@@ -343,12 +385,15 @@ class LoopJob:
         self.heads = [draw.below(4) != 0, draw.below(4) != 0]
         self.names = [name if has else name + "ORD" for name, has in zip(("IN-REC", "OUT-REC"), self.heads)]
         tables = [Table(draw, n + 1, items) for n in range(1 + draw.below(2))]
-        self.books = [self.book(side, [line for table in tables for line in (table.receiving() if side else table.sending())]) for side in (0, 1)]
-        self.block = []
+        self.books = [self.book(side, tables) for side in (0, 1)]
+        self.block = [Move("MOVE", "CT%d" % table.number, "OF", self.names[0], "TO", "CT%d" % table.number, "OF", self.names[1])
+                      for table in tables if all(table.varies) and draw.below(8)]
+        if draw.below(4) == 0:
+            self.block.append(Move("MOVE", "BI", "TO", "BO"))
         for table in tables:
             for _ in range(1 + draw.below(2)):
                 counters = [COUNTERS[(draw.below(3) + n) % len(COUNTERS)] for n in range(0, 9, 3)]
-                self.block += Sketch(draw, table, counters).statements()
+                self.block += Sketch(draw, table, counters, self.names).statements()
         self.is_spoiled = draw.below(3) == 0
         if self.is_spoiled:
             Spoiler(draw, self).spoil()
@@ -357,14 +402,28 @@ class LoopJob:
             writer.words([("CONVERT", "A-NAME", "PERFORMED")[draw.below(3)], "."])
         writer.block(self.block, True)
         self.moves = writer.text()
-        self.data = b"".join(b"".join(table.data(draw) for table in tables) for _ in range(1 + draw.below(2)))
+        self.data = b"".join(self.record(draw, tables) for _ in range(1 + draw.below(2)))
         if draw.below(6) == 0:
             place = draw.below(len(self.data))
             self.data = self.data[:place] + bytes([draw.below(256)]) + self.data[place + 1:]
 
-    def book(self, side, lines):
+    def book(self, side, tables):
+        """A copybook: counts and items that loops end by, and then the tables."""
         head = ["01  %s." % self.names[side]] if self.heads[side] else []
-        return "".join("       %s\n" % line for line in head + lines + ["    88  COND VALUE 1."])
+        counts = [line for table in tables for line in table.counts(side)]
+        bounds = ["05  BO PIC S9(4) COMP VALUE 2."] if side else BOUNDS
+        lines = [line for table in tables for line in (table.receiving() if side else table.sending())]
+        return "".join("       %s\n" % line for line in head + counts + bounds + lines + ["    88  COND VALUE 1."])
+
+    def record(self, draw, tables):
+        """The bytes of a record. What a table lacks stands behind all of them."""
+        counts = [table.drawn_count(draw) for table in tables]
+        content = b"".join(b"%c%c" % (0xF0 + count // 10, 0xF0 + count % 10) for table, count in zip(tables, counts) if table.varies[0])
+        content += bytes([0xF0, 0xF0, 0xF0 + draw.below(5)]) + bytes([0, 16 * draw.below(5) + 0x0C + draw.below(10) // 9])
+        content += bytes(0xF0 + draw.below(4) for _ in range(3)) + b"\xF1\xF0\xF1"
+        content += b"".join(table.data(draw, count) for table, count in zip(tables, counts))
+        most = sum(table.length() for table in tables) + sum(2 for table in tables if table.varies[0]) + 11
+        return content.ljust(most, b"\x40")
 
     def text(self):
         """The job as one text."""

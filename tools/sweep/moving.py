@@ -4,6 +4,7 @@ from .editing import edited, value_of_text
 from .entries import Constant, number_of
 from .faults import NoValue, Stop
 from .layouts import element, elements, offset, place
+from .paragraphs import Tested
 from .storage import SPACE, encoded, number, store_number, value_of
 from .trees import above, size_of
 
@@ -108,6 +109,27 @@ class Record:
 
     def __init__(self, books, source, target):
         self.books, self.bytes = books, {"in": source, "out": target}
+
+    def carry_out(self, deeds):
+        """Carries out moves, and loops to items: each turn behind a test of its number, and a test behind the last one."""
+        for deed in deeds:
+            if isinstance(deed, Tested):
+                for number, own in deed.turns:
+                    if number > self.bound(deed):
+                        break
+                    self.carry_out(own)
+                else:
+                    self.bound(deed)
+            else:
+                self.move(deed)
+
+    def bound(self, tested):
+        """The number that the item of a loop holds."""
+        start, length = place(self.books[tested.side], tested.bound, self.bytes[tested.side], tested.side, False)
+        value = value_of(tested.bound.entry, bytes(self.bytes[tested.side][start:start + length]))
+        if value is None or value.negative or value.units > tested.most:
+            raise Stop(tested.side, start, "Count")
+        return value.units
 
     def move(self, move):
         """Carries out one move."""

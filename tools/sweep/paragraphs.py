@@ -3,15 +3,19 @@
 import re
 from collections import namedtuple
 
-from .books import MOST_DIGITS, MOST_LITERAL
+from .books import MOST_BYTES, MOST_DIGITS, MOST_LITERAL
 from .entries import Constant, number_of
 from .faults import Refused
 from .layouts import Ref
-from .statements import Named, statements_of, turn_by_turn
+from .statements import (
+    MOST_WRITTEN_OUT, Broken, Loop, Named, Statement, count_of, ends_by_item, in_turn, named_in_turn, numbers_of, statements_of)
 from .trees import above, bears, dimensions, size_of
 
 # A single statement: one sender and its receivers, each a reference; the sender's side and theirs.
 Move = namedtuple("Move", "side sender receivers")
+# A loop to an item: the item's side and the reference to it, the greatest number that it may hold, and of each turn its number and what is carried out. Behind
+# the last one stands the number that the counter has then.
+Tested = namedtuple("Tested", "side bound most turns behind")
 
 # Which categories of receivers an elementary sender of a category may be moved to.
 CHARACTERS = {"alphabetic", "alphanumeric", "alphanumeric-edited"}
@@ -30,10 +34,61 @@ class Paragraph:
         for side, book in (("in", source), ("out", target)):
             for entry in book.entries:
                 self.bearers.setdefault(entry.name, []).append((side, entry))
-        self.moves = []
-        for statement in turn_by_turn(statements_of(text, self.bearers), {}):
-            self.line, sender, receivers = statement.line, statement.sender, statement.receivers
-            self.moves += self.corresponding(sender, receivers[0]) if statement.together else [self.single(sender, receivers)]
+        block, self.first_loop = statements_of(text, self.bearers)
+        self.is_tested, self.count = any(map(ends_by_item, block)), 0
+        self.deeds = self.block(block, {})
+        self.moves = list(all_moves(self.deeds))
+
+    def block(self, block, numbers):
+        """What is carried out of statements in order, where the counters round them have these numbers; those of a loop once for each turn."""
+        found = []
+        for item in block:
+            if isinstance(item, Broken):
+                raise item.fault
+            if isinstance(item, Statement):
+                found += self.statement(in_turn(item, numbers))
+            elif not isinstance(item, Loop):
+                continue
+            elif isinstance(item.bound, Named):
+                found.append(self.tested(item, numbers))
+            elif self.is_tested or count_of(item.body):
+                for number in numbers_of(item):
+                    found += self.block(item.body, {**numbers, item.counter: number})
+        return found
+
+    def statement(self, statement):
+        """The moves of a statement."""
+        self.line, sender, receivers = statement.line, statement.sender, statement.receivers
+        self.count += 1
+        if self.is_tested and self.count > MOST_WRITTEN_OUT:
+            raise TooMany("M12", self.first_loop)
+        return self.corresponding(sender, receivers[0]) if statement.together else [self.single(sender, receivers)]
+
+    def tested(self, loop, numbers):
+        """A loop to an item: the turns up to the greatest number whose turn is legal. The first one has to be."""
+        self.line = loop.line
+        side, bound = self.reference(named_in_turn(loop.bound, numbers))
+        if bound.entry.category != "numeric" or bound.entry.picture.scale != 0:
+            self.refuse("M11")
+        turns, number = [], loop.first
+        while True:
+            before = self.count
+            try:
+                deeds = self.block(loop.body, {**numbers, loop.counter: number})
+            except TooMany:
+                raise
+            except Refused:
+                if number == loop.first:
+                    raise
+                self.count = before
+                return Tested(side, bound, number - 1, turns, loop.first + len(turns) * loop.step)
+            if (number - loop.first) % loop.step == 0:
+                turns.append((number, deeds))
+            else:
+                self.count = before
+            number += 1
+            if number > loop.first + MOST_BYTES:
+                raise Refused("M11", loop.line)
 
     def refuse(self, rule):
         raise Refused(rule, self.line)
@@ -84,6 +139,20 @@ class Paragraph:
             self.check(Ref(one, []), two)
             moves.append(Move(side, Ref(one, sent.subscripts), [Ref(two, to.subscripts)]))
         return moves
+
+
+class TooMany(Refused):
+    """The turns of loops come to too many statements."""
+
+
+def all_moves(deeds):
+    """The moves of all turns, in their order."""
+    for deed in deeds:
+        if isinstance(deed, Tested):
+            for _, own in deed.turns:
+                yield from all_moves(own)
+        else:
+            yield deed
 
 
 def is_whole(item):

@@ -76,8 +76,7 @@ class Conversion:
             try:
                 record, data = next_record(self.books["in"], self.in_form, data)
                 both = Record(self.books, record, bytearray(image))
-                for move in self.paragraph.moves:
-                    both.move(move)
+                both.carry_out(self.paragraph.deeds)
                 written += framed(self.books["out"], self.out_form, both.bytes["out"])
             except Stop as stop:
                 return written, count, stop

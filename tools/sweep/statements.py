@@ -16,8 +16,11 @@ Named = namedtuple("Named", "name qualifiers subscripts")
 Counted = namedtuple("Counted", "counter added")
 # A MOVE: its line, whether it is CORRESPONDING, the sender and the receivers.
 Statement = namedtuple("Statement", "line together sender receivers")
-# A loop: its counter, the numbers that it takes, and its statements.
-Loop = namedtuple("Loop", "counter numbers body")
+# Words that are only looked over, and what is wrong with words of MOVE statements.
+Skipped = namedtuple("Skipped", "words")
+Broken = namedtuple("Broken", "fault words")
+# A loop: its line, its counter, the first number and how much is added, the number or the item that it ends by, and its statements.
+Loop = namedtuple("Loop", "line counter first step bound body")
 
 
 class Words:
@@ -128,8 +131,22 @@ class Statements(Words):
 
     def passed_over(self):
         """Words of MOVE statements of which only the beginning is looked at."""
+        found = []
         while self.words and self.next() not in LOOP_WORDS:
-            self.take()
+            found.append(self.take())
+        return Skipped(found)
+
+    def moves(self):
+        """MOVE statements up to a word of loops, or what is wrong with them."""
+        found, words = [], list(self.words)
+        try:
+            while self.words and self.next() not in LOOP_WORDS:
+                self.line = self.words[0].line
+                found.append(self.move())
+        except Refused as fault:
+            self.passed_over()
+            return [Broken(fault, words[:len(words) - len(self.words)])]
+        return found
 
     def block(self, has_turns):
         """The statements up to the end of their loop, or of the paragraph; of those in a loop of no turn only the beginnings are looked at."""
@@ -143,18 +160,19 @@ class Statements(Words):
             elif self.next() != "MOVE":
                 self.refuse("M1")
             elif has_turns:
-                found.append(self.move())
+                found += self.moves()
             else:
-                self.passed_over()
+                found.append(self.passed_over())
         return found
 
     def loop(self, has_turns):
         """A loop with the periods behind it."""
-        self.first_loop = self.first_loop or self.line
+        line = self.line
+        self.first_loop = self.first_loop or line
         if not self.counters:
             self.check_ends()
         self.expect("PERFORM")
-        counter, numbers, tested = self.head()
+        counter, first, step, tested, bound = self.head()
         if len(self.counters) == MOST_OPEN:
             raise Refused("M12", self.first_loop)
         if self.next() == "END-PERFORM":
@@ -162,11 +180,11 @@ class Statements(Words):
         if tested != counter or counter in self.counters or counter in self.entries:
             self.refuse("M11")
         self.counters.append(counter)
-        body = self.block(has_turns and len(numbers) > 0)
+        body = self.block(has_turns and (isinstance(bound, Named) or first <= bound))
         self.counters.pop()
         self.expect("END-PERFORM")
         self.stops()
-        return Loop(counter, numbers, body)
+        return Loop(line, counter, first, step, bound, body)
 
     def check_ends(self):
         """A loop at the top has its END-PERFORM, as those within have, and no period stands before it."""
@@ -181,7 +199,7 @@ class Statements(Words):
         self.refuse("M1")
 
     def head(self):
-        """What stands before the statements of a loop: the counter, the numbers that it takes, and the name that is tested."""
+        """What stands before the statements of a loop: the counter, its first number, what is added, the name that is tested, and what it ends by."""
         self.expect("VARYING")
         counter = self.counter()
         self.expect("FROM")
@@ -194,7 +212,7 @@ class Statements(Words):
             self.take_if("IS")
             self.expect("GREATER")
             self.take_if("THAN")
-        return counter, range(first, self.number() + 1, step), tested
+        return counter, first, step, tested, self.named() if self.is_name_here() and self.next() != "THAN" else self.number()
 
     def counter(self):
         if not is_name(self.next()) or self.next() in LOOP_WORDS:
@@ -218,35 +236,89 @@ def statements_of(text, entries):
         raise Refused("M1", 1)
     Statements(reader.words, entries).block(False)
     found = reader.block(True)
+    if any(ends_by_item(item) for item in found):
+        check_bounds(found)
+    else:
+        check_grammar(found)
     if sum(count_of([item]) for item in found if isinstance(item, Loop)) > MOST_WRITTEN_OUT:
         raise Refused("M12", reader.first_loop)
-    return found
+    return found, reader.first_loop
+
+
+def check_grammar(block):
+    """Where all loops end by numbers, what is wrong with words is told before what statements mean."""
+    for item in block:
+        if isinstance(item, Broken):
+            raise item.fault
+        if isinstance(item, Loop):
+            check_grammar(item.body)
+
+
+def numbers_of(loop):
+    """The numbers that the counter of a loop to a number takes."""
+    return range(loop.first, loop.bound + 1, loop.step)
 
 
 def count_of(block):
-    """How many MOVE statements are carried out."""
-    return sum(len(item.numbers) * count_of(item.body) if isinstance(item, Loop) else 1 for item in block)
+    """How many MOVE statements are carried out at least: a loop to an item has a turn."""
+    return sum(turns_of(item) * count_of(item.body) if isinstance(item, Loop) else isinstance(item, Statement) for item in block)
 
 
-def turn_by_turn(block, numbers):
-    """The MOVE statements of a block in their order, where the counters round it have these numbers; those of a loop once for each turn."""
+def turns_of(loop):
+    return 1 if isinstance(loop.bound, Named) else len(numbers_of(loop))
+
+
+def ends_by_item(item):
+    """Whether a statement is a loop that ends by an item, or has one within."""
+    return isinstance(item, Loop) and (isinstance(item.bound, Named) or any(map(ends_by_item, item.body)))
+
+
+def check_bounds(block):
+    """Each loop to an item has its counter as a subscript."""
     for item in block:
+        if isinstance(item, Loop):
+            if isinstance(item.bound, Named) and not is_subscript(item.counter, item.body):
+                raise Refused("M11", item.line)
+            check_bounds(item.body)
+
+
+def is_subscript(counter, block):
+    """Whether a counter is a subscript in statements, or in what a loop among them ends by. A loop of no turn has none."""
+    for item in block:
+        if isinstance(item, (Broken, Skipped)) and is_within_brackets(counter, item.words):
+            return True
+        places = []
         if isinstance(item, Statement):
-            yield in_turn(item, numbers)
-        elif count_of(item.body):
-            for number in item.numbers:
-                yield from turn_by_turn(item.body, {**numbers, item.counter: number})
+            places = [item.sender, *item.receivers]
+        elif isinstance(item, Loop):
+            places = [item.bound]
+            if turns_of(item) and is_subscript(counter, item.body):
+                return True
+        if any(isinstance(s, Counted) and s.counter == counter for place in places if isinstance(place, Named) for s in place.subscripts):
+            return True
+    return False
+
+
+def is_within_brackets(name, words):
+    inside = False
+    for word in words:
+        if inside and word.text == name:
+            return True
+        inside = word.text == "(" or inside and word.text != ")"
+    return False
+
+
+def named_in_turn(reference, numbers):
+    """A reference with the number of each counter in its place."""
+    digits = [str(max(0, numbers[s.counter] + s.added)) if isinstance(s, Counted) else s for s in reference.subscripts]
+    return Named(reference.name, reference.qualifiers, digits)
 
 
 def in_turn(statement, numbers):
     """A statement with the number of each counter in its place."""
-    def named(reference):
-        digits = [str(max(0, numbers[s.counter] + s.added)) if isinstance(s, Counted) else s for s in reference.subscripts]
-        return Named(reference.name, reference.qualifiers, digits)
-
     sender = statement.sender
     if isinstance(sender, Counted):
         sender = Constant("number", str(numbers[sender.counter]), None)
     elif isinstance(sender, Named):
-        sender = named(sender)
-    return Statement(statement.line, statement.together, sender, [named(receiver) for receiver in statement.receivers])
+        sender = named_in_turn(sender, numbers)
+    return Statement(statement.line, statement.together, sender, [named_in_turn(receiver, numbers) for receiver in statement.receivers])
