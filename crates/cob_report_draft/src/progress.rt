@@ -129,15 +129,24 @@ impl<'s, 'a> DraftProgress<'s, 'a> {
         Ok(())
     }
 
+    /// What is against the move of a pair, so far.
+    fn objection_of(
+        &self,
+        records: &Records<'_>,
+        pair: &PartnerPair<'_, '_>,
+    ) -> Result<Option<Objection>, AllocError> {
+        let (sending, receiving) = (pair.from, pair.to);
+        let counts = self.counts.so_far(records);
+        objection_to(self.alloc, counts, &sending.entry, &receiving.entry)
+    }
+
     /// Adds the statement of a pair, or a comment where something is against it, and answers what that is.
     pub(crate) fn push_pair(
         &mut self,
         records: &'s Records<'a>,
         pair: &PartnerPair<'s, 'a>,
     ) -> Result<Option<Objection>, AllocError> {
-        let (sending, receiving) = (pair.from, pair.to);
-        let counts = self.counts.so_far(records);
-        match objection_to(self.alloc, counts, &sending.entry, &receiving.entry)? {
+        match self.objection_of(records, pair)? {
             Some(objection) => {
                 if matches!(objection, Objection::Counts) {
                     self.counts.note_move(pair)?;
@@ -147,7 +156,7 @@ impl<'s, 'a> DraftProgress<'s, 'a> {
                     pair: *pair,
                     objection,
                 };
-                self.push_piece(receiving, Saying::Objection(reason))?;
+                self.push_piece(pair.to, Saying::Objection(reason))?;
                 Ok(Some(objection))
             }
             None => {
