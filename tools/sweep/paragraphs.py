@@ -8,7 +8,7 @@ from .entries import Constant, number_of
 from .faults import Refused
 from .layouts import Ref
 from .statements import (
-    MOST_WRITTEN_OUT, Broken, Loop, Named, Statement, count_of, ends_by_item, in_turn, named_in_turn, numbers_of, statements_of)
+    MOST_WRITTEN_OUT, Bound, Broken, Loop, Named, Statement, bound_in_turn, count_of, ends_by_item, in_turn, numbers_of, statements_of)
 from .trees import above, bears, dimensions, size_of
 
 # A single statement: one sender and its receivers, each a reference; the sender's side and theirs.
@@ -49,7 +49,7 @@ class Paragraph:
                 found += self.statement(in_turn(item, numbers))
             elif not isinstance(item, Loop):
                 continue
-            elif isinstance(item.bound, Named):
+            elif isinstance(item.bound, Bound):
                 found.append(self.tested(item, numbers))
             elif self.is_tested or count_of(item.body):
                 for number in numbers_of(item):
@@ -67,7 +67,7 @@ class Paragraph:
     def tested(self, loop, numbers):
         """A loop to an item: the turns up to the greatest number whose turn is legal. The first one has to be."""
         self.line = loop.line
-        side, bound = self.reference(named_in_turn(loop.bound, numbers))
+        side, bound = self.reference(bound_in_turn(loop, numbers, self.bearers))
         if bound.entry.category != "numeric" or bound.entry.picture.scale != 0:
             self.refuse("M11")
         turns, number = [], loop.first

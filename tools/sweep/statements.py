@@ -16,6 +16,8 @@ Named = namedtuple("Named", "name qualifiers subscripts")
 Counted = namedtuple("Counted", "counter added")
 # A MOVE: its line, whether it is CORRESPONDING, the sender and the receivers.
 Statement = namedtuple("Statement", "line together sender receivers")
+# The words of an item that a loop ends by.
+Bound = namedtuple("Bound", "words")
 # Words that are only looked over, and what is wrong with words of MOVE statements.
 Skipped = namedtuple("Skipped", "words")
 Broken = namedtuple("Broken", "fault words")
@@ -180,7 +182,7 @@ class Statements(Words):
         if tested != counter or counter in self.counters or counter in self.entries:
             self.refuse("M11")
         self.counters.append(counter)
-        body = self.block(has_turns and (isinstance(bound, Named) or first <= bound))
+        body = self.block(has_turns and (isinstance(bound, Bound) or first <= bound))
         self.counters.pop()
         self.expect("END-PERFORM")
         self.stops()
@@ -212,7 +214,15 @@ class Statements(Words):
             self.take_if("IS")
             self.expect("GREATER")
             self.take_if("THAN")
-        return counter, first, step, tested, self.named() if self.is_name_here() and self.next() != "THAN" else self.number()
+        return counter, first, step, tested, self.bound() or self.number()
+
+    def bound(self):
+        """The words of an item, if a name stands here; they are read in the turn that the loop stands in."""
+        found = []
+        if is_name(self.next()) and self.next() != "THAN":
+            while self.words and self.words[0].kind != "stop" and self.next() not in ("MOVE",) + LOOP_WORDS:
+                found.append(self.take())
+        return Bound(found) if found else None
 
     def counter(self):
         if not is_name(self.next()) or self.next() in LOOP_WORDS:
@@ -265,19 +275,19 @@ def count_of(block):
 
 
 def turns_of(loop):
-    return 1 if isinstance(loop.bound, Named) else len(numbers_of(loop))
+    return 1 if isinstance(loop.bound, Bound) else len(numbers_of(loop))
 
 
 def ends_by_item(item):
     """Whether a statement is a loop that ends by an item, or has one within."""
-    return isinstance(item, Loop) and (isinstance(item.bound, Named) or any(map(ends_by_item, item.body)))
+    return isinstance(item, Loop) and (isinstance(item.bound, Bound) or any(map(ends_by_item, item.body)))
 
 
 def check_bounds(block):
     """Each loop to an item has its counter as a subscript."""
     for item in block:
         if isinstance(item, Loop):
-            if isinstance(item.bound, Named) and not is_subscript(item.counter, item.body):
+            if isinstance(item.bound, Bound) and not is_subscript(item.counter, item.body):
                 raise Refused("M11", item.line)
             check_bounds(item.body)
 
@@ -291,7 +301,8 @@ def is_subscript(counter, block):
         if isinstance(item, Statement):
             places = [item.sender, *item.receivers]
         elif isinstance(item, Loop):
-            places = [item.bound]
+            if isinstance(item.bound, Bound) and is_within_brackets(counter, item.bound.words):
+                return True
             if turns_of(item) and is_subscript(counter, item.body):
                 return True
         if any(isinstance(s, Counted) and s.counter == counter for place in places if isinstance(place, Named) for s in place.subscripts):
@@ -306,6 +317,16 @@ def is_within_brackets(name, words):
             return True
         inside = word.text == "(" or inside and word.text != ")"
     return False
+
+
+def bound_in_turn(loop, numbers, entries):
+    """What the words of a loop's bound name, with the number of each counter in its place. Words that name nothing are refused on the loop's line."""
+    reader = Statements(loop.bound.words, entries)
+    reader.counters, reader.line = list(numbers), loop.line
+    named = reader.named()
+    if reader.words:
+        reader.refuse("M1")
+    return named_in_turn(named, numbers)
 
 
 def named_in_turn(reference, numbers):
