@@ -13,7 +13,7 @@ use Rattle.cob_records.specs.Frame.{Puts}
 use Rattle.cob_records.specs.Hex.{byte_text}
 use Rattle.cob_report_show.proofs.SentLemmas.{append_none, append_twice, took_as, took_both}
 use Rattle.cob_report_compare.specs.Differences.{PlainDifference, plain_difference}
-use Rattle.cob_report_compare.specs.Lines.{AreDifferenceLines, AreComparedElementLines, AreBytesShown, AreValuesShown, IsDifferenceLine, byte_line, header_line, more_line, place_text, unlike_lines}
+use Rattle.cob_report_compare.specs.Lines.{AreDifferenceLines, AreComparedElementLines, AreBytesShown, AreValuesShown, IsDifferenceLine, IsHeaded, byte_line, header_end, more_line, place_text, unlike_lines}
 use Rattle.cob_report_compare.specs.Printable.{ArePrintable, IsPrintable}
 use Rattle.cob_report_compare.specs.declared.bytes.ByteDifference.{ByteDifference}
 use Rattle.cob_report_compare.specs.declared.bytes.FirstBytes.{FirstBytes}
@@ -178,29 +178,33 @@ line_more d e ds piece rest is line lines = ap (λ (t : List ℕ). t ++ rest) (l
 pub more_none : (n : ℕ) → n ≡ 0 → [] ≡ more_line n
 more_none n is = subst (λ (k : ℕ). [] ≡ more_line k) (sym is) refl
 
-pub element_lines : (number : ℕ) (l r : List ℕ) (told : FirstDifferences) (shown : List Difference) (more : ℕ) (w0 w1 w2 w3 : Option (List ℕ)) → shown ≡ told.first.items
-    → more ≡ told.count - length shown → Took w0 w1 (λ part. part ≡ header_line number (length l) (length r)) → Took w1 w2 (AreDifferenceLines l r (map plain_difference shown))
-    → Took w2 w3 (λ part. part ≡ more_line more) → Took w0 w3 (AreComparedElementLines number l r told)
-element_lines number l r told shown more w0 w1 w2 w3 all is header lines last =
+pub element_lines : (l r : List ℕ) (told : FirstDifferences) (shown : List Difference) (more : ℕ) (w0 w1 w2 w3 : Option (List ℕ)) → shown ≡ told.first.items
+    → more ≡ told.count - length shown → Took w0 w1 (λ part. part ≡ header_end (length l) (length r)) → Took w1 w2 (AreDifferenceLines l r (map plain_difference shown))
+    → Took w2 w3 (λ part. part ≡ more_line more) → Took w0 w3 (AreComparedElementLines l r told)
+element_lines l r told shown more w0 w1 w2 w3 all is header lines last =
     let ds = map plain_difference told.first.items in
     let end = more_line (told.count - length told.first.items) in
     let rest : more ≡ told.count - length told.first.items = is ∙ ap (λ (es : List Difference). told.count - length es) all in
-    took_front (header_line number (length l) (length r)) (λ text. (lines : List ℕ) × AreDifferenceLines l r ds lines × (text ≡ lines ++ end)) (AreComparedElementLines number l r told) w0 w1 w3
-    (λ q is. (is.0, is.1, ap (λ (t : List ℕ). header_line number (length l) (length r) ++ t) is.2)) header
+    took_front (header_end (length l) (length r)) (λ text. (lines : List ℕ) × AreDifferenceLines l r ds lines × (text ≡ lines ++ end)) (AreComparedElementLines l r told) w0 w1 w3
+    (λ q is. (is.0, is.1, ap (λ (t : List ℕ). header_end (length l) (length r) ++ t) is.2)) header
     (took_end end (AreDifferenceLines l r ds) (λ text. (lines : List ℕ) × AreDifferenceLines l r ds lines × (text ≡ lines ++ end)) w1 w2 w3 (λ p are. (p, are, refl))
     (subst (λ (es : List Difference). Took w1 w2 (AreDifferenceLines l r (map plain_difference es))) all lines) (subst (λ (n : ℕ). Took w2 w3 (λ part. part ≡ more_line n)) rest last))
 
-pub unlike_is : (number : ℕ) (l r : List ℕ) (told : FirstBytes) (shown : List ByteDifference) (more : ℕ) (w0 w1 w2 w3 : Option (List ℕ)) → shown ≡ told.first.items
-    → more ≡ told.count - length shown → Took w0 w1 (λ part. part ≡ header_line number (length l) (length r)) → Took w1 w2 (λ part. part ≡ flat_map byte_line shown)
-    → Took w2 w3 (λ part. part ≡ more_line more) → Took w0 w3 (λ part. part ≡ unlike_lines number l r told)
-unlike_is number l r told shown more w0 w1 w2 w3 all is header lines last =
+pub unlike_is : (l r : List ℕ) (told : FirstBytes) (shown : List ByteDifference) (more : ℕ) (w0 w1 w2 w3 : Option (List ℕ)) → shown ≡ told.first.items
+    → more ≡ told.count - length shown → Took w0 w1 (λ part. part ≡ header_end (length l) (length r)) → Took w1 w2 (λ part. part ≡ flat_map byte_line shown)
+    → Took w2 w3 (λ part. part ≡ more_line more) → Took w0 w3 (λ part. part ≡ unlike_lines l r told)
+unlike_is l r told shown more w0 w1 w2 w3 all is header lines last =
     let bytes = flat_map byte_line told.first.items in
     let end = more_line (told.count - length told.first.items) in
     let rest : more ≡ told.count - length told.first.items = is ∙ ap (λ (ds : List ByteDifference). told.count - length ds) all in
-    took_front (header_line number (length l) (length r)) (λ text. text ≡ bytes ++ end) (λ text. text ≡ unlike_lines number l r told) w0 w1 w3
-    (λ q is. ap (λ (t : List ℕ). header_line number (length l) (length r) ++ t) is) header
+    took_front (header_end (length l) (length r)) (λ text. text ≡ bytes ++ end) (λ text. text ≡ unlike_lines l r told) w0 w1 w3
+    (λ q is. ap (λ (t : List ℕ). header_end (length l) (length r) ++ t) is) header
     (took_end end (λ text. text ≡ bytes) (λ text. text ≡ bytes ++ end) w1 w2 w3 (λ p is. ap (λ (t : List ℕ). t ++ end) is)
     (subst (λ (ds : List ByteDifference). Took w1 w2 (λ part. part ≡ flat_map byte_line ds)) all lines) (subst (λ (n : ℕ). Took w2 w3 (λ part. part ≡ more_line n)) rest last))
+
+-- a heading, and what stands behind it
+pub headed : (heading is : List ℕ → Type 0) (w0 w1 w2 : Option (List ℕ)) → Took w0 w1 heading → Took w1 w2 is → Took w0 w2 (IsHeaded heading is)
+headed heading is w0 w1 w2 front rest = took_both w0 w1 w2 heading is (IsHeaded heading is) front rest (λ p q h i. (p, q, h, i, refl))
 
 -- a text with another one behind it that is not empty
 pub not_empty : (a b text : List ℕ) → text ≡ a ++ b → 0 < length b → 0 < length text

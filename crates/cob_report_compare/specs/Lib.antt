@@ -3,9 +3,13 @@ pub mod Equal
 pub mod Bytes
 pub mod Differences
 pub mod Shared
+pub mod Keys
 pub mod Laws
 pub mod Lines
+pub mod Headings
 pub mod Printable
+pub mod Merged
 pub mod Files
-pub mod InOrder
+pub mod Merging
+pub mod Turns
 pub mod Runs

@@ -1,10 +1,10 @@
-//! The entries that are ignored, by their names.
+//! The entries that words of the command line name.
 
 ghost use Rattle.std.specs.Prelude.{◌≤◌, length};
 ghost use Rattle.cob_copybook_names.specs.Listed.{texts};
 ghost use Rattle.cob_program_compare.specs.Ignored.{linked_names};
 
-use crate::fault::{ComparisonFault, IgnoreRule};
+use crate::fault::NameRule;
 use cob_copybook_names::{Bearer, Directory, NameFault, Qualifiers, name_of, names_beneath};
 use cob_layout::{Layout, Node};
 use std::alloc::{AllocError, Global};
@@ -97,17 +97,17 @@ fn are_qualifiers(words: &[&[u8]]) -> bool {
 }
 
 /// The number of the only entry that these words name, a name with its qualifiers.
-fn number_of<'a>(directory: &Directory<'a, usize>, words: &[&[u8]]) -> Result<usize, IgnoreRule> {
+fn number_of<'a>(directory: &Directory<'a, usize>, words: &[&[u8]]) -> Result<usize, NameRule> {
     let Some((name, qualifiers)) = words.split_first() else {
-        return Err(IgnoreRule::Grammar);
+        return Err(NameRule::Grammar);
     };
     if is_comma(name) || !are_qualifiers(qualifiers) {
-        return Err(IgnoreRule::Grammar);
+        return Err(NameRule::Grammar);
     }
     match directory.only_named(name, QualifierTexts { words: qualifiers }) {
         Ok(bearer) => Ok(bearer.entry),
-        Err(NameFault::Unknown) => Err(IgnoreRule::Unknown),
-        Err(NameFault::Ambiguous) => Err(IgnoreRule::Ambiguous),
+        Err(NameFault::Unknown) => Err(NameRule::Unknown),
+        Err(NameFault::Ambiguous) => Err(NameRule::Ambiguous),
     }
 }
 
@@ -128,7 +128,7 @@ fn add_numbers<'a>(
     directory: &Directory<'a, usize>,
     words: &[&[u8]],
     numbers: &mut Vec<usize>,
-) -> Result<Result<(), IgnoreRule>, AllocError> {
+) -> Result<Result<(), NameRule>, AllocError> {
     let (reference, behind) = words.split_at(words_before_comma(words));
     let number = match number_of(directory, reference) {
         Ok(number) => number,
@@ -141,19 +141,19 @@ fn add_numbers<'a>(
     }
 }
 
-/// The numbers of the entries that are ignored, by the names of them that a text has, with commas between them.
+/// The numbers of the entries that a text names, with commas between their names. It answers the rule that these break.
 ///
 /// # Errors
 ///
-/// Names that break a rule, want of memory.
-pub(crate) fn ignored_entries(
+/// Want of memory.
+pub(crate) fn entries_named(
     alloc: Global,
     layout: &Layout,
     names: Option<&str>,
-) -> Result<Vec<usize>, ComparisonFault> {
+) -> Result<Result<Vec<usize>, NameRule>, AllocError> {
     let mut numbers = Vec::new(alloc);
     let Some(names) = names else {
-        return Ok(numbers);
+        return Ok(Ok(numbers));
     };
     let mut listed = Vec::new(alloc);
     list_entries(alloc, layout.root(), &[], &mut listed)?;
@@ -161,7 +161,7 @@ pub(crate) fn ignored_entries(
     let text = names.as_bytes().to_ascii_uppercase(alloc)?;
     let words = words_of(alloc, text.as_slice())?;
     match add_numbers(&directory, words.as_slice(), &mut numbers)? {
-        Ok(()) => Ok(numbers),
-        Err(rule) => Err(ComparisonFault::Ignore(rule)),
+        Ok(()) => Ok(Ok(numbers)),
+        Err(rule) => Ok(Err(rule)),
     }
 }

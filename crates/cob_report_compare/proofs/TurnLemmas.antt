@@ -1,0 +1,72 @@
+-- What is told of two files next, and what is printed of it.
+use Rattle.std.proofs.Common.{◌≡◌, ◌≤◌, ℕ, List, [], ◌∷◌, ◌++◌, length, take, refl, sym, subst, ap, ◌∙◌, arith, Option, Ok, Less, Equal, Greater, Ordering}
+use Rattle.std.specs.List.{AllByRecursion}
+use Rattle.std.proofs.lemmas.List.{length-take}
+use Rattle.cob_copybook_tree.specs.Forests.{Forest}
+use Rattle.cob_copybook_tree.specs.Nodes.{Resolved}
+use Rattle.cob_layout.specs.Counting.{CountsOf}
+use Rattle.cob_layout.specs.Standing.{Standing}
+use Rattle.cob_records.specs.declared.records.Form.{Form}
+use Rattle.cob_records.specs.Device.{Took}
+use Rattle.cob_report_show.specs.Elements.{NamedItem}
+use Rattle.cob_report_show.specs.Records.{HoldsRecord}
+use Rattle.cob_report_compare.specs.declared.heads.FileRoom.{FileRoom}
+use Rattle.cob_report_compare.specs.declared.heads.Head.{Head}
+use Rattle.cob_report_compare.specs.declared.heads.Head.TheVariants as head
+use Rattle.cob_report_compare.specs.declared.turns.Turn.TheVariants as turn
+use Rattle.cob_report_compare.specs.Equal.{IsCompleteRecord}
+use Rattle.cob_report_compare.specs.Files.{FileSoFar, HoldsHead, HoldsNext}
+use Rattle.cob_report_compare.specs.Keys.{AreKeyParts, key_order}
+use Rattle.cob_report_compare.specs.Merged.{IsKeyedRecord, KeyedRecord, Next, Unread, Ended, Waits, came}
+use Rattle.cob_report_compare.specs.Merging.{IsTurn}
+use Rattle.cob_report_compare.specs.Turns.{DecidesTurn, HasKey, IsWhole, head_record}
+use Rattle.cob_report_compare.proofs.HeadLemmas.{last_of}
+use Rattle.cob_report_compare.proofs.KeyLemmas.{above_back}
+
+-- the record that stands next has its key
+pub has_key : (form : Form) (tree : Forest Resolved) (keys : List NamedItem) (told : List KeyedRecord) (next : Next) → AllByRecursion (IsKeyedRecord form tree keys) (came told next) → HasKey keys next
+has_key form tree keys told Unread keyed = tt
+has_key form tree keys told Ended keyed = tt
+has_key form tree keys told (Waits x) keyed = (last_of (IsKeyedRecord form tree keys) told x keyed).key
+
+-- and is complete
+whole_here : (form : Form) (tree : Forest Resolved) (keys : List NamedItem) (room : FileRoom) (count : ℕ) (x : KeyedRecord) → HoldsHead tree room count x → IsKeyedRecord form tree keys x
+    → IsWhole tree room (head.Waits count)
+whole_here form tree keys room count x holds keyed =
+    let long : length (take count room.bytes.items) ≡ count = omega (arith, length-take count room.bytes.items, holds.most) in
+    (
+      holds.most,
+      record {
+        counts = subst (λ (s : Standing). CountsOf tree (take count room.bytes.items) (Ok s.counts)) holds.places
+            (subst (λ (bs : List ℕ). CountsOf tree bs (Ok x.places.counts)) holds.body keyed.legible.counts);
+        holds = subst (HoldsRecord tree room.places) (sym long) holds.holds;
+      },
+    )
+
+pub whole_head : (form : Form) (tree : Forest Resolved) (keys : List NamedItem) (room : FileRoom) (h : Head) (told : List KeyedRecord) (next : Next) (x : KeyedRecord) → HoldsNext tree room h next
+    → AllByRecursion (IsKeyedRecord form tree keys) (came told next) → next ≡ Waits x → IsWhole tree room h
+whole_head form tree keys room h told next x holds keyed is =
+    by h (subst (HoldsNext tree room h) is holds) (last_of (IsKeyedRecord form tree keys) told x (subst (λ (n : Next). AllByRecursion (IsKeyedRecord form tree keys) (came told n)) is keyed))
+  where
+    by : (h : Head) → HoldsNext tree room h (Waits x) → IsKeyedRecord form tree keys x → IsWhole tree room h
+    by head.Unread holds keyed = absurd holds
+    by head.Ended holds keyed = absurd holds
+    by (head.Waits count) holds keyed = whole_here form tree keys room count x holds keyed
+
+-- ---- what is told next
+
+both_wait : (keys : List NamedItem) (left_room right_room : FileRoom) (m n : ℕ) (tree : Forest Resolved) (l r : Next) → HoldsNext tree left_room (head.Waits m) l → HoldsNext tree right_room (head.Waits n) r
+    → HasKey keys l → HasKey keys r
+    → (x : KeyedRecord) × (y : KeyedRecord) × (l ≡ Waits x) × (r ≡ Waits y) × AreKeyParts keys left_room.key.items x.key × AreKeyParts keys right_room.key.items y.key
+both_wait keys left_room right_room m n tree Unread r left right left_key right_key = absurd left
+both_wait keys left_room right_room m n tree Ended r left right left_key right_key = absurd left
+both_wait keys left_room right_room m n tree (Waits x) Unread left right left_key right_key = absurd right
+both_wait keys left_room right_room m n tree (Waits x) Ended left right left_key right_key = absurd right
+both_wait keys left_room right_room m n tree (Waits x) (Waits y) left right left_key right_key = (
+  x,
+  y,
+  refl,
+  refl,
+  subst (λ (bs : List ℕ). AreKeyParts keys bs x.key) left.key_bytes left_key,
+  subst (λ (bs : List ℕ). AreKeyParts keys bs y.key) right.key_bytes right_key,
+)

@@ -1,0 +1,257 @@
+//! The records of one file, each with its key.
+
+ghost use Rattle.std.specs.Prelude.{◌≡◌, ◌≤◌, length, map, take, false, IfErr, IfOk, OnOk};
+ghost use Rattle.cob_convert_stream.specs.Reasons.{is_read_cause, is_write_cause};
+ghost use Rattle.cob_layout.specs.Storage.{greatest_length};
+ghost use Rattle.cob_records.specs.Device.{counted};
+ghost use Rattle.cob_records.specs.Forms.{HasBlockSize};
+ghost use Rattle.cob_report_show.specs.Elements.{named_item};
+ghost use Rattle.cob_report_show.specs.Records.{HoldsRecord};
+ghost use Rattle.cob_report_show.specs.Runs.{most_shown};
+ghost use Rattle.cob_report_compare.specs.Equal.{printed_of};
+ghost use Rattle.cob_report_compare.specs.Files.{IsFileRoom, ReadsNextHead, RefusesKey, StopsAtHead, TakesKey, is_reason_for, is_stopped_for};
+ghost use Rattle.cob_report_compare.specs.Keys.{AreKeyItems, key_size, most_keys};
+
+use crate::elements::ComparedRecord;
+use crate::files::{CompareStop, FileSide, StopReason, stop_on};
+use crate::keys::{key_length, key_offset, order_of_keys, take_key};
+use cob_layout::{Counts, Layout};
+use cob_records::{Form, Source};
+use cob_report_show::{ListedItem, read_record};
+use std::alloc::{AllocError, Global};
+
+/// Room for a record of a file that stands next, where its entries stand, and its key; and for the key of the one behind it.
+#[derive(Drop)]
+pub(crate) struct FileRoom {
+    pub(crate) bytes: Vec<u8>,
+    pub(crate) places: Counts,
+    pub(crate) key: Vec<u8>,
+    pub(crate) next: Vec<u8>,
+}
+
+/// What stands next in a file, behind the records that were told.
+#[derive(Clone, Copy)]
+pub(crate) enum Head {
+    /// It was not read.
+    Unread,
+    /// The file is at its end.
+    Ended,
+    /// A record of so many bytes.
+    Waits(usize),
+}
+
+/// How far a file was read: what the open block still holds, how many records came, and what stands next.
+#[derive(Clone, Copy)]
+pub(crate) struct Reached {
+    pub(crate) opened: u16,
+    pub(crate) number: u64,
+    pub(crate) head: Head,
+}
+
+impl Reached {
+    /// Nothing was read.
+    pub(crate) fn nothing() -> Reached
+        ensures { result ≡ record {
+          opened = 0;
+          number = 0;
+          head = Head.Unread;
+        } }
+    {
+        Reached {
+            opened: 0,
+            number: 0,
+            head: Head::Unread,
+        }
+    }
+
+    /// What stood next was told.
+    pub(crate) fn told(self) -> Reached
+        ensures { result ≡ record self { head = Head.Unread } }
+    {
+        Reached {
+            head: Head::Unread,
+            ..self
+        }
+    }
+}
+
+/// Room for a record of this layout with a key of these items, and for the key behind it.
+pub(crate) fn file_room(
+    alloc: Global,
+    layout: &Layout,
+    keys: &[ListedItem],
+) -> Result<FileRoom, AllocError>
+    requires few { length keys.now ≤ most_keys }
+    ensures room { IfOk result (IsFileRoom layout.now (map named_item keys.now)) }
+{
+    let length = usize::from(layout.greatest());
+    let of_key = key_length(keys);
+    let bytes = vec![in alloc; 0u8; length]?;
+    let places = layout.new_counts(alloc)?;
+    let key = vec![in alloc; 0u8; of_key]?;
+    let next = vec![in alloc; 0u8; of_key]?;
+    Ok(FileRoom {
+        bytes,
+        places,
+        key,
+        next,
+    })
+}
+
+/// Takes the key of a record, which is the first of its file or has to stand no lower than the one that is held, and holds it from then on.
+///
+/// # Errors
+///
+/// An item of it that is no number, or a key that stands lower.
+fn hold_key(
+    record: ComparedRecord,
+    keys: &[ListedItem],
+    held: &mut [u8],
+    next: &mut [u8],
+    first: bool,
+) -> Result<(), StopReason>
+    requires holds { HoldsRecord record.layout.now record.places.now (length record.bytes.now) }
+    requires keys { AreKeyItems record.layout.now (map named_item keys.now) }
+    requires held { length held.old ≡ key_size (map named_item keys.now) }
+    requires next { length next.old ≡ key_size (map named_item keys.now) }
+    ensures held { length held.new ≡ length held.old }
+    ensures next { length next.new ≡ length next.old }
+    ensures takes { OnOk result (TakesKey (map named_item keys.now) (printed_of record.entry) first held.old held.new) }
+    ensures refuses { IfErr result (RefusesKey (map named_item keys.now) (printed_of record.entry) first held.old) }
+{
+    if let Err(offset) = take_key(record, keys, next) {
+        return Err(StopReason::NoNumber { offset });
+    }
+    if !first && order_of_keys(keys, held, next).is_gt() {
+        return Err(StopReason::Order {
+            offset: key_offset(record, keys),
+        });
+    }
+    held.copy_from_slice(next);
+    Ok(())
+}
+
+/// Holds the key of the record of so many bytes that came.
+fn hold_head(
+    layout: &Layout,
+    keys: &[ListedItem],
+    room: &mut FileRoom,
+    count: usize,
+    first: bool,
+) -> Result<(), StopReason>
+    requires holds { HoldsRecord layout.now room.old.places count }
+    requires most { count ≤ length room.old.bytes.items }
+    requires keys { AreKeyItems layout.now (map named_item keys.now) }
+    requires room { IsFileRoom layout.now (map named_item keys.now) room.old }
+    ensures room { IsFileRoom layout.now (map named_item keys.now) room.new }
+    ensures bytes { room.new.bytes.items ≡ room.old.bytes.items }
+    ensures places { room.new.places ≡ room.old.places }
+    ensures takes { OnOk result (TakesKey (map named_item keys.now) (record {
+      tree = layout.now;
+      places = room.old.places;
+      bytes = take count room.old.bytes.items;
+    }) first room.old.key.items room.new.key.items) }
+    ensures refuses { IfErr result (RefusesKey (map named_item keys.now) (record {
+      tree = layout.now;
+      places = room.old.places;
+      bytes = take count room.old.bytes.items;
+    }) first room.old.key.items) }
+{
+    let record = ComparedRecord {
+        layout,
+        places: &room.places,
+        bytes: &room.bytes[..count],
+    };
+    hold_key(record, keys, &mut room.key, &mut room.next, first)
+}
+
+/// Reads what stands next in a file, and its key.
+fn read_head<S: Source>(
+    layout: &Layout,
+    keys: &[ListedItem],
+    side: FileSide,
+    form: Form,
+    source: &mut S,
+    room: &mut FileRoom,
+    reached: Reached,
+) -> Result<Reached, CompareStop>
+    requires block { HasBlockSize form }
+    requires keys { AreKeyItems layout.now (map named_item keys.now) }
+    requires room { IsFileRoom layout.now (map named_item keys.now) room.old }
+    requires few { reached.number ≤ most_shown }
+    requires unread { reached.head ≡ Head.Unread }
+    ensures room { IsFileRoom layout.now (map named_item keys.now) room.new }
+    ensures next { IfOk result (ReadsNextHead form layout.now (map named_item keys.now) reached room.old
+        (S.coming source.old) (S.coming source.new) room.new) }
+    ensures stops { IfErr result (StopsAtHead form layout.now (map named_item keys.now) reached room.old
+        (S.coming source.old) (S.coming source.new)) }
+    ensures side { IfErr result (λ stop. stop.side ≡ side) }
+    ensures reading { IfErr result (λ stop. is_reason_for is_write_cause stop.reason ≡ false) }
+    ensures reads { S.failures source.new ≡ counted
+        (is_stopped_for is_read_cause result) (S.failures source.old) }
+{
+    let mut opened = reached.opened;
+    let number = reached.number + 1;
+    let count = match read_record(
+        layout,
+        form,
+        source,
+        &mut room.bytes,
+        &mut opened,
+        &mut room.places,
+    ) {
+        Ok(None) => {
+            return Ok(Reached {
+                opened,
+                number: reached.number,
+                head: Head::Ended,
+            });
+        }
+        Ok(Some(count)) => count,
+        Err(reason) => return Err(stop_on(side, number, StopReason::Record(reason))),
+    };
+    match hold_head(layout, keys, room, count, reached.number == 0) {
+        Ok(()) => Ok(Reached {
+            opened,
+            number,
+            head: Head::Waits(count),
+        }),
+        Err(reason) => Err(stop_on(side, number, reason)),
+    }
+}
+
+/// Reads what stands next in a file, where it was not read.
+///
+/// # Errors
+///
+/// A record that can't be read, whose counts are not all valid, or that is not as long as they say; that has no key, or one that stands below that of the
+/// record before it.
+pub(crate) fn fill<S: Source>(
+    layout: &Layout,
+    keys: &[ListedItem],
+    side: FileSide,
+    form: Form,
+    source: &mut S,
+    room: &mut FileRoom,
+    reached: Reached,
+) -> Result<Reached, CompareStop>
+    requires block { HasBlockSize form }
+    requires keys { AreKeyItems layout.now (map named_item keys.now) }
+    requires room { IsFileRoom layout.now (map named_item keys.now) room.old }
+    requires few { reached.head ≡ Head.Unread → reached.number ≤ most_shown }
+    ensures room { IsFileRoom layout.now (map named_item keys.now) room.new }
+    ensures next { IfOk result (ReadsNextHead form layout.now (map named_item keys.now) reached room.old
+        (S.coming source.old) (S.coming source.new) room.new) }
+    ensures stops { IfErr result (StopsAtHead form layout.now (map named_item keys.now) reached room.old
+        (S.coming source.old) (S.coming source.new)) }
+    ensures side { IfErr result (λ stop. stop.side ≡ side) }
+    ensures reading { IfErr result (λ stop. is_reason_for is_write_cause stop.reason ≡ false) }
+    ensures reads { S.failures source.new ≡ counted
+        (is_stopped_for is_read_cause result) (S.failures source.old) }
+{
+    match reached.head {
+        Head::Unread => read_head(layout, keys, side, form, source, room, reached),
+        Head::Ended => Ok(reached),
+        Head::Waits(_) => Ok(reached),
+    }
+}
