@@ -9,4 +9,5 @@ pub mod KeyLemmas
 pub mod HeadLemmas
 pub mod MergeLemmas
 pub mod TurnLemmas
+pub mod OrderLemmas
 pub mod RunLemmas

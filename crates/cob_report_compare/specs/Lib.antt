@@ -4,11 +4,11 @@ pub mod Bytes
 pub mod Differences
 pub mod Shared
 pub mod Keys
-pub mod Laws
 pub mod Lines
 pub mod Headings
 pub mod Printable
 pub mod Merged
+pub mod Laws
 pub mod Files
 pub mod Merging
 pub mod Turns

@@ -160,7 +160,7 @@ fn hold_head(
     let record = ComparedRecord {
         layout,
         places: &room.places,
-        bytes: &room.bytes[..count],
+        bytes: &room.bytes.as_slice()[..count],
     };
     hold_key(record, keys, &mut room.key, &mut room.next, first)
 }

@@ -91,10 +91,10 @@ fn number_order(item: &Item, left: &[u8], right: &[u8]) -> Ordering
         return Ordering::Equal;
     };
     match (one.negative(), other.negative()) {
-        (false, false) => one.digits().as_slice().cmp(other.digits().as_slice()),
+        (false, false) => one.digits().as_slice().cmp(&other.digits().as_slice()),
         (false, true) => Ordering::Greater,
         (true, false) => Ordering::Less,
-        (true, true) => other.digits().as_slice().cmp(one.digits().as_slice()),
+        (true, true) => other.digits().as_slice().cmp(&one.digits().as_slice()),
     }
 }
 
@@ -108,7 +108,7 @@ fn item_order(item: &Item, left: &[u8], right: &[u8]) -> Ordering
     if is_number_item(item) {
         number_order(item, left, right)
     } else {
-        left.cmp(right)
+        left.cmp(&right)
     }
 }
 

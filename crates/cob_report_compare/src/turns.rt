@@ -101,7 +101,7 @@ fn head_of<'a>(layout: &'a Layout, room: &'a FileRoom, head: Head) -> ComparedRe
     ComparedRecord {
         layout,
         places: &room.places,
-        bytes: &room.bytes[..count],
+        bytes: &room.bytes.as_slice()[..count],
     }
 }
 
