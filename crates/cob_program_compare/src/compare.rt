@@ -191,13 +191,14 @@ pub fn compare_records_of<R: AllocGlobal + Files + Input + Print + Eprint>(
     if line.left == "-" && line.right == "-" {
         return Err(ComparisonFault::OneStream);
     }
-    let Described { layout, named } = described_by(rt, line.book)?;
-    let keys = key_of(rt.alloc(), &layout, &named, line.key)?;
-    let ignored = match entries_named(rt.alloc(), &layout, line.ignored)? {
+    let described = described_by(rt, line.book)?;
+    let layout = &described.layout;
+    let keys = key_of(rt.alloc(), layout, &described.named, line.key)?;
+    let ignored = match entries_named(rt.alloc(), layout, line.ignored)? {
         Ok(ignored) => ignored,
         Err(rule) => return Err(ComparisonFault::Ignore(rule)),
     };
-    compare_by(rt, line, &layout, &keys, &ignored)
+    compare_by(rt, line, layout, &keys, &ignored)
 }
 
 /// Compares the files that a line names, prints what differs or what is at fault, and answers how the program ends.

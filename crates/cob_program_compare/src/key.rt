@@ -11,11 +11,24 @@ use cob_report_compare::{MOST_KEYS, key_items};
 use cob_report_show::ListedItem;
 use std::alloc::Global;
 
+/// Whether a named item has this number.
+fn is_item(named: &[ListedItem], number: usize) -> bool {
+    for item in named {
+        if item.number == number {
+            return true;
+        }
+    }
+    false
+}
+
 /// Whether each of these numbers is one of a named item.
 fn are_items(named: &[ListedItem], numbers: &[usize]) -> bool {
-    numbers
-        .iter()
-        .all(|number| named.iter().any(|item| item.number == *number))
+    for number in numbers {
+        if !is_item(named, *number) {
+            return false;
+        }
+    }
+    true
 }
 
 /// The items of the key that a text names, with commas between their names; none where there is no text.

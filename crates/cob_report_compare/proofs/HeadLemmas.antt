@@ -2,6 +2,7 @@
 use Rattle.std.proofs.Common.{◌≡◌, ◌<◌, ◌≤◌, ℕ, ◌+◌, ◌==◌, Bool, true, false, true≢false, List, [], ◌∷◌, ◌++◌, length, take, map, refl, sym, subst, ap, ◌∙◌, arith, inl, inr, None, Some, Option, Ok, Err, Greater}
 use Rattle.std.specs.List.{AllByRecursion}
 use Rattle.std.specs.Ordering.{is_gt}
+use Rattle.std.proofs.lemmas.Bool.Decides.{nat_tests}
 use Rattle.std.proofs.lemmas.List.{length-append, map-append}
 use Rattle.cob_copybook_tree.specs.Forests.{Forest}
 use Rattle.cob_copybook_tree.specs.Nodes.{Resolved}
@@ -42,7 +43,7 @@ ascend_more (a ∷ b ∷ front) last x ascend below = (ascend.0, ascend_more (b 
 more_than_none : {X : Type 0} (front : List X) (x : X) (n : ℕ) → n ≡ length (front ++ x ∷ []) → (n == 0) ≡ false
 more_than_none front x n is =
     let some : length (front ++ x ∷ []) ≡ length front + 1 = length-append front (x ∷ []) in
-    grind (arith, is, some)
+    grind (arith, nat_tests, is, some)
 
 pub bodies_more : (told : List KeyedRecord) (x : KeyedRecord) → bodies (told ++ x ∷ []) ≡ bodies told ++ x.body ∷ []
 bodies_more told x = map-append (λ (r : KeyedRecord). r.body) told (x ∷ [])

@@ -1,10 +1,11 @@
 -- How keys are ordered, and what of a record they are.
-use Rattle.std.proofs.Common.{◌≡◌, ◌<◌, ◌≤◌, ℕ, ◌+◌, ◌*◌, ◌^◌, Bool, true, false, true≢false, List, [], ◌∷◌, ◌++◌, length, take, drop, map, refl, sym, subst, ap, ◌∙◌, arith, inl, inr, Ordering, Less, Equal, Greater, nat_cmp, append-nil}
+use Rattle.std.proofs.Common.{◌≡◌, ◌<◌, ◌≤◌, ℕ, zero, suc, ◌+◌, ◌*◌, ◌^◌, Bool, true, false, true≢false, List, [], ◌∷◌, ◌++◌, length, take, drop, map, refl, sym, subst, ap, ◌∙◌, arith, inl, inr, Ordering, Less, Equal, Greater, nat_cmp, append-nil}
 use Rattle.std.specs.Cmp.{nat_cmp_is, nat_cmp_total, ranks}
 use Rattle.std.specs.Cmp.Lexicographic.{slice_cmp}
 use Rattle.std.specs.List.{AllByRecursion}
 use Rattle.std.specs.Ordering.{ordering_reverse, ordering_then}
 use Rattle.std.proofs.lemmas.Cmp.{by_ranked, nat_list_cmp_total}
+use Rattle.std.proofs.lemmas.List.{drop_at, take_at}
 use Rattle.std.proofs.Math.Nat.{mul-le-mul_right}
 use Rattle.cob_copybook.specs.Books.{IsRecordDescription}
 use Rattle.cob_copybook_tree.specs.declared.node.Item.{Item}
@@ -12,14 +13,16 @@ use Rattle.cob_copybook_tree.specs.Forests.{Forest}
 use Rattle.cob_copybook_tree.specs.Items.{HoldsNumbers, IsNumberItem, Represents}
 use Rattle.cob_copybook_tree.specs.Lengths.{item_size}
 use Rattle.cob_copybook_tree.specs.Nodes.{Resolved}
+use Rattle.cob_decimal.specs.declared.number.Number.{Number}
 use Rattle.cob_decimal.specs.Decimal.{IsDigits, number_of}
 use Rattle.cob_decimal.proofs.DecimalLemmas.{number_of-lt}
 use Rattle.cob_layout.specs.Laws.{EndInLength}
 use Rattle.cob_layout.specs.Sound.{RecordsAreSound}
-use Rattle.cob_report_show.specs.Elements.{AllStand, AreSubscriptsUpTo, NamedItem, Printed, StandsWithin, named_in, table_times}
+use Rattle.cob_report_show.specs.Elements.{AllStand, AreSubscriptsUpTo, NamedItem, Printed, StandsWithin, named_in, named_item, table_times}
+use Rattle.cob_report_show.specs.declared.named.ListedItem.{ListedItem}
 use Rattle.cob_report_show.specs.Records.{HoldsRecord}
 use Rattle.cob_report_show.proofs.ElementLemmas.{items_stand}
-use Rattle.cob_report_compare.specs.Keys.{AreKeyItems, AreKeyParts, IsAmong, IsKeyItem, IsKeyPart, KeyPart, Letters, Numeral, key_order, number_order, part_order}
+use Rattle.cob_report_compare.specs.Keys.{AreKeyItems, AreKeyParts, IsAmong, IsKeyItem, IsKeyPart, KeyPart, Letters, Numeral, digits_order, key_order, number_order, part_order}
 
 -- ---- numbers
 
@@ -32,16 +35,16 @@ greater_quotient d e p q x y low below units =
     omega (arith, more, same, next, below)
 
 -- digits of one length are ordered as the numbers that they stand for
-pub digits_order : (ds es : List ℕ) → IsDigits ds → IsDigits es → length ds ≡ length es → slice_cmp nat_cmp ds es ≡ nat_cmp (number_of ds) (number_of es)
-digits_order [] [] left right same = refl
-digits_order [] (e ∷ es) left right same = absurd (omega (arith, same))
-digits_order (d ∷ ds) [] left right same = absurd (omega (arith, same))
-digits_order (d ∷ ds) (e ∷ es) left right same =
+pub digits_are_ordered : (ds es : List ℕ) → IsDigits ds → IsDigits es → length ds ≡ length es → slice_cmp nat_cmp ds es ≡ nat_cmp (number_of ds) (number_of es)
+digits_are_ordered [] [] left right same = refl
+digits_are_ordered [] (e ∷ es) left right same = absurd (omega (arith, same))
+digits_are_ordered (d ∷ ds) [] left right same = absurd (omega (arith, same))
+digits_are_ordered (d ∷ ds) (e ∷ es) left right same =
     by_ranked (d < e) (d ≡ e) (e < d) (nat_cmp d e) (ranks d e)
     (λ is low. ap (λ (o : Ordering). ordering_then o (slice_cmp nat_cmp ds es)) is
     ∙ nat_cmp_is (number_of (d ∷ ds)) (number_of (e ∷ es)) Less
     (greater_quotient d e (10 ^ length ds) (10 ^ length es) (number_of ds) (number_of es) low (number_of-lt ds left.1) units))
-    (λ is one. ap (λ (o : Ordering). ordering_then o (slice_cmp nat_cmp ds es)) is ∙ digits_order ds es left.1 right.1 places ∙ rest one)
+    (λ is one. ap (λ (o : Ordering). ordering_then o (slice_cmp nat_cmp ds es)) is ∙ digits_are_ordered ds es left.1 right.1 places ∙ rest one)
     (λ is high. ap (λ (o : Ordering). ordering_then o (slice_cmp nat_cmp ds es)) is
     ∙ nat_cmp_is (number_of (d ∷ ds)) (number_of (e ∷ es)) Greater
     (greater_quotient e d (10 ^ length es) (10 ^ length ds) (number_of es) (number_of ds) high (number_of-lt es right.1) (sym units)))
@@ -99,3 +102,78 @@ pub key_stands : RecordsAreSound → EndInLength → (r : Printed) (x : NamedIte
 key_stands sounds law r x described (laid, long) (among, none) =
     all_of (λ (y : NamedItem). AllStand r y y.tables []) x (named_in [] r.tree) among (items_stand sounds law r described laid long) []
     (subst (λ (ts : List ℕ). AreSubscriptsUpTo (table_times r ts) []) (sym none) refl)
+
+-- ---- numbers of a key
+
+number_of_part : (i : Item) (bytes : List ℕ) (v : Number) → IsNumberItem i → ((negative : Bool) (digits : List ℕ) → Represents i bytes negative digits → (v.negative ≡ negative) × (v.digits ≡ digits))
+    → (p : KeyPart) → IsKeyPart i bytes p → p ≡ Numeral v.negative (number_of v.digits)
+number_of_part i bytes v number only (Numeral negative n) (is, (digits, represents, value)) =
+    let same = only negative digits represents in
+    ap (λ (b : Bool). Numeral b n) (sym same.0) ∙ ap (λ (m : ℕ). Numeral v.negative m) (value ∙ ap number_of (sym same.1))
+number_of_part i bytes v number only (Letters text) (none, is) = absurd (none number)
+
+-- bytes that represent no number are no part of a key
+pub no_part : (i : Item) (bytes : List ℕ) → IsNumberItem i → ((negative : Bool) (digits : List ℕ) → Represents i bytes negative digits → ⊥) → (p : KeyPart) → IsKeyPart i bytes p → ⊥
+no_part i bytes number none (Numeral negative n) (is, (digits, represents, value)) = none negative digits represents
+no_part i bytes number none (Letters text) (other, is) = other number
+
+-- characters are ordered by their bytes
+pub letters_stand : (i : Item) (left right : List ℕ) (o : Ordering) → (IsNumberItem i → ⊥) → o ≡ slice_cmp nat_cmp left right → (p q : KeyPart) → IsKeyPart i left p → IsKeyPart i right q
+    → o ≡ part_order p q
+letters_stand i left right o none is (Numeral a m) q one two = absurd (none one.0)
+letters_stand i left right o none is (Letters xs) (Numeral b n) one two = absurd (none two.0)
+letters_stand i left right o none is (Letters xs) (Letters ys) one two =
+    is ∙ ap (λ (bs : List ℕ). slice_cmp nat_cmp bs right) (sym one.1) ∙ ap (λ (bs : List ℕ). slice_cmp nat_cmp xs bs) (sym two.1)
+
+-- and numbers by their values
+pub numbers_stand : HoldsNumbers → (i : Item) (left right : List ℕ) (v w : Number) (o : Ordering) → IsNumberItem i → Represents i left v.negative v.digits → Represents i right w.negative w.digits
+    → ((negative : Bool) (digits : List ℕ) → Represents i left negative digits → (v.negative ≡ negative) × (v.digits ≡ digits))
+    → ((negative : Bool) (digits : List ℕ) → Represents i right negative digits → (w.negative ≡ negative) × (w.digits ≡ digits))
+    → o ≡ digits_order v.negative v.digits w.negative w.digits → (p q : KeyPart) → IsKeyPart i left p → IsKeyPart i right q → o ≡ part_order p q
+numbers_stand law i left right v w o number found other only_left only_right is p q one two =
+    is ∙ by v.negative w.negative
+    ∙ sym (ap (λ (x : KeyPart). part_order x q) (number_of_part i left v number only_left p one)
+    ∙ ap (λ (x : KeyPart). part_order (Numeral v.negative (number_of v.digits)) x) (number_of_part i right w number only_right q two))
+  where
+    same : length v.digits ≡ length w.digits
+    same = (law i left v.negative v.digits number found).count_is ∙ sym (law i right w.negative w.digits number other).count_is
+
+    by : (a b : Bool) → digits_order a v.digits b w.digits ≡ number_order a (number_of v.digits) b (number_of w.digits)
+    by false false = digits_are_ordered v.digits w.digits (law i left v.negative v.digits number found).valid (law i right w.negative w.digits number other).valid same
+    by false true = refl
+    by true false = refl
+    by true true = digits_are_ordered w.digits v.digits (law i right w.negative w.digits number other).valid (law i left v.negative v.digits number found).valid (sym same)
+
+-- ---- keys item by item
+
+pub none_stand : (one other : List KeyPart) → one ≡ [] → other ≡ [] → Equal ≡ key_order one other
+none_stand one other is also = sym (ap (λ (k : List KeyPart). key_order k other) is ∙ ap (λ (k : List KeyPart). key_order [] k) also)
+
+pub keys_stand : (x : NamedItem) (xs : List NamedItem) (left right : List ℕ) (o r : Ordering)
+    → ((p q : KeyPart) → IsKeyPart x.item (take (item_size x.item) left) p → IsKeyPart x.item (take (item_size x.item) right) q → o ≡ part_order p q)
+    → (o ≡ Equal → (one other : List KeyPart) → AreKeyParts xs (drop (item_size x.item) left) one → AreKeyParts xs (drop (item_size x.item) right) other → r ≡ key_order one other)
+    → (one other : List KeyPart) → AreKeyParts (x ∷ xs) left one → AreKeyParts (x ∷ xs) right other → ordering_then o r ≡ key_order one other
+keys_stand x xs left right o r item rest [] other one two = absurd one
+keys_stand x xs left right o r item rest (p ∷ ps) [] one two = absurd two
+keys_stand x xs left right o r item rest (p ∷ ps) (q ∷ qs) one two = by o (item p q one.0 two.0) (λ alike. rest alike ps qs one.1 two.1)
+  where
+    by : (o : Ordering) → o ≡ part_order p q → (o ≡ Equal → r ≡ key_order ps qs) → ordering_then o r ≡ ordering_then (part_order p q) (key_order ps qs)
+    by Less first rest = ap (λ (c : Ordering). ordering_then c (key_order ps qs)) first
+    by Equal first rest = rest refl ∙ ap (λ (c : Ordering). ordering_then c (key_order ps qs)) first
+    by Greater first rest = ap (λ (c : Ordering). ordering_then c (key_order ps qs)) first
+
+-- the bytes of a first item, and those of the others behind them
+pub parts_first : (x : NamedItem) (xs : List NamedItem) (front behind slot : List ℕ) (part : KeyPart) (key : List KeyPart) → length front ≡ item_size x.item → IsKeyPart x.item front part
+    → AreKeyParts xs behind key → slot ≡ front ++ behind → AreKeyParts (x ∷ xs) slot (part ∷ key)
+parts_first x xs front behind slot part key long is rest e =
+    let n = item_size x.item in
+    (
+      subst (λ (bs : List ℕ). IsKeyPart x.item bs part) (sym (ap (λ (bs : List ℕ). take n bs) e ∙ take_at front behind n long)) is,
+      subst (λ (bs : List ℕ). AreKeyParts xs bs key) (sym (ap (λ (bs : List ℕ). drop n bs) e ∙ drop_at front behind n long)) rest,
+    )
+
+-- items of a key among the named ones
+pub among_behind : (xs : List ListedItem) (i : ℕ) (x : NamedItem) → IsAmong x (map named_item (drop i xs)) → IsAmong x (map named_item xs)
+among_behind xs zero x among = among
+among_behind [] (suc i) x among = among
+among_behind (y ∷ ys) (suc i) x among = inr (among_behind ys i x among)

@@ -1,9 +1,10 @@
 -- What is printed, text behind text.
-use Rattle.std.proofs.Common.{◌≡◌, ◌∙◌, ℕ, ◌+◌, ◌-◌, ◌<◌, ◌≤◌, true≢false, List, [], ◌∷◌, ◌++◌, length, drop, map, refl, sym, ap, subst, append_assoc, append-nil, arith, Option, Some, None, is_some, codes, get_or, Ok, Err, Result}
+use Rattle.std.proofs.Common.{◌≡◌, ◌∙◌, ℕ, ◌+◌, ◌-◌, ◌<◌, ◌≤◌, true≢false, List, [], ◌∷◌, ◌++◌, length, take, drop, map, refl, sym, ap, subst, append_assoc, append-nil, arith, Option, Some, None, is_some, codes, get_or, Ok, Err, Result}
 use Rattle.std.specs.Prelude.{OnOk, flat_map}
 use Rattle.std.specs.Io.KnownBytes.{append_known}
 use Rattle.std.proofs.lemmas.List.{drop_all, drop_more, length-append}
 use Rattle.cob_copybook_tree.specs.declared.node.Item.{Item}
+use Rattle.cob_copybook_tree.specs.Lengths.{item_size}
 use Rattle.cob_layout.specs.Fields.{field_of}
 use Rattle.cob_report_show.specs.Elements.{NamedItem}
 use Rattle.cob_report_show.specs.Values.{AreQuoted, AreUnknown, IsByteShown, IsValueShown}
@@ -13,7 +14,7 @@ use Rattle.cob_records.specs.Frame.{Puts}
 use Rattle.cob_records.specs.Hex.{byte_text}
 use Rattle.cob_report_show.proofs.SentLemmas.{append_none, append_twice, took_as, took_both}
 use Rattle.cob_report_compare.specs.Differences.{PlainDifference, plain_difference}
-use Rattle.cob_report_compare.specs.Lines.{AreDifferenceLines, AreComparedElementLines, AreBytesShown, AreValuesShown, IsDifferenceLine, IsHeaded, byte_line, header_end, more_line, place_text, unlike_lines}
+use Rattle.cob_report_compare.specs.Lines.{AreDifferenceLines, AreComparedElementLines, AreBytesShown, AreKeysShown, AreValuesShown, IsDifferenceLine, IsHeaded, byte_line, header_end, more_line, place_text, unlike_lines}
 use Rattle.cob_report_compare.specs.Printable.{ArePrintable, IsPrintable}
 use Rattle.cob_report_compare.specs.declared.bytes.ByteDifference.{ByteDifference}
 use Rattle.cob_report_compare.specs.declared.bytes.FirstBytes.{FirstBytes}
@@ -205,6 +206,24 @@ unlike_is l r told shown more w0 w1 w2 w3 all is header lines last =
 -- a heading, and what stands behind it
 pub headed : (heading is : List ℕ → Type 0) (w0 w1 w2 : Option (List ℕ)) → Took w0 w1 heading → Took w1 w2 is → Took w0 w2 (IsHeaded heading is)
 headed heading is w0 w1 w2 front rest = took_both w0 w1 w2 heading is (IsHeaded heading is) front rest (λ p q h i. (p, q, h, i, refl))
+
+-- the items of a key, the first one and those behind it
+pub keys_printed : (x : NamedItem) (xs : List NamedItem) (key bytes behind : List ℕ) (w0 w1 w2 w3 : Option (List ℕ)) → bytes ≡ take (item_size x.item) key → behind ≡ drop (item_size x.item) key
+    → Took w0 w1 (λ part. part ≡ codes ", " ++ (x.name ++ 32 ∷ [])) → Took w1 w2 (IsValueShown x.item bytes) → Took w2 w3 (AreKeysShown xs behind) → Took w0 w3 (AreKeysShown (x ∷ xs) key)
+keys_printed x xs key bytes behind w0 w1 w2 w3 is also name value rest =
+    took_both w0 w1 w3 (λ part. part ≡ codes ", " ++ (x.name ++ 32 ∷ [])) both (AreKeysShown (x ∷ xs) key) name
+    (took_both w1 w2 w3 (IsValueShown x.item bytes) (AreKeysShown xs behind) both value rest (λ p q shown are. (p, q, shown, are, refl)))
+    (λ p q e more. (
+      more.0,
+      more.1,
+      subst (λ (bs : List ℕ). IsValueShown x.item bs more.0) is more.2,
+      subst (λ (bs : List ℕ). AreKeysShown xs bs more.1) also more.3,
+      ap (λ (t : List ℕ). t ++ q) e ∙ append_assoc (codes ", ") (x.name ++ 32 ∷ []) q ∙ ap (λ (t : List ℕ). codes ", " ++ t) (append_assoc x.name (32 ∷ []) q)
+          ∙ ap (λ (t : List ℕ). codes ", " ++ (x.name ++ 32 ∷ t)) more.4,
+    ))
+  where
+    both : List ℕ → Type 0
+    both text = (value : List ℕ) × (rest : List ℕ) × IsValueShown x.item bytes value × AreKeysShown xs behind rest × (text ≡ value ++ rest)
 
 -- a text with another one behind it that is not empty
 pub not_empty : (a b text : List ℕ) → text ≡ a ++ b → 0 < length b → 0 < length text

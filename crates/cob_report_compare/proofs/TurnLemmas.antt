@@ -1,7 +1,7 @@
 -- What is told of two files next, and what is printed of it.
 use Rattle.std.proofs.Common.{◌≡◌, ◌≤◌, ℕ, List, [], ◌∷◌, ◌++◌, length, take, refl, sym, subst, ap, ◌∙◌, arith, Option, Ok, Less, Equal, Greater, Ordering}
 use Rattle.std.specs.List.{AllByRecursion}
-use Rattle.std.proofs.lemmas.List.{length-take}
+use Rattle.std.proofs.lemmas.List.{length-take-le}
 use Rattle.cob_copybook_tree.specs.Forests.{Forest}
 use Rattle.cob_copybook_tree.specs.Nodes.{Resolved}
 use Rattle.cob_layout.specs.Counting.{CountsOf}
@@ -13,13 +13,14 @@ use Rattle.cob_report_show.specs.Records.{HoldsRecord}
 use Rattle.cob_report_compare.specs.declared.heads.FileRoom.{FileRoom}
 use Rattle.cob_report_compare.specs.declared.heads.Head.{Head}
 use Rattle.cob_report_compare.specs.declared.heads.Head.TheVariants as head
+use Rattle.cob_report_compare.specs.declared.turns.Turn.{Turn}
 use Rattle.cob_report_compare.specs.declared.turns.Turn.TheVariants as turn
 use Rattle.cob_report_compare.specs.Equal.{IsCompleteRecord}
 use Rattle.cob_report_compare.specs.Files.{FileSoFar, HoldsHead, HoldsNext}
-use Rattle.cob_report_compare.specs.Keys.{AreKeyParts, key_order}
-use Rattle.cob_report_compare.specs.Merged.{IsKeyedRecord, KeyedRecord, Next, Unread, Ended, Waits, came}
+use Rattle.cob_report_compare.specs.Keys.{AreKeyParts, KeyPart, key_order}
+use Rattle.cob_report_compare.specs.Merged.{IsKeyedRecord, KeyedRecord, Next, StandsBelow, Unread, Ended, Waits, came}
 use Rattle.cob_report_compare.specs.Merging.{IsTurn}
-use Rattle.cob_report_compare.specs.Turns.{DecidesTurn, HasKey, IsWhole, head_record}
+use Rattle.cob_report_compare.specs.Turns.{DecidesTurn, HasKey, IsWhole, turn_by}
 use Rattle.cob_report_compare.proofs.HeadLemmas.{last_of}
 use Rattle.cob_report_compare.proofs.KeyLemmas.{above_back}
 
@@ -33,7 +34,7 @@ has_key form tree keys told (Waits x) keyed = (last_of (IsKeyedRecord form tree 
 whole_here : (form : Form) (tree : Forest Resolved) (keys : List NamedItem) (room : FileRoom) (count : ℕ) (x : KeyedRecord) → HoldsHead tree room count x → IsKeyedRecord form tree keys x
     → IsWhole tree room (head.Waits count)
 whole_here form tree keys room count x holds keyed =
-    let long : length (take count room.bytes.items) ≡ count = omega (arith, length-take count room.bytes.items, holds.most) in
+    let long : length (take count room.bytes.items) ≡ count = length-take-le count room.bytes.items holds.most in
     (
       holds.most,
       record {
@@ -70,3 +71,47 @@ both_wait keys left_room right_room m n tree (Waits x) (Waits y) left right left
   subst (λ (bs : List ℕ). AreKeyParts keys bs x.key) left.key_bytes left_key,
   subst (λ (bs : List ℕ). AreKeyParts keys bs y.key) right.key_bytes right_key,
 )
+
+-- the keys of both decide
+pub keys_decide : (keys : List NamedItem) (left_room right_room : FileRoom) (m n : ℕ) (t : Turn)
+    → ((one other : List KeyPart) → AreKeyParts keys left_room.key.items one → AreKeyParts keys right_room.key.items other → t ≡ turn_by (key_order one other))
+    → DecidesTurn keys left_room (head.Waits m) right_room (head.Waits n) t
+keys_decide keys left_room right_room m n t is = λ tree l r left right left_key right_key.
+    let (x, y, left_is, right_is, one, other) = both_wait keys left_room right_room m n tree l r left right left_key right_key in
+    subst (λ (s : Turn). IsTurn l r s) (sym (is x.key y.key one other)) (by l r x y left_is right_is (key_order x.key y.key) refl)
+  where
+    by : (l r : Next) (x y : KeyedRecord) → l ≡ Waits x → r ≡ Waits y → (o : Ordering) → key_order x.key y.key ≡ o → IsTurn l r (turn_by o)
+    by l r x y left_is right_is Less e = (x, left_is, subst (StandsBelow x) (sym right_is) e)
+    by l r x y left_is right_is Equal e = (x, y, left_is, right_is, e)
+    by l r x y left_is right_is Greater e = (y, right_is, subst (StandsBelow y) (sym left_is) (above_back x.key y.key e))
+
+-- where one file is at its end the next record of the other stands alone
+pub left_decides : (keys : List NamedItem) (left_room right_room : FileRoom) (m : ℕ) → DecidesTurn keys left_room (head.Waits m) right_room head.Ended turn.Left
+left_decides keys left_room right_room m = λ tree l r left right left_key right_key. by tree l r left right
+  where
+    by : (tree : Forest Resolved) (l r : Next) → HoldsNext tree left_room (head.Waits m) l → HoldsNext tree right_room head.Ended r → IsTurn l r turn.Left
+    by tree Unread r left right = absurd left
+    by tree Ended r left right = absurd left
+    by tree (Waits x) Unread left right = absurd right
+    by tree (Waits x) Ended left right = (x, refl, tt)
+    by tree (Waits x) (Waits y) left right = absurd right
+
+pub right_decides : (keys : List NamedItem) (left_room right_room : FileRoom) (n : ℕ) → DecidesTurn keys left_room head.Ended right_room (head.Waits n) turn.Right
+right_decides keys left_room right_room n = λ tree l r left right left_key right_key. by tree l r left right
+  where
+    by : (tree : Forest Resolved) (l r : Next) → HoldsNext tree left_room head.Ended l → HoldsNext tree right_room (head.Waits n) r → IsTurn l r turn.Right
+    by tree Unread r left right = absurd left
+    by tree (Waits x) r left right = absurd left
+    by tree Ended Unread left right = absurd right
+    by tree Ended Ended left right = absurd right
+    by tree Ended (Waits y) left right = (y, refl, tt)
+
+pub none_decides : (keys : List NamedItem) (left_room right_room : FileRoom) → DecidesTurn keys left_room head.Ended right_room head.Ended turn.Done
+none_decides keys left_room right_room = λ tree l r left right left_key right_key. by tree l r left right
+  where
+    by : (tree : Forest Resolved) (l r : Next) → HoldsNext tree left_room head.Ended l → HoldsNext tree right_room head.Ended r → IsTurn l r turn.Done
+    by tree Unread r left right = absurd left
+    by tree (Waits x) r left right = absurd left
+    by tree Ended Unread left right = absurd right
+    by tree Ended (Waits y) left right = absurd right
+    by tree Ended Ended left right = (refl, refl)

@@ -27,6 +27,7 @@ use Rattle.cob_report_compare.specs.declared.heads.FileRoom.{FileRoom}
 use Rattle.cob_report_compare.specs.declared.heads.Head.{Head}
 use Rattle.cob_report_compare.specs.declared.heads.Head.TheVariants as head
 use Rattle.cob_report_compare.specs.declared.heads.Reached.{Reached}
+use Rattle.cob_report_compare.specs.declared.pairs.ComparedFiles.{ComparedFiles}
 use Rattle.cob_report_compare.specs.Keys.{AreKeyBytes, AreKeyParts, BeginsKeyAt, IsNoKeyAt, KeyPart, key_order, key_size}
 use Rattle.cob_report_compare.specs.Merged.{Ascend, IsKeyedRecord, KeyedRecord, Next, Unread, Ended, Waits, bodies, came, printed_by}
 
@@ -169,6 +170,11 @@ is_reason_for is (Order offset) = false
 abbrev pub is_stopped_for : {X : Type 0} → (Cause → Bool) → Result X CompareStop → Bool
 is_stopped_for is (Ok x) = false
 is_stopped_for is (Err stop) = is_reason_for is stop.reason
+
+-- how the records stand in a file
+abbrev pub form_on : ComparedFiles → FileSide → Form
+form_on files Left = files.left_form
+form_on files Right = files.right_form
 
 -- it is the file on the left
 abbrev pub on_left : FileSide → Bool

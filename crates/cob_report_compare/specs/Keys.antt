@@ -53,6 +53,13 @@ number_order false m true n = Greater
 number_order true m false n = Less
 number_order true m true n = nat_cmp n m
 
+-- the same by their digits, of which both have as many
+abbrev pub digits_order : Bool → List ℕ → Bool → List ℕ → Ordering
+digits_order false ds false es = slice_cmp nat_cmp ds es
+digits_order false ds true es = Greater
+digits_order true ds false es = Less
+digits_order true ds true es = slice_cmp nat_cmp es ds
+
 -- How two parts stand: numbers by their values, and characters by their bytes, which are their codes in code page 037. The same item is a number in all
 -- records, or in none.
 abbrev pub part_order : KeyPart → KeyPart → Ordering

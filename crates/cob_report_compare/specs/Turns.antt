@@ -1,5 +1,7 @@
 -- What is told of two files next.
 use Rattle.std.specs.Prelude.{◌≡◌, ℕ, ◌+◌, ◌≤◌, ⊤, List, length, take, Option}
+use Rattle.std.specs.declared.cmp.Ordering.{Ordering}
+use Rattle.std.specs.declared.cmp.Ordering.TheVariants.{Less, Equal, Greater}
 use Rattle.cob_copybook_tree.specs.Forests.{Forest}
 use Rattle.cob_copybook_tree.specs.Nodes.{Resolved}
 use Rattle.cob_records.specs.Device.{Took}
@@ -37,6 +39,12 @@ abbrev pub HasKey : List NamedItem → Next → Type 0
 HasKey keys Unread = ⊤
 HasKey keys Ended = ⊤
 HasKey keys (Waits x) = AreKeyParts keys x.key_bytes x.key
+
+-- what is told of two records whose keys stand so to one another
+abbrev pub turn_by : Ordering → Turn
+turn_by Less = turn.Left
+turn_by Equal = turn.Both
+turn_by Greater = turn.Right
 
 -- What a call decides that takes the turn: whatever stands next in both rooms, it is what is told next.
 abbrev pub DecidesTurn : List NamedItem → FileRoom → Head → FileRoom → Head → Turn → Type 0

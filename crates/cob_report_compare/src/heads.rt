@@ -9,12 +9,13 @@ ghost use Rattle.cob_report_show.specs.Elements.{named_item};
 ghost use Rattle.cob_report_show.specs.Records.{HoldsRecord};
 ghost use Rattle.cob_report_show.specs.Runs.{most_shown};
 ghost use Rattle.cob_report_compare.specs.Equal.{printed_of};
-ghost use Rattle.cob_report_compare.specs.Files.{IsFileRoom, ReadsNextHead, RefusesKey, StopsAtHead, TakesKey, is_reason_for, is_stopped_for};
+ghost use Rattle.cob_report_compare.specs.Files.{IsFileRoom, ReadsNextHead, RefusesKey, StopsAtHead, TakesKey, form_on, is_reason_for, is_stopped_for};
 ghost use Rattle.cob_report_compare.specs.Keys.{AreKeyItems, key_size, most_keys};
 
 use crate::elements::ComparedRecord;
 use crate::files::{CompareStop, FileSide, StopReason, stop_on};
 use crate::keys::{key_length, key_offset, order_of_keys, take_key};
+use crate::pairs::ComparedFiles;
 use cob_layout::{Counts, Layout};
 use cob_records::{Form, Source};
 use cob_report_show::{ListedItem, read_record};
@@ -165,25 +166,36 @@ fn hold_head(
     hold_key(record, keys, &mut room.key, &mut room.next, first)
 }
 
+/// How the records stand in a file.
+fn form_on(files: ComparedFiles, side: FileSide) -> Form
+    ensures { result ≡ form_on files.entry side }
+{
+    match side {
+        FileSide::Left => files.left_form,
+        FileSide::Right => files.right_form,
+    }
+}
+
 /// Reads what stands next in a file, and its key.
 fn read_head<S: Source>(
-    layout: &Layout,
-    keys: &[ListedItem],
+    files: ComparedFiles,
     side: FileSide,
-    form: Form,
     source: &mut S,
     room: &mut FileRoom,
     reached: Reached,
 ) -> Result<Reached, CompareStop>
-    requires block { HasBlockSize form }
-    requires keys { AreKeyItems layout.now (map named_item keys.now) }
-    requires room { IsFileRoom layout.now (map named_item keys.now) room.old }
+    requires block { HasBlockSize (form_on files side) }
+    requires keys { AreKeyItems files.layout.now (map named_item files.keys.now) }
+    requires room { IsFileRoom files.layout.now (map named_item files.keys.now) room.old }
     requires few { reached.number ≤ most_shown }
     requires unread { reached.head ≡ Head.Unread }
-    ensures room { IsFileRoom layout.now (map named_item keys.now) room.new }
-    ensures next { IfOk result (ReadsNextHead form layout.now (map named_item keys.now) reached room.old
+    ensures room { IsFileRoom files.entry.layout.now (map named_item files.entry.keys.now) room.new }
+    ensures read { IfOk result (λ now. now.head ≡ Head.Unread → ⊥) }
+    ensures next { IfOk result (ReadsNextHead (form_on files.entry side) files.entry.layout.now
+        (map named_item files.entry.keys.now) reached room.old
         (S.coming source.old) (S.coming source.new) room.new) }
-    ensures stops { IfErr result (StopsAtHead form layout.now (map named_item keys.now) reached room.old
+    ensures stops { IfErr result (StopsAtHead (form_on files.entry side) files.entry.layout.now
+        (map named_item files.entry.keys.now) reached room.old
         (S.coming source.old) (S.coming source.new)) }
     ensures side { IfErr result (λ stop. stop.side ≡ side) }
     ensures reading { IfErr result (λ stop. is_reason_for is_write_cause stop.reason ≡ false) }
@@ -193,8 +205,8 @@ fn read_head<S: Source>(
     let mut opened = reached.opened;
     let number = reached.number + 1;
     let count = match read_record(
-        layout,
-        form,
+        files.layout,
+        form_on(files, side),
         source,
         &mut room.bytes,
         &mut opened,
@@ -210,7 +222,7 @@ fn read_head<S: Source>(
         Ok(Some(count)) => count,
         Err(reason) => return Err(stop_on(side, number, StopReason::Record(reason))),
     };
-    match hold_head(layout, keys, room, count, reached.number == 0) {
+    match hold_head(files.layout, files.keys, room, count, reached.number == 0) {
         Ok(()) => Ok(Reached {
             opened,
             number,
@@ -227,22 +239,23 @@ fn read_head<S: Source>(
 /// A record that can't be read, whose counts are not all valid, or that is not as long as they say; that has no key, or one that stands below that of the
 /// record before it.
 pub(crate) fn fill<S: Source>(
-    layout: &Layout,
-    keys: &[ListedItem],
+    files: ComparedFiles,
     side: FileSide,
-    form: Form,
     source: &mut S,
     room: &mut FileRoom,
     reached: Reached,
 ) -> Result<Reached, CompareStop>
-    requires block { HasBlockSize form }
-    requires keys { AreKeyItems layout.now (map named_item keys.now) }
-    requires room { IsFileRoom layout.now (map named_item keys.now) room.old }
+    requires block { HasBlockSize (form_on files side) }
+    requires keys { AreKeyItems files.layout.now (map named_item files.keys.now) }
+    requires room { IsFileRoom files.layout.now (map named_item files.keys.now) room.old }
     requires few { reached.head ≡ Head.Unread → reached.number ≤ most_shown }
-    ensures room { IsFileRoom layout.now (map named_item keys.now) room.new }
-    ensures next { IfOk result (ReadsNextHead form layout.now (map named_item keys.now) reached room.old
+    ensures room { IsFileRoom files.entry.layout.now (map named_item files.entry.keys.now) room.new }
+    ensures read { IfOk result (λ now. now.head ≡ Head.Unread → ⊥) }
+    ensures next { IfOk result (ReadsNextHead (form_on files.entry side) files.entry.layout.now
+        (map named_item files.entry.keys.now) reached room.old
         (S.coming source.old) (S.coming source.new) room.new) }
-    ensures stops { IfErr result (StopsAtHead form layout.now (map named_item keys.now) reached room.old
+    ensures stops { IfErr result (StopsAtHead (form_on files.entry side) files.entry.layout.now
+        (map named_item files.entry.keys.now) reached room.old
         (S.coming source.old) (S.coming source.new)) }
     ensures side { IfErr result (λ stop. stop.side ≡ side) }
     ensures reading { IfErr result (λ stop. is_reason_for is_write_cause stop.reason ≡ false) }
@@ -250,7 +263,7 @@ pub(crate) fn fill<S: Source>(
         (is_stopped_for is_read_cause result) (S.failures source.old) }
 {
     match reached.head {
-        Head::Unread => read_head(layout, keys, side, form, source, room, reached),
+        Head::Unread => read_head(files, side, source, room, reached),
         Head::Ended => Ok(reached),
         Head::Waits(_) => Ok(reached),
     }

@@ -1,13 +1,13 @@
 //! The keys of records, and how they are ordered.
 
-ghost use Rattle.std.specs.Prelude.{◌≡◌, ◌+◌, ◌≤◌, ◌++◌, List, length, map, IfErr, IfOk, IfSome, OnOk, IsTrue, IsFalse};
+ghost use Rattle.std.specs.Prelude.{◌≡◌, ◌+◌, ◌*◌, ◌<◌, ◌≤◌, ◌∷◌, [], List, length, map, IfErr, IfOk, IfSome, OnOk, IsTrue, IsFalse};
 ghost use Rattle.std.specs.List.{AllByRecursion};
 ghost use Rattle.cob_copybook_tree.specs.Items.{IsNumberItem};
 ghost use Rattle.cob_copybook_tree.specs.Lengths.{item_size};
 ghost use Rattle.cob_report_show.specs.Elements.{named_item};
 ghost use Rattle.cob_report_show.specs.Records.{HoldsRecord};
 ghost use Rattle.cob_report_compare.specs.Equal.{printed_of};
-ghost use Rattle.cob_report_compare.specs.Keys.{AreKeyBytes, AreKeyItems, AreKeyParts, BeginsKeyAt, IsKeyItem, IsKeyPart, IsNoKeyAt, IsNoNumber, KeyPart, KeyStandsAt, key_order, key_size, most_keys, part_order};
+ghost use Rattle.cob_report_compare.specs.Keys.{AreKeyBytes, AreKeyItems, AreKeyParts, BeginsKeyAt, IsKeyItem, IsKeyPart, IsNoKeyAt, IsNoNumber, KeyPart, KeyStandsAt, digits_order, key_order, key_size, most_keys, part_order};
 
 use crate::elements::{ComparedRecord, place_of};
 use arrayvec::ArrayVec;
@@ -75,6 +75,23 @@ pub(crate) fn key_length(keys: &[ListedItem]) -> usize
     }
 }
 
+/// How two numbers of these digits stand to one another, each negative or not.
+fn digits_order(
+    negative: bool,
+    digits: &[u8],
+    other_negative: bool,
+    other_digits: &[u8],
+) -> Ordering
+    ensures { result ≡ digits_order negative digits.now other_negative other_digits.now }
+{
+    match (negative, other_negative) {
+        (false, false) => digits.cmp(&other_digits),
+        (false, true) => Ordering::Greater,
+        (true, false) => Ordering::Less,
+        (true, true) => other_digits.cmp(&digits),
+    }
+}
+
 /// How two numbers of an item stand to one another.
 fn number_order(item: &Item, left: &[u8], right: &[u8]) -> Ordering
     requires number { IsNumberItem item.now }
@@ -90,12 +107,12 @@ fn number_order(item: &Item, left: &[u8], right: &[u8]) -> Ordering
     let Some(other) = read_number(item, right) else {
         return Ordering::Equal;
     };
-    match (one.negative(), other.negative()) {
-        (false, false) => one.digits().as_slice().cmp(&other.digits().as_slice()),
-        (false, true) => Ordering::Greater,
-        (true, false) => Ordering::Less,
-        (true, true) => other.digits().as_slice().cmp(&one.digits().as_slice()),
-    }
+    digits_order(
+        one.negative(),
+        one.digits().as_slice(),
+        other.negative(),
+        other.digits().as_slice(),
+    )
 }
 
 /// How what an item holds on both sides stands to one another: numbers by their values, and characters by their bytes.

@@ -51,38 +51,27 @@ pub(crate) fn compare_merged<L: Source, R: Source, W: Sink>(
     ensures writes { W.failures sink.new ≡ counted
         (is_stopped_for is_write_cause result) (W.failures sink.old) }
 {
-    let (layout, keys) = (files.layout, files.keys);
     let mut counts = PairCounts::none();
     let mut left_at = Reached::nothing();
     let mut right_at = Reached::nothing();
-    for _ in 0..LIMIT {
-        left_at = fill(
-            layout,
-            keys,
-            FileSide::Left,
-            files.left_form,
-            left,
+    for done in 0..LIMIT {
+        let left_now = fill(files, FileSide::Left, left, left_room, left_at)?;
+        let right_now = fill(files, FileSide::Right, right, right_room, right_at)?;
+        let turn = turn_of(
+            files.keys,
             left_room,
-            left_at,
-        )?;
-        right_at = fill(
-            layout,
-            keys,
-            FileSide::Right,
-            files.right_form,
-            right,
+            left_now.head,
             right_room,
-            right_at,
-        )?;
-        let turn = turn_of(keys, left_room, left_at.head, right_room, right_at.head);
+            right_now.head,
+        );
         if let Turn::Done = turn {
             return Ok(counts);
         }
         counts = tell_turn(
-            files, turn, sink, left_room, left_at, right_room, right_at, counts,
+            files, turn, sink, left_room, left_now, right_room, right_now, counts,
         )?;
-        left_at = left_behind(turn, left_at);
-        right_at = right_behind(turn, right_at);
+        left_at = left_behind(turn, left_now);
+        right_at = right_behind(turn, right_now);
     }
     Err(stop_on(
         FileSide::Left,

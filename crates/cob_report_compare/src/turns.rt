@@ -1,16 +1,16 @@
 //! What is told of two files next: two records that are a pair, or one that stands alone.
 
-ghost use Rattle.std.specs.Prelude.{◌≡◌, ◌+◌, ◌<◌, ◌≤◌, length, map, true, false, IfErr, IfOk};
+ghost use Rattle.std.specs.Prelude.{◌≡◌, ◌<◌, List, length, map, true, false, IfErr, IfOk};
 ghost use Rattle.cob_convert_stream.specs.Reasons.{is_read_cause, is_write_cause};
 ghost use Rattle.cob_records.specs.Device.{counted};
 ghost use Rattle.cob_report_show.specs.Elements.{named_item};
 ghost use Rattle.cob_report_show.specs.Runs.{most_shown};
 ghost use Rattle.cob_report_compare.specs.Chosen.{AreCompared};
 ghost use Rattle.cob_report_compare.specs.Files.{is_reason_for, is_stopped_for};
-ghost use Rattle.cob_report_compare.specs.Keys.{key_size};
+ghost use Rattle.cob_report_compare.specs.Keys.{AreKeyParts, KeyPart, key_order, key_size};
 ghost use Rattle.cob_report_compare.specs.Merged.{all_counted, file_pair, told_counted};
 ghost use Rattle.cob_report_compare.specs.Merging.{turn_side};
-ghost use Rattle.cob_report_compare.specs.Turns.{DecidesTurn, IsWhole, TellsSingle, TellsTurn, head_record, left_behind, right_behind, turn_number};
+ghost use Rattle.cob_report_compare.specs.Turns.{DecidesTurn, IsWhole, TellsSingle, TellsTurn, head_record, left_behind, right_behind, turn_by, turn_number};
 
 use crate::counted::PairCounts;
 use crate::elements::ComparedRecord;
@@ -39,6 +39,21 @@ pub(crate) enum Turn {
     Right,
 }
 
+/// What is told of two next records with these keys: both where they have one key, and else the lesser.
+fn turn_by(keys: &[ListedItem], left: &[u8], right: &[u8]) -> Turn
+    requires left { length left.now ≡ key_size (map named_item keys.now) }
+    requires right { length right.now ≡ key_size (map named_item keys.now) }
+    ensures { (one other : List KeyPart) → AreKeyParts (map named_item keys.now) left.now one
+        → AreKeyParts (map named_item keys.now) right.now other
+        → result ≡ turn_by (key_order one other) }
+{
+    match order_of_keys(keys, left, right) {
+        Ordering::Equal => Turn::Both,
+        Ordering::Less => Turn::Left,
+        Ordering::Greater => Turn::Right,
+    }
+}
+
 /// What is told of two files of which each was read: both next records where they have one key, and else the lesser.
 pub(crate) fn turn_of(
     keys: &[ListedItem],
@@ -53,17 +68,18 @@ pub(crate) fn turn_of(
     requires right_key { length right_room.now.key.items ≡ key_size (map named_item keys.now) }
     ensures { DecidesTurn (map named_item keys.now) left_room.now left right_room.now right result }
 {
-    match (left, right) {
-        (Head::Waits(_), Head::Waits(_)) => {
-            match order_of_keys(keys, &left_room.key, &right_room.key) {
-                Ordering::Equal => Turn::Both,
-                Ordering::Less => Turn::Left,
-                Ordering::Greater => Turn::Right,
-            }
-        }
-        (Head::Waits(_), _) => Turn::Left,
-        (_, Head::Waits(_)) => Turn::Right,
-        _ => Turn::Done,
+    match left {
+        Head::Unread => Turn::Done,
+        Head::Ended => match right {
+            Head::Unread => Turn::Done,
+            Head::Ended => Turn::Done,
+            Head::Waits(_) => Turn::Right,
+        },
+        Head::Waits(_) => match right {
+            Head::Unread => Turn::Left,
+            Head::Ended => Turn::Left,
+            Head::Waits(_) => turn_by(keys, &left_room.key, &right_room.key),
+        },
     }
 }
 
@@ -72,8 +88,10 @@ pub(crate) fn left_behind(turn: Turn, reached: Reached) -> Reached
     ensures { result ≡ left_behind turn reached }
 {
     match turn {
-        Turn::Both | Turn::Left => reached.told(),
-        Turn::Done | Turn::Right => reached,
+        Turn::Both => reached.told(),
+        Turn::Left => reached.told(),
+        Turn::Done => reached,
+        Turn::Right => reached,
     }
 }
 
@@ -82,8 +100,10 @@ pub(crate) fn right_behind(turn: Turn, reached: Reached) -> Reached
     ensures { result ≡ right_behind turn reached }
 {
     match turn {
-        Turn::Both | Turn::Right => reached.told(),
-        Turn::Done | Turn::Left => reached,
+        Turn::Both => reached.told(),
+        Turn::Right => reached.told(),
+        Turn::Done => reached,
+        Turn::Left => reached,
     }
 }
 
@@ -96,7 +116,8 @@ fn head_of<'a>(layout: &'a Layout, room: &'a FileRoom, head: Head) -> ComparedRe
 {
     let count = match head {
         Head::Waits(count) => count,
-        Head::Unread | Head::Ended => 0,
+        Head::Unread => 0,
+        Head::Ended => 0,
     };
     ComparedRecord {
         layout,
