@@ -11,8 +11,9 @@ use Rattle.cob_layout.specs.Storage.{greatest_length}
 use Rattle.cob_records.specs.declared.records.Form.{Form}
 use Rattle.cob_records.specs.Device.{Told}
 use Rattle.cob_records.specs.Frame.{IsRecord}
+use Rattle.cob_convert_stream.specs.declared.fault.Cause.{Cause}
 use Rattle.cob_convert_stream.specs.declared.fault.Reason.{Reason}
-use Rattle.cob_report_show.specs.Elements.{NamedItem}
+use Rattle.cob_report_show.specs.Elements.{NamedItem, Printed}
 use Rattle.cob_report_show.specs.Records.{HoldsRecord}
 use Rattle.cob_report_show.specs.Runs.{IsLegible, ReadsNext}
 use Rattle.cob_report_show.proofs.ElementLemmas.{all_append}
@@ -24,7 +25,7 @@ use Rattle.cob_report_compare.specs.declared.heads.FileRoom.{FileRoom}
 use Rattle.cob_report_compare.specs.declared.heads.Head.{Head}
 use Rattle.cob_report_compare.specs.declared.heads.Head.TheVariants as head
 use Rattle.cob_report_compare.specs.declared.heads.Reached.{Reached}
-use Rattle.cob_report_compare.specs.Files.{CameBefore, CameSoFar, FileSoFar, HasCome, HoldsFile, HoldsLast, HoldsNext, IsNotRead, IsReadNext, LeavesFile, ReadsNextHead, RefusesKey, StopsAtHead, StopsFile, TakesKey}
+use Rattle.cob_report_compare.specs.Files.{CameBefore, CameSoFar, FileSoFar, HasCome, HoldsFile, HoldsLast, HoldsNext, IsNotRead, IsReadNext, LeavesFile, ReadsNextHead, RefusesKey, StopsAtHead, StopsFile, TakesKey, is_reason_for}
 use Rattle.cob_report_compare.specs.Keys.{AreKeyParts, KeyPart, key_order}
 use Rattle.cob_report_compare.specs.Merged.{Ascend, IsKeyedRecord, IsNotBelow, KeyedRecord, Next, Unread, Ended, Waits, bodies, came}
 use Rattle.cob_report_compare.proofs.CameLemmas.{came_end, came_here, came_more, came_stop}
@@ -200,3 +201,9 @@ pub left_so : (form : Form) (told : List KeyedRecord) (next : Next) (opened : �
 left_so form told Unread opened r0 r1 come = came_here form (bodies told) opened r0 r1 come
 left_so form told Ended opened r0 r1 come = come
 left_so form told (Waits x) opened r0 r1 come = came_here form (bodies (told ++ x ∷ [])) opened r0 r1 come
+
+-- what refuses a key is no cause of reading or writing
+pub refused_for : (f : Cause → Bool) (keys : List NamedItem) (r : Printed) (first : Bool) (held : List ℕ) (why : StopReason) → RefusesKey keys r first held why → is_reason_for f why ≡ false
+refused_for f keys r first held (Record why) refuses = absurd refuses
+refused_for f keys r first held (NoNumber offset) refuses = refl
+refused_for f keys r first held (Order offset) refuses = refl

@@ -22,18 +22,33 @@ use std::cmp::Ordering;
 /// How many items a key has at most.
 pub const MOST_KEYS: usize = 16;
 
+/// Whether an item has this number, and stands in no table.
+fn is_key_item(item: &ListedItem, number: usize) -> bool
+    ensures yes { IsTrue result → item.now.tables.items ≡ [] }
+{
+    item.number == number && item.tables.is_empty()
+}
+
+/// A copy of an item that stands in no table. It takes no memory.
+fn key_copy(item: &ListedItem) -> ListedItem
+    requires { item.now.tables.items ≡ [] }
+    ensures { named_item result ≡ named_item item.now }
+{
+    ListedItem {
+        number: item.number,
+        name: item.name.clone(),
+        item: item.item.clone(),
+        tables: ArrayVec::new(),
+    }
+}
+
 /// The item of this number among those that are named, where it stands in no table.
 fn key_item(named: &[ListedItem], number: usize) -> Option<ListedItem>
     ensures among { IfSome result (λ key. IsKeyItem (map named_item named.now) (named_item key)) }
 {
     for item in named {
-        if item.number == number && item.tables.is_empty() {
-            return Some(ListedItem {
-                number,
-                name: item.name.clone(),
-                item: item.item.clone(),
-                tables: ArrayVec::new(),
-            });
+        if is_key_item(item, number) {
+            return Some(key_copy(item));
         }
     }
     None
