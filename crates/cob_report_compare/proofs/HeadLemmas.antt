@@ -115,28 +115,33 @@ one_more form tree keys told x room number count keyed ascend (inr (front, last,
     subst (λ (rs : List KeyedRecord). Ascend (rs ++ x ∷ [])) (sym is)
     (ascend_more front last x (subst Ascend is ascend) (order some last.key (subst (λ (bytes : List ℕ). AreKeyParts keys bytes last.key) key keyed_last.key)))
 
-pub head_waits : (form : Form) (tree : Forest Resolved) (keys : List NamedItem) (reached : Reached) (room held : FileRoom) (count after : ℕ) (r1 r2 : Option (List ℕ)) → reached.head ≡ head.Unread
-    → Told r1 r2 (ReadsNext form tree reached.opened held.bytes.items (Ok (Some count)) after)
-    → IsRecord form (greatest_length tree) (take count held.bytes.items) → IsLegible form tree (take count held.bytes.items) held.places → count ≤ length held.bytes.items
-    → HoldsRecord tree held.places count
-    → TakesKey keys (record { tree = tree; places = held.places; bytes = take count held.bytes.items }) (reached.number == 0) room.key.items held.key.items
+pub head_waits : (form : Form) (tree : Forest Resolved) (keys : List NamedItem) (reached : Reached) (room held : FileRoom) (slot : List ℕ) (places : Standing) (count after : ℕ) (r1 r2 : Option (List ℕ))
+    → reached.head ≡ head.Unread → held.bytes.items ≡ slot → held.places ≡ places → Told r1 r2 (ReadsNext form tree reached.opened slot (Ok (Some count)) after)
+    → IsRecord form (greatest_length tree) (take count slot) → IsLegible form tree (take count slot) places → count ≤ length slot → HoldsRecord tree places count
+    → TakesKey keys (record { tree = tree; places = places; bytes = take count slot }) (reached.number == 0) room.key.items held.key.items
     → ReadsNextHead form tree keys reached room r1 r2 held (record { opened = after; number = reached.number + 1; head = head.Waits count })
-head_waits form tree keys reached room held count after r1 r2 is read whole legible most hold (bytes, key, parts, order) = λ told next r0 so_far holds.
+head_waits form tree keys reached room held slot places count after r1 r2 is same stands read whole legible most hold (bytes, key, parts, order) = λ told next r0 so_far holds.
     let at = at_unread form tree keys told next reached room r0 r1 is so_far holds in
-    let x : KeyedRecord = record { body = take count held.bytes.items; places = held.places; key_bytes = held.key.items; key = key } in
+    let x : KeyedRecord = record { body = take count slot; places = places; key_bytes = held.key.items; key = key } in
     let keyed : IsKeyedRecord form tree keys x = record { whole = whole; legible = legible; bytes = bytes; key = parts } in
     (
       Waits x,
       subst (λ (n : Next). IsReadNext n (Waits x)) (sym at.unread) (λ (e : Waits x ≡ Unread). absurd (cc)),
       record {
         come = subst (λ (bs : List (List ℕ)). CameSoFar form bs after r0 r2) (sym (bodies_more told x))
-            (came_more form tree (bodies told) reached.opened after count held.bytes.items r0 r1 r2 at.so_far.come read);
+            (came_more form tree (bodies told) reached.opened after count slot r0 r1 r2 at.so_far.come read);
         keyed = all_append (IsKeyedRecord form tree keys) told (x ∷ []) at.so_far.keyed (keyed, tt);
         ascend = one_more form tree keys told x room reached.number at.holds.number at.so_far.keyed at.so_far.ascend at.holds.last order;
       },
       record {
         number = omega (arith, at.holds.number, length-append told (x ∷ []));
-        head = record { most = most; body = refl; places = refl; key_bytes = refl; holds = hold };
+        head = record {
+          most = subst (λ (bs : List ℕ). count ≤ length bs) (sym same) most;
+          body = ap (λ (bs : List ℕ). take count bs) (sym same);
+          places = sym stands;
+          key_bytes = refl;
+          holds = subst (λ (s : Standing). HoldsRecord tree s count) (sym stands) hold;
+        };
         last = inr (told, x, refl, refl);
       },
     )

@@ -1,9 +1,10 @@
 -- How keys are ordered, and what of a record they are.
-use Rattle.std.proofs.Common.{◌≡◌, ◌<◌, ◌≤◌, ℕ, zero, suc, ◌+◌, ◌*◌, ◌^◌, Bool, true, false, true≢false, List, [], ◌∷◌, ◌++◌, length, take, drop, map, refl, sym, subst, ap, ◌∙◌, arith, inl, inr, Ordering, Less, Equal, Greater, nat_cmp, append-nil}
+use Rattle.std.proofs.Common.{◌≡◌, ◌<◌, ◌≤◌, ℕ, zero, suc, ◌+◌, ◌*◌, ◌^◌, Bool, true, false, true≢false, List, [], ◌∷◌, ◌++◌, length, take, drop, map, refl, sym, subst, ap, ◌∙◌, arith, inl, inr, None, Some, Option, is_some, Ordering, Less, Equal, Greater, nat_cmp, append-nil}
 use Rattle.std.specs.Cmp.{nat_cmp_is, nat_cmp_total, ranks}
 use Rattle.std.specs.Cmp.Lexicographic.{slice_cmp}
 use Rattle.std.specs.List.{AllByRecursion}
-use Rattle.std.specs.Ordering.{ordering_reverse, ordering_then}
+use Rattle.std.specs.Prelude.{IfSome}
+use Rattle.std.specs.Ordering.{is_gt, ordering_reverse, ordering_then}
 use Rattle.std.proofs.lemmas.Cmp.{by_ranked, nat_list_cmp_total}
 use Rattle.std.proofs.lemmas.List.{drop_at, take_at}
 use Rattle.std.proofs.Math.Nat.{mul-le-mul_right}
@@ -14,6 +15,7 @@ use Rattle.cob_copybook_tree.specs.Items.{HoldsNumbers, IsNumberItem, Represents
 use Rattle.cob_copybook_tree.specs.Lengths.{item_size}
 use Rattle.cob_copybook_tree.specs.Nodes.{Resolved}
 use Rattle.cob_decimal.specs.declared.number.Number.{Number}
+use Rattle.cob_decimal.specs.Answers.{AnswersNumber}
 use Rattle.cob_decimal.specs.Decimal.{IsDigits, number_of}
 use Rattle.cob_decimal.proofs.DecimalLemmas.{number_of-lt}
 use Rattle.cob_layout.specs.Laws.{EndInLength}
@@ -22,7 +24,8 @@ use Rattle.cob_report_show.specs.Elements.{AllStand, AreSubscriptsUpTo, NamedIte
 use Rattle.cob_report_show.specs.declared.named.ListedItem.{ListedItem}
 use Rattle.cob_report_show.specs.Records.{HoldsRecord}
 use Rattle.cob_report_show.proofs.ElementLemmas.{items_stand}
-use Rattle.cob_report_compare.specs.Keys.{AreKeyItems, AreKeyParts, IsAmong, IsKeyItem, IsKeyPart, KeyPart, Letters, Numeral, digits_order, key_order, number_order, part_order}
+use Rattle.cob_report_compare.specs.Files.{StandsBelowHeld, StandsInOrder}
+use Rattle.cob_report_compare.specs.Keys.{AreKeyItems, AreKeyParts, IsAmong, IsKeyItem, IsKeyPart, IsNoNumber, KeyPart, Letters, Numeral, digits_order, key_order, number_order, part_order}
 
 -- ---- numbers
 
@@ -177,3 +180,48 @@ pub among_behind : (xs : List ListedItem) (i : ℕ) (x : NamedItem) → IsAmong 
 among_behind xs zero x among = among
 among_behind [] (suc i) x among = among
 among_behind (y ∷ ys) (suc i) x among = inr (among_behind ys i x among)
+
+-- ---- the key before
+
+-- what an order of two keys says of them, whichever they are
+abbrev pub OrdersKeys : List NamedItem → List ℕ → List ℕ → Ordering → Type 0
+OrdersKeys keys left right o = (one other : List KeyPart) → AreKeyParts keys left one → AreKeyParts keys right other → o ≡ key_order one other
+
+is_above : (o : Ordering) → is_gt o ≡ true → o ≡ Greater
+is_above Less is = absurd (true≢false (sym is))
+is_above Equal is = absurd (true≢false (sym is))
+is_above Greater is = refl
+
+some_keys : (keys : List NamedItem) (left right : List ℕ) (o : Ordering) → OrdersKeys keys left right o → is_gt o ≡ true → 0 < length keys
+some_keys [] left right o orders above = absurd (true≢false (sym above ∙ ap is_gt (orders [] [] refl refl)))
+some_keys (x ∷ xs) left right o orders above = omega arith
+
+pub stands_below : (keys : List NamedItem) (held next : List ℕ) (first : Bool) (o : Ordering) (r : Bool) → OrdersKeys keys held next o → r ≡ is_gt o → first ≡ false → r ≡ true
+    → StandsBelowHeld keys held next first
+stands_below keys held next first o r orders is more above =
+    let over = sym is ∙ above in
+    (more, some_keys keys held next o orders over, λ old key one other. sym (orders old key one other) ∙ is_above o over)
+
+pub stands_in_order : (keys : List NamedItem) (held next : List ℕ) (first : Bool) (o : Ordering) (r : Bool) → OrdersKeys keys held next o → r ≡ is_gt o → r ≡ false
+    → StandsInOrder keys held next first
+stands_in_order keys held next first o r orders is not_above = λ more old key one other. ap is_gt (sym (orders old key one other)) ∙ sym is ∙ not_above
+
+-- ---- items of a key in calls
+
+pub none_stand_of : (keys : List ListedItem) (left right : List ℕ) → length keys ≡ 0 → OrdersKeys (map named_item keys) left right Equal
+none_stand_of [] left right none = none_stand_all
+  where
+    none_stand_all : OrdersKeys [] left right Equal
+    none_stand_all = λ one other is also. none_stand one other is also
+none_stand_of (k ∷ ks) left right none = absurd (omega (arith, none))
+
+-- bytes that a call reads as a number are part of a key, and others of a number item are not
+pub is_part : (i : Item) (bytes : List ℕ) (answer : Option Number) → IsNumberItem i → IfSome answer (λ v. Represents i bytes v.negative v.digits) → is_some answer ≡ true
+    → (part : KeyPart) × IsKeyPart i bytes part
+is_part i bytes None number found some = absurd (true≢false (sym some))
+is_part i bytes (Some v) number found some = (Numeral v.negative (number_of v.digits), (number, (v.digits, found, refl)))
+
+pub is_no_part : (i : Item) (bytes : List ℕ) (answer : Option Number) → IsNumberItem i → ((negative : Bool) (digits : List ℕ) → Represents i bytes negative digits → AnswersNumber answer negative digits)
+    → is_some answer ≡ false → IsNoNumber i bytes
+is_no_part i bytes None number only none = (number, λ negative digits represents. only negative digits represents)
+is_no_part i bytes (Some v) number only none = absurd (true≢false none)

@@ -7,7 +7,7 @@ pub mod BytesLemmas
 pub mod CameLemmas
 pub mod KeyLemmas
 pub mod HeadLemmas
-pub mod MergeLemmas
 pub mod TurnLemmas
+pub mod MergeLemmas
 pub mod OrderLemmas
 pub mod RunLemmas

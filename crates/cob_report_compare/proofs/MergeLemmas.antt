@@ -28,9 +28,10 @@ use Rattle.cob_report_compare.specs.Files.{FileSoFar, HoldsFile, IsReadNext, Lea
 use Rattle.cob_report_compare.specs.Lines.{IfTold}
 use Rattle.cob_report_compare.specs.Merged.{Alone, AreFew, AreMerged, Entry, FilePair, IsEntry, KeyedRecord, Next, Pair, StandsBelow, Unread, Ended, Waits, all_counted, came, counted_with, counts_of, first_or, left_of, lefts, lefts_counted, none_counted, right_of, rights, rights_counted, told_counted, with_comparison, with_entry}
 use Rattle.cob_report_compare.specs.Merging.{AreEntryLines, EndsMerging, IsEntryText, IsTold, IsTurn, Merges, StopsOn, number_on, turn_side}
-use Rattle.cob_report_compare.specs.Turns.{TellsTurn, left_behind, right_behind, turn_number}
+use Rattle.cob_report_compare.specs.Turns.{DecidesTurn, IsWhole, TellsTurn, left_behind, right_behind, turn_number}
 use Rattle.cob_report_compare.proofs.CameLemmas.{came_none}
 use Rattle.cob_report_compare.proofs.HeadLemmas.{left_so, unread_next}
+use Rattle.cob_report_compare.proofs.TurnLemmas.{has_key, whole_head}
 
 -- ---- how many they are
 
@@ -534,3 +535,28 @@ on_no_side Right f stop none = ap (λ (b : Bool). not (on_left stop.side) && b) 
     never : (b : Bool) → (b && false) ≡ false
     never true = refl
     never false = refl
+
+-- ---- what calls ask for
+
+-- what is decided of the next records
+pub turn_here : (files : FilePair) (t : Turn) (n : ℕ) (counts : PairCounts) (left_at right_at : Reached) (left_room right_room : FileRoom) (l0 l1 r0 r1 w0 w1 : Option (List ℕ))
+    → (so_far : MergedSoFar files n counts left_at right_at left_room right_room l0 l1 r0 r1 w0 w1) → DecidesTurn files.keys left_room left_at.head right_room right_at.head t
+    → IsTurn so_far.left so_far.right t
+turn_here files t n counts left_at right_at left_room right_room l0 l1 r0 r1 w0 w1 so_far decides =
+    let here = so_far.here in
+    decides files.tree so_far.left so_far.right here.left_holds.head here.right_holds.head
+    (has_key files.left_form files.tree files.keys (lefts so_far.entries) so_far.left here.left_file.keyed)
+    (has_key files.right_form files.tree files.keys (rights so_far.entries) so_far.right here.right_file.keyed)
+
+-- the records of a pair are complete
+pub both_whole : (files : FilePair) (t : Turn) (n : ℕ) (counts : PairCounts) (left_at right_at : Reached) (left_room right_room : FileRoom) (l0 l1 r0 r1 w0 w1 : Option (List ℕ))
+    → (so_far : MergedSoFar files n counts left_at right_at left_room right_room l0 l1 r0 r1 w0 w1) → IsTurn so_far.left so_far.right t → t ≡ turn.Both
+    → IsWhole files.tree left_room left_at.head × IsWhole files.tree right_room right_at.head
+both_whole files t n counts left_at right_at left_room right_room l0 l1 r0 r1 w0 w1 so_far is both =
+    by (subst (λ (s : Turn). IsTurn so_far.left so_far.right s) both is)
+  where
+    by : IsTurn so_far.left so_far.right turn.Both → IsWhole files.tree left_room left_at.head × IsWhole files.tree right_room right_at.head
+    by (x, y, left_is, right_is, alike) = (
+      whole_head files.left_form files.tree files.keys left_room left_at.head (lefts so_far.entries) so_far.left x so_far.here.left_holds.head so_far.here.left_file.keyed left_is,
+      whole_head files.right_form files.tree files.keys right_room right_at.head (rights so_far.entries) so_far.right y so_far.here.right_holds.head so_far.here.right_file.keyed right_is,
+    )

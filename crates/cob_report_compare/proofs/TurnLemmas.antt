@@ -8,19 +8,25 @@ use Rattle.cob_layout.specs.Counting.{CountsOf}
 use Rattle.cob_layout.specs.Standing.{Standing}
 use Rattle.cob_records.specs.declared.records.Form.{Form}
 use Rattle.cob_records.specs.Device.{Took}
-use Rattle.cob_report_show.specs.Elements.{NamedItem}
+use Rattle.cob_report_show.specs.Elements.{NamedItem, Printed}
 use Rattle.cob_report_show.specs.Records.{HoldsRecord}
+use Rattle.cob_report_compare.specs.declared.counted.PairCounts.{PairCounts}
+use Rattle.cob_report_compare.specs.declared.files.FileSide.TheVariants.{Left, Right}
 use Rattle.cob_report_compare.specs.declared.heads.FileRoom.{FileRoom}
 use Rattle.cob_report_compare.specs.declared.heads.Head.{Head}
 use Rattle.cob_report_compare.specs.declared.heads.Head.TheVariants as head
+use Rattle.cob_report_compare.specs.declared.heads.Reached.{Reached}
+use Rattle.cob_report_compare.specs.declared.records.Comparison.{Comparison}
 use Rattle.cob_report_compare.specs.declared.turns.Turn.{Turn}
 use Rattle.cob_report_compare.specs.declared.turns.Turn.TheVariants as turn
+use Rattle.cob_report_compare.specs.Differences.{IsMeasured}
 use Rattle.cob_report_compare.specs.Equal.{IsCompleteRecord}
 use Rattle.cob_report_compare.specs.Files.{FileSoFar, HoldsHead, HoldsNext}
 use Rattle.cob_report_compare.specs.Keys.{AreKeyParts, KeyPart, key_order}
-use Rattle.cob_report_compare.specs.Merged.{IsKeyedRecord, KeyedRecord, Next, StandsBelow, Unread, Ended, Waits, came}
-use Rattle.cob_report_compare.specs.Merging.{IsTurn}
-use Rattle.cob_report_compare.specs.Turns.{DecidesTurn, HasKey, IsWhole, turn_by}
+use Rattle.cob_report_compare.specs.Lines.{AreComparedRecordLines, IfTold, IsAloneLine, IsHeading, number_text, numbers_text}
+use Rattle.cob_report_compare.specs.Merged.{Alone, Entry, FilePair, IsKeyedRecord, KeyedRecord, Next, Pair, StandsBelow, Unread, Ended, Waits, came, printed_by, told_counted, with_comparison, with_entry}
+use Rattle.cob_report_compare.specs.Merging.{IsEntryText, IsTold, IsTurn}
+use Rattle.cob_report_compare.specs.Turns.{DecidesTurn, HasKey, IsWhole, TellsSingle, TellsTurn, head_record, turn_by}
 use Rattle.cob_report_compare.proofs.HeadLemmas.{last_of}
 use Rattle.cob_report_compare.proofs.KeyLemmas.{above_back}
 
@@ -115,3 +121,73 @@ none_decides keys left_room right_room = λ tree l r left right left_key right_k
     by tree Ended Unread left right = absurd right
     by tree Ended (Waits y) left right = absurd right
     by tree Ended Ended left right = (refl, refl)
+
+-- ---- what is told of it
+
+-- the record that stands next is that of the room
+head_is : (tree : Forest Resolved) (room : FileRoom) (h : Head) (x : KeyedRecord) → HoldsNext tree room h (Waits x) → head_record tree room h ≡ printed_by tree x
+head_is tree room head.Unread x holds = absurd holds
+head_is tree room head.Ended x holds = absurd holds
+head_is tree room (head.Waits count) x holds =
+    ap (λ (s : Standing). record { tree = tree; places = s; bytes = take count room.bytes.items }) (sym holds.places)
+    ∙ ap (λ (bs : List ℕ). record { tree = tree; places = x.places; bytes = bs }) (sym holds.body)
+
+head_key : (tree : Forest Resolved) (room : FileRoom) (h : Head) (x : KeyedRecord) → HoldsNext tree room h (Waits x) → room.key.items ≡ x.key_bytes
+head_key tree room head.Unread x holds = absurd holds
+head_key tree room head.Ended x holds = absurd holds
+head_key tree room (head.Waits count) x holds = sym holds.key_bytes
+
+-- what is printed of a pair whose records and key these are
+abbrev pub PairTold : FilePair → PairCounts → (m n : ℕ) → List ℕ → Printed → Printed → Comparison → Option (List ℕ) → Option (List ℕ) → Type 0
+PairTold files counts m n key a b c w0 w1 =
+    IsMeasured files.by_bytes files.items a b c
+    × Took w0 w1 (IfTold files.most (told_counted counts) (AreComparedRecordLines (IsHeading (numbers_text m n) files.keys key) a.bytes b.bytes c))
+
+pub pair_tells : (files : FilePair) (left_room right_room : FileRoom) (left right : Reached) (counts : PairCounts) (c : Comparison) (w0 w1 : Option (List ℕ))
+    → PairTold files counts left.number right.number left_room.key.items (head_record files.tree left_room left.head) (head_record files.tree right_room right.head) c w0 w1
+    → TellsTurn files turn.Both left_room left right_room right counts w0 w1 (with_comparison counts c)
+pair_tells files left_room right_room left right counts c w0 w1 told = λ l r left_holds right_holds is. by l r left_holds right_holds is
+  where
+    by : (l r : Next) → HoldsNext files.tree left_room left.head l → HoldsNext files.tree right_room right.head r → IsTurn l r turn.Both
+        → (e : Entry) × IsTold files l r turn.Both e × Took w0 w1 (IfTold files.most (told_counted counts) (IsEntryText files left.number right.number e)) × (with_comparison counts c ≡ with_entry counts e)
+    by l r left_holds right_holds (x, y, left_is, right_is, alike) =
+        let one = subst (λ (n : Next). HoldsNext files.tree left_room left.head n) left_is left_holds in
+        let other = subst (λ (n : Next). HoldsNext files.tree right_room right.head n) right_is right_holds in
+        let (measured, took) = subst (λ (key : List ℕ). PairTold files counts left.number right.number key (printed_by files.tree x) (printed_by files.tree y) c w0 w1) (head_key files.tree left_room left.head x one)
+        (subst (λ (b : Printed). PairTold files counts left.number right.number left_room.key.items (printed_by files.tree x) b c w0 w1) (head_is files.tree right_room right.head y other)
+        (subst (λ (a : Printed). PairTold files counts left.number right.number left_room.key.items a (head_record files.tree right_room right.head) c w0 w1) (head_is files.tree left_room left.head x one) told))
+        in
+        (Pair x y c, (x, y, c, left_is, right_is, alike, refl, measured), took, refl)
+
+-- a record that stands alone
+pub left_tells : (files : FilePair) (left_room right_room : FileRoom) (left right : Reached) (counts now : PairCounts) (w0 w1 : Option (List ℕ)) → TellsSingle files Left left_room left.number counts w0 w1 now
+    → TellsTurn files turn.Left left_room left right_room right counts w0 w1 now
+left_tells files left_room right_room left right counts now w0 w1 told = λ l r left_holds right_holds is. by l r left_holds is
+  where
+    by : (l r : Next) → HoldsNext files.tree left_room left.head l → IsTurn l r turn.Left
+        → (e : Entry) × IsTold files l r turn.Left e × Took w0 w1 (IfTold files.most (told_counted counts) (IsEntryText files left.number right.number e)) × (now ≡ with_entry counts e)
+    by l r left_holds (x, left_is, below) =
+        let one = subst (λ (n : Next). HoldsNext files.tree left_room left.head n) left_is left_holds in
+        (
+          Alone Left x,
+          (x, left_is, below, refl),
+          subst (λ (key : List ℕ). Took w0 w1 (IfTold files.most (told_counted counts) (IsAloneLine Left (IsHeading (number_text Left left.number) files.keys key))))
+              (head_key files.tree left_room left.head x one) told.0,
+          told.1 x,
+        )
+
+pub right_tells : (files : FilePair) (left_room right_room : FileRoom) (left right : Reached) (counts now : PairCounts) (w0 w1 : Option (List ℕ)) → TellsSingle files Right right_room right.number counts w0 w1 now
+    → TellsTurn files turn.Right left_room left right_room right counts w0 w1 now
+right_tells files left_room right_room left right counts now w0 w1 told = λ l r left_holds right_holds is. by l r right_holds is
+  where
+    by : (l r : Next) → HoldsNext files.tree right_room right.head r → IsTurn l r turn.Right
+        → (e : Entry) × IsTold files l r turn.Right e × Took w0 w1 (IfTold files.most (told_counted counts) (IsEntryText files left.number right.number e)) × (now ≡ with_entry counts e)
+    by l r right_holds (x, right_is, below) =
+        let one = subst (λ (n : Next). HoldsNext files.tree right_room right.head n) right_is right_holds in
+        (
+          Alone Right x,
+          (x, right_is, below, refl),
+          subst (λ (key : List ℕ). Took w0 w1 (IfTold files.most (told_counted counts) (IsAloneLine Right (IsHeading (number_text Right right.number) files.keys key))))
+              (head_key files.tree right_room right.head x one) told.0,
+          told.1 x,
+        )

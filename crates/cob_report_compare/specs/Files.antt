@@ -1,5 +1,5 @@
 -- The records of one of two files, as they come, and what stops them.
-use Rattle.std.specs.Prelude.{◌≡◌, ℕ, ◌+◌, ◌≤◌, ◌⊎◌, ⊤, Bool, true, false, ◌&&◌, not, List, [], ◌∷◌, ◌++◌, length, take, Option, Ok, Err, Result}
+use Rattle.std.specs.Prelude.{◌≡◌, ℕ, ◌+◌, ◌<◌, ◌≤◌, ◌⊎◌, ⊤, Bool, true, false, ◌&&◌, not, List, [], ◌∷◌, ◌++◌, length, take, Option, Ok, Err, Result}
 use Rattle.std.specs.List.{AllByRecursion}
 use Rattle.std.specs.Ordering.{is_gt}
 use Rattle.std.specs.declared.cmp.Ordering.TheVariants.{Greater}
@@ -143,6 +143,16 @@ abbrev pub StopsAtHead : Form → Forest Resolved → List NamedItem → Reached
 StopsAtHead form tree keys reached room r1 r2 stop =
     (told : List KeyedRecord) (next : Next) (r0 : Option (List ℕ)) → FileSoFar form tree keys told next reached.opened r0 r1 → HoldsFile tree told next reached room
     → (next ≡ Unread) × (stop.number ≡ length told + 1) × StopsFile form tree keys told stop.reason r0 r2
+
+-- the key of these bytes stands below the one whose bytes are held, of the record before it
+abbrev pub StandsBelowHeld : List NamedItem → (held next : List ℕ) → (first : Bool) → Type 0
+StandsBelowHeld keys held next first =
+    (first ≡ false) × (0 < length keys) × ((old key : List KeyPart) → AreKeyParts keys held old → AreKeyParts keys next key → key_order old key ≡ Greater)
+
+-- or it is that of the first record, or does not stand below it
+abbrev pub StandsInOrder : List NamedItem → (held next : List ℕ) → (first : Bool) → Type 0
+StandsInOrder keys held next first =
+    first ≡ false → (old key : List KeyPart) → AreKeyParts keys held old → AreKeyParts keys next key → is_gt (key_order old key) ≡ false
 
 -- the key of a record was taken, which is the first of its file, or does not stand below the one whose bytes were held before
 abbrev pub TakesKey : List NamedItem → Printed → (first : Bool) → List ℕ → List ℕ → Type 0

@@ -1,6 +1,6 @@
 //! The records of one file, each with its key.
 
-ghost use Rattle.std.specs.Prelude.{◌≡◌, ◌≤◌, length, map, take, false, IfErr, IfOk, OnOk};
+ghost use Rattle.std.specs.Prelude.{◌≡◌, ◌≤◌, length, map, take, false, IfErr, IfOk, IsFalse, IsTrue, OnOk};
 ghost use Rattle.cob_convert_stream.specs.Reasons.{is_read_cause, is_write_cause};
 ghost use Rattle.cob_layout.specs.Storage.{greatest_length};
 ghost use Rattle.cob_records.specs.Device.{counted};
@@ -9,7 +9,7 @@ ghost use Rattle.cob_report_show.specs.Elements.{named_item};
 ghost use Rattle.cob_report_show.specs.Records.{HoldsRecord};
 ghost use Rattle.cob_report_show.specs.Runs.{most_shown};
 ghost use Rattle.cob_report_compare.specs.Equal.{printed_of};
-ghost use Rattle.cob_report_compare.specs.Files.{IsFileRoom, ReadsNextHead, RefusesKey, StopsAtHead, TakesKey, form_on, is_reason_for, is_stopped_for};
+ghost use Rattle.cob_report_compare.specs.Files.{IsFileRoom, ReadsNextHead, RefusesKey, StandsBelowHeld, StandsInOrder, StopsAtHead, TakesKey, form_on, is_reason_for, is_stopped_for};
 ghost use Rattle.cob_report_compare.specs.Keys.{AreKeyItems, key_size, most_keys};
 
 use crate::elements::ComparedRecord;
@@ -99,6 +99,19 @@ pub(crate) fn file_room(
     })
 }
 
+/// Whether the key of a record stands below the one that is held, of the record before it, where there is one.
+fn is_below(keys: &[ListedItem], held: &[u8], next: &[u8], first: bool) -> bool
+    requires held { length held.now ≡ key_size (map named_item keys.now) }
+    requires next { length next.now ≡ key_size (map named_item keys.now) }
+    ensures yes { IsTrue result → StandsBelowHeld (map named_item keys.now) held.now next.now first }
+    ensures no { IsFalse result → StandsInOrder (map named_item keys.now) held.now next.now first }
+{
+    if first {
+        return false;
+    }
+    order_of_keys(keys, held, next).is_gt()
+}
+
 /// Takes the key of a record, which is the first of its file or has to stand no lower than the one that is held, and holds it from then on.
 ///
 /// # Errors
@@ -123,7 +136,7 @@ fn hold_key(
     if let Err(offset) = take_key(record, keys, next) {
         return Err(StopReason::NoNumber { offset });
     }
-    if !first && order_of_keys(keys, held, next).is_gt() {
+    if is_below(keys, held, next, first) {
         return Err(StopReason::Order {
             offset: key_offset(record, keys),
         });

@@ -198,7 +198,7 @@ fn key_place(record: ComparedRecord, key: &ListedItem) -> Place
 pub(crate) fn key_offset(record: ComparedRecord, keys: &[ListedItem]) -> u32
     requires holds { HoldsRecord record.layout.now record.places.now (length record.bytes.now) }
     requires keys { AreKeyItems record.layout.now (map named_item keys.now) }
-    requires some { 0 < length keys.now }
+    requires some { 0 < length (map named_item keys.now) }
     ensures { BeginsKeyAt (map named_item keys.now) (printed_of record.entry) result }
 {
     match keys.split_first() {
