@@ -14,7 +14,7 @@ use Rattle.cob_records.specs.Frame.{Puts}
 use Rattle.cob_records.specs.Hex.{byte_text}
 use Rattle.cob_report_show.proofs.SentLemmas.{append_none, append_twice, took_as, took_both}
 use Rattle.cob_report_compare.specs.Differences.{PlainDifference, plain_difference}
-use Rattle.cob_report_compare.specs.Lines.{AreDifferenceLines, AreComparedElementLines, AreBytesShown, AreKeysShown, AreValuesShown, IsDifferenceLine, IsHeaded, byte_line, header_end, more_line, place_text, unlike_lines}
+use Rattle.cob_report_compare.specs.Lines.{AreDifferenceLines, AreComparedElementLines, AreBytesShown, AreKeysShown, AreValuesShown, IsDifferenceLine, IsHeaded, IsHeading, byte_line, header_end, more_line, place_text, unlike_lines}
 use Rattle.cob_report_compare.specs.Printable.{ArePrintable, IsPrintable}
 use Rattle.cob_report_compare.specs.declared.bytes.ByteDifference.{ByteDifference}
 use Rattle.cob_report_compare.specs.declared.bytes.FirstBytes.{FirstBytes}
@@ -224,6 +224,12 @@ keys_printed x xs key bytes behind w0 w1 w2 w3 is also name value rest =
   where
     both : List ℕ → Type 0
     both text = (value : List ℕ) × (rest : List ℕ) × IsValueShown x.item bytes value × AreKeysShown xs behind rest × (text ≡ value ++ rest)
+
+-- numbers, and the items of a key behind them
+pub heading_printed : (numbers : List ℕ) (keys : List NamedItem) (key : List ℕ) (w0 w1 w2 : Option (List ℕ)) → Took w0 w1 (λ part. part ≡ numbers) → Took w1 w2 (AreKeysShown keys key)
+    → Took w0 w2 (IsHeading numbers keys key)
+heading_printed numbers keys key w0 w1 w2 front rest =
+    took_front numbers (AreKeysShown keys key) (IsHeading numbers keys key) w0 w1 w2 (λ q are. (q, are, refl)) front rest
 
 -- a text with another one behind it that is not empty
 pub not_empty : (a b text : List ℕ) → text ≡ a ++ b → 0 < length b → 0 < length text

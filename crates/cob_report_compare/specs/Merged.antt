@@ -1,7 +1,7 @@
 -- Two files of one layout merged by the keys of their records.
 use Rattle.std.specs.Prelude.{◌≡◌, ℕ, ◌+◌, ◌≤◌, ⊤, Bool, false, List, [], ◌∷◌, ◌++◌, map, flat_map}
 use Rattle.std.specs.Ordering.{is_gt}
-use Rattle.std.specs.declared.cmp.Ordering.TheVariants.{Less as Below, Equal as Alike, Greater as Above}
+use Rattle.std.specs.declared.cmp.Ordering.TheVariants.{Less as Below, Equal as Alike}
 use Rattle.cob_copybook_tree.specs.Forests.{Forest}
 use Rattle.cob_copybook_tree.specs.Nodes.{Resolved}
 use Rattle.cob_layout.specs.Standing.{Standing}

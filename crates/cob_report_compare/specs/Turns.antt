@@ -1,5 +1,5 @@
 -- What is told of two files next.
-use Rattle.std.specs.Prelude.{◌≡◌, ℕ, ◌+◌, ◌≤◌, ⊤, List, length, take, Option}
+use Rattle.std.specs.Prelude.{◌≡◌, ℕ, ◌≤◌, ⊤, List, length, take, Option}
 use Rattle.std.specs.declared.cmp.Ordering.{Ordering}
 use Rattle.std.specs.declared.cmp.Ordering.TheVariants.{Less, Equal, Greater}
 use Rattle.cob_copybook_tree.specs.Forests.{Forest}
@@ -8,7 +8,6 @@ use Rattle.cob_records.specs.Device.{Took}
 use Rattle.cob_report_show.specs.Elements.{NamedItem, Printed}
 use Rattle.cob_report_compare.specs.declared.counted.PairCounts.{PairCounts}
 use Rattle.cob_report_compare.specs.declared.files.FileSide.{FileSide}
-use Rattle.cob_report_compare.specs.declared.files.FileSide.TheVariants.{Left, Right}
 use Rattle.cob_report_compare.specs.declared.heads.FileRoom.{FileRoom}
 use Rattle.cob_report_compare.specs.declared.heads.Head.{Head}
 use Rattle.cob_report_compare.specs.declared.heads.Head.TheVariants as head

@@ -4,7 +4,7 @@ ghost use Rattle.std.specs.Prelude.{◌≡◌, ◌≤◌, ◌<◌, ◌++◌, ◌
 ghost use Rattle.cob_records.specs.Device.{counted, Took};
 ghost use Rattle.cob_records.specs.Frame.{is_write_fault};
 ghost use Rattle.cob_report_show.specs.Elements.{named_item};
-ghost use Rattle.cob_report_compare.specs.Headings.{IsPlainHeading, heading_text};
+ghost use Rattle.cob_report_compare.specs.Headings.{IsPlainHeading, heading_numbers, heading_text};
 ghost use Rattle.cob_report_compare.specs.Keys.{key_size};
 ghost use Rattle.cob_report_compare.specs.Lines.{AreKeysShown, number_text, numbers_text};
 
@@ -14,16 +14,25 @@ use cob_records::{RecordFault, Sink};
 use cob_report_show::{ListedItem, ListingLine, push_text};
 use itoa::Buffer;
 
+/// The numbers of the records that are told.
+#[derive(Clone, Copy)]
+pub(crate) enum Numbers {
+    /// Those of a pair, on the left and on the right.
+    Pair(u64, u64),
+    /// That of a record which stands alone on this side.
+    Alone(FileSide, u64),
+}
+
 /// What names records: their numbers, and the bytes of the items of their key.
-#[derive(Drop)]
+#[derive(Clone, Copy)]
 pub(crate) struct Heading<'a> {
-    pub(crate) numbers: ListingLine,
+    pub(crate) numbers: Numbers,
     pub(crate) keys: &'a [ListedItem],
     pub(crate) key: &'a [u8],
 }
 
 /// The numbers of two records, or one where they have one.
-pub(crate) fn pair_numbers(left: u64, right: u64) -> ListingLine
+fn pair_numbers(left: u64, right: u64) -> ListingLine
     ensures text { result.items ≡ numbers_text left right }
     ensures some { 0 < length result.items }
     ensures most { length result.items ≤ 256 }
@@ -40,7 +49,7 @@ pub(crate) fn pair_numbers(left: u64, right: u64) -> ListingLine
 }
 
 /// The number of a record that stands alone.
-pub(crate) fn alone_number(side: FileSide, number: u64) -> ListingLine
+fn alone_number(side: FileSide, number: u64) -> ListingLine
     ensures text { result.items ≡ number_text side number }
     ensures some { 0 < length result.items }
     ensures most { length result.items ≤ 256 }
@@ -53,6 +62,18 @@ pub(crate) fn alone_number(side: FileSide, number: u64) -> ListingLine
     }
     push_text(&mut line, buffer.format(number).as_bytes());
     line
+}
+
+/// The numbers of records, as they are printed.
+fn numbers_line(numbers: Numbers) -> ListingLine
+    ensures text { result.items ≡ heading_numbers numbers }
+    ensures some { 0 < length result.items }
+    ensures most { length result.items ≤ 256 }
+{
+    match numbers {
+        Numbers::Pair(left, right) => pair_numbers(left, right),
+        Numbers::Alone(side, number) => alone_number(side, number),
+    }
 }
 
 /// What stands before the value of an item of a key.
@@ -93,6 +114,6 @@ pub(crate) fn put_heading<W: Sink>(sink: &mut W, heading: &Heading) -> Result<()
     ensures kind { IfErr result (λ fault. is_write_fault fault ≡ true) }
     ensures cause { W.failures sink.new ≡ counted (is_err result) (W.failures sink.old) }
 {
-    put_text(sink, heading.numbers.as_slice())?;
+    put_text(sink, numbers_line(heading.numbers).as_slice())?;
     put_keys(sink, heading.keys, heading.key)
 }

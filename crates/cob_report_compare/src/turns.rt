@@ -15,7 +15,7 @@ ghost use Rattle.cob_report_compare.specs.Turns.{DecidesTurn, IsWhole, TellsSing
 use crate::counted::PairCounts;
 use crate::elements::ComparedRecord;
 use crate::files::{CompareStop, FileSide, StopReason, stop_on};
-use crate::headings::{Heading, alone_number, pair_numbers};
+use crate::headings::{Heading, Numbers};
 use crate::heads::{FileRoom, Head, Reached};
 use crate::keys::order_of_keys;
 use crate::lines::{tell_alone, tell_comparison};
@@ -152,7 +152,7 @@ fn tell_pair<W: Sink>(
     let other = head_of(files.layout, right_room, right.head);
     let comparison = compare_pair(files, one, other);
     let heading = Heading {
-        numbers: pair_numbers(left.number, right.number),
+        numbers: Numbers::Pair(left.number, right.number),
         keys: files.keys,
         key: &left_room.key,
     };
@@ -193,7 +193,7 @@ fn tell_single<W: Sink>(
     ensures writes { W.failures sink.new ≡ counted (is_stopped_for is_write_cause result) (W.failures sink.old) }
 {
     let heading = Heading {
-        numbers: alone_number(side, number),
+        numbers: Numbers::Alone(side, number),
         keys: files.keys,
         key: &room.key,
     };

@@ -1,4 +1,3 @@
-use Rattle.std.proofs.Common.{map}
 use Rattle.cob_report_compare.specs.Merged.{file_pair}
 use Rattle.cob_report_compare.proofs.TurnLemmas.{left_tells, right_tells}
 use Rattle.cob_report_compare.proofs.turns.tell_turn.Goals as goal
