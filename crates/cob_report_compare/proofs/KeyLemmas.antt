@@ -18,6 +18,8 @@ use Rattle.cob_decimal.specs.declared.number.Number.{Number}
 use Rattle.cob_decimal.specs.Answers.{AnswersNumber}
 use Rattle.cob_decimal.specs.Decimal.{IsDigits, number_of}
 use Rattle.cob_decimal.proofs.DecimalLemmas.{number_of-lt}
+use Rattle.cob_layout.specs.declared.fields.Place.{Place}
+use Rattle.cob_layout.specs.Fields.{field_of}
 use Rattle.cob_layout.specs.Laws.{EndInLength}
 use Rattle.cob_layout.specs.Sound.{RecordsAreSound}
 use Rattle.cob_report_show.specs.Elements.{AllStand, AreSubscriptsUpTo, NamedItem, Printed, StandsWithin, named_in, named_item, table_times}
@@ -25,7 +27,7 @@ use Rattle.cob_report_show.specs.declared.named.ListedItem.{ListedItem}
 use Rattle.cob_report_show.specs.Records.{HoldsRecord}
 use Rattle.cob_report_show.proofs.ElementLemmas.{items_stand}
 use Rattle.cob_report_compare.specs.Files.{StandsBelowHeld, StandsInOrder}
-use Rattle.cob_report_compare.specs.Keys.{AreKeyItems, AreKeyParts, IsAmong, IsKeyItem, IsKeyPart, IsNoNumber, KeyPart, Letters, Numeral, digits_order, key_order, number_order, part_order}
+use Rattle.cob_report_compare.specs.Keys.{AreKeyBytes, AreKeyParts, IsAmong, IsKeyItem, IsKeyPart, IsNoKeyAt, IsNoNumber, KeyPart, KeyStandsAt, Letters, Numeral, digits_order, key_order, key_size, number_order, part_order}
 
 -- ---- numbers
 
@@ -225,3 +227,50 @@ pub is_no_part : (i : Item) (bytes : List ℕ) (answer : Option Number) → IsNu
     → is_some answer ≡ false → IsNoNumber i bytes
 is_no_part i bytes None number only none = (number, λ negative digits represents. only negative digits represents)
 is_no_part i bytes (Some v) number only none = absurd (true≢false none)
+
+-- a first item, and those behind it
+pub first_stand : (keys : List ListedItem) (key : ListedItem) (further : List ListedItem) (left right one other left_behind right_behind : List ℕ) (o r : Ordering) → keys ≡ key ∷ further
+    → one ≡ take (item_size key.item) left → other ≡ take (item_size key.item) right → left_behind ≡ drop (item_size key.item) left → right_behind ≡ drop (item_size key.item) right
+    → ((p q : KeyPart) → IsKeyPart key.item one p → IsKeyPart key.item other q → o ≡ part_order p q) → (o ≡ Equal → OrdersKeys (map named_item further) left_behind right_behind r)
+    → OrdersKeys (map named_item keys) left right (ordering_then o r)
+first_stand keys key further left right one other left_behind right_behind o r is one_is other_is left_is right_is item rest =
+    subst (λ (ks : List ListedItem). OrdersKeys (map named_item ks) left right (ordering_then o r)) (sym is)
+    (keys_stand (named_item key) (map named_item further) left right o r
+    (λ p q hp hq. item p q (subst (λ (bs : List ℕ). IsKeyPart key.item bs p) (sym one_is) hp) (subst (λ (bs : List ℕ). IsKeyPart key.item bs q) (sym other_is) hq))
+    (λ alike a b ha hb. rest alike a b (subst (λ (bs : List ℕ). AreKeyParts (map named_item further) bs a) (sym left_is) ha)
+    (subst (λ (bs : List ℕ). AreKeyParts (map named_item further) bs b) (sym right_is) hb)))
+
+pub bytes_taken : (keys : List ListedItem) (key : ListedItem) (further : List ListedItem) (r : Printed) (place : Place) (front behind slot : List ℕ) → keys ≡ key ∷ further
+    → KeyStandsAt r (named_item key) place → front ≡ field_of place r.bytes → AreKeyBytes (map named_item further) r behind → slot ≡ front ++ behind → AreKeyBytes (map named_item keys) r slot
+bytes_taken keys key further r place front behind slot is stands front_is rest joined =
+    subst (λ (ks : List ListedItem). AreKeyBytes (map named_item ks) r slot) (sym is) (place, behind, stands, rest, joined ∙ ap (λ (bs : List ℕ). bs ++ behind) front_is)
+
+pub key_taken : (keys : List ListedItem) (key : ListedItem) (further : List ListedItem) (front behind slot : List ℕ) → keys ≡ key ∷ further → length front ≡ item_size key.item
+    → (part : KeyPart) × IsKeyPart key.item front part → (k : List KeyPart) × AreKeyParts (map named_item further) behind k → slot ≡ front ++ behind
+    → (k : List KeyPart) × AreKeyParts (map named_item keys) slot k
+key_taken keys key further front behind slot is long (part, first) (k, rest) joined = (
+  part ∷ k,
+  subst (λ (ks : List ListedItem). AreKeyParts (map named_item ks) slot (part ∷ k)) (sym is) (parts_first (named_item key) (map named_item further) front behind slot part k long first rest joined),
+)
+
+pub no_key_here : (keys : List ListedItem) (key : ListedItem) (further : List ListedItem) (r : Printed) (place : Place) (front : List ℕ) (offset : ℕ) → keys ≡ key ∷ further
+    → KeyStandsAt r (named_item key) place → front ≡ field_of place r.bytes → IsNoNumber key.item front → offset ≡ place.offset → IsNoKeyAt (map named_item keys) r offset
+no_key_here keys key further r place front offset is stands front_is none at =
+    subst (λ (ks : List ListedItem). IsNoKeyAt (map named_item ks) r offset) (sym is) (place, stands, inl (subst (IsNoNumber key.item) front_is none, at))
+
+pub no_key_behind : (keys : List ListedItem) (key : ListedItem) (further : List ListedItem) (r : Printed) (place : Place) (front : List ℕ) (offset : ℕ) → keys ≡ key ∷ further
+    → KeyStandsAt r (named_item key) place → front ≡ field_of place r.bytes → (part : KeyPart) × IsKeyPart key.item front part → IsNoKeyAt (map named_item further) r offset
+    → IsNoKeyAt (map named_item keys) r offset
+no_key_behind keys key further r place front offset is stands front_is (part, first) behind =
+    subst (λ (ks : List ListedItem). IsNoKeyAt (map named_item ks) r offset) (sym is)
+    (place, stands, inr ((part, subst (λ (bs : List ℕ). IsKeyPart key.item bs part) front_is first), behind))
+
+-- where no item is left
+pub no_bytes_taken : (keys : List ListedItem) (r : Printed) (slot : List ℕ) → length keys ≡ 0 → length slot ≡ key_size (map named_item keys) → AreKeyBytes (map named_item keys) r slot
+no_bytes_taken [] r [] none room = refl
+no_bytes_taken [] r (b ∷ bytes) none room = absurd (omega (arith, room))
+no_bytes_taken (k ∷ ks) r slot none room = absurd (omega (arith, none))
+
+pub no_key_taken : (keys : List ListedItem) (slot : List ℕ) → length keys ≡ 0 → (k : List KeyPart) × AreKeyParts (map named_item keys) slot k
+no_key_taken [] slot none = ([], refl)
+no_key_taken (k ∷ ks) slot none = absurd (omega (arith, none))

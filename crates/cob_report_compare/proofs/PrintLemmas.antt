@@ -6,7 +6,8 @@ use Rattle.std.proofs.lemmas.List.{drop_all, drop_more, length-append}
 use Rattle.cob_copybook_tree.specs.declared.node.Item.{Item}
 use Rattle.cob_copybook_tree.specs.Lengths.{item_size}
 use Rattle.cob_layout.specs.Fields.{field_of}
-use Rattle.cob_report_show.specs.Elements.{NamedItem}
+use Rattle.cob_report_show.specs.declared.named.ListedItem.{ListedItem}
+use Rattle.cob_report_show.specs.Elements.{NamedItem, named_item}
 use Rattle.cob_report_show.specs.Values.{AreQuoted, AreUnknown, IsByteShown, IsValueShown}
 use Rattle.cob_records.specs.declared.records.RecordFault.{RecordFault}
 use Rattle.cob_records.specs.Device.{Took}
@@ -224,6 +225,17 @@ keys_printed x xs key bytes behind w0 w1 w2 w3 is also name value rest =
   where
     both : List ℕ → Type 0
     both text = (value : List ℕ) × (rest : List ℕ) × IsValueShown x.item bytes value × AreKeysShown xs behind rest × (text ≡ value ++ rest)
+
+pub first_key_printed : (keys : List ListedItem) (key : ListedItem) (further : List ListedItem) (all bytes behind : List ℕ) (w0 w1 w2 w3 : Option (List ℕ)) → keys ≡ key ∷ further
+    → bytes ≡ take (item_size key.item) all → behind ≡ drop (item_size key.item) all → Took w0 w1 (λ part. part ≡ codes ", " ++ ((named_item key).name ++ 32 ∷ []))
+    → Took w1 w2 (IsValueShown key.item bytes) → Took w2 w3 (AreKeysShown (map named_item further) behind) → Took w0 w3 (AreKeysShown (map named_item keys) all)
+first_key_printed keys key further all bytes behind w0 w1 w2 w3 same is also name value rest =
+    subst (λ (ks : List ListedItem). Took w0 w3 (AreKeysShown (map named_item ks) all)) (sym same)
+    (keys_printed (named_item key) (map named_item further) all bytes behind w0 w1 w2 w3 is also name value rest)
+
+pub no_keys_printed : (keys : List ListedItem) (all : List ℕ) (w : Option (List ℕ)) → length keys ≡ 0 → Took w w (AreKeysShown (map named_item keys) all)
+no_keys_printed [] all w none = took_none (AreKeysShown [] all) w refl
+no_keys_printed (k ∷ ks) all w none = absurd (omega (arith, none))
 
 -- numbers, and the items of a key behind them
 pub heading_printed : (numbers : List ℕ) (keys : List NamedItem) (key : List ℕ) (w0 w1 w2 : Option (List ℕ)) → Took w0 w1 (λ part. part ≡ numbers) → Took w1 w2 (AreKeysShown keys key)

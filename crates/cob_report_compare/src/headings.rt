@@ -100,7 +100,7 @@ fn put_keys<W: Sink>(sink: &mut W, keys: &[ListedItem], key: &[u8]) -> Result<()
     let Some((first, further)) = keys.split_first() else {
         return Ok(());
     };
-    let (bytes, behind) = key.split_at(usize::from(first.item.size()));
+    let (bytes, behind) = key.split_at(first.item.size() as usize);
     put_text(sink, key_name(first).as_slice())?;
     put_value(sink, &first.item, bytes)?;
     put_keys(sink, further, behind)

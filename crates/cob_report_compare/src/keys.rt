@@ -85,7 +85,7 @@ pub(crate) fn key_length(keys: &[ListedItem]) -> usize
     ensures most { result ≤ length keys.now * 65535 }
 {
     match keys.split_first() {
-        Some((key, further)) => usize::from(key.item.size()) + key_length(further),
+        Some((key, further)) => key.item.size() as usize + key_length(further),
         None => 0,
     }
 }
@@ -154,7 +154,7 @@ pub(crate) fn order_of_keys(keys: &[ListedItem], left: &[u8], right: &[u8]) -> O
     let Some((key, further)) = keys.split_first() else {
         return Ordering::Equal;
     };
-    let size = usize::from(key.item.size());
+    let size = key.item.size() as usize;
     let (one, left_behind) = left.split_at(size);
     let (other, right_behind) = right.split_at(size);
     match item_order(&key.item, one, other) {
