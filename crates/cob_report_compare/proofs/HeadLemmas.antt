@@ -120,7 +120,7 @@ pub head_waits : (form : Form) (tree : Forest Resolved) (keys : List NamedItem) 
     → IsRecord form (greatest_length tree) (take count slot) → IsLegible form tree (take count slot) places → count ≤ length slot → HoldsRecord tree places count
     → TakesKey keys (record { tree = tree; places = places; bytes = take count slot }) (reached.number == 0) room.key.items held.key.items
     → ReadsNextHead form tree keys reached room r1 r2 held (record { opened = after; number = reached.number + 1; head = head.Waits count })
-head_waits form tree keys reached room held slot places count after r1 r2 is same stands read whole legible most hold (bytes, key, parts, order) = λ told next r0 so_far holds.
+head_waits form tree keys reached room held slot places count after r1 r2 is same stands read whole legible most hold (bytes, (key, parts, order)) = λ told next r0 so_far holds.
     let at = at_unread form tree keys told next reached room r0 r1 is so_far holds in
     let x : KeyedRecord = record { body = take count slot; places = places; key_bytes = held.key.items; key = key } in
     let keyed : IsKeyedRecord form tree keys x = record { whole = whole; legible = legible; bytes = bytes; key = parts } in

@@ -60,6 +60,11 @@ whole_head form tree keys room h told next x holds keyed is =
     by head.Ended holds keyed = absurd holds
     by (head.Waits count) holds keyed = whole_here form tree keys room count x holds keyed
 
+pub whole_record : (tree : Forest Resolved) (room : FileRoom) (h : Head) → IsWhole tree room h → IsCompleteRecord (head_record tree room h)
+whole_record tree room head.Unread whole = absurd whole
+whole_record tree room head.Ended whole = absurd whole
+whole_record tree room (head.Waits count) whole = whole.1
+
 -- ---- what is told next
 
 both_wait : (keys : List NamedItem) (left_room right_room : FileRoom) (m n : ℕ) (tree : Forest Resolved) (l r : Next) → HoldsNext tree left_room (head.Waits m) l → HoldsNext tree right_room (head.Waits n) r

@@ -67,7 +67,7 @@ number_on Right es = length (rights es)
 
 -- the lines of what is told next, behind these entries, could not all be printed. What the sink took of them is not told
 abbrev pub StopsPrinting : (left right : Next) → CompareStop → Type 0
-StopsPrinting left right stop = (turn : Turn) × (turn ≡ turn.Done → ⊥) × IsTurn left right turn × (stop.side ≡ turn_side turn)
+StopsPrinting left right stop = (t : Turn) × (t ≡ turn.Done → ⊥) × IsTurn left right t × (stop.side ≡ turn_side t)
 
 -- The record of a file behind these entries stops it, and of the other file nothing more was read. Or they are as many as at most.
 abbrev pub StopsOn : FilePair → FileSide → List Entry → (left right : Next) → StopReason → (l0 l1 r0 r1 : Option (List ℕ)) → Type 0

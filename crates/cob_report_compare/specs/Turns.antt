@@ -47,8 +47,8 @@ turn_by Greater = turn.Right
 
 -- What a call decides that takes the turn: whatever stands next in both rooms, it is what is told next.
 abbrev pub DecidesTurn : List NamedItem → FileRoom → Head → FileRoom → Head → Turn → Type 0
-DecidesTurn keys left_room left right_room right turn =
-    (tree : Forest Resolved) (l r : Next) → HoldsNext tree left_room left l → HoldsNext tree right_room right r → HasKey keys l → HasKey keys r → IsTurn l r turn
+DecidesTurn keys left_room left right_room right t =
+    (tree : Forest Resolved) (l r : Next) → HoldsNext tree left_room left l → HoldsNext tree right_room right r → HasKey keys l → HasKey keys r → IsTurn l r t
 
 -- how far a file was read, when a turn was told
 abbrev pub left_behind : Turn → Reached → Reached
@@ -78,7 +78,7 @@ TellsSingle files side room number counts w0 w1 now =
 
 -- What a call that tells a turn comes to: whatever stands next in both rooms, an entry is told of it, its lines were printed, and it is counted.
 abbrev pub TellsTurn : FilePair → Turn → FileRoom → Reached → FileRoom → Reached → PairCounts → (w0 w1 : Option (List ℕ)) → PairCounts → Type 0
-TellsTurn files turn left_room left right_room right counts w0 w1 now =
-    (l r : Next) → HoldsNext files.tree left_room left.head l → HoldsNext files.tree right_room right.head r → IsTurn l r turn
-    → (e : Entry) × IsTold files l r turn e × Took w0 w1 (IfTold files.most (told_counted counts) (IsEntryText files left.number right.number e))
+TellsTurn files t left_room left right_room right counts w0 w1 now =
+    (l r : Next) → HoldsNext files.tree left_room left.head l → HoldsNext files.tree right_room right.head r → IsTurn l r t
+    → (e : Entry) × IsTold files l r t e × Took w0 w1 (IfTold files.most (told_counted counts) (IsEntryText files left.number right.number e))
     × (now ≡ with_entry counts e)

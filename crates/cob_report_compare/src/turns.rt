@@ -1,6 +1,6 @@
 //! What is told of two files next: two records that are a pair, or one that stands alone.
 
-ghost use Rattle.std.specs.Prelude.{◌≡◌, ◌<◌, List, length, map, true, false, IfErr, IfOk};
+ghost use Rattle.std.specs.Prelude.{◌≡◌, ◌<◌, ◌≤◌, List, length, map, take, true, false, IfErr, IfOk};
 ghost use Rattle.cob_convert_stream.specs.Reasons.{is_read_cause, is_write_cause};
 ghost use Rattle.cob_records.specs.Device.{counted};
 ghost use Rattle.cob_report_show.specs.Elements.{named_item};
@@ -107,6 +107,20 @@ pub(crate) fn right_behind(turn: Turn, reached: Reached) -> Reached
     }
 }
 
+/// The record of so many bytes that a room holds.
+fn front_of<'a>(layout: &'a Layout, room: &'a FileRoom, count: usize) -> ComparedRecord<'a>
+    requires most { count ≤ length room.now.bytes.items }
+    ensures layout { result.layout.now ≡ layout.now }
+    ensures places { result.places.now ≡ room.now.places }
+    ensures bytes { result.bytes.now ≡ take count room.now.bytes.items }
+{
+    ComparedRecord {
+        layout,
+        places: &room.places,
+        bytes: &room.bytes.as_slice()[..count],
+    }
+}
+
 /// The record that stands next in a room.
 fn head_of<'a>(layout: &'a Layout, room: &'a FileRoom, head: Head) -> ComparedRecord<'a>
     requires whole { IsWhole layout.now room.now head }
@@ -114,15 +128,10 @@ fn head_of<'a>(layout: &'a Layout, room: &'a FileRoom, head: Head) -> ComparedRe
     ensures places { result.places.now ≡ room.now.places }
     ensures bytes { result.bytes.now ≡ (head_record layout.now room.now head).bytes }
 {
-    let count = match head {
-        Head::Waits(count) => count,
-        Head::Unread => 0,
-        Head::Ended => 0,
-    };
-    ComparedRecord {
-        layout,
-        places: &room.places,
-        bytes: &room.bytes.as_slice()[..count],
+    match head {
+        Head::Waits(count) => front_of(layout, room, count),
+        Head::Unread => front_of(layout, room, 0),
+        Head::Ended => front_of(layout, room, 0),
     }
 }
 
