@@ -185,8 +185,8 @@ head_refused form tree keys reached room side slot places count after why r1 r2 
     by (Record why) told r0 refuses count keyed last come = absurd refuses
     by (NoNumber offset) told r0 none count keyed last come = (body, places, whole, legible, none, come)
     by (Order offset) told r0 (first, refused) count keyed (inl none) come =
-        let zero : reached.number ≡ 0 = count ∙ ap (λ (rs : List KeyedRecord). length rs) none in
-        absurd (true≢false (sym (ap (λ n. n == 0) zero) ∙ first))
+        let nothing : reached.number ≡ 0 = count ∙ ap (λ (rs : List KeyedRecord). length rs) none in
+        absurd (true≢false (sym (ap (λ n. n == 0) nothing) ∙ first))
     by (Order offset) told r0 (first, (bytes, key, are, parts, above, begins)) count keyed (inr (front, last, same, held)) come =
         let keyed_last = last_of (IsKeyedRecord form tree keys) front last (subst (AllByRecursion (IsKeyedRecord form tree keys)) same keyed) in
         (
