@@ -118,27 +118,27 @@ fn is_below(keys: &[ListedItem], held: &[u8], next: &[u8], first: bool) -> bool
 ///
 /// An item of it that is no number, or a key that stands lower.
 fn hold_key(
-    record: ComparedRecord,
+    compared: ComparedRecord,
     keys: &[ListedItem],
     held: &mut [u8],
     next: &mut [u8],
     first: bool,
 ) -> Result<(), StopReason>
-    requires holds { HoldsRecord record.layout.now record.places.now (length record.bytes.now) }
-    requires keys { AreKeyItems record.layout.now (map named_item keys.now) }
+    requires holds { HoldsRecord compared.layout.now compared.places.now (length compared.bytes.now) }
+    requires keys { AreKeyItems compared.layout.now (map named_item keys.now) }
     requires held { length held.old ≡ key_size (map named_item keys.now) }
     requires next { length next.old ≡ key_size (map named_item keys.now) }
     ensures held { length held.new ≡ length held.old }
     ensures next { length next.new ≡ length next.old }
-    ensures takes { OnOk result (TakesKey (map named_item keys.now) (printed_of record.entry) first held.old held.new) }
-    ensures refuses { IfErr result (RefusesKey (map named_item keys.now) (printed_of record.entry) first held.old) }
+    ensures takes { OnOk result (TakesKey (map named_item keys.now) (printed_of compared.entry) first held.old held.new) }
+    ensures refuses { IfErr result (RefusesKey (map named_item keys.now) (printed_of compared.entry) first held.old) }
 {
-    if let Err(offset) = take_key(record, keys, next) {
+    if let Err(offset) = take_key(compared, keys, next) {
         return Err(StopReason::NoNumber { offset });
     }
     if is_below(keys, held, next, first) {
         return Err(StopReason::Order {
-            offset: key_offset(record, keys),
+            offset: key_offset(compared, keys),
         });
     }
     held.copy_from_slice(next);
@@ -171,12 +171,12 @@ fn hold_head(
       bytes = take count room.old.bytes.items;
     }) first room.old.key.items) }
 {
-    let record = ComparedRecord {
+    let compared = ComparedRecord {
         layout,
         places: &room.places,
         bytes: &room.bytes.as_slice()[..count],
     };
-    hold_key(record, keys, &mut room.key, &mut room.next, first)
+    hold_key(compared, keys, &mut room.key, &mut room.next, first)
 }
 
 /// How the records stand in a file.

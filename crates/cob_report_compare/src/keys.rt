@@ -178,31 +178,31 @@ fn is_key_part(item: &Item, bytes: &[u8]) -> bool
 }
 
 /// The place of an item of a key in a record.
-fn key_place(record: ComparedRecord, key: &ListedItem) -> Place
-    requires holds { HoldsRecord record.layout.now record.places.now (length record.bytes.now) }
-    requires key { AreKeyItems record.layout.now (named_item key.now ∷ []) }
-    ensures at { KeyStandsAt (printed_of record.entry) (named_item key.now) result }
+fn key_place(compared: ComparedRecord, key: &ListedItem) -> Place
+    requires holds { HoldsRecord compared.layout.now compared.places.now (length compared.bytes.now) }
+    requires key { AreKeyItems compared.layout.now (named_item key.now ∷ []) }
+    ensures at { KeyStandsAt (printed_of compared.entry) (named_item key.now) result }
     ensures sized { result.length ≡ item_size key.now.item }
 {
     records_are_sound();
     places_end_in_length();
-    let _ = record.layout.greatest();
+    let _ = compared.layout.greatest();
     let reference = Ref {
         node: key.number,
         subscripts: ArrayVec::new(),
     };
-    place_of(record, key, &reference)
+    place_of(compared, key, &reference)
 }
 
 /// Where the key of a record begins.
-pub(crate) fn key_offset(record: ComparedRecord, keys: &[ListedItem]) -> u32
-    requires holds { HoldsRecord record.layout.now record.places.now (length record.bytes.now) }
-    requires keys { AreKeyItems record.layout.now (map named_item keys.now) }
+pub(crate) fn key_offset(compared: ComparedRecord, keys: &[ListedItem]) -> u32
+    requires holds { HoldsRecord compared.layout.now compared.places.now (length compared.bytes.now) }
+    requires keys { AreKeyItems compared.layout.now (map named_item keys.now) }
     requires some { 0 < length (map named_item keys.now) }
-    ensures { BeginsKeyAt (map named_item keys.now) (printed_of record.entry) result }
+    ensures { BeginsKeyAt (map named_item keys.now) (printed_of compared.entry) result }
 {
     match keys.split_first() {
-        Some((key, _)) => key_place(record, key).offset,
+        Some((key, _)) => key_place(compared, key).offset,
         None => 0,
     }
 }
@@ -212,27 +212,27 @@ pub(crate) fn key_offset(record: ComparedRecord, keys: &[ListedItem]) -> u32
 /// # Errors
 ///
 /// The offset of the first item that is no number.
-pub(crate) fn take_key(record: ComparedRecord, keys: &[ListedItem], slot: &mut [u8]) -> Result<(), u32>
-    requires holds { HoldsRecord record.layout.now record.places.now (length record.bytes.now) }
-    requires keys { AreKeyItems record.layout.now (map named_item keys.now) }
+pub(crate) fn take_key(compared: ComparedRecord, keys: &[ListedItem], slot: &mut [u8]) -> Result<(), u32>
+    requires holds { HoldsRecord compared.layout.now compared.places.now (length compared.bytes.now) }
+    requires keys { AreKeyItems compared.layout.now (map named_item keys.now) }
     requires room { length slot.old ≡ key_size (map named_item keys.now) }
     ensures room { length slot.new ≡ length slot.old }
-    ensures bytes { OnOk result (AreKeyBytes (map named_item keys.now) (printed_of record.entry)
+    ensures bytes { OnOk result (AreKeyBytes (map named_item keys.now) (printed_of compared.entry)
         slot.new) }
     ensures key { OnOk result ((key : List KeyPart) × AreKeyParts (map named_item keys.now)
         slot.new key) }
     ensures none { IfErr result (λ offset. IsNoKeyAt (map named_item keys.now)
-        (printed_of record.entry) offset) }
+        (printed_of compared.entry) offset) }
 {
     let Some((key, further)) = keys.split_first() else {
         return Ok(());
     };
-    let place = key_place(record, key);
-    let bytes = field(record.bytes, place);
+    let place = key_place(compared, key);
+    let bytes = field(compared.bytes, place);
     if !is_key_part(&key.item, bytes) {
         return Err(place.offset);
     }
     let (front, behind) = slot.split_at_mut(bytes.len());
     front.copy_from_slice(bytes);
-    take_key(record, further, behind)
+    take_key(compared, further, behind)
 }

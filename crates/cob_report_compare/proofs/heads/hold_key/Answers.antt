@@ -16,5 +16,5 @@ returns-then-is_below-clause-refuses c =
 pub returns-clause-takes : goal.returns-clause-takes
 returns-clause-takes c =
     let (key, parts) = c.in_default.ensures.key in
-    subst (λ (bytes : List ℕ). TakesKey (map named_item c.args.keys.now) (printed_of c.args.record) c.args.first c.args.held.now bytes) (sym c.copy_from_slice.ensures.after)
+    subst (λ (bytes : List ℕ). TakesKey (map named_item c.args.keys.now) (printed_of c.args.compared) c.args.first c.args.held.now bytes) (sym c.copy_from_slice.ensures.after)
     (c.in_default.ensures.bytes, (key, parts, λ more old is. c.is_below.ensures.no c.if-is_below.false more old key is parts))

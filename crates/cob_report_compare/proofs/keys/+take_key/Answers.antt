@@ -8,22 +8,22 @@ use Rattle.cob_report_compare.proofs.keys.+take_key.Goals as goal
 
 pub key_place-requires-clause-key : goal.key_place-requires-clause-key
 key_place-requires-clause-key n c =
-    let all = subst (λ (ks : List ListedItem). AreKeyItems c.args.record.layout.now (map named_item ks)) c.in-Some.ensures.cases.0 c.requires.keys in
+    let all = subst (λ (ks : List ListedItem). AreKeyItems c.args.compared.layout.now (map named_item ks)) c.in-Some.ensures.cases.0 c.requires.keys in
     (all.0, tt)
 
 pub take_key-requires-clause-keys : goal.take_key-requires-clause-keys
 take_key-requires-clause-keys n c =
-    (subst (λ (ks : List ListedItem). AreKeyItems c.args.record.layout.now (map named_item ks)) c.in-Some.ensures.cases.0 c.requires.keys).1
+    (subst (λ (ks : List ListedItem). AreKeyItems c.args.compared.layout.now (map named_item ks)) c.in-Some.ensures.cases.0 c.requires.keys).1
 
 pub returns-in_default : goal.returns-in_default
 returns-in_default n c = record {
   room = refl;
-  bytes = no_bytes_taken c.args.keys.now (printed_of c.args.record) c.args.slot.now c.in_default.ensures.cases c.requires.room;
+  bytes = no_bytes_taken c.args.keys.now (printed_of c.args.compared) c.args.slot.now c.in_default.ensures.cases c.requires.room;
   key = no_key_taken c.args.keys.now c.args.slot.now c.in_default.ensures.cases;
   none = tt;
 }
 
 pub returns-then-not-is_key_part-clause-none : goal.returns-then-not-is_key_part-clause-none
 returns-then-not-is_key_part-clause-none n c =
-    no_key_here c.args.keys.now c.in-Some.key.now c.in-Some.further.now (printed_of c.args.record) c.key_place-place.result c.field-bytes.result.now _ c.in-Some.ensures.cases.0
+    no_key_here c.args.keys.now c.in-Some.key.now c.in-Some.further.now (printed_of c.args.compared) c.key_place-place.result c.field-bytes.result.now _ c.in-Some.ensures.cases.0
     c.key_place-place.ensures.at c.field-bytes.ensures (c.is_key_part.ensures.no c.if-not-is_key_part.true) refl
