@@ -24,7 +24,7 @@ use Rattle.cob_report_compare.specs.declared.records.Comparison.{Comparison}
 use Rattle.cob_report_compare.specs.declared.records.Comparison.TheVariants.{Same, Equal as EqualByValues, Differ, Unlike}
 use Rattle.cob_report_compare.specs.declared.turns.Turn.{Turn}
 use Rattle.cob_report_compare.specs.declared.turns.Turn.TheVariants as turn
-use Rattle.cob_report_compare.specs.Files.{FileSoFar, HoldsFile, IsReadNext, LeavesFile, ReadsNextHead, StopsAtHead, is_reason_for, is_stopped_on, limit_of_pairs, on_left}
+use Rattle.cob_report_compare.specs.Files.{FileSoFar, HoldsFile, IsReadNext, LeavesFile, ReadsNextHead, StopsAtHead, is_reason_for, is_stopped_for, is_stopped_on, limit_of_pairs, on_left}
 use Rattle.cob_report_compare.specs.Lines.{IfTold}
 use Rattle.cob_report_compare.specs.Merged.{Alone, AreFew, AreMerged, Entry, FilePair, IsEntry, KeyedRecord, Next, Pair, StandsBelow, Unread, Ended, Waits, all_counted, came, counted_with, counts_of, first_or, left_of, lefts, lefts_counted, none_counted, right_of, rights, rights_counted, told_counted, with_comparison, with_entry}
 use Rattle.cob_report_compare.specs.Merging.{AreEntryLines, EndsMerging, IsEntryText, IsTold, IsTurn, Merges, StopsOn, number_on, turn_side}
@@ -216,6 +216,13 @@ right_filled files n counts left_at right_at now left_room right_room held l0 l 
         printed = here.printed;
       };
     }
+
+pub both_filled : (files : FilePair) (n : ℕ) (counts : PairCounts) (left_at right_at left_now right_now : Reached) (left_room left_held right_room right_held : FileRoom) (l0 l1 l2 r0 r1 r2 w0 w : Option (List ℕ))
+    → MergedSoFar files n counts left_at right_at left_room right_room l0 l1 r0 r1 w0 w → ReadsNextHead files.left_form files.tree files.keys left_at left_room l1 l2 left_held left_now
+    → ReadsNextHead files.right_form files.tree files.keys right_at right_room r1 r2 right_held right_now → MergedSoFar files n counts left_now right_now left_held right_held l0 l2 r0 r2 w0 w
+both_filled files n counts left_at right_at left_now right_now left_room left_held right_room right_held l0 l1 l2 r0 r1 r2 w0 w so_far left right =
+    right_filled files n counts left_now right_at right_now left_held right_room right_held l0 l2 r0 r1 r2 w0 w
+    (left_filled files n counts left_at right_at left_now left_room left_held right_room l0 l1 l2 r0 r1 w0 w so_far left) right
 
 -- ---- what is told next
 
@@ -511,30 +518,56 @@ right_number_few files n counts left_at right_at left_room right_room l0 l1 r0 r
     omega (arith, number, rights_are so_far.entries, ap rights_counted here.are, all)
 
 -- a stop on one side is none on the other
-pub on_its_side : (f : Cause → Bool) (stop : CompareStop) → stop.side ≡ Left → is_stopped_on {X = PairCounts} Left f (Err stop) ≡ is_reason_for f stop.reason
+on_its_side : (f : Cause → Bool) (stop : CompareStop) → stop.side ≡ Left → is_stopped_on {X = PairCounts} Left f (Err stop) ≡ is_reason_for f stop.reason
 on_its_side f stop side = ap (λ (s : FileSide). is_stopped_on {X = PairCounts} Left f (Err (record { side = s; number = stop.number; reason = stop.reason }))) side
 
-pub on_no_right : (f : Cause → Bool) (stop : CompareStop) → stop.side ≡ Left → is_stopped_on {X = PairCounts} Right f (Err stop) ≡ false
+on_no_right : (f : Cause → Bool) (stop : CompareStop) → stop.side ≡ Left → is_stopped_on {X = PairCounts} Right f (Err stop) ≡ false
 on_no_right f stop side = ap (λ (s : FileSide). is_stopped_on {X = PairCounts} Right f (Err (record { side = s; number = stop.number; reason = stop.reason }))) side
 
-pub on_the_right : (f : Cause → Bool) (stop : CompareStop) → stop.side ≡ Right → is_stopped_on {X = PairCounts} Right f (Err stop) ≡ is_reason_for f stop.reason
+on_the_right : (f : Cause → Bool) (stop : CompareStop) → stop.side ≡ Right → is_stopped_on {X = PairCounts} Right f (Err stop) ≡ is_reason_for f stop.reason
 on_the_right f stop side = ap (λ (s : FileSide). is_stopped_on {X = PairCounts} Right f (Err (record { side = s; number = stop.number; reason = stop.reason }))) side
 
-pub on_no_left : (f : Cause → Bool) (stop : CompareStop) → stop.side ≡ Right → is_stopped_on {X = PairCounts} Left f (Err stop) ≡ false
+on_no_left : (f : Cause → Bool) (stop : CompareStop) → stop.side ≡ Right → is_stopped_on {X = PairCounts} Left f (Err stop) ≡ false
 on_no_left f stop side = ap (λ (s : FileSide). is_stopped_on {X = PairCounts} Left f (Err (record { side = s; number = stop.number; reason = stop.reason }))) side
 
+never : (b : Bool) → (b && false) ≡ false
+never true = refl
+never false = refl
+
 -- a reason that is none of a cause is so on either side
-pub on_no_side : (side : FileSide) (f : Cause → Bool) (stop : CompareStop) → is_reason_for f stop.reason ≡ false → is_stopped_on {X = PairCounts} side f (Err stop) ≡ false
+on_no_side : (side : FileSide) (f : Cause → Bool) (stop : CompareStop) → is_reason_for f stop.reason ≡ false → is_stopped_on {X = PairCounts} side f (Err stop) ≡ false
 on_no_side Left f stop none = ap (λ (b : Bool). on_left stop.side && b) none ∙ never (on_left stop.side)
-  where
-    never : (b : Bool) → (b && false) ≡ false
-    never true = refl
-    never false = refl
 on_no_side Right f stop none = ap (λ (b : Bool). not (on_left stop.side) && b) none ∙ never (not (on_left stop.side))
-  where
-    never : (b : Bool) → (b && false) ≡ false
-    never true = refl
-    never false = refl
+
+-- so many reads failed where a file stops it, and none of the other
+pub left_failed : (f : Cause → Bool) (stop : CompareStop) (before between after : ℕ) → stop.side ≡ Left → between ≡ before → after ≡ counted (is_reason_for f stop.reason) between
+    → after ≡ counted (is_stopped_on {X = PairCounts} Left f (Err stop)) before
+left_failed f stop before between after side same failed =
+    failed ∙ ap (counted (is_reason_for f stop.reason)) same ∙ ap (λ (b : Bool). counted b before) (sym (on_its_side f stop side))
+
+pub right_kept : (f : Cause → Bool) (stop : CompareStop) (before after : ℕ) → stop.side ≡ Left → after ≡ before → after ≡ counted (is_stopped_on {X = PairCounts} Right f (Err stop)) before
+right_kept f stop before after side same = same ∙ ap (λ (b : Bool). counted b before) (sym (on_no_right f stop side))
+
+pub right_failed : (f : Cause → Bool) (stop : CompareStop) (before between after : ℕ) → stop.side ≡ Right → between ≡ before → after ≡ counted (is_reason_for f stop.reason) between
+    → after ≡ counted (is_stopped_on {X = PairCounts} Right f (Err stop)) before
+right_failed f stop before between after side same failed =
+    failed ∙ ap (counted (is_reason_for f stop.reason)) same ∙ ap (λ (b : Bool). counted b before) (sym (on_the_right f stop side))
+
+pub left_kept : (f : Cause → Bool) (stop : CompareStop) (before after : ℕ) → stop.side ≡ Right → after ≡ before → after ≡ counted (is_stopped_on {X = PairCounts} Left f (Err stop)) before
+left_kept f stop before after side same = same ∙ ap (λ (b : Bool). counted b before) (sym (on_no_left f stop side))
+
+pub either_kept : (side : FileSide) (f : Cause → Bool) (stop : CompareStop) (before after : ℕ) → is_reason_for f stop.reason ≡ false → after ≡ before
+    → after ≡ counted (is_stopped_on {X = PairCounts} side f (Err stop)) before
+either_kept side f stop before after none same = same ∙ ap (λ (b : Bool). counted b before) (sym (on_no_side side f stop none))
+
+-- and writes
+pub all_written : (f : Cause → Bool) (stop : CompareStop) (before after : ℕ) → is_reason_for f stop.reason ≡ false → after ≡ before
+    → after ≡ counted (is_stopped_for {X = PairCounts} f (Err stop)) before
+all_written f stop before after none same = same ∙ ap (λ (b : Bool). counted b before) (sym none)
+
+pub not_written : (f : Cause → Bool) (stop : CompareStop) (before between after : ℕ) → between ≡ before → after ≡ counted (is_reason_for f stop.reason) between
+    → after ≡ counted (is_stopped_for {X = PairCounts} f (Err stop)) before
+not_written f stop before between after same failed = failed ∙ ap (counted (is_reason_for f stop.reason)) same
 
 -- ---- what calls ask for
 
