@@ -17,4 +17,4 @@ returns-in-Some c =
     (c.key_place.result, c.key_place.ensures.at, refl)
 
 pub returns-in-None : goal.returns-in-None
-returns-in-None c = absurd (omega (arith, c.requires.some, length-map named_item c.args.keys.now, c.in-None.ensures.cases))
+returns-in-None c = absurd (omega (arith, c.requires.some, length-map c.args.keys.now named_item, c.in-None.ensures.cases))
