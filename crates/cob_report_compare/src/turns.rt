@@ -1,9 +1,9 @@
 //! What is told of two files next: two records that are a pair, or one that stands alone.
 
-ghost use Rattle.std.specs.Prelude.{◌≡◌, ◌<◌, ◌≤◌, List, length, map, take, true, false, IfErr, IfOk};
+ghost use Rattle.std.specs.Prelude.{◌≡◌, ◌<◌, ◌≤◌, ℕ, List, length, map, take, true, false, IfErr, IfOk};
 ghost use Rattle.cob_convert_stream.specs.Reasons.{is_read_cause, is_write_cause};
 ghost use Rattle.cob_records.specs.Device.{counted};
-ghost use Rattle.cob_report_show.specs.Elements.{named_item};
+ghost use Rattle.cob_report_show.specs.Elements.{NamedItem, named_item};
 ghost use Rattle.cob_report_show.specs.Runs.{most_shown};
 ghost use Rattle.cob_report_compare.specs.Chosen.{AreCompared};
 ghost use Rattle.cob_report_compare.specs.Files.{is_reason_for, is_stopped_for};
@@ -54,6 +54,39 @@ fn turn_by(keys: &[ListedItem], left: &[u8], right: &[u8]) -> Turn
     }
 }
 
+/// What is told where the left file is at its end.
+fn turn_at_end(right: Head) -> Turn
+    requires { right ≡ Head.Unread → ⊥ }
+    ensures { (keys : List NamedItem) (one other : FileRoom)
+        → DecidesTurn keys one Head.Ended other right result }
+{
+    match right {
+        Head::Unread => Turn::Done,
+        Head::Ended => Turn::Done,
+        Head::Waits(_) => Turn::Right,
+    }
+}
+
+/// What is told where a record on the left stands next.
+fn turn_waiting(
+    keys: &[ListedItem],
+    left_room: &FileRoom,
+    right_room: &FileRoom,
+    right: Head,
+) -> Turn
+    requires right { right ≡ Head.Unread → ⊥ }
+    requires left_key { length left_room.now.key.items ≡ key_size (map named_item keys.now) }
+    requires right_key { length right_room.now.key.items ≡ key_size (map named_item keys.now) }
+    ensures { (count : ℕ) → DecidesTurn (map named_item keys.now) left_room.now (Head.Waits count)
+        right_room.now right result }
+{
+    match right {
+        Head::Unread => Turn::Left,
+        Head::Ended => Turn::Left,
+        Head::Waits(_) => turn_by(keys, &left_room.key, &right_room.key),
+    }
+}
+
 /// What is told of two files of which each was read: both next records where they have one key, and else the lesser.
 pub(crate) fn turn_of(
     keys: &[ListedItem],
@@ -70,16 +103,8 @@ pub(crate) fn turn_of(
 {
     match left {
         Head::Unread => Turn::Done,
-        Head::Ended => match right {
-            Head::Unread => Turn::Done,
-            Head::Ended => Turn::Done,
-            Head::Waits(_) => Turn::Right,
-        },
-        Head::Waits(_) => match right {
-            Head::Unread => Turn::Left,
-            Head::Ended => Turn::Left,
-            Head::Waits(_) => turn_by(keys, &left_room.key, &right_room.key),
-        },
+        Head::Ended => turn_at_end(right),
+        Head::Waits(_) => turn_waiting(keys, left_room, right_room, right),
     }
 }
 
