@@ -31,6 +31,7 @@ body_closes q inside rest text iq (Two {rest = more} c d e b k t v) =
 piece_closes : (p : Piece) (rest : List Cell) → IsPiece p → open_quote (cells_of_piece p ++ rest) ≡ open_quote rest
 piece_closes (Gap c) rest ip = open_gap c rest ip
 piece_closes (Chunk cs) rest ip = open_chunk cs rest ip.1
+piece_closes (Coded x o inside digits) rest ip = open_plain x (o ∷ (inside ++ rest)) (x_no_quote x.byte ip.0) ∙ open_literal o (inside ++ rest) ip.1 ∙ body_closes o.byte inside rest digits ip.1 ip.2
 piece_closes (Quoted o inside text) rest ip = open_literal o (inside ++ rest) ip.0 ∙ body_closes o.byte inside rest text ip.0 ip.1
 
 -- at the end of what is cut no literal is open

@@ -2,6 +2,7 @@ pub mod LineLemmas
 pub mod CommentLemmas
 pub mod Literals
 pub mod CutLemmas
+pub mod HexadecimalLemmas
 pub mod CutOnce
 pub mod Closed
 pub mod Trims

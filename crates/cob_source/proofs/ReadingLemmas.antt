@@ -15,7 +15,8 @@ use Rattle.cob_source.specs.Lines.{lines, program_text, behind_spaces, is_nil, i
 use Rattle.cob_source.specs.Words.{breaks, BreaksAlone, KeepsCharacters, BreaksAt, NoContinuation, IsLeftOpen, BreaksSourceRule, IsSourceRefusal, AreCutsOf, FitsLine, AllFit, is_bad_continuation, is_misfit, ends_quoted, first_character}
 use Rattle.cob_source.specs.Reading.{Begins, LeavesOutSpaces, HasRead, EndRefused, ContinuationRefused, IsContinued, LineRefused}
 use Rattle.cob_source.proofs.Opens.{open_from-append}
-use Rattle.cob_source.proofs.CutOnce.{GapFirst, cut_both, cut_once}
+use Rattle.cob_source.proofs.CutOnce.{cut_both, cut_once}
+use Rattle.cob_source.proofs.HexadecimalLemmas.{GapFirst}
 use Rattle.cob_source.proofs.Stands.{last_append, nil_same, open_same, cut_same, continued_same, fits_same}
 
 joined_from-append : (n : ℕ) (j : List Cell) (a b : List (List ℕ)) → joined_from n j (a ++ b) ≡ joined_from (n + length a) (joined_from n j a) b

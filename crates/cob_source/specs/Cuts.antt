@@ -8,6 +8,11 @@ use Rattle.cob_source.specs.declared.token.Cutting.TheVariants.{Whole, Apart}
 use Rattle.cob_source.specs.declared.token.TokenKind.TheVariants.{Word, Literal, Stop}
 use Rattle.cob_source.specs.Tokens.{Lexeme}
 use Rattle.cob_source.specs.Pieces.{pieces}
+use Rattle.cob_source.specs.Hexadecimals.{characters_in, is_hexadecimal}
+
+-- X in either case, which makes a hexadecimal literal of the quoted one directly behind it
+abbrev pub is_x : ℕ → Bool
+is_x b = (b == 88) || (b == 120)
 
 -- a quotation mark or an apostrophe
 abbrev pub is_quote : ℕ → Bool
@@ -52,23 +57,30 @@ pub data Body : ℕ → List Cell → List ℕ → Type 0 where
   Two : {q : ℕ} {cells rest : List Cell} {text more : List ℕ} (c d : Cell) → cells ≡ c ∷ (d ∷ rest) → c.byte ≡ q → d.byte ≡ q → text ≡ q ∷ more → Body q rest more → Body q cells text
 
 -- a piece of a text: a space or a line's end, characters between these and quotes, or a literal: its quote, what is behind it,
--- and the characters that it means
+-- and the characters that it means; or such a literal with an X before it, and the digits that it has
 pub data Piece : Type 0 where
   Gap : Cell → Piece
   Chunk : List Cell → Piece
   Quoted : Cell → List Cell → List ℕ → Piece
+  Coded : Cell → Cell → List Cell → List ℕ → Piece
 
 -- the characters of a piece
 abbrev pub cells_of_piece : Piece → List Cell
 cells_of_piece (Gap c) = c ∷ []
 cells_of_piece (Chunk cs) = cs
 cells_of_piece (Quoted o inside text) = o ∷ inside
+cells_of_piece (Coded x o inside digits) = x ∷ (o ∷ inside)
 
--- a space is a gap; a chunk is a word's characters, one at least; a quoted piece is a literal
+-- a literal of pairs of hexadecimal digits
+abbrev pub IsHexadecimal : Cell → List Cell → List ℕ → Type 0
+IsHexadecimal o inside digits = (is_quote o.byte ≡ true) × Body o.byte inside digits × (is_hexadecimal digits ≡ true)
+
+-- a space is a gap; a chunk is a word's characters, one at least; a quoted piece is a literal, a coded one with an X before it
 abbrev pub IsPiece : Piece → Type 0
 IsPiece (Gap c) = is_gap c.byte ≡ true
 IsPiece (Chunk cs) = (0 < length cs) × AllByRecursion IsPlain cs
 IsPiece (Quoted o inside text) = (is_quote o.byte ≡ true) × Body o.byte inside text
+IsPiece (Coded x o inside digits) = (is_x x.byte ≡ true) × IsHexadecimal o inside digits
 
 -- a character of a word comes first
 abbrev pub plain_first : List Cell → Bool
@@ -80,11 +92,23 @@ abbrev pub quote_first : List Cell → Bool
 quote_first [] = false
 quote_first (c ∷ rest) = is_quote c.byte
 
--- a piece goes as far as it can
+-- these characters are an X alone
+abbrev pub is_lone_x : List Cell → Bool
+is_lone_x [] = false
+is_lone_x (c ∷ []) = is_x c.byte
+is_lone_x (c ∷ d ∷ cs) = false
+
+-- no literal of hexadecimal digits comes first
+abbrev pub NoHexadecimalFirst : List Cell → Type 0
+NoHexadecimalFirst rest =
+    (o : Cell) (inside more : List Cell) (digits : List ℕ) → IsHexadecimal o inside digits → NotFirstQuote o.byte more → rest ≡ o ∷ (inside ++ more) → ⊥
+
+-- a piece goes as far as it can; an X alone belongs to the hexadecimal literal behind it
 abbrev pub Follows : Piece → List Cell → Type 0
 Follows (Gap c) rest = Unit {0}
-Follows (Chunk cs) rest = plain_first rest ≡ false
+Follows (Chunk cs) rest = (plain_first rest ≡ false) × (is_lone_x cs ≡ true → NoHexadecimalFirst rest)
 Follows (Quoted o inside text) rest = NotFirstQuote o.byte rest
+Follows (Coded x o inside digits) rest = NotFirstQuote o.byte rest
 
 -- a word is read in capitals
 abbrev pub word_text : List Cell → List ℕ
@@ -128,6 +152,7 @@ abbrev pub lexemes_of : Cutting → Piece → List Cell → List Lexeme
 lexemes_of m (Gap c) rest = []
 lexemes_of m (Chunk cs) rest = if quote_first rest then words_of m cs else words_before_sign m cs
 lexemes_of m (Quoted o inside text) rest = literal o text
+lexemes_of m (Coded x o inside digits) rest = literal x (characters_in digits)
 
 -- the text is cut into these words, literals and stops
 pub data Cuts : Cutting → List Cell → List Lexeme → Type 0 where

@@ -1,5 +1,6 @@
 pub mod Tokens
 pub mod Pieces
+pub mod Hexadecimals
 pub mod Cuts
 pub mod Comments
 pub mod Lines

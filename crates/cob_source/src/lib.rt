@@ -37,6 +37,7 @@ mod cut;
 mod fault;
 mod format;
 mod free;
+mod hexadecimal;
 mod joined;
 mod laws;
 mod lines;
