@@ -92,6 +92,7 @@ mod refreshing;
 mod shifts;
 mod sound;
 mod spots;
+mod summed;
 mod summing;
 mod taking;
 mod ways;
@@ -113,4 +114,5 @@ pub use laws::{
 };
 pub use layout::{Layout, PlaceFault};
 pub use sound::records_are_sound;
+pub use summed::SummedPlace;
 pub use ways::{Tables, with_own};
