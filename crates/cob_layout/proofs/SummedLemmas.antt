@@ -69,8 +69,9 @@ unmoved t u ways r behind sound eq held_are refers none = λ c have.
     (let spots : List Spot = spots_of (times c) u 0 0 in
     let first : Found = first_element spots r.node in
     let start : first.offset ≡ first.offset + 0 = omega arith in
+    let same : first ≡ displaced 0 first = λ i. record { offset = start i; length = first.length; within = true } in
     element_is t u c spots ways r.node r.subscripts.items sound eq held_are refers refl
-    ∙ ap (λ (f : Found). Some f) (end_moved spots (held_at (map held ways) r.node).tables r.subscripts.items first none ∙ (λ i. record { offset = start i; length = first.length; within = true })))
+    ∙ ap (λ (f : Found). Some f) (end_moved spots (held_at (map held ways) r.node).tables r.subscripts.items first none ∙ same))
 
 -- a table that varies has as many elements as it has at least
 has_least : (t : Forest Resolved) (tables : List Table) (number behind least : ℕ) (c : List ℕ) → tables ≡ tables_of t → IsLeastOf tables number behind least → HaveLeast t behind c → least ≤ slice_index c number

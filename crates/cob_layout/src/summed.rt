@@ -111,18 +111,46 @@ fn moved_by(shift: Shift, spot: Spot, least: u32, subscript: u32) -> Option<u32>
     }
 }
 
+/// A number in 16 bits, where it has no more.
+fn short(number: u32) -> Option<u16>
+    ensures { IfSome result (λ n. n ≡ number) }
+{
+    match u16::try_from(number) {
+        Ok(short) => Some(short),
+        Err(_) => None,
+    }
+}
+
+/// The number of an entry or of a table in 16 bits, where it has no more.
+fn short_number(number: usize) -> Option<u16>
+    ensures { IfSome result (λ n. n ≡ number) }
+{
+    match u16::try_from(number) {
+        Ok(short) => Some(short),
+        Err(_) => None,
+    }
+}
+
 /// Where a reference stands by the sums, whose first element rests on this, and whose subscripts move it so far. None where a number is too large.
 fn summed_by(footing: Footing, further: u32) -> Option<SummedPlace>
     ensures { IfSome result (IsSummedBy footing further) }
 {
     let offset = footing.least.offset.checked_add(further)?;
     Some(SummedPlace {
-        offset: u16::try_from(offset).ok()?,
-        length: u16::try_from(footing.least.length).ok()?,
-        before: u16::try_from(footing.shift.before).ok()?,
-        through: u16::try_from(footing.shift.through).ok()?,
-        behind: u16::try_from(footing.behind).ok()?,
+        offset: short(offset)?,
+        length: short(footing.least.length)?,
+        before: short_number(footing.shift.before)?,
+        through: short_number(footing.shift.through)?,
+        behind: short_number(footing.behind)?,
     })
+}
+
+/// Whether counts that reach so far are those that the reference needs.
+#[inline(always)]
+fn are_within(summed: SummedPlace, reach: usize) -> bool
+    ensures { IsTrue result → summed.behind ≤ reach }
+{
+    usize::from(summed.behind) <= reach
 }
 
 /// Where a reference stands by these sums.
@@ -203,7 +231,7 @@ impl Layout {
         // For `fits`: an element that is there ends within the record's length, and the layout is that of a record description.
         places_end_in_length();
         let _ = self.greatest();
-        if counts.reach < usize::from(summed.behind) {
+        if !are_within(summed, counts.reach) {
             return None;
         }
         let found = summed_to(summed, self.own_sums(&counts.sums));
