@@ -211,7 +211,7 @@ none_taken t bytes read (x ∷ xs) ks c none =
     let (own, more) = none_kept (read x) x (keep read xs) none in
     no_of (read x) _ _ own (none_taken t bytes read xs _ c more)
 
-most_of : (t : Forest Resolved) (bytes : List ℕ) (x : Table) (v : ℕ) → IsStoredCount t bytes x v → v ≤ x.most
+pub most_of : (t : Forest Resolved) (bytes : List ℕ) (x : Table) (v : ℕ) → IsStoredCount t bytes x v → v ≤ x.most
 most_of t bytes x v (counted _ _ c before beside is) = is.says.1.most
 
 first_kept_as : (t : Forest Resolved) (x : Table) (others : List Table) (k : StoredCount) (js : List (Option StoredCount)) (ks : List (Option StoredCount)) → tables_of t ≡ x ∷ others → ks ≡ Some k ∷ js

@@ -52,3 +52,4 @@ pub use Rattle.cob_layout_places.proofs.ForestLemmas
 pub use Rattle.cob_copybook.proofs as copybook_lemmas
 pub mod ElementLemmas
 pub mod SummedLemmas
+pub mod LoneSumLemmas

@@ -14,3 +14,4 @@ pub mod Shifts
 pub mod Footings
 pub mod Elements
 pub mod Summed
+pub mod Lone

@@ -4,18 +4,17 @@
 //! tables that grow, stay from call to call, and it is known up to which number they serve references: their reach (`ReachTo` of specs/Finding.antt). Past
 //! it counts are read. The reach ends where a kept count goes, or where the counts or the sums are written for another question.
 
-ghost use Rattle.std.specs.Prelude.{◌≡◌, ◌==◌, ◌&&◌, ◌+◌, ◌<◌, ◌≤◌, [], ◌∷◌, true, false, length, take, Ok, Err, Some, OnOk, OnErr, IfErr, IfOk, IfSome, IsFalse, IsTrue};
+ghost use Rattle.std.specs.Prelude.{◌≡◌, ◌==◌, ◌&&◌, ◌+◌, ◌<◌, ◌≤◌, true, false, length, take, Ok, Err, Some, OnOk, OnErr, IfErr, IfOk, IfSome, IsFalse, IsTrue};
 ghost use Rattle.cob_copybook_tree.specs.Forests.{entries_in};
 ghost use Rattle.cob_copybook_tree.specs.Lengths.{greatest_number, sum_of};
 ghost use Rattle.cob_layout_places.specs.Counts.{tables_of};
-ghost use Rattle.cob_layout_places.specs.Needs.{is_read, number_behind};
+ghost use Rattle.cob_layout_places.specs.Needs.{number_behind};
 ghost use Rattle.cob_layout_places.specs.References.{Refers};
 ghost use Rattle.cob_layout.specs.Counting.{NeededOf};
 ghost use Rattle.cob_layout.specs.Finding.{EndsInLength, FindsNeeded, FindsWithin, HasNeeded, IsFound, KeepsNeeded, ReachIn, SparesNone, are_met};
 ghost use Rattle.cob_layout.specs.Kept.{AreKeptOf, ReadsAnew};
 ghost use Rattle.cob_layout.specs.Placed.{element_under};
 ghost use Rattle.cob_layout.specs.Shifts.{grow_in, sums_of};
-ghost use Rattle.cob_layout.specs.Sound.{IsSound};
 ghost use Rattle.cob_layout.specs.Standing.{IsRoomFor, KeepsOf, LieWithin};
 
 use crate::by_sums::{element_by, first_by, keep_by};
@@ -224,6 +223,12 @@ impl Layout {
         one_place();
         // For `reads`: how many there were is a count of 64 bits.
         let _before = *reads;
+        // In most records with a table that varies no other count is needed.
+        if let Some(lone) = self.lone_table(reference, receiving) {
+            return self.read_lone(
+                reference, receiving, lone, bytes, kept, range, counts, sums, reach, reads,
+            );
+        }
         let tables = self.tables.as_slice();
         let needed = self.needed_by(reference.node, receiving);
         if serve_spared(tables, needed, kept, counts) {
@@ -239,61 +244,13 @@ impl Layout {
         Ok(())
     }
 
-    /// The element of a reference that reads the count of a lone table, as [`Layout::found_past`] says it.
+    /// The element of a reference under the counts that it needs, wherever these may be past the reach.
     ///
     /// # Errors
     ///
-    /// Those of [`Layout::found_past`].
+    /// The first count that is read and that gives no number within its table's bounds, or that ends past the bytes. The counts are as they were then.
     #[inline(always)]
-    fn found_by_lone(
-        &self,
-        reference: &Ref,
-        receiving: bool,
-        table: Table,
-        bytes: &[u8],
-        counts: &mut Counts,
-        reads: &mut u64,
-    ) -> Result<Found, CountFault>
-        requires refers { Refers reference.now.node reference.now.subscripts.items self.now }
-        requires lone { tables_of self.now ≡ table ∷ [] }
-        requires before { table.count < table.number }
-        requires read { is_read self.now reference.now.node receiving table ≡ true }
-        requires sound { IsSound self.now }
-        requires room { IsRoomFor self.now counts.old }
-        requires kept { KeepsOf self.now bytes.now counts.old }
-        ensures err { IfErr result
-            (λ e. NeededOf self.now reference.now.node receiving bytes.now (Err e)) }
-        ensures same { OnErr result (counts.new ≡ counts.old) }
-        ensures came { IfOk result (FindsNeeded self.now reference.now receiving bytes.now
-            counts.old.kept counts.new.kept) }
-        ensures keeps { OnOk result (KeepsOf self.now bytes.now counts.new) }
-        ensures reads { ReadsAnew self.now reference.now receiving bytes.now counts.old.kept
-            reads.old reads.new }
-        ensures room { IsRoomFor self.now counts.new }
-    {
-        self.read_lone(
-            reference,
-            receiving,
-            table,
-            bytes,
-            &mut counts.kept,
-            &mut counts.range,
-            &mut counts.next,
-            &mut counts.sums,
-            &mut counts.reach,
-            reads,
-        )?;
-        Ok(self.element_in(reference, &counts.sums, &counts.next))
-    }
-
-    /// The element of a reference, as [`Layout::found_past`] says it, whichever tables it asks for. It isn't inlined, so that the way of a lone table stays
-    /// short.
-    ///
-    /// # Errors
-    ///
-    /// Those of [`Layout::found_past`].
-    #[inline(never)]
-    fn found_by_all(
+    pub(crate) fn found_past(
         &self,
         reference: &Ref,
         receiving: bool,
@@ -326,42 +283,6 @@ impl Layout {
             reads,
         )?;
         Ok(self.element_in(reference, &counts.sums, &counts.next))
-    }
-
-    /// The element of a reference under the counts that it needs, wherever these may be past the reach.
-    ///
-    /// # Errors
-    ///
-    /// The first count that is read and that gives no number within its table's bounds, or that ends past the bytes. The counts are as they were then.
-    #[inline(always)]
-    pub(crate) fn found_past(
-        &self,
-        reference: &Ref,
-        receiving: bool,
-        bytes: &[u8],
-        counts: &mut Counts,
-        reads: &mut u64,
-    ) -> Result<Found, CountFault>
-        requires refers { Refers reference.now.node reference.now.subscripts.items self.now }
-        requires room { IsRoomFor self.now counts.old }
-        requires kept { KeepsOf self.now bytes.now counts.old }
-        ensures err { IfErr result
-            (λ e. NeededOf self.now reference.now.node receiving bytes.now (Err e)) }
-        ensures same { OnErr result (counts.new ≡ counts.old) }
-        ensures came { IfOk result (FindsNeeded self.now reference.now receiving bytes.now
-            counts.old.kept counts.new.kept) }
-        ensures keeps { OnOk result (KeepsOf self.now bytes.now counts.new) }
-        ensures reads { ReadsAnew self.now reference.now receiving bytes.now counts.old.kept
-            reads.old reads.new }
-        ensures room { IsRoomFor self.now counts.new }
-    {
-        // In most records with a table that varies no other count is needed.
-        match self.lone_table(reference, receiving) {
-            Some(table) => {
-                self.found_by_lone(reference, receiving, table, bytes, counts, reads)
-            }
-            None => self.found_by_all(reference, receiving, bytes, counts, reads),
-        }
     }
 
     /// Where a reference stands under the counts that it needs, where these are kept and within reach, and it is there.
