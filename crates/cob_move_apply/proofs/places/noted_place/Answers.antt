@@ -1,3 +1,4 @@
+use Rattle.std.proofs.Common.{refl}
 use Rattle.cob_move_apply.proofs.PlaceLemmas.{noted_by_sums}
 use Rattle.cob_move_apply.specs.Seen.{operand_of}
 use Rattle.cob_move_apply.proofs.places.noted_place.Goals as goal
@@ -13,6 +14,12 @@ place_by_sums-requires-clause-kept c = c.requires.survey.kept
 
 pub place_by_sums-requires-clause-summed : goal.place_by_sums-requires-clause-summed
 place_by_sums-requires-clause-summed c = rw c.in-Summed.is at c.requires.placed.basis
+
+pub returns-in-Fixed : goal.returns-in-Fixed
+returns-in-Fixed c = rw c.in-Fixed.is refl
+
+pub returns-in-Element : goal.returns-in-Element
+returns-in-Element c = rw c.in-Element.is c.place_of.ensures.there
 
 pub returns-in-Summed : goal.returns-in-Summed
 returns-in-Summed c =
