@@ -1,4 +1,4 @@
-use Rattle.std.proofs.Common.{arith}
+use Rattle.std.proofs.Common.{arith, refl}
 use Rattle.cob_layout.proofs.SummedLemmas.{moves_by}
 use Rattle.cob_layout.proofs.summed.moved_by.Goals as goal
 
