@@ -1,6 +1,6 @@
 -- Numbers that are not below zero, as a few steps tell them.
-use Rattle.std.proofs.Common.{◌≡◌, ℕ, ◌+◌, ◌*◌, ◌/◌, ◌%◌, ◌^◌, ◌<◌, ◌≤◌, List, [], ◌∷◌, ◌++◌, length, map, get_or, take, refl, sym, ap, ◌∙◌, arith, zero, suc, Bool, true, false, Option, Some, None}
-use Rattle.std.specs.Prelude.{pos, IfSome}
+use Rattle.std.proofs.Common.{◌≡◌, ℕ, ◌+◌, ◌*◌, ◌/◌, ◌%◌, ◌^◌, ◌<◌, ◌≤◌, List, [], ◌∷◌, ◌++◌, length, map, get_or, take, refl, sym, ap, ◌∙◌, arith, zero, suc, Bool, true, false, Option, Some, None, append_assoc}
+use Rattle.std.specs.Prelude.{pos, replicate, IfSome}
 use Rattle.std.proofs.Math.Nat.{pow-le-pow_right}
 use Rattle.std.proofs.lemmas.List.{take_more, length_push, map-append, length-map, get_or-map, length-take-le}
 use Rattle.byteorder.specs.Endian.{big_number, twos_complement}
@@ -8,9 +8,12 @@ use Rattle.cob_decimal.specs.Decimal.{IsDigits, number_of}
 use Rattle.cob_decimal.proofs.DecimalLemmas.{number_of-push, number_of-lt, IsDigits-push, ten_more}
 use Rattle.cob_codec.specs.Naturals.{IsNaturalOf}
 use Rattle.cob_codec.specs.Sign.{sign_meaning, sign_place}
+use Rattle.cob_codec.specs.Packed.{halves, pad_count, IsPacked, IsEnded}
 use Rattle.cob_codec.specs.Zoned.{zone_of, low_digit, digit_bytes, IsZoned}
 use Rattle.cob_codec.specs.Binary.{binary_length, binary_number, IsBinary}
 use Rattle.cob_codec.proofs.SignLemmas.{digit_small, held_sign}
+use Rattle.cob_codec.proofs.PackedLaws.{length-halves, packed_from}
+use Rattle.cob_codec.proofs.PackedLemmas.{more_halves}
 use Rattle.cob_codec.proofs.ZonedLaws.{place_within, high_half, low_halves}
 use Rattle.cob_codec.proofs.BinaryLaws.{Width, half_of, width, fits_half, twos_number}
 
@@ -61,6 +64,72 @@ pub text_natural : (bytes : List ℕ) (r : Option ℕ) → 0 < length bytes → 
 text_natural bytes None some h = tt
 text_natural bytes (Some v) some h = λ count signed leading long.
     (h.0, text_is_zoned count signed leading bytes h.0 (omega (arith, long)) long h.1 h.2, h.3)
+
+-- ---- packed digits
+
+-- half bytes that are all digits, and the number of these digits
+abbrev pub IsNumberOfHalves : List ℕ → ℕ → Type 0
+IsNumberOfHalves bytes v = IsDigits (halves bytes) × (v ≡ number_of (halves bytes))
+
+-- one byte further
+pub more_of_halves : (bytes : List ℕ) (i v : ℕ) → i < length bytes → get_or bytes i 0 / 16 ≤ 9 → get_or bytes i 0 % 16 ≤ 9 → IsNumberOfHalves (take i bytes) v
+    → IsNumberOfHalves (take (i + 1) bytes) (v * 100 + get_or bytes i 0 / 16 * 10 + get_or bytes i 0 % 16)
+more_of_halves bytes i v lt high low (valid, is) =
+    let front : List ℕ = halves (take i bytes) in
+    let h : ℕ = get_or bytes i 0 / 16 in
+    let l : ℕ = get_or bytes i 0 % 16 in
+    let (text, more) = more_halves bytes i valid lt high low in
+    let two : number_of ((front ++ h ∷ []) ++ l ∷ []) ≡ (number_of front * 10 + h) * 10 + l = number_of-push (front ++ h ∷ []) l ∙ ap (λ n. n * 10 + l) (number_of-push front h) in
+    let all : number_of (halves (take (i + 1) bytes)) ≡ (number_of front * 10 + h) * 10 + l = ap number_of (text ∙ sym (append_assoc front (h ∷ []) (l ∷ []))) ∙ two in
+    (more, omega (arith, is, all))
+
+-- few bytes have a number with room for more digits
+pub few_halves : (bytes : List ℕ) (n v : ℕ) → length bytes ≤ n → IsNumberOfHalves bytes v → v < 10 ^ (2 * n)
+few_halves bytes n v few (valid, is) =
+    let long : length (halves bytes) ≡ 2 * length bytes = length-halves bytes in
+    let most : 10 ^ length (halves bytes) ≤ 10 ^ (2 * n) = pow-le-pow_right (omega arith) (omega (arith, long, few)) in
+    omega (arith, is, number_of-lt (halves bytes) valid, most)
+
+-- the half bytes before the last byte are the digits before the last, behind a zero where these are odd in number
+record Padded (count : ℕ) (front : List ℕ) : Type 0 where
+  digits : List ℕ
+  text : halves front ≡ replicate (pad_count count) 0 ++ digits
+  valid : IsDigits digits
+  value : number_of digits ≡ number_of (halves front)
+
+unpadded : (count : ℕ) (front : List ℕ) → count % 2 ≡ 1 → IsDigits (halves front) → Padded count front
+unpadded count front odd valid =
+    let pad : pad_count count ≡ 0 = omega (arith, odd) in
+    record { digits = halves front; text = sym (ap (λ (n : ℕ). replicate n 0 ++ halves front) pad); valid = valid; value = refl }
+
+padded_once : (count : ℕ) (front : List ℕ) → count % 2 ≡ 0 → 0 < length front → get_or front 0 0 ≤ 9 → IsDigits (halves front) → Padded count front
+padded_once count [] even some small valid = absurd (omega arith)
+padded_once count (b ∷ bs) even some small valid =
+    let pad : pad_count count ≡ 1 = omega (arith, even) in
+    let none : b / 16 ≡ 0 = omega (arith, small) in
+    let ds : List ℕ = b % 16 ∷ halves bs in
+    let same : 0 * 10 ^ length ds + number_of ds ≡ number_of ds = omega arith in record {
+      digits = ds;
+      text = ap (λ (d : ℕ). d ∷ ds) none ∙ sym (ap (λ (n : ℕ). replicate n 0 ++ ds) pad);
+      valid = valid.1;
+      value = sym (ap (λ (d : ℕ). d * 10 ^ length ds + number_of ds) none ∙ same);
+    }
+
+padded : (count : ℕ) (front : List ℕ) → 0 < count → length front ≡ count / 2 → (count % 2 ≡ 0 → get_or front 0 0 ≤ 9) → IsDigits (halves front) → Padded count front
+padded count front some long small valid = by (count % 2) refl
+  where
+    by : (n : ℕ) → count % 2 ≡ n → Padded count front
+    by zero even = padded_once count front even (omega (arith, some, long, even)) (small even) valid
+    by (suc n) odd = unpadded count front (omega (arith, odd)) valid
+
+-- digits with a plus behind them are a number of packed bytes
+pub packed_natural : (count : ℕ) (signed : Bool) (bytes front : List ℕ) (last v : ℕ) → 0 < count → bytes ≡ front ++ last ∷ [] → length front ≡ count / 2 → (count % 2 ≡ 0 → get_or front 0 0 ≤ 9) → IsNumberOfHalves front v
+    → last / 16 ≤ 9 → sign_meaning signed (last % 16) ≡ Some false → IsNaturalOf (IsPacked count signed) bytes (v * 10 + last / 16)
+packed_natural count signed bytes front last v some whole long small (valid, is) digit plus =
+    let p : Padded count front = padded count front some long small valid in
+    let ds : List ℕ = p.digits ++ last / 16 ∷ [] in
+    let ended : IsEnded signed p.digits last false ds = record { digits_are = refl; digit = omega (arith, digit); minus = false; meaning = plus; sign = held_sign false ds (λ h. absurd (cc)) } in
+    (ds, packed_from count signed bytes front last p.digits false ds some whole long p.text p.valid ended, omega (arith, is, p.value, number_of-push p.digits (last / 16)))
 
 -- ---- binary numbers
 

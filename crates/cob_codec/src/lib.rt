@@ -17,7 +17,7 @@
 //! the first part that isn't as its place asks: a half byte of a zoned or a packed item, or a byte of one with a separate sign. An answer is that part
 //! (`found`, by `IsFirstFlaw` of specs/Flaws.antt), and then the bytes represent no number (`only`); there is no answer only where they represent
 //! one (`none`). Binary bytes have no such part: those that represent none are a number past the picture's digits ([`NumberFlaw`]).
-//! [`Zoned::natural`] and [`Binary::natural`] tell numbers that are not below zero in few steps, where these tell them (`IsNaturalOf`). [`sign_place`] is
+//! [`Zoned::natural`], [`Packed::natural`] and [`Binary::natural`] tell numbers that are not below zero in few steps, where these tell them (`IsNaturalOf`). [`sign_place`] is
 //! the place of the byte of a zoned item that has the sign.
 //!
 //! The crate stands on cob_cp037 for the characters of digits and signs, on cob_decimal for numbers and on byteorder for binary items.
@@ -26,7 +26,7 @@
 //! # Where it is proved
 //!
 //! The clauses of `length`, `read`, `store` and `laws` of the trait `Storage`, for the kinds `Zoned`, `Separate`, `Packed`, `Binary`;
-//! `Binary::read_whole`; `Zoned::natural`, `Binary::natural`; `Shape::of`; of `zoned_flaw`, `packed_flaw` and `separate_flaw`: the first part of bytes
+//! `Binary::read_whole`; `Zoned::natural`, `Packed::natural`, `Binary::natural`; `Shape::of`; of `zoned_flaw`, `packed_flaw` and `separate_flaw`: the first part of bytes
 //! that is not as its place asks (`IsFirstFlaw`), none exactly where the bytes represent a number; the laws `bytes_represent_one_number`,
 //! `stored_numbers_read_back`, `whole_reading_agrees`.
 #![tactic(auto)]

@@ -1,13 +1,16 @@
-//! Numbers that are not below zero, in few steps where digits stand in zone F or the number is binary.
+//! Numbers that are not below zero, in few steps where digits stand in zone F, or the number is packed or binary.
 
-ghost use Rattle.std.specs.Prelude.{◌≡◌, ◌≤◌, ◌<◌, ◌^◌, ℕ, List, Bool, length, IfSome};
+ghost use Rattle.std.specs.Prelude.{◌≡◌, ◌+◌, ◌/◌, ◌%◌, ◌≤◌, ◌<◌, ◌^◌, ℕ, List, Bool, false, length, slice_index, IfSome, IsTrue, Some};
 ghost use Rattle.byteorder.specs.Endian.{big_number};
 ghost use Rattle.cob_codec.specs.Binary.{IsBinary, binary_length};
 ghost use Rattle.cob_codec.specs.Naturals.{IsNaturalOf};
+ghost use Rattle.cob_codec.specs.Packed.{IsPacked, halves};
+ghost use Rattle.cob_codec.specs.Sign.{sign_meaning};
 ghost use Rattle.cob_codec.specs.Zoned.{IsZoned, digit_bytes};
 ghost use Rattle.cob_decimal.specs.Decimal.{IsDigits, number_of};
 
 use crate::binary::Binary;
+use crate::packed::Packed;
 use crate::zoned::Zoned;
 use byteorder::{BigEndian, ByteOrder};
 use cob_cp037::ZERO;
@@ -33,6 +36,47 @@ fn number_of_text(bytes: &[u8]) -> Option<u32>
         value = value * 10 + u32::from(digit);
     }
     Some(value)
+}
+
+/// The number of half bytes that are all digits.
+fn number_of_halves(bytes: &[u8]) -> Option<u32>
+    requires few { length bytes.now ≤ 4 }
+    ensures { IfSome result (λ v. IsDigits (halves bytes.now)
+        × (v ≡ number_of (halves bytes.now))) }
+{
+    let mut value = 0;
+    for byte in bytes {
+        let high = *byte / 16;
+        let low = *byte % 16;
+        if high > 9 || low > 9 {
+            return None;
+        }
+        value = value * 100 + u32::from(high) * 10 + u32::from(low);
+    }
+    Some(value)
+}
+
+/// Whether a sign code is plus, be the item signed or not.
+fn is_plus(code: u8) -> bool
+    ensures { IsTrue result → (signed : Bool) → sign_meaning signed code ≡ Some false }
+{
+    match code {
+        0xA | 0xC | 0xE | 0xF => true,
+        _ => false,
+    }
+}
+
+/// Whether an even number of digits has a zero in front of them.
+fn is_padded(count: u8, front: &[u8]) -> bool
+    ensures { IsTrue result → count % 2 ≡ 0 → slice_index front.now 0 ≤ 9 }
+{
+    if count % 2 == 1 {
+        return true;
+    }
+    match front.first() {
+        Some(byte) => *byte <= 9,
+        None => true,
+    }
 }
 
 /// The unsigned number of a binary item's bytes, of which there are at most four.
@@ -79,6 +123,38 @@ impl Zoned {
             return None;
         }
         number_of_text(bytes)
+    }
+}
+
+impl Packed {
+    /// The number of packed bytes of so many digits, if its sign is plus and they are few. None says nothing of the bytes.
+    #[inline(always)]
+    pub fn natural(count: u8, bytes: &[u8]) -> Option<u32>
+        requires some { 0 < count }
+        requires long { length bytes.now ≡ count / 2 + 1 }
+        ensures { IfSome result (λ v. (signed : Bool)
+            → IsNaturalOf (IsPacked count signed) bytes.now v) }
+    {
+        if count > MOST_QUICK_DIGITS {
+            return None;
+        }
+        let end = bytes.len() - 1;
+        let front = &bytes[..end];
+        let last = bytes[end];
+        let digit = last / 16;
+        if digit > 9 {
+            return None;
+        }
+        if !is_plus(last % 16) {
+            return None;
+        }
+        if !is_padded(count, front) {
+            return None;
+        }
+        match number_of_halves(front) {
+            Some(value) => Some(value * 10 + u32::from(digit)),
+            None => None,
+        }
     }
 }
 

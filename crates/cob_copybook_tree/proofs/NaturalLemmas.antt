@@ -4,10 +4,11 @@ use Rattle.std.specs.Prelude.{IfSome}
 use Rattle.cob_picture.specs.Counts.{digits, signed, size}
 use Rattle.cob_codec.specs.Binary.{IsBinary}
 use Rattle.cob_codec.specs.Naturals.{IsNaturalOf}
+use Rattle.cob_codec.specs.Packed.{IsPacked}
 use Rattle.cob_codec.specs.Zoned.{IsZoned}
 use Rattle.cob_copybook_tree.specs.declared.node.Item.{Item}
 use Rattle.cob_copybook_tree.specs.declared.kinds.StorageKind.{StorageKind}
-use Rattle.cob_copybook_tree.specs.declared.kinds.StorageKind.TheVariants.{Zoned, Binary}
+use Rattle.cob_copybook_tree.specs.declared.kinds.StorageKind.TheVariants.{Zoned, Packed, Binary}
 use Rattle.cob_copybook_tree.specs.Items.{Represents, storage_kind}
 use Rattle.cob_copybook_tree.specs.Lengths.{item_size}
 use Rattle.cob_copybook_tree.specs.Storage.{RepresentsAs, is_leading, size_as}
@@ -30,4 +31,12 @@ pub binary_number : (i : Item) (bytes : List ℕ) (count : ℕ) (r : Option ℕ)
 binary_number i bytes count None kind is h = tt
 binary_number i bytes count (Some v) kind is h =
     let told = subst (λ n. IsNaturalOf (IsBinary n (signed i.picture.positions)) bytes v) is (h (signed i.picture.positions)) in
+    subst (λ (k : StorageKind). IsNaturalOf (RepresentsAs k (is_leading i.sign) i.picture) bytes v) (sym kind) told
+
+-- and of packed bytes
+pub packed_number : (i : Item) (bytes : List ℕ) (count : ℕ) (r : Option ℕ) → storage_kind i ≡ Packed → count ≡ digits i.picture.positions
+    → IfSome r (λ v. (sign : Bool) → IsNaturalOf (IsPacked count sign) bytes v) → IfSome r (λ v. IsNaturalOf (Represents i) bytes v)
+packed_number i bytes count None kind is h = tt
+packed_number i bytes count (Some v) kind is h =
+    let told = subst (λ n. IsNaturalOf (IsPacked n (signed i.picture.positions)) bytes v) is (h (signed i.picture.positions)) in
     subst (λ (k : StorageKind). IsNaturalOf (RepresentsAs k (is_leading i.sign) i.picture) bytes v) (sym kind) told

@@ -244,6 +244,19 @@ fn zoned_natural(item: &Item, bytes: &[u8]) -> Option<u32>
     Zoned::natural(bytes)
 }
 
+/// The number of a packed item, where a few steps tell it.
+#[inline(always)]
+fn packed_natural(item: &Item, bytes: &[u8]) -> Option<u32>
+    requires number { IsNumberItem item.now }
+    requires kind { storage_kind item.now ≡ kind.Packed }
+    requires long { length bytes.now ≡ item_size item.now }
+    ensures { IfSome result (λ v. IsNaturalOf (Represents item.now) bytes.now v) }
+{
+    // The symbols say that a numeric picture has a digit.
+    let _ = item.picture.runs();
+    Packed::natural(item.picture.digits(), bytes)
+}
+
 /// The number of a binary item, where a few steps tell it.
 #[inline(always)]
 fn binary_natural(item: &Item, bytes: &[u8]) -> Option<u32>
@@ -289,7 +302,8 @@ impl Item {
     {
         match self.storage_kind() {
             StorageKind::Zoned => zoned_natural(self, bytes),
-            StorageKind::Separate | StorageKind::Packed => None,
+            StorageKind::Separate => None,
+            StorageKind::Packed => packed_natural(self, bytes),
             StorageKind::Binary => binary_natural(self, bytes),
         }
     }

@@ -106,7 +106,7 @@ there_before a (t ∷ ts) [] f h = h
 there_before a (t ∷ ts) (s ∷ subscripts) f h =
     (and_both f.within (nat_le s (spot_at a t).times) (there_before a ts subscripts (moved_once f (spot_at a t) s) h)).0
 
-both_true : (a b : Bool) → a ≡ true → b ≡ true → (a && b) ≡ true
+pub both_true : (a b : Bool) → a ≡ true → b ≡ true → (a && b) ≡ true
 both_true a b x y = ap (λ (c : Bool). c && b) x ∙ y
 
 moved_alike : (a b : List Spot) (ts subscripts : List ℕ) (f : Found) → MovesAlike a b ts subscripts → (moved a ts subscripts f).within ≡ true → moved b ts subscripts f ≡ moved a ts subscripts f
@@ -133,7 +133,7 @@ alike_inner t least shifts growths c x v (k ∷ ts) (s ∷ subscripts) g (stays,
 le_of : (s n : ℕ) → nat_le s n ≡ true → s ≤ n
 le_of s n h = grind (arith, nat_tests)
 
-of_le : (s n : ℕ) → s ≤ n → nat_le s n ≡ true
+pub of_le : (s n : ℕ) → s ≤ n → nat_le s n ≡ true
 of_le s n h = grind (arith, nat_tests)
 
 still_there : (s low most one other : ℕ) → s ≤ max low (min one most) → s ≤ other → s ≤ max low (min other most)
@@ -211,7 +211,7 @@ none_taken t bytes read (x ∷ xs) ks c none =
     let (own, more) = none_kept (read x) x (keep read xs) none in
     no_of (read x) _ _ own (none_taken t bytes read xs _ c more)
 
-most_of : (t : Forest Resolved) (bytes : List ℕ) (x : Table) (v : ℕ) → IsStoredCount t bytes x v → v ≤ x.most
+pub most_of : (t : Forest Resolved) (bytes : List ℕ) (x : Table) (v : ℕ) → IsStoredCount t bytes x v → v ≤ x.most
 most_of t bytes x v (counted _ _ c before beside is) = is.says.1.most
 
 first_kept_as : (t : Forest Resolved) (x : Table) (others : List Table) (k : StoredCount) (js : List (Option StoredCount)) (ks : List (Option StoredCount)) → tables_of t ≡ x ∷ others → ks ≡ Some k ∷ js

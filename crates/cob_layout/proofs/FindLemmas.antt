@@ -159,7 +159,7 @@ taken_met t bytes behind last r e (x ∷ xs) (k ∷ ks) c h =
     ]
 
 -- the counts that are read are those of the storage
-stored_met : (t : Forest Resolved) (bytes : List ℕ) (behind : ℕ) (last : Bool) (r : ℕ) (e : List ℕ) (xs : List Table) (ks : List (Option StoredCount)) (y : Table) → AreKept t bytes xs (kept_numbers ks)
+pub stored_met : (t : Forest Resolved) (bytes : List ℕ) (behind : ℕ) (last : Bool) (r : ℕ) (e : List ℕ) (xs : List Table) (ks : List (Option StoredCount)) (y : Table) → AreKept t bytes xs (kept_numbers ks)
     → are_met behind last r e xs ks ≡ true → IsIn y xs → is_needed behind last r y ≡ true → IsStoredCount t bytes y (slice_index e y.number)
 stored_met t bytes behind last r e [] ks y kept h i reads = absurd i
 stored_met t bytes behind last r e (x ∷ xs) [] y kept h i reads = absurd (cc)

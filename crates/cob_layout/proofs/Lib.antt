@@ -51,3 +51,5 @@ pub use Rattle.cob_layout_places.proofs.CoverLaw
 pub use Rattle.cob_layout_places.proofs.ForestLemmas
 pub use Rattle.cob_copybook.proofs as copybook_lemmas
 pub mod ElementLemmas
+pub mod SummedLemmas
+pub mod LoneSumLemmas

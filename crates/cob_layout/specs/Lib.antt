@@ -13,3 +13,5 @@ pub mod Finding
 pub mod Shifts
 pub mod Footings
 pub mod Elements
+pub mod Summed
+pub mod Lone

@@ -20,6 +20,7 @@ use crate::fields::Place;
 use crate::footings::{Footing, footings};
 use crate::kinds::kinds;
 use crate::laws::{fits_ref, places_end_in_length};
+use crate::lone::{LoneTable, lone_of};
 use crate::shifts::{Growth, Shift, put_shifts};
 use crate::sound::records_are_sound;
 use crate::spots::{copied_spots, new_spots};
@@ -61,10 +62,12 @@ pub struct Layout {
     pub(crate) growths: Vec<Growth>,
     /// What the places of the entries rest on.
     pub(crate) footings: Vec<Footing>,
+    /// The lone table, where it is one that grows alone.
+    pub(crate) lone: Option<LoneTable>,
 }
 
 impl Model for Layout {
-    ghost use Rattle.std.specs.Prelude.{◌≡◌, [], length, map, replicate, None};
+    ghost use Rattle.std.specs.Prelude.{◌≡◌, [], length, map, replicate, None, IfSome};
     ghost use Rattle.cob_copybook_tree.specs.Forests.{Forest};
     ghost use Rattle.cob_copybook_tree.specs.Nodes.{Resolved, tree_of};
     ghost use Rattle.cob_copybook_tree.specs.Lengths.{greatest_number, sum_of};
@@ -73,6 +76,7 @@ impl Model for Layout {
     ghost use Rattle.cob_layout_places.specs.Counts.{tables_of};
     ghost use Rattle.cob_layout_places.specs.Spots.{spots_of};
     ghost use Rattle.cob_layout.specs.Footings.{AreFootings};
+    ghost use Rattle.cob_layout.specs.Lone.{IsLoneTable};
     ghost use Rattle.cob_layout.specs.Ways.{held, held_in};
     ghost use Rattle.cob_layout.specs.Kinds.{kinds_of};
     ghost use Rattle.cob_layout.specs.Shifts.{growths_from, shifts_from};
@@ -89,7 +93,7 @@ impl Model for Layout {
 
     ghost view = { λ l. tree_of l.root };
 
-    ghost invariant = { λ l. IsRecordDescription (tree_of l.root) × IsSound (tree_of l.root) × (l.tables.items ≡ tables_of (tree_of l.root)) × (l.counts.counts ≡ greatest_counts (tree_of l.root)) × (l.greatest ≡ sum_of greatest_number (tree_of l.root)) × TakeBytes (tree_of l.root) × (map held l.ways.items ≡ held_in [] (tree_of l.root)) × (l.counts.spots ≡ spots_of (times (greatest_counts (tree_of l.root))) (tree_of l.root) 0 0) × (l.kinds.items ≡ kinds_of (tree_of l.root)) × (l.counts.kept ≡ replicate (length (tables_of (tree_of l.root))) None) × (l.least.items ≡ spots_of (times []) (tree_of l.root) 0 0) × (l.shifts.items ≡ shifts_from 0 (tree_of l.root)) × (l.growths.items ≡ growths_from l.least.items 0 (tree_of l.root)) × IsRoomFor (tree_of l.root) l.counts × AreFootings l.ways.items l.shifts.items l.least.items l.footings.items };
+    ghost invariant = { λ l. IsRecordDescription (tree_of l.root) × IsSound (tree_of l.root) × (l.tables.items ≡ tables_of (tree_of l.root)) × (l.counts.counts ≡ greatest_counts (tree_of l.root)) × (l.greatest ≡ sum_of greatest_number (tree_of l.root)) × TakeBytes (tree_of l.root) × (map held l.ways.items ≡ held_in [] (tree_of l.root)) × (l.counts.spots ≡ spots_of (times (greatest_counts (tree_of l.root))) (tree_of l.root) 0 0) × (l.kinds.items ≡ kinds_of (tree_of l.root)) × (l.counts.kept ≡ replicate (length (tables_of (tree_of l.root))) None) × (l.least.items ≡ spots_of (times []) (tree_of l.root) 0 0) × (l.shifts.items ≡ shifts_from 0 (tree_of l.root)) × (l.growths.items ≡ growths_from l.least.items 0 (tree_of l.root)) × IsRoomFor (tree_of l.root) l.counts × AreFootings l.ways.items l.shifts.items l.least.items l.footings.items × IfSome l.lone (IsLoneTable l.tables.items l.growths.items l.counts.spots) };
 }
 
 /// The place of an element, or the fault where it isn't one of those that there are.
@@ -133,6 +137,7 @@ impl Layout {
         let kinds = kinds(alloc, &root, entries)?;
         let counts = Counts::new(alloc, in_order, spots, &tables, &growths)?;
         let footings = footings(alloc, &ways, &shifts, &least)?;
+        let lone = lone_of(&tables, &growths, counts.spots());
         Ok(Layout {
             root,
             tables,
@@ -144,6 +149,7 @@ impl Layout {
             shifts,
             growths,
             footings,
+            lone,
         })
     }
 

@@ -48,6 +48,9 @@
 //! - [`Layout::element_place`] finds once the place of an element that one count alone decides, and that only by whether it is there (`IsElementPlace` of
 //!   specs/Elements.antt); [`Counts::place_of`] then asks only for that count, where it is kept, and the law [`kept_place_elements`] says that the
 //!   element stands there.
+//! - [`Layout::summed_place`] notes once which sums of the tables say where a reference stands (`IsSummedPlace` of specs/Summed.antt), where it has one
+//!   subscript at most and is there in every storage; [`Layout::place_by_sums`] then answers as [`Layout::find`] does (`found`, `fits`), where the counts
+//!   that it needs are kept and within reach.
 //! - [`Layout::kind`] is what the entry with a number describes.
 //! - The bytes of a storage say one thing of all counts and of those that are needed ([`one_outcome_of_counts`]). Where all are valid, those
 //!   that are needed are, and the place is that under all counts, but for the tables that the reference is spared, which have their greatest
@@ -92,6 +95,7 @@ mod refreshing;
 mod shifts;
 mod sound;
 mod spots;
+mod summed;
 mod summing;
 mod taking;
 mod ways;
@@ -113,4 +117,5 @@ pub use laws::{
 };
 pub use layout::{Layout, PlaceFault};
 pub use sound::records_are_sound;
+pub use summed::SummedPlace;
 pub use ways::{Tables, with_own};

@@ -1,20 +1,19 @@
 //! Counts of a record with just one table that varies, whose count stands before it: a lone table.
 //!
 //! Most records with a table that varies have one such table. The place of its count doesn't vary, so its count is read where it stands under the greatest
-//! counts, and a reference that needs it needs no other. What such a reference needs is had in a straight line then: no counts are copied, and no table is
-//! looked for.
+//! counts, and a reference that needs it needs no other. What such a reference needs is had in a straight line then: no counts are copied, no table is
+//! looked for, and the sums are 0 and the bytes of the table's elements.
 
-ghost use Rattle.std.specs.Prelude.{◌≡◌, ◌&&◌, ◌+◌, ◌<◌, [], ◌∷◌, true, false, length, take, Err, Some, OnOk, OnErr, IfErr, IfOk, IfSome, IsTrue};
+ghost use Rattle.std.specs.Prelude.{◌≡◌, ◌&&◌, ◌+◌, ◌*◌, ◌<◌, ◌≤◌, [], ◌∷◌, true, false, length, take, Err, Some, OnOk, OnErr, IfErr, IfOk, IfSome, IsTrue};
 ghost use Rattle.cob_copybook_tree.specs.Forests.{entries_in};
-ghost use Rattle.cob_layout_places.specs.declared.places.Found.{Found};
+ghost use Rattle.cob_limits.specs.Limits.{longest_record};
 ghost use Rattle.cob_layout_places.specs.Counts.{tables_of};
-ghost use Rattle.cob_layout_places.specs.Lengths.{times};
 ghost use Rattle.cob_layout_places.specs.Needs.{is_read};
-ghost use Rattle.cob_layout_places.specs.Places.{place_of};
 ghost use Rattle.cob_layout_places.specs.References.{Refers};
-ghost use Rattle.cob_layout.specs.Counting.{greatest_counts, NeededOf};
+ghost use Rattle.cob_layout.specs.Counting.{NeededOf};
 ghost use Rattle.cob_layout.specs.Finding.{HasNeeded, ReachIn};
-ghost use Rattle.cob_layout.specs.Kept.{AreKeptOf, IsIn, ReadsAnew, ReadsLone, kept_numbers};
+ghost use Rattle.cob_layout.specs.Kept.{AreKeptOf, ReadsAnew, ReadsLone, kept_numbers};
+ghost use Rattle.cob_layout.specs.Lone.{GrowsAlone, IsLoneIn, IsLoneTable};
 ghost use Rattle.cob_layout.specs.Shifts.{grow_in, sums_of};
 ghost use Rattle.cob_layout.specs.Sound.{IsSound};
 ghost use Rattle.cob_layout.specs.Standing.{LieWithin};
@@ -23,11 +22,21 @@ use crate::counts::{KeptRange, StoredCount};
 use crate::fields::Place;
 use crate::footings::{Footing, footing_at};
 use crate::layout::Layout;
+use crate::shifts::Growth;
 use crate::spots::spot_at;
-use cob_layout_places::{CountFault, Found, Ref, Table, needs_are_read, one_place};
+use cob_layout_places::{CountFault, Found, Ref, Spot, Table, needs_are_read, one_place};
+
+/// A lone table, with what its count and its elements ask.
+#[derive(Clone, Copy)]
+pub(crate) struct LoneTable {
+    pub(crate) table: Table,
+    /// Where the item of its count stands, whatever the counts.
+    pub(crate) item: Place,
+    /// The bytes of its element.
+    pub(crate) bytes: u32,
+}
 
 /// The only one of these tables, where its count stands before it.
-#[inline(always)]
 fn only_table(tables: &[Table]) -> Option<Table>
     ensures { IfSome result (λ x. (tables.now ≡ x ∷ []) × (x.count < x.number)) }
 {
@@ -35,6 +44,55 @@ fn only_table(tables: &[Table]) -> Option<Table>
         Some((table, others)) if others.is_empty() && table.count < table.number => Some(*table),
         _ => None,
     }
+}
+
+/// The only one of these growths, where it is that of this table alone.
+fn only_growth(growths: &[Growth], table: Table) -> Option<Growth>
+    ensures { IfSome result (GrowsAlone growths.now table) }
+{
+    match growths.split_first() {
+        Some((growth, others)) if others.is_empty() && is_alone(*growth, table) => Some(*growth),
+        _ => None,
+    }
+}
+
+/// Whether a growth is that of this table, and of no other one with it.
+fn is_alone(growth: Growth, table: Table) -> bool
+    ensures plain { IsTrue result → (growth.before ≡ 0) × (growth.times ≡ 0) }
+    ensures own { IsTrue result → (growth.number ≡ table.number) × (growth.most ≡ table.most) }
+{
+    growth.before == 0
+        && growth.times == 0
+        && growth.number == table.number
+        && growth.most == table.most
+}
+
+/// The lone table of these, which grow so and whose entries stand at these spots under the greatest counts.
+pub(crate) fn lone_of(tables: &[Table], growths: &[Growth], spots: &[Spot]) -> Option<LoneTable>
+    ensures { IfSome result (IsLoneTable tables.now growths.now spots.now) }
+{
+    let table = only_table(tables)?;
+    let growth = only_growth(growths, table)?;
+    let item = spot_at(spots, table.count);
+    Some(LoneTable {
+        table,
+        item: Place {
+            offset: item.offset,
+            length: item.length,
+        },
+        bytes: growth.bytes,
+    })
+}
+
+/// Writes the sums of a record, whose lone table has so many elements.
+#[inline(always)]
+fn put_lone_sums(lone: LoneTable, number: u32, sums: &mut [u32])
+    requires room { 2 ≤ length sums.old }
+    requires small { number * lone.bytes ≤ longest_record }
+    ensures { take 2 sums.new ≡ 0 ∷ number * lone.bytes ∷ [] }
+{
+    sums[0] = 0;
+    sums[1] = number * lone.bytes;
 }
 
 /// Whether a reference to an entry, which receives or not, needs the count of the table with this number, and may be spared none.
@@ -61,31 +119,17 @@ fn range_at(place: Place) -> KeptRange
 impl Layout {
     /// The record's lone table, where it has one and the reference reads its count.
     #[inline(always)]
-    pub(crate) fn lone_table(&self, reference: &Ref, receiving: bool) -> Option<Table>
+    pub(crate) fn lone_table(&self, reference: &Ref, receiving: bool) -> Option<LoneTable>
         requires refers { Refers reference.now.node reference.now.subscripts.items self.now }
-        ensures lone { IfSome result (λ x. (tables_of self.now ≡ x ∷ []) × (x.count < x.number)
-            × (is_read self.now reference.now.node receiving x ≡ true)) }
+        ensures lone { IfSome result (IsLoneIn self.now) }
+        ensures read { IfSome result
+            (λ l. is_read self.now reference.now.node receiving l.table ≡ true) }
         ensures sound { IsSound self.now }
     {
         let footing = footing_at(&self.footings, reference.node);
-        match only_table(&self.tables) {
-            Some(table) if asks_for(footing, receiving, table.number) => Some(table),
+        match self.lone {
+            Some(lone) if asks_for(footing, receiving, lone.table.number) => Some(lone),
             _ => None,
-        }
-    }
-
-    /// Where the item of a table's count stands under the greatest counts.
-    #[inline(always)]
-    fn greatest_item(&self, table: Table) -> Found
-        requires table { IsIn table (tables_of self.now) }
-        ensures { place_of (times (greatest_counts self.now)) table.count self.now 0 0 []
-            ≡ Some result }
-    {
-        let spot = spot_at(self.counts.spots(), table.count);
-        Found {
-            offset: spot.offset,
-            length: spot.length,
-            within: true,
         }
     }
 
@@ -97,18 +141,17 @@ impl Layout {
     #[inline(always)]
     fn keep_lone(
         &self,
-        table: Table,
+        lone: LoneTable,
         bytes: &[u8],
         kept: &mut [Option<StoredCount>],
         range: &mut KeptRange,
         reads: &mut u64,
     ) -> Result<u32, CountFault>
-        requires lone { tables_of self.now ≡ table ∷ [] }
-        requires before { table.count < table.number }
+        requires lone { IsLoneIn self.now lone }
         requires kept { AreKeptOf self.now bytes.now kept.old }
         requires as_many { length kept.old ≡ 1 }
         requires within { LieWithin range.old kept.old }
-        ensures read { ReadsLone self.now table bytes.now kept.old result reads.old reads.new }
+        ensures read { ReadsLone self.now lone.table bytes.now kept.old result reads.old reads.new }
         ensures same { OnErr result (kept.new ≡ kept.old) }
         ensures kept { IfOk result (λ v. kept_numbers kept.new ≡ Some v ∷ []) }
         ensures within { LieWithin range.new kept.new }
@@ -120,14 +163,15 @@ impl Layout {
             return Ok(stored.number);
         }
         *reads = reads.saturating_add(1);
-        let found = self.greatest_item(table);
-        let number = match self.count_found(table, found, bytes) {
+        let place = lone.item;
+        let found = Found {
+            offset: place.offset,
+            length: place.length,
+            within: true,
+        };
+        let number = match self.count_found(lone.table, found, bytes) {
             Ok(number) => number,
             Err(fault) => return Err(fault),
-        };
-        let place = Place {
-            offset: found.offset,
-            length: found.length,
         };
         kept[0] = Some(StoredCount { number, place });
         *range = range_at(place);
@@ -145,7 +189,7 @@ impl Layout {
         &self,
         reference: &Ref,
         receiving: bool,
-        table: Table,
+        lone: LoneTable,
         bytes: &[u8],
         kept: &mut [Option<StoredCount>],
         range: &mut KeptRange,
@@ -155,9 +199,8 @@ impl Layout {
         reads: &mut u64,
     ) -> Result<(), CountFault>
         requires refers { Refers reference.now.node reference.now.subscripts.items self.now }
-        requires lone { tables_of self.now ≡ table ∷ [] }
-        requires before { table.count < table.number }
-        requires read { is_read self.now reference.now.node receiving table ≡ true }
+        requires lone { IsLoneIn self.now lone }
+        requires read { is_read self.now reference.now.node receiving lone.table ≡ true }
         requires sound { IsSound self.now }
         requires kept { AreKeptOf self.now bytes.now kept.old }
         requires as_many { length kept.old ≡ length (tables_of self.now) }
@@ -181,12 +224,12 @@ impl Layout {
         needs_are_read();
         one_place();
         *reach = 0;
-        let number = match self.keep_lone(table, bytes, kept, range, reads) {
+        let number = match self.keep_lone(lone, bytes, kept, range, reads) {
             Ok(number) => number,
             Err(fault) => return Err(fault),
         };
-        counts[table.number] = number;
-        self.put_sums(counts, sums);
+        counts[lone.table.number] = number;
+        put_lone_sums(lone, number, sums);
         *reach = usize::MAX;
         Ok(())
     }

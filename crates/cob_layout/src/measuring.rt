@@ -110,6 +110,9 @@ impl Layout {
             subscripts: ArrayVec::new(),
         };
         let mut reads = 0;
+        if let Some(place) = self.place_at_once(&whole, false, bytes, counts, reads) {
+            return Ok(place.length as u16);
+        }
         match self.find(&whole, false, bytes, counts, &mut reads) {
             Ok(place) => Ok(place.length as u16),
             Err(FindFault::Count(fault)) => Err(fault),

@@ -224,9 +224,9 @@ impl Layout {
         // For `reads`: how many there were is a count of 64 bits.
         let _before = *reads;
         // In most records with a table that varies no other count is needed.
-        if let Some(table) = self.lone_table(reference, receiving) {
+        if let Some(lone) = self.lone_table(reference, receiving) {
             return self.read_lone(
-                reference, receiving, table, bytes, kept, range, counts, sums, reach, reads,
+                reference, receiving, lone, bytes, kept, range, counts, sums, reach, reads,
             );
         }
         let tables = self.tables.as_slice();

@@ -1,6 +1,6 @@
 -- Where operands stand.
 use Rattle.std.proofs.Common.{◌≡◌, ℕ, ◌+◌, ◌≤◌, [], ◌==◌, Bool, true, false, List, refl, sym, ap, subst, ◌∙◌, length, arith, inl, inr, Option, Some, None, Ok, Err, Result}
-use Rattle.std.specs.Prelude.{option_map}
+use Rattle.std.specs.Prelude.{option_map, IfSome}
 use Rattle.cob_copybook_tree.specs.declared.node.Item.{Item}
 use Rattle.cob_copybook_tree.specs.declared.node.Kind.{Kind}
 use Rattle.cob_copybook_tree.specs.declared.node.Kind.TheVariants.{Group, Item as ItemKind}
@@ -14,6 +14,7 @@ use Rattle.cob_layout_places.specs.Lengths.{times}
 use Rattle.cob_layout_places.specs.Places.{place_of, or_else, choose}
 use Rattle.cob_layout_places.specs.Counts.{kind_in, tables_of}
 use Rattle.cob_layout.proofs.CountLemmas.{found_size, pairs_in}
+use Rattle.cob_layout.specs.declared.summed.SummedPlace.{SummedPlace}
 use Rattle.cob_layout.specs.declared.finding.FindFault.{FindFault}
 use Rattle.cob_layout.specs.declared.finding.FindFault.TheVariants as finding
 use Rattle.cob_layout.specs.Finding.{IsFound}
@@ -111,15 +112,24 @@ element_at law side t receiving o bytes s e p sound operand survey is (same, the
 ends_as : (most : ℕ) (p q : Place) → p ≡ q → q.offset + q.length ≤ most → p.offset + p.length ≤ most
 ends_as most p q same within = omega (arith, within, ap (λ (x : Place). x.offset) same, ap (λ (x : Place). x.length) same)
 
+-- where the sums say
+pub noted_by_sums : (t : Forest Resolved) (receiving : Bool) (o : Operand) (bytes : List ℕ) (ks : List (Option StoredCount)) (s : SummedPlace) (r : Option Place) → IfSome r (λ p. IsFound t o.entry receiving bytes (Ok p))
+    → IfSome r (λ p. p.offset + p.length ≤ greatest_length t) → IfSome r (StandsAsNoted t receiving o bytes ks (basis.Summed s))
+noted_by_sums t receiving o bytes ks s None found within = tt
+noted_by_sums t receiving o bytes ks s (Some p) found within = (found, within)
+
 -- an operand stands where what is noted says
 pub noted_at : KeptPlaceElements → (side : Side) (t : Forest Resolved) (receiving : Bool) (o : Operand) (bytes : List ℕ) (s : Survey) (b : Basis) (p : Place) → IsSound t → IsPlaced t receiving o b → IsSurvey t bytes s
-    → StandsAsNoted b s.counts.kept p → Located side t receiving o bytes (Ok p)
+    → StandsAsNoted t receiving o bytes s.counts.kept b p → Located side t receiving o bytes (Ok p)
 noted_at law side t receiving o bytes s (basis.Fixed q) p sound is survey same = subst (λ (x : Place). Located side t receiving o bytes (Ok x)) (sym same) (is.basis.place side bytes)
 noted_at law side t receiving o bytes s (basis.Element e) p sound is survey noted = element_at law side t receiving o bytes s e p sound is.operand survey is.basis noted
+noted_at law side t receiving o bytes s (basis.Summed q) p sound is survey (found, within) = found
 noted_at law side t receiving o bytes s basis.Counted p sound is survey none = absurd none
 
 -- which is within the record
-pub noted_within : (t : Forest Resolved) (receiving : Bool) (o : Operand) (ks : List (Option StoredCount)) (b : Basis) (p : Place) → IsPlaced t receiving o b → StandsAsNoted b ks p → p.offset + p.length ≤ greatest_length t
-noted_within t receiving o ks (basis.Fixed q) p is same = ends_as (greatest_length t) p q same is.basis.within
-noted_within t receiving o ks (basis.Element e) p is noted = ends_as (greatest_length t) p e.place noted.0 is.basis.within
-noted_within t receiving o ks basis.Counted p is none = absurd none
+pub noted_within : (t : Forest Resolved) (receiving : Bool) (o : Operand) (bytes : List ℕ) (ks : List (Option StoredCount)) (b : Basis) (p : Place) → IsPlaced t receiving o b → StandsAsNoted t receiving o bytes ks b p
+    → p.offset + p.length ≤ greatest_length t
+noted_within t receiving o bytes ks (basis.Fixed q) p is same = ends_as (greatest_length t) p q same is.basis.within
+noted_within t receiving o bytes ks (basis.Element e) p is noted = ends_as (greatest_length t) p e.place noted.0 is.basis.within
+noted_within t receiving o bytes ks (basis.Summed q) p is (found, within) = within
+noted_within t receiving o bytes ks basis.Counted p is none = absurd none

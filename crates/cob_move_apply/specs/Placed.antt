@@ -5,6 +5,8 @@ use Rattle.cob_copybook_tree.specs.Nodes.{Resolved}
 use Rattle.cob_layout.specs.declared.counts.StoredCount.{StoredCount}
 use Rattle.cob_layout.specs.declared.fields.Place.{Place}
 use Rattle.cob_layout.specs.Elements.{IsElementPlace, IsThereBy}
+use Rattle.cob_layout.specs.Finding.{IsFound}
+use Rattle.cob_layout.specs.Summed.{IsSummedPlace}
 use Rattle.cob_layout.specs.Storage.{greatest_length}
 use Rattle.cob_move_data.specs.declared.operands.Sender as code_sender
 use Rattle.cob_move_data.specs.declared.operands.Side.{Side}
@@ -28,17 +30,19 @@ pub record IsFixed (tree : Forest Resolved) (receiving : Bool) (o : Operand) (p 
   pub within : p.offset + p.length ≤ greatest_length tree
 
 -- An operand's place, sending or receiving, may rest on this: on no count where it is noted and the same in every storage; on the count of one table, and on
--- that only whether the element is there; and on those that it needs.
+-- that only whether the element is there; on the counts that it needs, by which it stands where the sums of the tables say; and on those that it needs.
 abbrev pub IsBasis : Forest Resolved → Bool → Operand → Basis → Type 0
 IsBasis tree receiving o (basis.Fixed p) = IsFixed tree receiving o p
 IsBasis tree receiving o (basis.Element e) = IsElementPlace tree o.entry receiving e
+IsBasis tree receiving o (basis.Summed s) = IsSummedPlace tree o.entry receiving s
 IsBasis tree receiving o basis.Counted = Unit {0}
 
--- what is noted of a place, and the counts that are kept, say that it is this
-abbrev pub StandsAsNoted : Basis → List (Option StoredCount) → Place → Type 0
-StandsAsNoted (basis.Fixed q) ks p = p ≡ q
-StandsAsNoted (basis.Element e) ks p = (p ≡ e.place) × IsThereBy ks e
-StandsAsNoted basis.Counted ks p = ⊥
+-- what is noted of an operand's place, and the counts that are kept of a storage, say that it is this
+abbrev pub StandsAsNoted : Forest Resolved → Bool → Operand → (bytes : List ℕ) → List (Option StoredCount) → Basis → Place → Type 0
+StandsAsNoted tree receiving o bytes ks (basis.Fixed q) p = p ≡ q
+StandsAsNoted tree receiving o bytes ks (basis.Element e) p = (p ≡ e.place) × IsThereBy ks e
+StandsAsNoted tree receiving o bytes ks (basis.Summed s) p = IsFound tree o.entry receiving bytes (Ok p) × (p.offset + p.length ≤ greatest_length tree)
+StandsAsNoted tree receiving o bytes ks basis.Counted p = ⊥
 
 -- an operand of the record, with what its place rests on
 pub record IsPlaced (tree : Forest Resolved) (receiving : Bool) (o : Operand) (b : Basis) : Type 0 where

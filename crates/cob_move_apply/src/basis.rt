@@ -5,7 +5,7 @@ ghost use Rattle.cob_layout.specs.Sound.{IsSound};
 ghost use Rattle.cob_move_data.specs.Moves.{IsOperand, operand_in};
 ghost use Rattle.cob_move_apply.specs.Seen.{operand_of};
 
-use cob_layout::{ElementPlace, Kind, Layout, Place, Ref};
+use cob_layout::{ElementPlace, Kind, Layout, Place, Ref, SummedPlace};
 use cob_move_data::Side;
 
 /// What the place of an operand rests on.
@@ -15,6 +15,8 @@ pub(crate) enum Basis {
     Fixed(Place),
     /// On the count of one table, and on that only whether the element is there.
     Element(ElementPlace),
+    /// On the counts of the storage that the operand needs, by which it stands where the sums of the tables say.
+    Summed(SummedPlace),
     /// On the counts of the storage that the operand needs.
     Counted,
 }

@@ -15,7 +15,7 @@ use crate::basis::{Basis, PlacedOperand};
 use crate::stop::{Stop, StopCause};
 use crate::survey::Survey;
 use cob_layout::{
-    Counts, FindFault, Layout, Place, kept_give_needed, kept_place_elements, one_outcome_of_counts,
+    FindFault, Layout, Place, kept_give_needed, kept_place_elements, one_outcome_of_counts,
 };
 use cob_layout_places::needs_are_read;
 use cob_move_data::Side;
@@ -84,12 +84,27 @@ fn place_by_counts(
 
 /// Where an operand stands, where what is noted of its place and the counts that are kept say it.
 #[inline(always)]
-pub(crate) fn noted_place(basis: Basis, counts: &Counts) -> Option<Place>
-    ensures { IfSome result (StandsAsNoted basis counts.now.kept) }
+fn noted_place(
+    stored: &Stored<'_>,
+    placed: &PlacedOperand<'_>,
+    receiving: bool,
+    survey: &Survey,
+) -> Option<Place>
+    requires placed { IsPlaced stored.now.layout.now receiving
+        (operand_of placed.now) placed.now.basis }
+    requires survey { IsSurvey stored.now.layout.now stored.now.bytes.now survey.now }
+    ensures { IfSome result (StandsAsNoted stored.now.layout.now receiving (operand_of placed.now)
+        stored.now.bytes.now survey.now.counts.kept placed.now.basis) }
 {
-    match basis {
+    let counts = &survey.counts;
+    match placed.basis {
         Basis::Fixed(place) => Some(place),
         Basis::Element(element) => counts.place_of(element),
+        Basis::Summed(summed) => {
+            let entry = placed.entry;
+            let layout = stored.layout;
+            layout.place_by_sums(entry, receiving, stored.bytes, summed, counts)
+        }
         Basis::Counted => None,
     }
 }
@@ -119,7 +134,7 @@ pub(crate) fn locate(
     ensures spends { Spends stored.now.layout.now 0 result survey.old survey.new }
 {
     kept_place_elements();
-    match noted_place(placed.basis, &survey.counts) {
+    match noted_place(stored, placed, receiving, survey) {
         Some(place) => Ok(place),
         None => place_by_counts(stored, placed, receiving, survey),
     }
@@ -190,7 +205,7 @@ pub(crate) fn locate_if_there(
     ensures spends { IsSpent stored.now.layout.now 0 survey.old survey.new }
 {
     kept_place_elements();
-    match noted_place(placed.basis, &survey.counts) {
+    match noted_place(stored, placed, receiving, survey) {
         Some(place) => Some(Place {
             offset: place.offset,
             length: place.length,

@@ -23,8 +23,11 @@ pub(crate) fn basis_of(layout: &Layout, entry: &Ref, receiving: bool) -> Basis
     if let Some(place) = layout.fixed_place(entry, receiving) {
         return Basis::Fixed(place);
     }
-    match layout.element_place(entry, receiving) {
-        Some(element) => Basis::Element(element),
+    if let Some(element) = layout.element_place(entry, receiving) {
+        return Basis::Element(element);
+    }
+    match layout.summed_place(entry, receiving) {
+        Some(summed) => Basis::Summed(summed),
         None => Basis::Counted,
     }
 }

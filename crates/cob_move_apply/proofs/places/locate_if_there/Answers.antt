@@ -10,7 +10,7 @@ returns-in-Some-clause-located c =
 
 pub returns-in-Some-clause-fits : goal.returns-in-Some-clause-fits
 returns-in-Some-clause-fits c =
-    noted_within c.args.stored.now.layout.now c.args.receiving (operand_of c.args.placed.now) c.args.survey.now.counts.kept c.args.placed.now.basis c.in-Some.place c.requires.placed c.in-Some.ensures
+    noted_within c.args.stored.now.layout.now c.args.receiving (operand_of c.args.placed.now) c.args.stored.now.bytes.now c.args.survey.now.counts.kept c.args.placed.now.basis c.in-Some.place c.requires.placed c.in-Some.ensures
 
 pub returns-in-Some-clause-filled : goal.returns-in-Some-clause-filled
 returns-in-Some-clause-filled c =

@@ -25,6 +25,32 @@ find-requires-clause-refers c =
     let u = c.args.self.now in
     rw c.new.ensures (refers_whole u (c.records_are_sound.ensures u c.greatest-greatest.ensures.record) (occurs_once u c.greatest-greatest.ensures.record))
 
+pub place_at_once-requires-clause-refers : goal.place_at_once-requires-clause-refers
+place_at_once-requires-clause-refers c =
+    let u = c.args.self.now in
+    rw c.new.ensures (refers_whole u (c.records_are_sound.ensures u c.greatest-greatest.ensures.record) (occurs_once u c.greatest-greatest.ensures.record))
+
+pub returns-in-Some-clause-ok : goal.returns-in-Some-clause-ok
+returns-in-Some-clause-ok c =
+    let u = c.args.self.now in
+    let sound = c.records_are_sound.ensures u c.greatest-greatest.ensures.record in
+    let (cs, needed, at) = c.in-Some.ensures.found in
+    (cs, needs_all u 0 c.args.bytes.now (Ok cs) sound refl needed, whole_long u cs _ c.in-Some.place c.greatest-greatest.ensures.record sound refl c.new.ensures at)
+
+pub returns-in-Some-clause-least : goal.returns-in-Some-clause-least
+returns-in-Some-clause-least c =
+    let u = c.args.self.now in
+    let sound = c.records_are_sound.ensures u c.greatest-greatest.ensures.record in
+    let (cs, needed, at) = c.in-Some.ensures.found in
+    measures_some u cs c.in-Some.place.length sound c.greatest-greatest.ensures.bytes (whole_long u cs _ c.in-Some.place c.greatest-greatest.ensures.record sound refl c.new.ensures at)
+
+pub returns-in-Some-clause-kept : goal.returns-in-Some-clause-kept
+returns-in-Some-clause-kept c =
+    let u = c.args.self.now in
+    let sound = c.records_are_sound.ensures u c.greatest-greatest.ensures.record in
+    let (cs, needed, kept) = c.in-Some.ensures.kept in
+    (cs, needs_all u 0 c.args.bytes.now (Ok cs) sound refl needed, kept ∙ keeps_all c.needs_are_read.ensures u 0 cs _ sound refl)
+
 pub returns-in-Ok-clause-ok : goal.returns-in-Ok-clause-ok
 returns-in-Ok-clause-ok c =
     let u = c.args.self.now in

@@ -1,12 +1,18 @@
-use Rattle.std.proofs.Common.{◌≡◌, ◌∙◌, [], ◌∷◌, ap, refl, sym, true}
+use Rattle.std.proofs.Common.{◌∙◌, ap, refl, subst}
 use Rattle.cob_copybook_tree.specs.Forests.{Forest}
 use Rattle.cob_copybook_tree.specs.Nodes.{Resolved, tree_of}
 use Rattle.cob_layout_places.specs.Counts.{tables_of}
-use Rattle.cob_layout_places.specs.Needs.{Has, is_read}
+use Rattle.cob_layout_places.specs.Lengths.{times}
+use Rattle.cob_layout_places.specs.Needs.{Has}
+use Rattle.cob_layout_places.specs.Spots.{spots_of}
+use Rattle.cob_layout.specs.Counting.{greatest_counts}
+use Rattle.cob_layout.specs.Sound.{IsSound}
 use Rattle.cob_layout.proofs.FootingLemmas.{Named, named}
 use Rattle.cob_layout.proofs.LoneLemmas.{reads_table}
+use Rattle.cob_layout.proofs.LoneSumLemmas.{lone_in}
 use Rattle.cob_layout.proofs.ReadLaw.{known_in}
 use Rattle.cob_layout.proofs.ReferenceLemmas.{refers_has}
+use Rattle.cob_layout.proofs.ShiftLemmas.{growing_as}
 use Rattle.cob_layout.proofs.layout.Layout.lone_table.Goals as goal
 
 pub footing_at-footing-requires : goal.footing_at-footing-requires
@@ -20,6 +26,19 @@ pub returns-in-Some-clause-lone : goal.returns-in-Some-clause-lone
 returns-in-Some-clause-lone c =
     let t = tree_of c.self.inside.root in
     let u = c.args.self.now in
+    let least = c.self.inside.least.items in
+    let shifts = c.self.inside.shifts.items in
+    let growths = c.self.inside.growths.items in
+    let sound : IsSound u = subst IsSound c.self.view_is c.self.invariant.1 in
+    let all = c.self.invariant.2 ∙ ap (λ (v : Forest Resolved). tables_of v) c.self.view_is in
+    let spots = c.self.invariant.7 ∙ ap (λ (v : Forest Resolved). spots_of (times (greatest_counts v)) v 0 0) c.self.view_is in
+    let grow = growing_as t u least least shifts growths c.self.view_is c.self.invariant.1 refl c.self.invariant.10 c.self.invariant.11 c.self.invariant.12 in
+    lone_in u c.self.inside.tables.items least shifts growths c.self.inside.counts.spots c.in-Some.lone sound all grow spots (rw c.in-Some.is at c.self.invariant.15)
+
+pub returns-in-Some-clause-read : goal.returns-in-Some-clause-read
+returns-in-Some-clause-read c =
+    let t = tree_of c.self.inside.root in
+    let u = c.args.self.now in
     let ways = c.self.inside.ways.items in
     let shifts = c.self.inside.shifts.items in
     let least = c.self.inside.least.items in
@@ -27,9 +46,5 @@ returns-in-Some-clause-lone c =
     let subscripts = c.args.reference.now.subscripts.items in
     let own : Named ways shifts least c.deref.result.now r = named t u ways shifts least c.deref.result.now c.self.inside.footings.items r subscripts c.self.view_is c.self.invariant.1 c.requires.refers c.self.invariant.6 c.self.invariant.11 c.deref.ensures.value c.self.invariant.14 in
     let has : Has r u = refers_has r subscripts u c.requires.refers in
-    let all : c.deref-2.result.now ≡ tables_of u = c.deref-2.ensures.value ∙ c.self.invariant.2 ∙ ap (λ (v : Forest Resolved). tables_of v) c.self.view_is in
-    let reads : is_read u r c.args.receiving c.in-Some.table ≡ true =
-    reads_table u ways shifts least r c.args.receiving c.in-Some.table c.footing_at-footing.result (tables_of t) (known_in t u ways (tables_of t) r c.self.invariant.1 c.self.view_is c.self.invariant.6 refl has)
-    (c.footing_at-footing.ensures ∙ own.is c.footing_at-footing.result) (c.if-asks_for.ensures.behind refl) (c.if-asks_for.ensures.spares refl) in
-    let here : c.deref-2.result.now ≡ c.in-Some.table ∷ [] = c.in-Some.ensures.0 in
-    (sym all ∙ here, c.in-Some.ensures.1, reads)
+    reads_table u ways shifts least r c.args.receiving c.in-Some.lone.table c.footing_at-footing.result (tables_of t) (known_in t u ways (tables_of t) r c.self.invariant.1 c.self.view_is c.self.invariant.6 refl has)
+    (c.footing_at-footing.ensures ∙ own.is c.footing_at-footing.result) (c.if-asks_for.ensures.behind refl) (c.if-asks_for.ensures.spares refl)

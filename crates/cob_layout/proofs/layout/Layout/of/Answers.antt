@@ -30,7 +30,7 @@ invariant_of-result c =
     let grow = c.in_ok-put_shifts.ensures.growths ∙ ap (λ (ls : List Spot). growths_from ls 0 t) c.deref-2.ensures.value in
     let room = new_room t t c.in_ok-counts.counts sound refl counts kept (ap (λ (x : Standing). x.tables) made ∙ all)
     (ap (λ (x : Standing). x.growths) made ∙ c.deref-4.ensures.value ∙ grow ∙ ap (λ (ls : List Spot). growths_from ls 0 t) c.in_ok-least.ensures) in
-    (is, sound, c.in_ok-tables.ensures, counts, c.greatest-greatest.ensures.value ∙ ap (sum_of greatest_number) (sym same), c.in_ok-root.ensures.bytes, c.in_ok-ways.ensures, spots, c.in_ok-kinds.ensures, kept, c.in_ok-least.ensures, c.in_ok-put_shifts.ensures.shifts, grow, room, rw (c.deref-5.ensures.value, c.deref-6.ensures.value, c.deref-7.ensures.value) at c.in_ok-footings.ensures)
+    (is, sound, c.in_ok-tables.ensures, counts, c.greatest-greatest.ensures.value ∙ ap (sum_of greatest_number) (sym same), c.in_ok-root.ensures.bytes, c.in_ok-ways.ensures, spots, c.in_ok-kinds.ensures, kept, c.in_ok-least.ensures, c.in_ok-put_shifts.ensures.shifts, grow, room, rw (c.deref-5.ensures.value, c.deref-6.ensures.value, c.deref-7.ensures.value) at c.in_ok-footings.ensures, rw (c.deref-8.ensures.value, c.deref-9.ensures.value, c.spots.ensures) at c.lone_of-lone.ensures)
 
 pub ways-requires-clause-end : goal.ways-requires-clause-end
 ways-requires-clause-end c =
