@@ -12,7 +12,7 @@ use Rattle.cob_copybook_clauses.specs.declared.term.WordClass.TheVariants as ter
 use Rattle.cob_copybook_clauses.specs.Terms.{Keyword, term_by, word_class, term_of_kind, term_of_usage, term_of_word, reserved_words}
 use Rattle.cob_copybook_entry.specs.Kinds.{KeptWord, meaning_by, usage_word, usage_words}
 use Rattle.cob_copybook_clauses.specs.Clauses.{IsWord}
-use Rattle.cob_copybook_clauses.specs.Entries.{IsLeftOut, IsLeftOutLevel, IsLeftOutWord, looked_at}
+use Rattle.cob_copybook_clauses.specs.Entries.{IsLeftOut, IsLeftOutConstant, IsLeftOutLevel, IsLeftOutWord, looked_at, names_constant}
 use Rattle.cob_copybook_clauses.specs.Reading.{StopFirst}
 
 -- at most 20 characters of ASCII
@@ -105,6 +105,11 @@ split_words tokens front rest more t n e f g =
     let whole : tokens ≡ front ++ t ∷ more = sym (take-append-drop n tokens) ∙ ap (λ ts. ts ++ drop n tokens) (sym e) ∙ ap (λ ts. front ++ ts) (sym f ∙ g) in
     ap lexemes whole ∙ map-append lexeme front (t ∷ more)
 
-pub none_left_out : (w : List ℕ) (sentence looked : List Lexeme) → (IsLeftOutLevel w sentence → ⊥) → (IsLeftOutWord w looked → ⊥) → looked ≡ looked_at sentence → IsLeftOut w sentence → ⊥
-none_left_out w sentence looked a b e (inl h) = a h
-none_left_out w sentence looked a b e (inr h) = b (subst (IsLeftOutWord w) (sym e) h)
+pub none_left_out : (w : List ℕ) (sentence looked : List Lexeme) → (IsLeftOutLevel w sentence → ⊥) → (IsLeftOutConstant w sentence → ⊥) → (IsLeftOutWord w looked → ⊥) → looked ≡ looked_at sentence → IsLeftOut w sentence → ⊥
+none_left_out w sentence looked a c b e (inl h) = a h
+none_left_out w sentence looked a c b e (inr (inl h)) = c h
+none_left_out w sentence looked a c b e (inr (inr h)) = b (subst (IsLeftOutWord w) (sym e) h)
+
+-- an entry that names no constant is left out by none
+pub no_constant : (w : List ℕ) (sentence : List Lexeme) → names_constant sentence ≡ false → IsLeftOutConstant w sentence → ⊥
+no_constant w sentence e h = let t : true ≡ false = sym h.0 ∙ e in cc

@@ -1,5 +1,5 @@
 -- The words of an entry, and how a text's words are cut into entries.
-use Rattle.std.specs.Prelude.{◌≡◌, ◌≢◌, ◌⊎◌, ℕ, Bool, true, false, ◌&&◌, if◌then◌else◌, bytes_eq, List, [], ◌∷◌, ◌++◌, take, codes, Option, Some, None}
+use Rattle.std.specs.Prelude.{◌≡◌, ◌≢◌, ◌⊎◌, ℕ, Bool, true, false, not, ◌&&◌, if◌then◌else◌, bytes_eq, List, [], ◌∷◌, ◌++◌, take, codes, Option, Some, None}
 use Rattle.std.specs.List.{AllByRecursion}
 use Rattle.cob_source.specs.Tokens.{Lexeme}
 use Rattle.cob_source.specs.declared.token.TokenKind.{TokenKind}
@@ -99,10 +99,25 @@ is_condition (w ∷ ws) = is_word_kind w.kind && bytes_eq w.text (codes "88")
 abbrev pub looked_at : List Lexeme → List Lexeme
 looked_at ws = if is_condition ws then take 3 ws else ws
 
--- the level of an entry that is left out by name: 66 or 77
+-- the level of an entry that is left out by name: 66, 77 or 78
 abbrev pub IsLeftOutLevel : List ℕ → List Lexeme → Type 0
 IsLeftOutLevel text [] = ⊥
-IsLeftOutLevel text (w ∷ ws) = (w.kind ≡ kind.Word) × (w.text ≡ text) × ((text ≡ codes "66") ⊎ (text ≡ codes "77"))
+IsLeftOutLevel text (w ∷ ws) = (w.kind ≡ kind.Word) × (w.text ≡ text) × ((text ≡ codes "66") ⊎ ((text ≡ codes "77") ⊎ (text ≡ codes "78")))
+
+-- the word CONSTANT comes first
+abbrev pub is_constant_first : List Lexeme → Bool
+is_constant_first [] = false
+is_constant_first (w ∷ ws) = is_word_kind w.kind && bytes_eq w.text (codes "CONSTANT")
+
+-- the word CONSTANT stands behind a level and a word that begins no clause: the entry says what a name is, and describes no item
+abbrev pub names_constant : List Lexeme → Bool
+names_constant [] = false
+names_constant (level ∷ []) = false
+names_constant (level ∷ named ∷ ws) = not (starts_clause (word_class named)) && is_constant_first ws
+
+-- the entry is that of a constant, which is left out by the word CONSTANT
+abbrev pub IsLeftOutConstant : List ℕ → List Lexeme → Type 0
+IsLeftOutConstant text ws = (names_constant ws ≡ true) × (text ≡ codes "CONSTANT")
 
 -- one of the words is this one, which is left out by name
 abbrev pub IsLeftOutWord : List ℕ → List Lexeme → Type 0
@@ -111,7 +126,7 @@ IsLeftOutWord text (w ∷ ws) = ((word_class w ≡ term.LeftOut) × (w.text ≡ 
 
 -- the entry has this word or level, which is left out by name
 abbrev pub IsLeftOut : List ℕ → List Lexeme → Type 0
-IsLeftOut text ws = IsLeftOutLevel text ws ⊎ IsLeftOutWord text (looked_at ws)
+IsLeftOut text ws = IsLeftOutLevel text ws ⊎ (IsLeftOutConstant text ws ⊎ IsLeftOutWord text (looked_at ws))
 
 -- the words up to each Stop, and what is left behind the last one
 pub record Sentences : Type 0 where

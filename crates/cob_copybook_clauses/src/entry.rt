@@ -99,7 +99,7 @@ fn clauses_of(words: &[Token]) -> Option<Clauses<'_>>
 }
 
 /// Whether a word may begin a clause.
-fn starts_clause(token: &Token) -> bool
+pub(crate) fn starts_clause(token: &Token) -> bool
     ensures { IsTrue result ↔ starts_clause (word_class (lexeme token.now)) ≡ true }
 {
     kind_at(word_class(token)).is_some()

@@ -3,11 +3,14 @@ ghost use Rattle.cob_copybook_clauses.specs.Entries.{
   HasNoStop,
   IsCondition,
   IsLeftOut,
+  IsLeftOutConstant,
   IsLeftOutLevel,
   IsLeftOutWord,
   is_condition,
+  is_constant_first,
   is_word_kind,
   looked_at,
+  names_constant,
 };
 ghost use Rattle.cob_copybook_clauses.specs.Reading.{StopFirst};
 ghost use Rattle.cob_source.specs.Tokens.{Lexeme, lexeme, lexemes};
@@ -33,6 +36,7 @@ ghost use Rattle.std.specs.Prelude.{
   ℕ,
 };
 
+use crate::entry::starts_clause;
 use crate::term::WordClass;
 use crate::words::{behind, is_term, is_word, word_at};
 use cob_source::{Token, TokenKind};
@@ -109,7 +113,7 @@ pub fn read_condition_name(sentence: &[Token]) -> Option<&[u8]>
     Some(name)
 }
 
-/// The level of an entry that is left out by name: 66 or 77.
+/// The level of an entry that is left out by name: 66, 77 or 78.
 fn left_out_level(sentence: &[Token]) -> Option<&[u8]>
     ensures found { IfSome result (λ w. IsLeftOutLevel w.now (lexemes sentence.now)) }
     ensures none { IfNone result ((w : List ℕ) → IsLeftOutLevel w (lexemes sentence.now) → ⊥) }
@@ -117,8 +121,47 @@ fn left_out_level(sentence: &[Token]) -> Option<&[u8]>
     ensures ascii { IfSome result (λ w. AllByRecursion (λ c. c < 128) w.now) }
 {
     let (level, _) = word_at(sentence)?;
-    if is_text(level, b"66") || is_text(level, b"77") {
+    if is_text(level, b"66") || (is_text(level, b"77") || is_text(level, b"78")) {
         return Some(level);
+    }
+    None
+}
+
+/// Whether the word CONSTANT stands in front.
+fn starts_with_constant(words: &[Token]) -> bool
+    ensures { result ≡ is_constant_first (lexemes words.now) }
+{
+    match words.split_first() {
+        Some((first, _)) => is_that_word(first, b"CONSTANT"),
+        None => false,
+    }
+}
+
+/// Whether the word CONSTANT stands behind a level and a word that begins no clause.
+fn names_constant(sentence: &[Token]) -> bool
+    ensures { IsTrue result ↔ names_constant (lexemes sentence.now) ≡ true }
+{
+    let Some((_, more)) = sentence.split_first() else {
+        return false;
+    };
+    let Some((named, rest)) = more.split_first() else {
+        return false;
+    };
+    if starts_clause(named) {
+        return false;
+    }
+    starts_with_constant(rest)
+}
+
+/// The word CONSTANT, where an entry is that of a constant, which is left out by it.
+fn left_out_constant(sentence: &[Token]) -> Option<&[u8]>
+    ensures found { IfSome result (λ w. IsLeftOutConstant w.now (lexemes sentence.now)) }
+    ensures none { IfNone result ((w : List ℕ) → IsLeftOutConstant w (lexemes sentence.now) → ⊥) }
+    ensures short { IfSome result (λ w. length w.now ≤ 20) }
+    ensures ascii { IfSome result (λ w. AllByRecursion (λ c. c < 128) w.now) }
+{
+    if names_constant(sentence) {
+        return Some(b"CONSTANT".as_slice());
     }
     None
 }
@@ -148,7 +191,7 @@ fn looked_at(sentence: &[Token]) -> &[Token]
     sentence
 }
 
-/// The word of a sentence, or its level, that is left out by name.
+/// The word of a sentence, or its level, that is left out by name: of the entry of a constant its word CONSTANT.
 ///
 /// A level 88 entry is looked at up to its word VALUE. The answer is at most 20 characters of ASCII.
 pub fn left_out(sentence: &[Token]) -> Option<&[u8]>
@@ -159,6 +202,9 @@ pub fn left_out(sentence: &[Token]) -> Option<&[u8]>
 {
     if let Some(level) = left_out_level(sentence) {
         return Some(level);
+    }
+    if let Some(word) = left_out_constant(sentence) {
+        return Some(word);
     }
     let word = left_out_word(looked_at(sentence))?;
     Some(word)

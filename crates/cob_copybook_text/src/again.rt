@@ -76,12 +76,12 @@ fn words_of(alloc: Global, text: &[u8]) -> Result<Option<Vec<Token>>, AllocError
     }
 }
 
-/// A text that says these words, if they have room in one.
+/// A text in reference format that says these words, if they have room in one.
 ///
 /// # Errors
 ///
 /// Where no memory is left.
-pub(crate) fn text_saying(alloc: Global, own: &[Token]) -> Result<Option<RecordText>, AllocError>
+pub fn text_saying(alloc: Global, own: &[Token]) -> Result<Option<RecordText>, AllocError>
     ensures { IfOk result (λ o. IfSome o (λ text. SaysWords text (lexemes own.now))) }
 {
     let made = written(alloc, own)?;

@@ -4,7 +4,8 @@
 //! [`record_text`] carries out the COPY statements of a copybook's words, or replaces words in them, as a [`Copying`] says; chooses one record by its name,
 //! or the only one; and writes the words that are left as one text in reference format. All that reads a copybook reads that text: so COPY and a choice among
 //! records need no second way through the crates above. A [`RecordText`] says of each of its lines which line it was written for, so that a fault can be told
-//! where it was made. Where nothing is copied, replaced or left out the copybook itself is the text, and none is made.
+//! where it was made. Where nothing is copied, replaced or left out the copybook itself is the text, and none is made. Of words that stand in a text of another format
+//! [`text_saying`] makes one.
 //!
 //! What is promised: the words of the text that is answered say, each on the line that is kept for it, what the words that are meant say, and no text is answered
 //! only where the words that are meant are those that came (clause `found`). Words that are meant are written, but for want of memory and of room in one text
@@ -16,7 +17,7 @@
 //!
 //! # Where it is proved
 //!
-//! The clauses `found`, `only`, `fault` of `record_text`; the law `meant_words_are_one`.
+//! The clauses `found`, `only`, `fault` of `record_text`, that of `text_saying`; the law `meant_words_are_one`.
 #![tactic(auto)]
 
 mod again;
@@ -27,6 +28,7 @@ mod laws;
 mod making;
 mod writing;
 
+pub use again::text_saying;
 pub use cob_copybook_record::NoRecord;
 pub use copying::Copying;
 pub use fault::RecordTextFault;

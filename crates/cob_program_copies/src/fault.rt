@@ -22,6 +22,8 @@ pub enum BookRefusal {
     OneFile(FileName, FileName),
     /// The option for exchanges says none.
     BadReplace,
+    /// The option for tab stops says no number of columns.
+    BadTabs,
     /// Memory was refused.
     Memory,
 }
@@ -79,6 +81,7 @@ fn tell_refusal<R: Eprint>(rt: &R, refusal: &BookRefusal) -> Status
             Status::Malformed,
         ),
         BookRefusal::BadReplace => printed(eprintln!(rt; "bad replace"), Status::Malformed),
+        BookRefusal::BadTabs => printed(eprintln!(rt; "bad tabs"), Status::Malformed),
         BookRefusal::Memory => printed(eprintln!(rt; "memory"), Status::Memory),
     }
 }

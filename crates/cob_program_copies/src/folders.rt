@@ -1,7 +1,9 @@
 //! Texts that stand in folders.
 
 use crate::outputs::Outputs;
+use crate::spacing::Spacing;
 use cob_program_faults::{FileIdentity, FileName, TextFault, read_text};
+use cob_source::TextFormat;
 use cob_source_copies::{Shelf, ShelfFault, TextName};
 use std::alloc::{AllocError, Global};
 use std::rt::Files;
@@ -17,17 +19,25 @@ pub struct Folders<'a, R> {
     folders: &'a str,
     /// The files that the command writes.
     outputs: Outputs,
+    /// How the texts stand on their lines.
+    spacing: Spacing,
     /// The first of these that a text came from.
     lost: Option<FileName>,
 }
 
 impl<'a, R> Folders<'a, R> {
-    /// These folders, parted by colons, for a command that writes these files.
-    pub fn new(rt: &'a R, folders: &'a str, outputs: Outputs) -> Folders<'a, R> {
+    /// These folders, parted by colons, with texts that stand so on their lines, for a command that writes these files.
+    pub fn new(
+        rt: &'a R,
+        folders: &'a str,
+        outputs: Outputs,
+        spacing: Spacing,
+    ) -> Folders<'a, R> {
         Folders {
             rt,
             folders,
             outputs,
+            spacing,
             lost: None,
         }
     }
@@ -140,7 +150,7 @@ fn library_name(named: &TextName) -> Result<Option<&str>, ()> {
 }
 
 impl<R: AllocGlobal + Files> Shelf for Folders<'_, R> {
-    fn text(&mut self, _alloc: Global, named: &TextName) -> Result<Option<Vec<u8>>, ShelfFault> {
+    fn text(&mut self, alloc: Global, named: &TextName) -> Result<Option<Vec<u8>>, ShelfFault> {
         let Some(name) = file_name(named.name.as_slice()) else {
             return Ok(None);
         };
@@ -153,6 +163,13 @@ impl<R: AllocGlobal + Files> Shelf for Folders<'_, R> {
         if self.lost.is_none() {
             self.lost = self.outputs.lost_with(found.identity);
         }
-        Ok(Some(found.text))
+        match self.spacing.spaced(alloc, found.text) {
+            Ok(text) => Ok(Some(text)),
+            Err(_) => Err(ShelfFault::Memory),
+        }
+    }
+
+    fn format(&self) -> TextFormat {
+        self.spacing.format
     }
 }

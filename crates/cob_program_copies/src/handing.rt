@@ -10,12 +10,13 @@ use crate::fault::{BookRefusal, HandingFault};
 use crate::folders::Folders;
 use crate::judging::judged;
 use crate::outputs::Outputs;
-use crate::told::{of_fetching, of_text};
+use crate::spacing::Spacing;
+use crate::told::{of_fetching, of_own_source, of_text};
 use cob_copybook::Role;
-use cob_copybook_text::{Copying, record_text};
+use cob_copybook_text::{Copying, RecordTextFault, record_text, text_saying};
 use cob_program_faults::{CommandFault, FileName, text_of};
 use cob_program_line::{Handing, Line};
-use cob_source::{SourceRule, Token, tokens};
+use cob_source::{SourceFault, SourceRule, TextFormat, Token, tokens_in};
 use cob_source_copies::fetch;
 use std::alloc::Global;
 use std::rt::Files;
@@ -42,6 +43,8 @@ struct Asked<'a> {
     options: Handing<'a>,
     /// The files that the command writes.
     outputs: Outputs,
+    /// How the texts stand on their lines.
+    spacing: Spacing,
 }
 
 /// The texts that these words copy, or the exchanges in them, as the options say.
@@ -58,7 +61,7 @@ fn copying_of<R: AllocGlobal + Files>(
     let Some(folders) = handing.options.copy_dirs else {
         return Ok(Copying::Left);
     };
-    let mut shelf = Folders::new(rt, folders, handing.outputs);
+    let mut shelf = Folders::new(rt, folders, handing.outputs, handing.spacing);
     match fetch(alloc, &mut shelf, words) {
         Ok(library) => match shelf.lost() {
             Some(output) => Err(BookRefusal::OneFile(file, output)),
@@ -68,13 +71,50 @@ fn copying_of<R: AllocGlobal + Files>(
     }
 }
 
-/// The words of a text, if it breaks no rule of the reference format.
-fn words_of(alloc: Global, text: &[u8]) -> Result<Option<Vec<Token>>, BookRefusal> {
-    match tokens(alloc, text) {
-        Ok(words) => Ok(Some(words)),
-        Err(fault) => match fault.rule {
-            SourceRule::Memory => Err(BookRefusal::Memory),
-            _ => Ok(None),
+/// The text of a copybook that breaks a rule of its format: itself, where its command tells that.
+///
+/// # Errors
+///
+/// The rule, of a text in free format; want of memory.
+fn unread(
+    alloc: Global,
+    file: FileName,
+    format: TextFormat,
+    fault: SourceFault,
+    text: Vec<u8>,
+) -> Result<Vec<u8>, BookRefusal> {
+    if let SourceRule::Memory = fault.rule {
+        return Err(BookRefusal::Memory);
+    }
+    match format {
+        TextFormat::Reference => Ok(text),
+        TextFormat::Free => Err(of_own_source(alloc, file, fault)?),
+    }
+}
+
+/// The text of a copybook whose words are all meant as they stand: itself, or of one in free format one in reference format that says them.
+///
+/// # Errors
+///
+/// The words have no room in one text; the text that is made is refused; want of memory.
+fn unchanged(
+    alloc: Global,
+    book: BookOption<'_>,
+    format: TextFormat,
+    words: &[Token],
+    text: Vec<u8>,
+) -> Result<Vec<u8>, BookRefusal> {
+    match format {
+        TextFormat::Reference => Ok(text),
+        TextFormat::Free => match text_saying(alloc, words)? {
+            Some(made) => judged(alloc, book.file, book.role, &Copying::Left, made),
+            None => Err(of_text(
+                alloc,
+                book.file,
+                &Copying::Left,
+                "",
+                RecordTextFault::TooLong,
+            )?),
         },
     }
 }
@@ -87,8 +127,11 @@ fn text_handed<R: AllocGlobal + Files>(
     text: Vec<u8>,
 ) -> Result<Vec<u8>, BookRefusal> {
     let alloc = rt.alloc();
-    let Some(words) = words_of(alloc, text.as_slice())? else {
-        return Ok(text);
+    let format = handing.spacing.format;
+    let text = handing.spacing.spaced(alloc, text)?;
+    let words = match tokens_in(alloc, format, text.as_slice()) {
+        Ok(words) => words,
+        Err(fault) => return unread(alloc, book.file, format, fault, text),
     };
     let how = copying_of(rt, book.file, handing, words.as_slice())?;
     let name = book.record.unwrap_or("").to_ascii_uppercase(alloc)?;
@@ -97,7 +140,7 @@ fn text_handed<R: AllocGlobal + Files>(
         None => None,
     };
     match record_text(alloc, &how, chosen, words.as_slice()) {
-        Ok(None) => Ok(text),
+        Ok(None) => unchanged(alloc, book, format, words.as_slice(), text),
         Ok(Some(made)) => judged(alloc, book.file, book.role, &how, made),
         Err(fault) => Err(of_text(alloc, book.file, &how, &name, fault)?),
     }
@@ -190,11 +233,26 @@ fn hand_both<'a, R: AllocGlobal + Files>(
     Ok(out)
 }
 
+/// Hands these copybooks over.
+fn hand_files<'a, R: AllocGlobal + Files>(
+    rt: &R,
+    files: BookFiles<'a>,
+    asked: &Asked<'a>,
+) -> Result<Vec<HandedBook<'a>>, HandingFault>
+    ensures { IfErr result LacksHanding }
+{
+    match files {
+        BookFiles::One(book) => hand_one(rt, book, asked),
+        BookFiles::Both(in_book, out_book) => hand_both(rt, in_book, out_book, asked),
+    }
+}
+
 /// The copybooks of a line as they are handed over to its command: none, where it reads none.
 ///
 /// # Errors
 ///
-/// A file that is not opened or not read; a copybook that is refused, or a text that it copies; an exchange that is none; want of memory.
+/// A file that is not opened or not read; a copybook that is refused, or a text that it copies; an exchange that is none, or a bad number of columns between tab
+/// stops; want of memory.
 pub fn hand_over<'a, R: AllocGlobal + Files>(
     rt: &R,
     line: &Line<'a>,
@@ -203,13 +261,17 @@ pub fn hand_over<'a, R: AllocGlobal + Files>(
     ensures lacks { IfErr result LacksHanding }
     ensures books { IfErr result (λ _. HasBooks line.now) }
 {
+    let Some(files) = books_of(line) else {
+        return Ok(Vec::new(rt.alloc()));
+    };
+    let spacing = match Spacing::of(handing) {
+        Ok(spacing) => spacing,
+        Err(refusal) => return Err(HandingFault::Book(refusal)),
+    };
     let asked = Asked {
         options: *handing,
         outputs: Outputs::of(rt, line),
+        spacing,
     };
-    match books_of(line) {
-        None => Ok(Vec::new(rt.alloc())),
-        Some(BookFiles::One(book)) => hand_one(rt, book, &asked),
-        Some(BookFiles::Both(in_book, out_book)) => hand_both(rt, in_book, out_book, &asked),
-    }
+    hand_files(rt, files, &asked)
 }

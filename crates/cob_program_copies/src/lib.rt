@@ -2,7 +2,8 @@
 //!
 //! [`hand_over`] reads the files of a command's copybooks, carries out what the options say of them, and answers each as one text. A [`HandedRuntime`] is the
 //! runtime inside, but that its files at the paths of [`with_handed_books`] are these texts: so a command reads them as it reads the files of other copybooks, and
-//! knows nothing of COPY. A copybook to which nothing is done is handed on byte for byte.
+//! knows nothing of COPY. A copybook to which nothing is done is handed on byte for byte. Of one in free format a text in reference format is made, and of one with
+//! tabs one with spaces, as the options say ([`Spacing`]).
 //!
 //! The texts that are copied come from the folders that an option names, the first that has one ([`Folders`]): NAME, NAME.cpy or NAME.cbl, or these in small letters,
 //! and of a library a folder of its name beneath. At most as many bytes are read of one as a text may have, and a piece more.
@@ -29,6 +30,7 @@ mod handing;
 mod judging;
 mod outputs;
 mod runtime;
+mod spacing;
 mod told;
 
 pub use books::{HandedBook, IN_BOOK, LISTED_BOOK, OUT_BOOK};
@@ -38,3 +40,4 @@ pub use folders::Folders;
 pub use handing::hand_over;
 pub use outputs::Outputs;
 pub use runtime::HandedRuntime;
+pub use spacing::Spacing;

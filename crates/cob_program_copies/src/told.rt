@@ -90,6 +90,16 @@ fn of_source(
     Ok(BookRefusal::Refused(format!(in alloc; "{file} {rule} line {line} of {name}")?))
 }
 
+/// What is told of a copybook in free format that breaks a rule of it.
+pub(crate) fn of_own_source(
+    alloc: Global,
+    file: FileName,
+    fault: SourceFault,
+) -> Result<BookRefusal, AllocError> {
+    let SourceFault { rule, line } = fault;
+    Ok(BookRefusal::Refused(format!(in alloc; "{file} {rule} line {line}")?))
+}
+
 /// What is told of a text that breaks a rule of COPY.
 fn of_copy(
     alloc: Global,

@@ -160,11 +160,13 @@ IsCommand name look (line.Map options) = (name ≡ codes "map") × IsMap look op
 IsCommand name look line.Completion = name ≡ codes "completion"
 IsCommand name look line.Manual = name ≡ codes "manual"
 
--- Options say how copybooks are handed over: where the texts are that they copy, what is replaced in them, and which of their records are meant. Each of
--- these may be left out.
+-- Options say how copybooks are handed over: where the texts are that they copy, what is replaced in them, where their tab stops are, whether they are in free
+-- format, and which of their records are meant. Each of these may be left out.
 pub record NameHanding (look : Look) (handing : Handing) : Type 0 where
   pub copy_dirs : look (codes "copy-dir") ≡ option_map (λ dirs. dirs.now) handing.copy_dirs
   pub replace : look (codes "replace") ≡ option_map (λ exchanges. exchanges.now) handing.replace
+  pub tabs : look (codes "tabs") ≡ option_map (λ columns. columns.now) handing.tabs
+  pub free : is_flagged (codes "free") look ≡ handing.free
   pub in_record : look (codes "in-record") ≡ option_map (λ name. name.now) handing.in_record
   pub out_record : look (codes "out-record") ≡ option_map (λ name. name.now) handing.out_record
   pub one_record : look (codes "record-name") ≡ option_map (λ name. name.now) handing.record

@@ -109,13 +109,18 @@ pub struct CommandLine<'a> {
     pub handing: Handing<'a>,
 }
 
-/// How copybooks are handed over: where the texts are that they copy, what is replaced in them, and which of their records are meant.
+/// How copybooks are handed over: where the texts are that they copy, what is replaced in them, how they stand on their lines, and which of their records are
+/// meant.
 #[derive(Clone, Copy)]
 pub struct Handing<'a> {
     /// The folders with the texts that COPY names, parted by colons.
     pub copy_dirs: Option<&'a str>,
     /// What is replaced, `x=y`, parted by semicolons.
     pub replace: Option<&'a str>,
+    /// How many columns stand between tab stops.
+    pub tabs: Option<&'a str>,
+    /// Whether they are in free format.
+    pub free: bool,
     /// The record of the input's copybook that is meant.
     pub in_record: Option<&'a str>,
     /// The record of the output's copybook that is meant.
@@ -132,6 +137,8 @@ impl Handing<'_> {
         Handing {
             copy_dirs: None,
             replace: None,
+            tabs: None,
+            free: false,
             in_record: None,
             out_record: None,
             record: None,

@@ -18,7 +18,7 @@ use crate::number::number_of;
 use clap::ArgMatches;
 use cob_codec::Reading;
 use cob_limits::MAX_BLOCK;
-use cob_program_options::{named, named_if_there};
+use cob_program_options::{flag, named, named_if_there};
 use cob_records::{Form, block_size_of};
 
 // The form that a letter names.
@@ -343,6 +343,8 @@ pub(crate) fn handing_of<'a>(options: &ArgMatches<'a>) -> Handing<'a>
     Handing {
         copy_dirs: named_if_there(options, "copy-dir"),
         replace: named_if_there(options, "replace"),
+        tabs: named_if_there(options, "tabs"),
+        free: flag(options, "free"),
         in_record: named_if_there(options, "in-record"),
         out_record: named_if_there(options, "out-record"),
         record: named_if_there(options, "record-name"),

@@ -45,9 +45,9 @@ choice_options = (codes "skip", Default (codes "0")) ∷ (codes "records", Defau
 abbrev pub rejects_options : Options
 rejects_options = (codes "rejects", Optional) ∷ (codes "most-rejects", Default (codes "all")) ∷ []
 
--- the options for what copybooks copy, and for what is replaced in them
+-- the options for what copybooks copy, for what is replaced in them, and for how they stand on their lines
 abbrev pub copies_options : Options
-copies_options = (codes "copy-dir", Optional) ∷ (codes "replace", Optional) ∷ []
+copies_options = (codes "copy-dir", Optional) ∷ (codes "replace", Optional) ∷ (codes "tabs", Optional) ∷ (codes "free", Alone) ∷ []
 
 -- the options for how both copybooks are handed over: these, and the records of theirs that are meant
 abbrev pub books_handing : Options

@@ -35,6 +35,12 @@ pub(crate) const COPY_DIR_HELP: &str =
 pub(crate) const REPLACE_HELP: &str =
     "Put Y for each X in the copybooks; several of these\nare parted by semicolons";
 
+// What `--tabs` names, and what `--free` does.
+pub(crate) const TABS_HELP: &str =
+    "Put spaces for tabs in the copybooks; a tab stop is\nbehind each N columns";
+
+pub(crate) const FREE_HELP: &str = "The copybooks are in free format, without columns";
+
 // What `--strict` does.
 pub(crate) const STRICT_HELP: &str =
     "List these, and end with status 1 where bytes are not\nfilled or a move may lose something";

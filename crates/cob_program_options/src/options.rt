@@ -2,8 +2,9 @@
 
 use crate::definition::{OptionDefinition, Standing};
 use crate::help::{
-    ATOMIC_HELP, BINARY_HELP, COPY_DIR_HELP, EXPLAINED_HELP, EXPLAINED_RUN_HELP, FORM_HELP,
+    ATOMIC_HELP, BINARY_HELP, COPY_DIR_HELP, EXPLAINED_HELP, EXPLAINED_RUN_HELP, FORM_HELP, FREE_HELP,
     IGNORE_HELP, LISTING_HELP, LRECL_HELP, MEASURE_HELP, PROGRESS_HELP, REPLACE_HELP, STRICT_HELP,
+    TABS_HELP,
 };
 
 // How an option stands for a form, which is f where it is not there, and for the greatest size of blocks.
@@ -301,8 +302,8 @@ pub(crate) const RECORD: [OptionDefinition<'static>; 1] = [OptionDefinition {
     help: "The number of the record",
 }];
 
-// What copybooks copy, and what is replaced in them.
-pub(crate) const COPIES: [OptionDefinition<'static>; 2] = [
+// What copybooks copy, what is replaced in them, and how they stand on their lines.
+pub(crate) const COPIES: [OptionDefinition<'static>; 4] = [
     OptionDefinition {
         name: "copy-dir",
         standing: Standing::Optional("DIRS"),
@@ -312,6 +313,16 @@ pub(crate) const COPIES: [OptionDefinition<'static>; 2] = [
         name: "replace",
         standing: Standing::Optional("X=Y"),
         help: REPLACE_HELP,
+    },
+    OptionDefinition {
+        name: "tabs",
+        standing: Standing::Optional("N"),
+        help: TABS_HELP,
+    },
+    OptionDefinition {
+        name: "free",
+        standing: Standing::Alone,
+        help: FREE_HELP,
     },
 ];
 

@@ -1,4 +1,5 @@
 pub mod LineLemmas
+pub mod CommentLemmas
 pub mod Literals
 pub mod CutLemmas
 pub mod CutOnce
@@ -11,3 +12,7 @@ pub mod ReadingLemmas
 pub mod FitLemmas
 pub mod PieceLemmas
 pub mod AheadLemmas
+pub mod TabLemmas
+pub mod FreeLemmas
+pub mod TitleLemmas
+pub mod FormatLemmas

@@ -3,7 +3,7 @@ use Rattle.std.proofs.Common.{◌≡◌, ◌≢◌, ℕ, ◌<◌, ◌≤◌, Boo
 use Rattle.std.specs.Prelude.{◌==◌}
 use Rattle.std.specs.List.{AllByRecursion}
 use Rattle.std.proofs.lemmas.Bool.{ne_eqb}
-use Rattle.std.proofs.lemmas.List.{append-nil, take-append-drop, length-drop, length-take}
+use Rattle.std.proofs.lemmas.List.{append-nil, take-append-drop}
 use Rattle.cob_source.specs.Lines.{lines, led_by, cut_return, FeedFirst, same_letters}
 
 abbrev Within : List ℕ → Type 0
@@ -92,6 +92,3 @@ cut_return-other (x ∷ y ∷ xs) b ne = go (x == 13) refl (cut_return-other (y 
 pub same_letters-short : (word rest : List ℕ) → 0 < length word → rest ≡ [] → same_letters word rest ≡ false
 same_letters-short [] rest some e = absurd (omega arith)
 same_letters-short (b ∷ word) rest some e = ap (same_letters (b ∷ word)) e
-
-pub written_short : (line : List ℕ) → length (drop 7 (take 72 line)) ≤ 65
-written_short line = omega (arith, length-drop 7 (take 72 line), length-take 72 line)

@@ -11,12 +11,12 @@ use Rattle.cob_source.specs.declared.fault.SourceRule.TheVariants.{NotAscii, Tab
 use Rattle.cob_limits.specs.Limits.{longest_text}
 use Rattle.cob_source.specs.Tokens.{Lexeme}
 use Rattle.cob_source.specs.Cuts.{is_quote, is_gap, open_from, open_quote, Cuts, End}
-use Rattle.cob_source.specs.Lines.{lines, program_text, behind_spaces, is_nil, kind_of_line, line_end, cells_behind, trim_end, continued_text, left_out, continued, join, join_by, joined_from, joined_of, last_by, last_from, last_joined}
+use Rattle.cob_source.specs.Lines.{lines, program_text, behind_spaces, is_nil, is_options, kind_of_line, kind_with, kind_behind, line_end, cells_behind, trim_end, continued_text, left_out, continued, join, join_by, joined_from, joined_of, last_by, last_from, last_joined}
 use Rattle.cob_source.specs.Words.{breaks, BreaksAlone, KeepsCharacters, BreaksAt, NoContinuation, IsLeftOpen, BreaksSourceRule, IsSourceRefusal, AreCutsOf, FitsLine, AllFit, is_bad_continuation, is_misfit, ends_quoted, first_character}
 use Rattle.cob_source.specs.Reading.{Begins, LeavesOutSpaces, HasRead, EndRefused, ContinuationRefused, IsContinued, LineRefused}
 use Rattle.cob_source.proofs.Opens.{open_from-append}
 use Rattle.cob_source.proofs.CutOnce.{GapFirst, cut_both, cut_once}
-use Rattle.cob_source.proofs.Stands.{last_append, open_same, cut_same, continued_same, fits_same}
+use Rattle.cob_source.proofs.Stands.{last_append, nil_same, open_same, cut_same, continued_same, fits_same}
 
 joined_from-append : (n : ℕ) (j : List Cell) (a b : List (List ℕ)) → joined_from n j (a ++ b) ≡ joined_from (n + length a) (joined_from n j a) b
 joined_from-append n j [] b = let e : n + 0 ≡ n = omega arith in rw e refl
@@ -30,14 +30,16 @@ plus_one n = omega arith
 pub joined_of-push : (before : List (List ℕ)) (line : List ℕ) → joined_of (before ++ line ∷ []) ≡ join (length before + 1) (joined_of before) line
 joined_of-push before line = joined_from-append 1 [] before (line ∷ []) ∙ ap (λ (k : ℕ). join k (joined_of before) line) (plus_one (length before))
 
-last_from-append : (n k : ℕ) (a b : List (List ℕ)) → last_from n k (a ++ b) ≡ last_from (n + length a) (last_from n k a) b
-last_from-append n k [] b = let e : n + 0 ≡ n = omega arith in rw e refl
-last_from-append n k (x ∷ a) b =
+last_from-append : (n k : ℕ) (j : List Cell) (a b : List (List ℕ)) → last_from n k j (a ++ b) ≡ last_from (n + length a) (last_from n k j a) (joined_from n j a) b
+last_from-append n k j [] b = let e : n + 0 ≡ n = omega arith in rw e refl
+last_from-append n k j (x ∷ a) b =
     let e : n + 1 + length a ≡ n + suc (length a) = omega arith in
-    last_from-append (n + 1) (last_by (kind_of_line x) n k) a b ∙ ap (λ (m : ℕ). last_from m (last_from (n + 1) (last_by (kind_of_line x) n k) a) b) e
+    last_from-append (n + 1) (last_by (kind_behind j x) n k) (join n j x) a b
+    ∙ ap (λ (m : ℕ). last_from m (last_from (n + 1) (last_by (kind_behind j x) n k) (join n j x) a) (joined_from (n + 1) (join n j x) a) b) e
 
-last_joined-push : (before : List (List ℕ)) (line : List ℕ) → last_joined (before ++ line ∷ []) ≡ last_by (kind_of_line line) (length before + 1) (last_joined before)
-last_joined-push before line = last_from-append 1 0 before (line ∷ []) ∙ ap (λ (k : ℕ). last_by (kind_of_line line) k (last_joined before)) (plus_one (length before))
+last_joined-push : (before : List (List ℕ)) (line : List ℕ) → last_joined (before ++ line ∷ []) ≡ last_by (kind_behind (joined_of before) line) (length before + 1) (last_joined before)
+last_joined-push before line =
+    last_from-append 1 0 [] before (line ∷ []) ∙ ap (λ (k : ℕ). last_by (kind_behind (joined_of before) line) k (last_joined before)) (plus_one (length before))
 
 pub AllFit-push : (n : ℕ) (j : List Cell) (a : List (List ℕ)) (line : List ℕ) → AllFit n j a → FitsLine (joined_from n j a) line → AllFit n j (a ++ line ∷ [])
 AllFit-push n j [] line all fits = (fits, tt)
@@ -72,8 +74,34 @@ open_last r = open_from-append None r.done r.whole ∙ ap (λ (s : Option ℕ). 
 pub open_of : {m : Cutting} {before : List (List ℕ)} {cells : List Cell} {q : Option ℕ} {last : ℕ} {words : List Lexeme} → HasRead m before cells q last words → open_quote (joined_of before) ≡ q
 open_of r = ap open_quote r.joined_is ∙ open_last r ∙ open_same r.stands ∙ sym r.open_is
 
-pub skips : {m : Cutting} {before : List (List ℕ)} {cells : List Cell} {q : Option ℕ} {last : ℕ} {words : List Lexeme} (line : List ℕ) → HasRead m before cells q last words → KeepsCharacters line → kind_of_line line ≡ Skipped → HasRead m (before ++ line ∷ []) cells q last words
-skips {m} {before} {cells} {q} {last} line r k e = record {
+nil_behind : (done cells : List Cell) → Begins done cells → is_nil (done ++ cells) ≡ is_nil cells
+nil_behind done [] b = ap is_nil (append-nil done ∙ b)
+nil_behind [] (c ∷ cells) b = refl
+nil_behind (d ∷ done) (c ∷ cells) b = refl
+
+-- whether anything is joined is seen at the last joined line
+nil_of : {m : Cutting} {before : List (List ℕ)} {cells : List Cell} {q : Option ℕ} {last : ℕ} {words : List Lexeme} → HasRead m before cells q last words → is_nil (joined_of before) ≡ is_nil cells
+nil_of r = ap is_nil r.joined_is ∙ nil_behind r.done r.whole r.begins ∙ nil_same r.done r.begins r.stands
+
+-- and so what kind of line comes next
+kind_at : {m : Cutting} {before : List (List ℕ)} {cells : List Cell} {q : Option ℕ} {last : ℕ} {words : List Lexeme} (line : List ℕ) (k : LineKind) → HasRead m before cells q last words → kind_of_line line ≡ k
+    → kind_behind (joined_of before) line ≡ kind_with (is_nil cells && is_options (program_text line)) k
+kind_at {cells = cells} line k r e =
+    ap (λ (b : Bool). kind_with (b && is_options (program_text line)) (kind_of_line line)) (nil_of r)
+    ∙ ap (kind_with (is_nil cells && is_options (program_text line))) e
+
+nil_closed : (joined : List Cell) → is_nil joined ≡ true → open_quote joined ≡ None
+nil_closed [] e = refl
+nil_closed (c ∷ joined) e = absurd cc
+
+and_first : (a b : Bool) → (a && b) ≡ true → a ≡ true
+and_first true b e = refl
+and_first false b e = absurd cc
+
+-- a line that is skipped behind the text so far changes nothing
+stays : {m : Cutting} {before : List (List ℕ)} {cells : List Cell} {q : Option ℕ} {last : ℕ} {words : List Lexeme} (line : List ℕ) → HasRead m before cells q last words → FitsLine (joined_of before) line → kind_behind (joined_of before) line ≡ Skipped
+    → HasRead m (before ++ line ∷ []) cells q last words
+stays {m} {before} {cells} {q} {last} line r f e = record {
   done = r.done;
   whole = r.whole;
   joined_is = joined_of-push before line ∙ ap (λ (x : LineKind). join_by x (length before + 1) (joined_of before) line) e ∙ r.joined_is;
@@ -83,8 +111,18 @@ skips {m} {before} {cells} {q} {last} line r k e = record {
   closed = r.closed;
   cut = r.cut;
   last_is = r.last_is ∙ sym (last_joined-push before line ∙ ap (λ (x : LineKind). last_by x (length before + 1) (last_joined before)) e);
-  fit = AllFit-push 1 [] before line r.fit (skipped_fits (joined_of before) line k e);
+  fit = AllFit-push 1 [] before line r.fit f;
 }
+
+pub skips : {m : Cutting} {before : List (List ℕ)} {cells : List Cell} {q : Option ℕ} {last : ℕ} {words : List Lexeme} (line : List ℕ) → HasRead m before cells q last words → KeepsCharacters line → kind_of_line line ≡ Skipped → HasRead m (before ++ line ∷ []) cells q last words
+skips {before = before} line r k e = stays line r (skipped_fits (joined_of before) line k e) (kind_at line Skipped r e)
+
+-- options of a compiler, before all else
+pub passes : {m : Cutting} {before : List (List ℕ)} {cells : List Cell} {q : Option ℕ} {last : ℕ} {words : List Lexeme} (line : List ℕ) → HasRead m before cells q last words → KeepsCharacters line → kind_of_line line ≡ Plain
+    → (is_nil cells && is_options (program_text line)) ≡ true → HasRead m (before ++ line ∷ []) cells q last words
+passes {before = before} {cells = cells} line r k e o =
+    let none : is_nil (joined_of before) ≡ true = nil_of r ∙ and_first (is_nil cells) (is_options (program_text line)) o in
+    stays line r (plain_fits (joined_of before) line k e (nil_closed (joined_of before) none)) (kind_at line Plain r e ∙ ap (λ (b : Bool). kind_with b Plain) o)
 
 gap_first : (done cells : List Cell) → Begins done cells → GapFirst cells
 gap_first done [] b = tt
@@ -96,21 +134,23 @@ cut_on {m} words' r c w =
     subst (λ (l : List Cell). Cuts m l words') (sym r.joined_is) (subst (λ (l : List Lexeme). Cuts m (r.done ++ r.whole) l) w (cut_both (gap_first r.done r.whole r.begins) r.cut (cut_same r.stands c)))
 
 pub starts : {m : Cutting} {before : List (List ℕ)} {cells : List Cell} {q : Option ℕ} {last : ℕ} {words : List Lexeme} (line : List ℕ) (n : ℕ) (ts : List Lexeme) (new : List Cell) (open_now : Option ℕ) (words' : List Lexeme)
-    → HasRead m before cells q last words → KeepsCharacters line → kind_of_line line ≡ Plain → q ≡ None → Cuts m cells ts → words ++ ts ≡ words' → n ≡ length before + 1
+    → HasRead m before cells q last words → KeepsCharacters line → kind_of_line line ≡ Plain → (is_nil cells && is_options (program_text line)) ≡ false → q ≡ None → Cuts m cells ts → words ++ ts ≡ words' → n ≡ length before + 1
     → LeavesOutSpaces new (line_end n ∷ cells_behind n 0 line) → open_now ≡ open_quote new → HasRead m (before ++ line ∷ []) new open_now n words'
-starts {m} {before} {cells} {q} {last} {words} line n ts new open_now words' r k e none c w num stands open_is = record {
-  done = joined_of before;
-  whole = line_end n ∷ cells_behind n 0 line;
-  joined_is = joined_of-push before line ∙ ap (λ (x : LineKind). join_by x (length before + 1) (joined_of before) line) e
-      ∙ ap (λ (m : ℕ). joined_of before ++ line_end m ∷ cells_behind m 0 line) (sym num);
-  begins = refl;
-  stands = stands;
-  open_is = open_is;
-  closed = open_of r ∙ none;
-  cut = cut_on words' r c w;
-  last_is = num ∙ sym (last_joined-push before line ∙ ap (λ (x : LineKind). last_by x (length before + 1) (last_joined before)) e);
-  fit = AllFit-push 1 [] before line r.fit (plain_fits (joined_of before) line k e (open_of r ∙ none));
-}
+starts {m} {before} {cells} {q} {last} {words} line n ts new open_now words' r k e o none c w num stands open_is =
+    let h : kind_behind (joined_of before) line ≡ Plain = kind_at line Plain r e ∙ ap (λ (b : Bool). kind_with b Plain) o in
+    record {
+      done = joined_of before;
+      whole = line_end n ∷ cells_behind n 0 line;
+      joined_is = joined_of-push before line ∙ ap (λ (x : LineKind). join_by x (length before + 1) (joined_of before) line) h
+          ∙ ap (λ (m : ℕ). joined_of before ++ line_end m ∷ cells_behind m 0 line) (sym num);
+      begins = refl;
+      stands = stands;
+      open_is = open_is;
+      closed = open_of r ∙ none;
+      cut = cut_on words' r c w;
+      last_is = num ∙ sym (last_joined-push before line ∙ ap (λ (x : LineKind). last_by x (length before + 1) (last_joined before)) h);
+      fit = AllFit-push 1 [] before line r.fit (plain_fits (joined_of before) line k e (open_of r ∙ none));
+    }
 
 no_space : (c : Cell) → c.byte ≡ 10 → (c.byte == 32) ≡ false
 no_space c e = ap (λ (b : ℕ). b == 32) e
@@ -134,11 +174,6 @@ trim_behind done (c ∷ cells) b = trim_stops done c cells b ∙ ap (λ (l : Lis
 continued_behind : (q : Option ℕ) (done cells : List Cell) → Begins done cells → continued_text q (done ++ cells) ≡ done ++ continued_text q cells
 continued_behind None done cells b = trim_behind done cells b
 continued_behind (Some q) done cells b = refl
-
-nil_behind : (done cells : List Cell) → Begins done cells → is_nil (done ++ cells) ≡ is_nil cells
-nil_behind done [] b = ap is_nil (append-nil done ∙ b)
-nil_behind [] (c ∷ cells) b = refl
-nil_behind (d ∷ done) (c ∷ cells) b = refl
 
 last_behind : (done cells : List Cell) → Begins done cells → ends_quoted (done ++ cells) ≡ ends_quoted cells
 last_behind done [] b = ap ends_quoted (append-nil done ∙ b)
@@ -178,10 +213,11 @@ continues {m} {before} {cells} {q} {last} {words} line n new open_now last' r k 
     let opens : open_quote (joined_of before) ≡ open_quote cells = open_of r ∙ r.open_is in
     let same : continued_text (open_quote cells) r.whole ≡ continued_text (open_quote cells) cells = continued_same (open_quote cells) r.stands refl in
     let fits : is_bad_continuation r.whole line ≡ false = fits_same r.done line r.begins r.stands ∙ j.fits in
+    let h : kind_behind (joined_of before) line ≡ Continuation = kind_at line Continuation r e in
     record {
       done = r.done;
       whole = continued (open_quote cells) n cells line;
-      joined_is = joined_of-push before line ∙ ap (λ (x : LineKind). join_by x (length before + 1) (joined_of before) line) e
+      joined_is = joined_of-push before line ∙ ap (λ (x : LineKind). join_by x (length before + 1) (joined_of before) line) h
           ∙ ap (λ (m : ℕ). continued (open_quote (joined_of before)) m (joined_of before) line) (sym num)
           ∙ ap (λ (x : Option ℕ). continued x n (joined_of before) line) opens
           ∙ ap (λ (l : List Cell). continued (open_quote cells) n l line) r.joined_is
@@ -193,7 +229,7 @@ continues {m} {before} {cells} {q} {last} {words} line n new open_now last' r k 
       open_is = j.open_is;
       closed = r.closed;
       cut = r.cut;
-      last_is = j.last_is ∙ num ∙ sym (last_joined-push before line ∙ ap (λ (x : LineKind). last_by x (length before + 1) (last_joined before)) e);
+      last_is = j.last_is ∙ num ∙ sym (last_joined-push before line ∙ ap (λ (x : LineKind). last_by x (length before + 1) (last_joined before)) h);
       fit = AllFit-push 1 [] before line r.fit (continuation_fits (joined_of before) line k e (bad_same line r ∙ j.fits));
     }
 

@@ -48,7 +48,7 @@ nil_left done [] [] b all = refl
 nil_left done [] (c ∷ spaces) b all = absurd (let h : 10 ≡ 32 = sym b ∙ all.0 in omega (arith, h))
 nil_left done (c ∷ cells) spaces b all = refl
 
-nil_same : (done : List Cell) {cells whole : List Cell} → Begins done whole → LeavesOutSpaces cells whole → is_nil whole ≡ is_nil cells
+pub nil_same : (done : List Cell) {cells whole : List Cell} → Begins done whole → LeavesOutSpaces cells whole → is_nil whole ≡ is_nil cells
 nil_same done {cells} b s = ap is_nil s.whole_is ∙ nil_left done cells s.left_out (subst (Begins done) s.whole_is b) s.are_spaces
 
 misfit_same : (q : Option ℕ) {cells whole : List Cell} (b : ℕ) → LeavesOutSpaces cells whole → is_misfit q whole b ≡ is_misfit q cells b

@@ -1,7 +1,11 @@
 pub mod Tokens
 pub mod Pieces
 pub mod Cuts
+pub mod Comments
 pub mod Lines
 pub mod Words
 pub mod Reading
 pub mod Ahead
+pub mod Tabs
+pub mod Free
+pub mod Formats

@@ -5,7 +5,8 @@ use Rattle.std.specs.Char.{to_ascii_uppercase}
 use Rattle.cob_source.specs.declared.token.Cell.{Cell}
 use Rattle.cob_source.specs.declared.lines.LineKind.{LineKind}
 use Rattle.cob_source.specs.declared.lines.LineKind.TheVariants.{Skipped, Plain, Continuation}
-use Rattle.cob_source.specs.Cuts.{open_quote}
+use Rattle.cob_source.specs.Cuts.{is_quote, open_quote}
+use Rattle.cob_source.specs.Comments.{written}
 
 -- a line feed comes first
 abbrev pub feed_first : List ℕ → Bool
@@ -41,9 +42,9 @@ abbrev pub cut_return : List ℕ → List ℕ
 cut_return [] = []
 cut_return (b ∷ bs) = if (b == 13) && is_empty bs then [] else b ∷ cut_return bs
 
--- what is written in columns 8 to 72
+-- what is written in columns 8 to 72, without a comment
 abbrev pub program_text : List ℕ → List ℕ
-program_text line = drop 7 (take 72 line)
+program_text line = drop 7 (written line)
 
 -- filled with spaces to 65 columns
 abbrev pub filled : List ℕ → List ℕ
@@ -93,12 +94,69 @@ is_period_or_nothing (b ∷ bs) = (b == 46) && is_blank bs
 abbrev pub is_listing : List ℕ → Bool
 is_listing bs = let w = behind_spaces bs in is_listing_word (take 5 w) && is_period_or_nothing (behind_spaces (drop 5 w))
 
+-- what stands in a title behind its quote, and whether the character before it was such a quote: the literal closes, and nothing
+-- stands behind it but perhaps a period
+abbrev pub closes_title : ℕ → Bool → List ℕ → Bool
+closes_title q behind_quote [] = behind_quote
+closes_title q false (b ∷ bs) = closes_title q (b == q) bs
+closes_title q true (b ∷ bs) = if b == q then closes_title q false bs else is_period_or_nothing (behind_spaces (b ∷ bs))
+
+-- a quoted literal, with or without a period
+abbrev pub is_title_literal : List ℕ → Bool
+is_title_literal [] = false
+is_title_literal (b ∷ bs) = is_quote b && closes_title b false bs
+
+-- only TITLE and a quoted literal, with or without a period
+abbrev pub is_title : List ℕ → Bool
+is_title bs = let w = behind_spaces bs in same_letters (take 5 w) (codes "TITLE") && is_title_literal (behind_spaces (drop 5 w))
+
+-- nothing is left, or a space or a period comes first
+abbrev pub ends_word : List ℕ → Bool
+ends_word [] = true
+ends_word (b ∷ bs) = (b == 32) || (b == 46)
+
+-- this word comes first
+abbrev pub is_first_word : List ℕ → List ℕ → Bool
+is_first_word word bs = same_letters (take (length word) bs) word && ends_word (drop (length word) bs)
+
+-- *CBL, *CONTROL or $SET, whatever follows on the line: settings of a compiler
+abbrev pub is_setting : List ℕ → Bool
+is_setting bs =
+    let w = behind_spaces bs in is_first_word (codes "*CBL") w || is_first_word (codes "*CONTROL") w || is_first_word (codes "$SET") w
+
+-- nothing is left, or a period comes first
+abbrev pub is_period_first : List ℕ → Bool
+is_period_first [] = true
+is_period_first (b ∷ bs) = b == 46
+
+-- a space comes first
+abbrev pub is_space_first : List ℕ → Bool
+is_space_first [] = false
+is_space_first (b ∷ bs) = b == 32
+
+-- this word comes first, and behind a space something that is no period
+abbrev pub has_options : List ℕ → List ℕ → Bool
+has_options word bs =
+    same_letters (take (length word) bs) word && is_space_first (drop (length word) bs) && not (is_period_first (behind_spaces (drop (length word) bs)))
+
+-- CBL or PROCESS, and options of a compiler
+abbrev pub is_options : List ℕ → Bool
+is_options bs = let w = behind_spaces bs in has_options (codes "CBL") w || has_options (codes "PROCESS") w
+
+-- a line that is for the compiler from its first columns on: $SET in column 7, or CBL or PROCESS before it
+abbrev pub is_for_compiler : List ℕ → Bool
+is_for_compiler line = is_first_word (codes "$SET") (drop 6 (written line)) || is_options (written line)
+
+-- what is only for a compiler or its listing
+abbrev pub is_direction : List ℕ → Bool
+is_direction bs = is_listing bs || is_title bs || is_setting bs
+
 -- the kind of a line by its indicator and what is written in columns 8 to 72
 abbrev pub kind_by : ℕ → List ℕ → LineKind
 kind_by i text =
     if is_comment i || is_blank text then Skipped else
     if i == 45 then Continuation else
-    if (i == 32) && not (is_listing text) then Plain else Skipped
+    if (i == 32) && not (is_direction text) then Plain else Skipped
 
 -- what kind of line it is
 abbrev pub kind_of_line : List ℕ → LineKind
@@ -152,9 +210,19 @@ join_by Skipped n joined line = joined
 join_by Plain n joined line = joined ++ line_end n ∷ cells_behind n 0 line
 join_by Continuation n joined line = continued (open_quote joined) n joined line
 
+-- a kind of line, but that a plain one is skipped where it only has options
+abbrev pub kind_with : Bool → LineKind → LineKind
+kind_with has Skipped = Skipped
+kind_with has Plain = if has then Skipped else Plain
+kind_with has Continuation = Continuation
+
+-- what kind of line it is behind the text that the lines before it are joined to: options of a compiler stand before all else
+abbrev pub kind_behind : List Cell → List ℕ → LineKind
+kind_behind joined line = kind_with (is_nil joined && is_options (program_text line)) (kind_of_line line)
+
 -- the text that is joined so far, and line n
 abbrev pub join : ℕ → List Cell → List ℕ → List Cell
-join n joined line = join_by (kind_of_line line) n joined line
+join n joined line = join_by (kind_behind joined line) n joined line
 
 -- the text that is joined so far, and these lines, from number n on
 abbrev pub joined_from : ℕ → List Cell → List (List ℕ) → List Cell
@@ -171,11 +239,11 @@ last_by Skipped n k = k
 last_by Plain n k = n
 last_by Continuation n k = n
 
--- the last line that is joined, from number n on, where line k was the last before
-abbrev pub last_from : ℕ → ℕ → List (List ℕ) → ℕ
-last_from n k [] = k
-last_from n k (line ∷ more) = last_from (n + 1) (last_by (kind_of_line line) n k) more
+-- the last line that is joined, from number n on, where line k was the last before, and this is the text so far
+abbrev pub last_from : ℕ → ℕ → List Cell → List (List ℕ) → ℕ
+last_from n k joined [] = k
+last_from n k joined (line ∷ more) = last_from (n + 1) (last_by (kind_behind joined line) n k) (join n joined line) more
 
 -- the last line that is joined; 0 where none is
 abbrev pub last_joined : List (List ℕ) → ℕ
-last_joined ls = last_from 1 0 ls
+last_joined ls = last_from 1 0 [] ls

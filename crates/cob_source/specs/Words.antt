@@ -11,19 +11,20 @@ use Rattle.cob_source.specs.declared.fault.SourceRule.TheVariants.{NotAscii, Tab
 use Rattle.cob_limits.specs.Limits.{longest_text}
 use Rattle.cob_source.specs.Tokens.{Lexeme}
 use Rattle.cob_source.specs.Cuts.{is_quote, open_quote, nowhere, Cuts}
-use Rattle.cob_source.specs.Lines.{lines, program_text, indicator, is_comment, is_blank, behind_spaces, is_nil, kind_of_line, join, joined_of, last_joined}
+use Rattle.cob_source.specs.Comments.{written}
+use Rattle.cob_source.specs.Lines.{lines, program_text, indicator, is_comment, is_blank, behind_spaces, is_nil, is_for_compiler, kind_of_line, join, joined_of, last_joined}
 
 -- a byte that no text may have in columns 7 to 72; a tab has a rule of its own
 abbrev pub is_foreign : ℕ → Bool
 is_foreign b = (nat_lt b 32 || nat_lt 126 b) && not (b == 9)
 
--- one stands in columns 7 to 72
+-- one stands in columns 7 to 72, and in no comment
 abbrev pub has_foreign : List ℕ → Bool
-has_foreign line = list_any is_foreign (drop 6 (take 72 line))
+has_foreign line = list_any is_foreign (drop 6 (written line))
 
--- a tab stands in columns 1 to 72
+-- a tab stands in columns 1 to 72, and in no comment
 abbrev pub has_tab : List ℕ → Bool
-has_tab line = list_any (λ b. b == 9) (take 72 line)
+has_tab line = list_any (λ b. b == 9) (written line)
 
 -- a character in column 7 that is neither a space nor a hyphen, and makes no comment
 abbrev pub is_unknown : ℕ → Bool
@@ -47,6 +48,10 @@ abbrev pub is_bad_continuation : List Cell → List ℕ → Bool
 is_bad_continuation joined line =
     is_nil joined || not (is_blank (take 4 (program_text line))) || is_misfit (open_quote joined) joined (first_character (behind_spaces (program_text line)))
 
+-- column 7 is none that a line may have: it is no comment, and not for the compiler either
+abbrev pub has_unknown : List ℕ → Bool
+has_unknown line = is_unknown (indicator line) && not (is_for_compiler line)
+
 -- the two are one kind of line
 abbrev pub is_kind : LineKind → LineKind → Bool
 is_kind Skipped Skipped = true
@@ -58,7 +63,7 @@ is_kind a b = false
 abbrev pub breaks : SourceRule → List Cell → List ℕ → Bool
 breaks NotAscii joined line = not (is_comment (indicator line)) && has_foreign line
 breaks Tab joined line = not (is_comment (indicator line)) && has_tab line
-breaks UnknownIndicator joined line = not (is_comment (indicator line)) && is_unknown (indicator line)
+breaks UnknownIndicator joined line = not (is_comment (indicator line)) && has_unknown line
 breaks BadContinuation joined line = is_kind (kind_of_line line) Continuation && is_bad_continuation joined line
 breaks OpenLiteral joined line = is_kind (kind_of_line line) Plain && is_some (open_quote joined)
 breaks TooLong joined line = false

@@ -8,18 +8,18 @@ use thiserror::Error;
 /// A rule of the reference format that a text breaks.
 #[derive(Clone, Copy, Debug, PartialEq, Eq)]
 pub enum SourceRule {
-    /// T1: a byte outside 20 to 7E in columns 7 to 72 of a line that is no comment.
+    /// T1: a byte outside 20 to 7E in columns 7 to 72 of a line that is no comment, and in no comment behind them.
     NotAscii,
-    /// T2: a tab before column 73 of a line that is no comment.
+    /// T2: a tab before column 73 of a line that is no comment, and in no comment.
     Tab,
     /// T3: a literal that is open at the end of a line that no continuation follows.
     OpenLiteral,
     /// T4: a continuation without a line before it, with something in columns 8 to 11, that doesn't begin with the quote of
     /// the literal it continues, or that begins with a quote behind a literal that ended in column 72.
     BadContinuation,
-    /// T5: over `MAX_TEXT_BYTES` bytes.
+    /// T5: over `MAX_TEXT_BYTES` bytes; in free format also a line of over 255 characters.
     TooLong,
-    /// T6: a character in column 7 that isn't a space, `*`, `/`, `-`, `D` or `d`.
+    /// T6: a character in column 7 that isn't a space, `*`, `/`, `-`, `D` or `d`, of a line that isn't for a compiler alone.
     UnknownIndicator,
     /// T9: memory was refused.
     Memory,

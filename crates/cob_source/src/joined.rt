@@ -1,6 +1,6 @@
 ghost use Rattle.std.specs.Prelude.{◌≡◌, ℕ, ◌+◌, ◌<◌, ◌≤◌, List, [], ◌∷◌, ◌++◌, ◌-◌, length, take, drop, slice_index_or, true, is_some, OnOk, IfErr, IfSome, Some, None};
 ghost use Rattle.cob_source.specs.Tokens.{Lexeme, lexemes};
-ghost use Rattle.cob_source.specs.Cuts.{open_with, open_quote, is_quote, Cuts};
+ghost use Rattle.cob_source.specs.Cuts.{open_quote, is_quote, Cuts};
 ghost use Rattle.cob_source.specs.Lines.{filled, program_text, kind_of_line, trim_end, continued_text, left_out, cells_from, cells_behind, line_end, with_columns};
 ghost use Rattle.cob_source.specs.Words.{ends_quoted, first_character, is_misfit, is_bad_continuation};
 ghost use Rattle.cob_source.specs.Reading.{LeavesOutSpaces, EndsInSpaces, open_in, EndRefused, ContinuationRefused, IsContinued};
@@ -9,7 +9,8 @@ ghost use Rattle.cob_source.specs.declared.lines.LineKind.TheVariants.{Continuat
 use crate::cut::cut;
 use crate::fault::{SourceFault, SourceRule};
 use crate::lines::{
-    behind, front, is_blank_text, leading_spaces, without_spaces, written_in, written_len,
+    behind, front, is_blank_text, leading_spaces, open_behind_byte, without_spaces, written_in,
+    written_len,
 };
 use crate::token::{Cell, Cutting, Token};
 use std::alloc::{AllocError, Global};
@@ -26,22 +27,8 @@ pub struct Joined {
     pub last: u32,
 }
 
-/// The literal that is open behind one more character.
-fn open_behind_byte(quote: Option<u8>, byte: u8) -> Option<u8>
-    ensures { result ≡ open_with quote byte }
-{
-    match quote {
-        Some(opening) => if byte == opening { None } else { quote },
-        None => if byte == b'"' || byte == b'\'' {
-            Some(byte)
-        } else {
-            None
-        },
-    }
-}
-
 /// The literal that is open behind these bytes.
-fn open_behind(quote: Option<u8>, bytes: &[u8]) -> Option<u8>
+pub fn open_behind(quote: Option<u8>, bytes: &[u8]) -> Option<u8>
     ensures { result ≡ open_in quote bytes.now }
 {
     let mut now = quote;

@@ -1,16 +1,26 @@
-ghost use Rattle.std.specs.Prelude.{◌≡◌, ℕ, ◌<◌, ◌≤◌, List, length, IfOk, IfErr, OnOk};
+ghost use Rattle.std.specs.Prelude.{◌≡◌, ℕ, ◌<◌, ◌≤◌, ◌&&◌, List, length, IfOk, IfErr, OnOk};
 ghost use Rattle.cob_source.specs.Tokens.{Lexeme, lexemes};
 ghost use Rattle.cob_source.specs.Cuts.{open_quote};
+ghost use Rattle.cob_source.specs.Lines.{is_nil, is_options, program_text};
 ghost use Rattle.cob_source.specs.Words.{IsSourceRefusal, AreCutsOf, AreWordsOf, AreParagraphWordsOf};
 ghost use Rattle.cob_source.specs.Reading.{AfterLines, HasReadLine, LineRefused};
 ghost use Rattle.cob_source.specs.declared.fault.SourceRule.TheVariants.{Memory};
 
 use crate::fault::{SourceFault, SourceRule};
 use crate::joined::{Joined, begin_line, continue_line, cut_joined};
-use crate::lines::{LineKind, character_fault, line_kind, next_line};
-use crate::token::{Cutting, Token};
+use crate::lines::{
+    LineKind, character_fault, is_options_text, line_kind, next_line, written_in,
+};
+use crate::token::{Cell, Cutting, Token};
 use cob_limits::MAX_TEXT_BYTES;
 use std::alloc::Global;
+
+/// Whether a plain line only has options of a compiler: they stand before all else.
+fn only_has_options(line: &[u8], joined: &[Cell]) -> bool
+    ensures { result ≡ (is_nil joined.now && is_options (program_text line.now)) }
+{
+    joined.is_empty() && is_options_text(written_in(line))
+}
 
 /// Reads one line.
 ///
@@ -37,6 +47,9 @@ pub(crate) fn take_line(
     match line_kind(line) {
         LineKind::Skipped => Ok(()),
         LineKind::Plain => {
+            if only_has_options(line, joined.cells.as_slice()) {
+                return Ok(());
+            }
             cut_joined(alloc, cutting, joined, out)?;
             begin_line(number, line, joined)?;
             Ok(())

@@ -4,7 +4,8 @@ use Rattle.std.specs.List.{AllByRecursion}
 use Rattle.std.proofs.lemmas.Slice.Eq.{bytes_eq-Decides}
 use Rattle.cob_limits.specs.Limits.{longest_text}
 use Rattle.cob_source.specs.Tokens.{Lexeme}
-use Rattle.cob_source.specs.Words.{AreWordsOf}
+use Rattle.cob_source.specs.declared.format.TextFormat.{TextFormat}
+use Rattle.cob_source.specs.Formats.{AreWordsIn}
 use Rattle.cob_source_copies.specs.Statements.{WrittenTextName}
 use Rattle.cob_source_copies.specs.Texts.{CopiedText, has_copy, is_one_library, is_one_name, text_named}
 use Rattle.cob_source_copies.specs.Libraries.{LibraryGrows, IsTextAdded, IsKnown, MakeLibrary, NamedText, on_line}
@@ -19,8 +20,8 @@ grows_none a = ([], refl)
 pub grows_both : (a b c : List CopiedText) → LibraryGrows a b → LibraryGrows b c → LibraryGrows a c
 grows_both a b c (ts, x) (us, y) = (ts ++ us, joined ts us a b c x y)
 
-pub grows_one : (n : WrittenTextName) (text : List ℕ) (ws : List Lexeme) (a b : List CopiedText) → AreWordsOf text ws → IsTextAdded n (map (on_line ((length a + 1) * longest_text)) ws) a b → LibraryGrows a b
-grows_one n text ws a b are added = (record { named = n; text = text } ∷ [], (ws, b, are, added, refl))
+pub grows_one : (n : WrittenTextName) (format : TextFormat) (text : List ℕ) (ws : List Lexeme) (a b : List CopiedText) → AreWordsIn format text ws → IsTextAdded n (map (on_line ((length a + 1) * longest_text)) ws) a b → LibraryGrows a b
+grows_one n format text ws a b are added = (record { named = n; format = format; text = text } ∷ [], (ws, b, are, added, refl))
 
 -- ---- known names
 

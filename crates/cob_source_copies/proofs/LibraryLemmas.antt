@@ -3,7 +3,7 @@ use Rattle.std.proofs.Common.{◌≡◌, ◌+◌, ◌*◌, true, false, List, []
 use Rattle.std.specs.List.{flat_map}
 use Rattle.cob_limits.specs.Limits.{longest_text}
 use Rattle.cob_source.specs.Tokens.{Lexeme}
-use Rattle.cob_source.specs.Words.{WordsAreOne}
+use Rattle.cob_source.specs.Formats.{WordsInAreOne}
 use Rattle.cob_source_copies.specs.Statements.{WrittenCopy, WrittenTextName, copy_front, is_copy}
 use Rattle.cob_source_copies.specs.Texts.{AreExpanded, BeginWithParts, CopiedText, Copies, Stays, TextPart, has_copy}
 use Rattle.cob_source_copies.specs.Libraries.{IsTextAdded, MakeLibrary, names_in_part, on_line}
@@ -17,10 +17,10 @@ one_added once n ws vs old a b same (done, x, is) (other, y, are) =
     is ∙ ap (λ (t : List Lexeme). old ++ record { named = n; words = t; holds_copy = has_copy ws } ∷ []) one
     ∙ ap (λ (t : List Lexeme). old ++ record { named = n; words = other; holds_copy = has_copy t } ∷ []) same ∙ sym are
 
-pub one_library : WordsAreOne → OneExpansion → OneLibrary
+pub one_library : WordsInAreOne → OneExpansion → OneLibrary
 one_library words once [] before a b x y = sym x ∙ y
 one_library words once (t ∷ ts) before a b (ws, more, are, added, x) (vs, others, also, put, y) =
-    let same : ws ≡ vs = words t.text ws vs are also in
+    let same : ws ≡ vs = words t.format t.text ws vs are also in
     let lines = (length before + 1) * longest_text in
     let one : more ≡ others = one_added once t.named (map (on_line lines) ws) (map (on_line lines) vs) before more others (ap (map (on_line lines)) same) added put in
     one_library words once ts more a b x (subst (λ (l : List CopiedText). MakeLibrary ts l b) (sym one) y)

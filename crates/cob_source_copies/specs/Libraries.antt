@@ -2,7 +2,8 @@
 use Rattle.std.specs.Prelude.{◌≡◌, ℕ, ◌+◌, ◌*◌, ◌≤◌, List, [], ◌∷◌, ◌++◌, length, map, Some}
 use Rattle.cob_limits.specs.Limits.{longest_text}
 use Rattle.cob_source.specs.Tokens.{Lexeme}
-use Rattle.cob_source.specs.Words.{AreWordsOf}
+use Rattle.cob_source.specs.declared.format.TextFormat.{TextFormat}
+use Rattle.cob_source.specs.Formats.{AreWordsIn}
 use Rattle.cob_source_copies.specs.Statements.{WrittenTextName}
 use Rattle.cob_source_copies.specs.Texts.{AreExpanded, CopiedText, Copies, Stays, TextPart, has_copy, text_named}
 
@@ -14,16 +15,17 @@ IsTextAdded named ws old new = (done : List Lexeme) × AreExpanded old ws done �
 abbrev pub on_line : ℕ → Lexeme → Lexeme
 on_line lines w = record { kind = w.kind; text = w.text; line = lines + w.line; column = w.column }
 
--- a text with its name, as it stands in a folder
+-- a text with its name, as it stands in a folder, and its format
 pub record NamedText : Type 0 where
   pub named : WrittenTextName
+  pub format : TextFormat
   pub text : List ℕ
 
 -- Texts make this library, put in one after another behind these: the lines of each are counted on, so that a line's number says its text.
 abbrev pub MakeLibrary : List NamedText → List CopiedText → List CopiedText → Type 0
 MakeLibrary [] before library = before ≡ library
 MakeLibrary (t ∷ ts) before library = (ws : List Lexeme) × (more : List CopiedText)
-    × AreWordsOf t.text ws × IsTextAdded t.named (map (on_line ((length before + 1) * longest_text)) ws) before more × MakeLibrary ts more library
+    × AreWordsIn t.format t.text ws × IsTextAdded t.named (map (on_line ((length before + 1) * longest_text)) ws) before more × MakeLibrary ts more library
 
 -- texts are put in one after another
 abbrev pub LibraryGrows : List CopiedText → List CopiedText → Type 0

@@ -4,7 +4,8 @@ ghost use Rattle.std.specs.Prelude.{◌≡◌, ◌*◌, ◌+◌, ℕ, [], List, 
 ghost use Rattle.std.specs.List.{AllByRecursion, flat_map};
 ghost use Rattle.cob_limits.specs.Limits.{longest_text};
 ghost use Rattle.cob_source.specs.Tokens.{lexemes};
-ghost use Rattle.cob_source.specs.Words.{AreWordsOf};
+ghost use Rattle.cob_source.specs.Formats.{AreWordsIn};
+ghost use Rattle.cob_source.specs.declared.format.TextFormat.{TextFormat};
 ghost use Rattle.cob_source_copies.specs.Statements.{written_text_name};
 ghost use Rattle.cob_source_copies.specs.Texts.{BeginWithParts, TextPart, copied_text};
 ghost use Rattle.cob_source_copies.specs.Libraries.{LibraryGrows, IsTextAdded, IsKnown, MakeLibrary, NamedText, names_in_part, on_line};
@@ -15,7 +16,7 @@ use crate::library::{Library, is_one_name};
 use crate::name::{TextName, copy_of_name};
 use crate::wanted::names_wanted;
 use cob_limits::{MAX_COPIED_TEXTS, MAX_COPY_DEPTH, MAX_TEXT_BYTES};
-use cob_source::{Token, tokens};
+use cob_source::{TextFormat, Token, tokens_in};
 use std::alloc::{AllocError, Global};
 
 /// Where texts are found by their names.
@@ -26,6 +27,9 @@ pub trait Shelf {
     ///
     /// It can't be read, or memory was refused.
     fn text(&mut self, alloc: Global, named: &TextName) -> Result<Option<Vec<u8>>, ShelfFault>;
+
+    /// How its texts stand on their lines.
+    fn format(&self) -> TextFormat;
 }
 
 /// Whether a text of this name is open.
@@ -66,17 +70,18 @@ fn with_opened(
 ///
 /// # Errors
 ///
-/// The shelf has none, or gives no answer; the text breaks a rule of the reference format; memory was refused.
+/// The shelf has none, or gives no answer; the text breaks a rule of its format; memory was refused.
 fn words_on<S: Shelf>(
     alloc: Global,
     shelf: &mut S,
     named: &TextName,
 ) -> Result<Vec<Token>, FetchFault>
-    ensures { IfOk result (λ v. (text : List ℕ) × AreWordsOf text (lexemes v.items)) }
+    ensures { IfOk result (λ v. (format : TextFormat) × (text : List ℕ) × AreWordsIn format text (lexemes v.items)) }
 {
     let told = copy_of_name(alloc, named)?;
+    let format = shelf.format();
     match shelf.text(alloc, named) {
-        Ok(Some(text)) => match tokens(alloc, text.as_slice()) {
+        Ok(Some(text)) => match tokens_in(alloc, format, text.as_slice()) {
             Ok(words) => Ok(words),
             Err(fault) => Err(FetchFault::Source(told, fault)),
         },

@@ -2,7 +2,7 @@
 
 ghost use Rattle.cob_source_copies.specs.Laws.{CutAndTogether, ExpandedBreaksNoRule, NothingToExpand, OneExpansion, OneLibrary, OneLine};
 
-use cob_source::words_are_one;
+use cob_source::words_in_are_one;
 
 /// Words come to one list of words at most.
 pub fn one_expansion()
@@ -28,7 +28,7 @@ pub fn cut_and_together()
 pub fn one_library()
     ensures { OneLibrary }
 {
-    words_are_one();
+    words_in_are_one();
     one_expansion();
 }
 

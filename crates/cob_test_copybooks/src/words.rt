@@ -1,8 +1,11 @@
 //! Source texts: their words, literals and stops.
 //!
-//! A row is a text between quotes, or of the table `long_texts` how many bytes one has, of which the words are counted.
+//! A row is a text between quotes, or of the table `long_texts` how many bytes one has, of which the words are counted. In the table `tabs` how many columns
+//! stand between tab stops stands behind it.
 
-use cob_source::{SourceFault, Token, TokenKind, paragraph_tokens, tokens};
+use cob_source::{
+    SourceFault, Token, TokenKind, free_tokens, paragraph_tokens, tokens, without_tabs,
+};
 use cob_test_rows::{Row, RowFault, push_text};
 use std::alloc::{AllocError, Global};
 use std::fmt::Write;
@@ -49,20 +52,31 @@ fn long_text(alloc: Global, bytes: usize) -> Result<Vec<u8>, AllocError> {
     Ok(text)
 }
 
+/// The text of a row, with spaces in place of its tabs.
+fn untabbed_text(alloc: Global, row: &Row) -> Result<Vec<u8>, RowFault> {
+    let width: u8 = row.number(1)?;
+    if width == 0 {
+        return Err(RowFault::BadRow);
+    }
+    let text = row.quoted_text(alloc, 0)?;
+    Ok(without_tabs(alloc, text.as_slice(), width)?)
+}
+
 /// The text of a row: as it stands between quotes, or in the table `long_texts` one of as many bytes as the row says.
 fn text_of(alloc: Global, table: &str, row: &Row) -> Result<Vec<u8>, RowFault> {
     match table {
         "long_texts" => Ok(long_text(alloc, row.number(0)?)?),
+        "tabs" => untabbed_text(alloc, row),
         _ => row.quoted_text(alloc, 0),
     }
 }
 
-/// The tokens of a text, or those of a paragraph.
-fn read(alloc: Global, is_paragraph: bool, text: &[u8]) -> Result<Vec<Token>, SourceFault> {
-    if is_paragraph {
-        paragraph_tokens(alloc, text)
-    } else {
-        tokens(alloc, text)
+/// The tokens of a text of this table: those of a paragraph, of a text in free format, or of one in reference format.
+fn read(alloc: Global, table: &str, text: &[u8]) -> Result<Vec<Token>, SourceFault> {
+    match table {
+        "paragraphs" => paragraph_tokens(alloc, text),
+        "free" => free_tokens(alloc, text),
+        _ => tokens(alloc, text),
     }
 }
 
@@ -77,13 +91,14 @@ fn push_list(out: &mut String, is_counted: bool, list: &[Token]) -> Result<(), A
 
 /// Writes what the tokens of a text of this table are, or the rule that the text breaks.
 fn push_read(alloc: Global, table: &str, text: &[u8], out: &mut String) -> Result<(), AllocError> {
-    match read(alloc, table == "paragraphs", text) {
+    match read(alloc, table, text) {
         Ok(list) => push_list(out, table == "long_texts", list.as_slice()),
         Err(fault) => write!(out, "{fault}"),
     }
 }
 
-/// Writes the tokens of a row's text, of the table `paragraphs` as those of a paragraph, and of `long_texts` how many there are.
+/// Writes the tokens of a row's text, of the table `paragraphs` as those of a paragraph, of `free` as those of a text in free format, and of `long_texts` how
+/// many there are.
 pub(crate) fn answer(
     alloc: Global,
     table: &str,

@@ -1,4 +1,6 @@
-use cob_source::{SourceFault, SourceRule, paragraph_tokens, tokens};
+use cob_source::{
+    SourceFault, SourceRule, free_tokens, paragraph_tokens, tokens, without_tabs,
+};
 use std::test::Fail;
 
 /// Where memory is refused, the answer is T9 with line 0, or that of the paragraph's call.
@@ -19,6 +21,24 @@ fn refused_memory(rt: HostRuntime) {
                 line: 0
             }
         ),
+    }
+}
+
+/// And so it is of a text in free format; of one with tabs there is none.
+#[test]
+fn refused_memory_of_other_texts(rt: HostRuntime) {
+    match free_tokens(rt.alloc(), b"01 A.\n") {
+        Ok(list) => assert_eq!(rt; list.len(), 3),
+        Err(fault) => assert_eq!(rt;
+            fault,
+            SourceFault {
+                rule: SourceRule::Memory,
+                line: 0
+            }
+        ),
+    }
+    if let Ok(text) = without_tabs(rt.alloc(), b"\t01 A.\n", 8) {
+        assert_eq!(rt; text.len(), 14);
     }
 }
 

@@ -11,7 +11,7 @@ use Rattle.cob_source.proofs.joined.continue_line.Goals as goal
 
 pub returns-then-is_bad-clause-fault : goal.returns-then-is_bad-clause-fault
 returns-then-is_bad-clause-fault c =
-    (sym (c.is_bad.ensures _ c.written_in-text.ensures.columns ∙ ap (λ (l : List Cell). is_bad_continuation l c.args.line.now) c.as_slice.ensures.value) ∙ c.if-is_bad.true, refl)
+    (sym (c.is_bad.ensures c.args.line.now c.written_in-text.ensures.columns ∙ ap (λ (l : List Cell). is_bad_continuation l c.args.line.now) c.as_slice.ensures.value) ∙ c.if-is_bad.true, refl)
 
 -- what is open where the continuation is joined
 open_before : (q : Option ℕ) (cells : List Cell) → open_quote (continued_text q cells) ≡ open_quote cells
@@ -49,7 +49,7 @@ returns-clause-ok c =
     let base = c.make_ready-skipped.new.joined.cells.items in
     record {
       fits = sym (c.is_bad.ensures c.args.line.now c.written_in-text.ensures.columns ∙ ap (λ (l : List Cell). is_bad_continuation l c.args.line.now) c.as_slice.ensures.value) ∙ c.if-is_bad.false;
-      stands = continued_is q _ _ _ _ old base _ c.make_ready-skipped.ensures.cells c.make_ready-skipped.ensures.skipped c.in_ok-add_columns.ensures.cells c.written_in-text.ensures.columns c.requires.quote;
+      stands = continued_is q _ c.args.line.now _ _ old base _ c.make_ready-skipped.ensures.cells c.make_ready-skipped.ensures.skipped c.in_ok-add_columns.ensures.cells c.written_in-text.ensures.columns c.requires.quote;
       open_is = c.in_ok-add_columns.ensures.quote;
       last_is = c.in_ok-add_columns.ensures.last;
     }

@@ -1,9 +1,11 @@
-use Rattle.std.proofs.Common.{◌++◌, sym, ◌∙◌}
-use Rattle.std.specs.Prelude.{Result, Ok, Err, IfErr}
+use Rattle.std.proofs.Common.{◌≡◌, Bool, List, ◌++◌, sym, ap, ◌∙◌}
+use Rattle.std.specs.Prelude.{◌&&◌, Result, Ok, Err, IfErr}
 use Rattle.std.proofs.lemmas.Result.{err_from_is_err_and, on_ok_weaker}
+use Rattle.cob_source.specs.declared.token.Cell.{Cell}
 use Rattle.cob_source.specs.Tokens.{lexemes}
+use Rattle.cob_source.specs.Lines.{is_nil, is_options, program_text}
 use Rattle.cob_source.proofs.AheadLemmas.{behind_front}
-use Rattle.cob_source.proofs.ReadingLemmas.{skips, starts, continues, open_refused, continuation_refused}
+use Rattle.cob_source.proofs.ReadingLemmas.{skips, passes, starts, continues, open_refused, continuation_refused}
 use Rattle.cob_source.proofs.reader.take_line.Goals as goal
 
 err_weaker : {T E : Type 0} {P Q : E → Type 0} (r : Result T E) → ((e : E) → P e → Q e) → IfErr r P → IfErr r Q
@@ -18,11 +20,17 @@ returns-in_err-cut_joined-in-Plain-clause-fault c = λ front before num r.
 pub returns-in-Skipped-clause-ok : goal.returns-in-Skipped-clause-ok
 returns-in-Skipped-clause-ok c = λ front before num r. skips c.args.line.now r c.in_default.ensures.none (sym c.line_kind.ensures ∙ c.in-Skipped.is)
 
+pub returns-then-only_has_options-clause-ok : goal.returns-then-only_has_options-clause-ok
+returns-then-only_has_options-clause-ok c = λ front before num r.
+    passes c.args.line.now r c.in_default.ensures.none (sym c.line_kind.ensures ∙ c.in-Plain.is)
+        (ap (λ (l : List Cell). is_nil l && is_options (program_text c.args.line.now)) (sym c.as_slice.ensures.value) ∙ (sym c.only_has_options.ensures ∙ c.if-only_has_options.true))
+
 pub returns-in_ok-begin_line-in-Plain-clause-ok : goal.returns-in_ok-begin_line-in-Plain-clause-ok
 returns-in_ok-begin_line-in-Plain-clause-ok c = λ front before num r.
     let f = c.in_ok-cut_joined-in-Plain.ensures.found in
     rw c.in_ok-begin_line-in-Plain.ensures.last
     (starts c.args.line.now c.args.number f.0 c.begin_line.new.joined.cells.items c.begin_line.new.joined.quote (front ++ lexemes c.cut_joined.new.out.items) r c.in_default.ensures.none (sym c.line_kind.ensures ∙ c.in-Plain.is)
+    (ap (λ (l : List Cell). is_nil l && is_options (program_text c.args.line.now)) (sym c.as_slice.ensures.value) ∙ (sym c.only_has_options.ensures ∙ c.if-only_has_options.false))
     c.in_ok-cut_joined-in-Plain.ensures.closed f.1 (behind_front front (lexemes c.args.out.now.items) f.0 (lexemes c.cut_joined.new.out.items) f.2) num c.in_ok-begin_line-in-Plain.ensures.cells c.in_ok-begin_line-in-Plain.ensures.quote)
 
 pub returns-in-Continuation-clause-ok : goal.returns-in-Continuation-clause-ok

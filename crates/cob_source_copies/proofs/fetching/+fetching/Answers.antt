@@ -4,7 +4,7 @@ use Rattle.std.proofs.lemmas.List.{length-map, nil_from_length}
 use Rattle.cob_limits.specs.Limits.{longest_text}
 use Rattle.cob_source.specs.declared.token.Token.{Token}
 use Rattle.cob_source.specs.Tokens.{lexemes}
-use Rattle.cob_source.specs.Words.{AreWordsOf}
+use Rattle.cob_source.specs.Formats.{AreWordsIn}
 use Rattle.cob_source_copies.specs.Statements.{WrittenTextName, written_text_name}
 use Rattle.cob_source_copies.specs.Texts.{copied_text}
 use Rattle.cob_source_copies.specs.Libraries.{IsTextAdded, IsKnown, names_in_part, on_line}
@@ -19,8 +19,8 @@ fetch_text-returns-clause-grows g t c =
     let ws = lexemes c.as_slice-read.result.now in
     let n = written_text_name c.args.named in
     grows_both (map copied_text c.args.library.now.texts.items) middle after c.in_ok-fetch_wanted.ensures.grows
-    (grows_one n c.in_ok-words.ensures.0 ws middle after
-    (subst (λ (v : List Token). AreWordsOf c.in_ok-words.ensures.0 (lexemes v)) (sym c.as_slice-read.ensures.value) c.in_ok-words.ensures.1)
+    (grows_one n c.in_ok-words.ensures.0 c.in_ok-words.ensures.1 ws middle after
+    (subst (λ (v : List Token). AreWordsIn c.in_ok-words.ensures.0 c.in_ok-words.ensures.1 (lexemes v)) (sym c.as_slice-read.ensures.value) c.in_ok-words.ensures.2)
     (subst (λ (k : ℕ). IsTextAdded n (map (on_line ((k + 1) * longest_text)) ws) middle after) (sym (length-map items copied_text)) c.in_ok-put_text.ensures))
 
 pub fetch_text-returns-clause-known : goal.fetch_text-returns-clause-known
