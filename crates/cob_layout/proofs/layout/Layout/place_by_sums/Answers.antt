@@ -1,4 +1,4 @@
-use Rattle.std.proofs.Common.{◌≡◌, ◌<◌, ◌∙◌, Ok, Some, ap, arith, length, refl, subst, sym}
+use Rattle.std.proofs.Common.{◌≡◌, ◌<◌, ◌∙◌, Ok, Some, ap, arith, length, refl, sym}
 use Rattle.std.specs.Prelude.{slice_index}
 use Rattle.cob_layout_places.specs.declared.places.Found.{Found}
 use Rattle.cob_layout.specs.declared.fields.Place.{Place}
@@ -15,7 +15,7 @@ use Rattle.cob_layout.proofs.layout.Layout.place_by_sums.Goals as goal
 pub summed_to-found-requires-clause-before : goal.summed_to-found-requires-clause-before
 summed_to-found-requires-clause-before c =
     let u = c.args.self.now in
-    let sound : IsSound u = subst IsSound c.self.view_is c.self.invariant.1 in
+    let sound : IsSound u = c.records_are_sound.ensures u c.greatest.ensures.record in
     let r = c.args.reference.now in
     let e = c.counts.inside.next.items in
     let reach = c.counts.inside.reach in
@@ -26,7 +26,7 @@ summed_to-found-requires-clause-before c =
 pub summed_to-found-requires-clause-through : goal.summed_to-found-requires-clause-through
 summed_to-found-requires-clause-through c =
     let u = c.args.self.now in
-    let sound : IsSound u = subst IsSound c.self.view_is c.self.invariant.1 in
+    let sound : IsSound u = c.records_are_sound.ensures u c.greatest.ensures.record in
     let r = c.args.reference.now in
     let e = c.counts.inside.next.items in
     let reach = c.counts.inside.reach in
@@ -37,7 +37,7 @@ summed_to-found-requires-clause-through c =
 pub summed_to-found-requires-clause-rises : goal.summed_to-found-requires-clause-rises
 summed_to-found-requires-clause-rises c =
     let u = c.args.self.now in
-    let sound : IsSound u = subst IsSound c.self.view_is c.self.invariant.1 in
+    let sound : IsSound u = c.records_are_sound.ensures u c.greatest.ensures.record in
     let r = c.args.reference.now in
     let e = c.counts.inside.next.items in
     let reach = c.counts.inside.reach in
@@ -48,7 +48,7 @@ summed_to-found-requires-clause-rises c =
 pub summed_to-found-requires-clause-low : goal.summed_to-found-requires-clause-low
 summed_to-found-requires-clause-low c =
     let u = c.args.self.now in
-    let sound : IsSound u = subst IsSound c.self.view_is c.self.invariant.1 in
+    let sound : IsSound u = c.records_are_sound.ensures u c.greatest.ensures.record in
     let r = c.args.reference.now in
     let e = c.counts.inside.next.items in
     let reach = c.counts.inside.reach in
@@ -59,7 +59,7 @@ summed_to-found-requires-clause-low c =
 pub returns-clause-found : goal.returns-clause-found
 returns-clause-found c =
     let u = c.args.self.now in
-    let sound : IsSound u = subst IsSound c.self.view_is c.self.invariant.1 in
+    let sound : IsSound u = c.records_are_sound.ensures u c.greatest.ensures.record in
     let r = c.args.reference.now in
     let e = c.counts.inside.next.items in
     let reach = c.counts.inside.reach in
@@ -74,7 +74,7 @@ returns-clause-found c =
 pub returns-clause-fits : goal.returns-clause-fits
 returns-clause-fits c =
     let u = c.args.self.now in
-    let sound : IsSound u = subst IsSound c.self.view_is c.self.invariant.1 in
+    let sound : IsSound u = c.records_are_sound.ensures u c.greatest.ensures.record in
     let r = c.args.reference.now in
     let e = c.counts.inside.next.items in
     let reach = c.counts.inside.reach in
