@@ -1,7 +1,5 @@
-use Rattle.std.proofs.Common.{◌≡◌, ◌<◌, ◌∙◌, Ok, Some, ap, arith, length, refl, sym}
-use Rattle.std.specs.Prelude.{slice_index}
+use Rattle.std.proofs.Common.{◌≡◌, ◌∙◌, Some, ap, arith, length, refl, sym}
 use Rattle.cob_layout_places.specs.declared.places.Found.{Found}
-use Rattle.cob_layout.specs.declared.fields.Place.{Place}
 use Rattle.cob_layout.specs.Placed.{element_under}
 use Rattle.cob_layout.specs.Sound.{IsSound}
 use Rattle.cob_layout.specs.Standing.{RoomForCounts}
@@ -85,4 +83,3 @@ returns-clause-fits c =
     let is : c.summed_to-found.result ≡ summed_to c.args.summed _ = c.summed_to-found.ensures ∙ ap (summed_to c.args.summed) are in
     let at : element_under found.0 u r ≡ Some c.summed_to-found.result = found.2 ∙ ap (λ (f : Found). Some f) (sym is) in
     answer_fits c.places_end_in_length.ensures u u found.0 r.node r.subscripts.items c.summed_to-found.result _ c.greatest.ensures.record refl c.requires.refers at (place_of_found c.summed_to-found.result (ap (λ (f : Found). f.within) is))
-
