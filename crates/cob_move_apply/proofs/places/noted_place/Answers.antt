@@ -23,4 +23,4 @@ returns-in-Element c = rw c.in-Element.is c.place_of.ensures.there
 
 pub returns-in-Summed : goal.returns-in-Summed
 returns-in-Summed c =
-    rw c.in-Summed.is (noted_by_sums c.args.stored.now.layout.now c.args.receiving (operand_of c.args.placed.now) c.args.stored.now.bytes.now c.args.survey.now.counts.kept c.in-Summed.summed.now c.place_by_sums.result c.place_by_sums.ensures.found c.place_by_sums.ensures.fits)
+    rw c.in-Summed.is (noted_by_sums c.args.stored.now.layout.now c.args.receiving (operand_of c.args.placed.now) c.args.stored.now.bytes.now c.args.survey.now.counts.kept c.in-Summed.summed c.place_by_sums.result c.place_by_sums.ensures.found c.place_by_sums.ensures.fits)
