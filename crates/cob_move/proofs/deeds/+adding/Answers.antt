@@ -495,3 +495,7 @@ add_item-returns-in-Number-clause-fault t c =
 pub add_item-returns-in-Item-clause-fault : goal.add_item-returns-in-Item-clause-fault
 add_item-returns-in-Item-clause-fault t c =
     subst (λ (f : PassageFront). IfErr c.add_tested.result (λ n. FrontRefused n c.args.entries.now (counters c.args.turn.now) f (made_lists c.args.made.now))) (sym (ap item_front c.in-Loop.is)) c.add_tested.ensures.fault
+
+pub add_item-returns-in-Item-clause-added : goal.add_item-returns-in-Item-clause-added
+add_item-returns-in-Item-clause-added t c =
+    subst (λ (f : PassageFront). OnOk c.add_tested.result (AddsFront c.args.entries.now (counters c.args.turn.now) f (made_lists c.args.made.now) (made_lists c.add_tested.new.made))) (sym (ap item_front c.in-Loop.is)) c.add_tested.ensures.added
