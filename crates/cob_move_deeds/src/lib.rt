@@ -30,6 +30,7 @@ mod carrying;
 mod flow;
 mod laws;
 mod ready;
+mod row;
 mod sides;
 mod told;
 
