@@ -1,6 +1,7 @@
 -- Turns in a row, carried out as the moves between two marks.
 use Rattle.std.proofs.Common.{◌≡◌, ℕ, ◌+◌, ◌<◌, ◌≤◌, Bool, true, false, List, [], ◌∷◌, ◌++◌, drop, length, nat_lt, refl, sym, ap, subst, ◌∙◌, arith, inl, inr, Ok, Err, Result, Option, Some}
 use Rattle.std.specs.List.{slice_get}
+use Rattle.std.proofs.lemmas.Option.{same_Some}
 use Rattle.cob_move_data.specs.declared.operands.Side.{Side}
 use Rattle.cob_move_data.specs.declared.operands.Side.TheVariants.{In}
 use Rattle.cob_move_data.specs.declared.operands.StatementMoves.{StatementMoves}
@@ -22,6 +23,7 @@ use Rattle.cob_move_deeds.specs.declared.flow.Flow.{Flow}
 use Rattle.cob_move_deeds.specs.declared.flow.Flow.TheVariants as flow
 use Rattle.cob_move_deeds.specs.Carrying.{FlowSpends, FlowSpendsAtStop, LeavesFlows, MeetFlows, MetFlows, StopsFlows, carried_from}
 use Rattle.cob_move_deeds.specs.Flows.{FlowSupport}
+use Rattle.cob_move_deeds.specs.Known.{Gives}
 use Rattle.cob_move_deeds.specs.Met.{DeedsHaveMet, ReadsOfDeeds}
 use Rattle.cob_move_deeds.specs.Rows.{IsRow, row_begins, row_moves, row_goes_on, row_ends}
 use Rattle.cob_move_deeds.specs.Tests.{BoundGives, Past, past_bound, there, up_to}
@@ -45,13 +47,7 @@ gives_still r t input before now v in_ (p, i, located, kind, says) =
       subst (λ (b : List ℕ). SaysOfTable i (up_to t.most) (there p) b (Ok v)) same says,
     )
 
--- the bound with this number stands in the input record, and gives this number
-pub record Gives (r : Records) (on : FlowSupport) (bound last : ℕ) (input before : List ℕ) : Type 0 where
-  pub given : Bound
-  pub at : slice_get on.bounds bound ≡ Some given
-  pub of_input : given.item.side ≡ In
-  pub gives : BoundGives r (past_bound r given 0) input before last
-
+-- what it gives is the same in another storage of the output record
 pub still : (r : Records) (on : FlowSupport) (bound last : ℕ) (input before now : List ℕ) → Gives r on bound last input before → Gives r on bound last input now
 still r on bound last input before now g = record {
   given = g.given;
@@ -59,6 +55,11 @@ still r on bound last input before now g = record {
   of_input = g.of_input;
   gives = gives_still r (past_bound r g.given 0) input before now last g.of_input g.gives;
 }
+
+-- a bound with this number gives what is known of it
+pub known_gives : (r : Records) (on : FlowSupport) (bound last : ℕ) (input before : List ℕ) (b : Bound) → Gives r on bound last input before → slice_get on.bounds bound ≡ Some b → BoundGives r (past_bound r b 0) input before last
+known_gives r on bound last input before b g at =
+    subst (λ (k : Bound). BoundGives r (past_bound r k 0) input before last) (same_Some g.given b (sym g.at ∙ at)) g.gives
 
 -- ---- marks
 

@@ -11,6 +11,7 @@ ghost use Rattle.cob_move_loops.specs.Turns.{turns_between};
 ghost use Rattle.cob_move_deeds.specs.Carrying.{FlowSpends, FlowSpendsAtStop, HasKept, LeavesFlows, StopsFlows, carried_from, records_of_sides};
 ghost use Rattle.cob_move_deeds.specs.Deeds.{Carried};
 ghost use Rattle.cob_move_deeds.specs.Flows.{IsFlow, IsLoop, loop_done};
+ghost use Rattle.cob_move_deeds.specs.Known.{AreKnown};
 ghost use Rattle.cob_move_deeds.specs.Met.{ReadsOfDeeds};
 ghost use Rattle.cob_move_deeds.specs.Prepared.{AreDeedsPrepared, flow_support};
 ghost use Rattle.cob_move_deeds.specs.declared.flow.Bound.{Bound};
@@ -18,6 +19,7 @@ ghost use Rattle.cob_move_deeds.specs.Tests.{BoundGives, BoundSays, Judged, past
 
 use crate::bound::number_of;
 use crate::flow::{CountedLoop, Flow};
+use crate::known::KnownBounds;
 use crate::ready::ReadyDeeds;
 use crate::row::{behind, first_moves};
 use crate::sides::Sides;
@@ -103,6 +105,54 @@ fn read_bound(
     number_of(bound, sides, output, scratch)
 }
 
+/// Whether a bound stands in the input record.
+fn is_of_input(deeds: &ReadyDeeds, number: usize) -> bool
+    requires within { number < length deeds.now.bounds.items }
+    ensures { IsTrue result → (b : Bound) → slice_get deeds.now.bounds.items number ≡ Some b
+        → b.item.side ≡ In }
+{
+    let bound = &deeds.bounds[number];
+    matches!(bound.item.side(), Side::In)
+}
+
+/// What the bound with this number gives: what is known of it, and else what is read.
+///
+/// # Errors
+///
+/// What is missing for it.
+fn bound_now(
+    deeds: &ReadyDeeds,
+    number: usize,
+    sides: &Sides<'_>,
+    output: &[u8],
+    scratch: &mut Scratch,
+    known: &mut KnownBounds,
+) -> Result<u32, Stop>
+    requires prepared { AreDeedsPrepared (records_of_sides sides.now) deeds.now }
+    requires bound { (b : Bound) × (slice_get deeds.now.bounds.items number ≡ Some b) }
+    requires kept { HasKept (records_of_sides sides.now) sides.now.input.now output.now
+        scratch.old }
+    requires known { AreKnown (records_of_sides sides.now) (flow_support deeds.now)
+        sides.now.input.now known.old }
+    ensures says { (b : Bound) → slice_get deeds.now.bounds.items number ≡ Some b
+        → BoundSays (records_of_sides sides.now) (past_bound (records_of_sides sides.now) b 0)
+        sides.now.input.now output.now result }
+    ensures kept { HasKept (records_of_sides sides.now) sides.now.input.now output.now
+        scratch.new }
+    ensures reads { ReadsFor sides.now.output_layout.now 0 result scratch.old scratch.new }
+    ensures known { AreKnown (records_of_sides sides.now) (flow_support deeds.now)
+        sides.now.input.now known.new }
+{
+    if let Some(gave) = known.number_of(number) {
+        return Ok(gave);
+    }
+    let gave = read_bound(deeds, number, sides, output, scratch)?;
+    if is_of_input(deeds, number) {
+        known.keep(number, gave);
+    }
+    Ok(gave)
+}
+
 /// Carries out a loop whose bound stands in the input record: the moves of as many turns as that says.
 ///
 /// # Errors
@@ -134,16 +184,6 @@ fn make_turns(
     let number = read_bound(deeds, one.bound, sides, output, scratch)?;
     let turns = turns_up_to(one, number);
     make_moves(deeds, one.first, one.first + turns, sides, output, scratch)
-}
-
-/// Whether a bound stands in the input record.
-fn is_of_input(deeds: &ReadyDeeds, number: usize) -> bool
-    requires within { number < length deeds.now.bounds.items }
-    ensures { IsTrue result → (b : Bound) → slice_get deeds.now.bounds.items number ≡ Some b
-        → b.item.side ≡ In }
-{
-    let bound = &deeds.bounds[number];
-    matches!(bound.item.side(), Side::In)
 }
 
 /// Carries out the turns in a row that stand in front, behind a test whose bound gave this number, and answers the flows that are left then. Where the bound
@@ -209,6 +249,7 @@ fn next<'a>(
     sides: &Sides<'_>,
     output: &mut [u8],
     scratch: &mut Scratch,
+    known: &mut KnownBounds,
 ) -> Result<&'a [Flow], Stop>
     requires prepared { AreDeedsPrepared (records_of_sides sides.now) deeds.now }
     requires each { AllByRecursion (IsFlow (flow_support deeds.now)) (flow.now ∷ more.now) }
@@ -216,6 +257,8 @@ fn next<'a>(
     requires output { length output.old ≡ greatest_length sides.now.output_layout.now }
     requires kept { HasKept (records_of_sides sides.now) sides.now.input.now output.old
         scratch.old }
+    requires known { AreKnown (records_of_sides sides.now) (flow_support deeds.now)
+        sides.now.input.now known.old }
     ensures leaves { IfOk result (λ left. LeavesFlows (records_of_sides sides.now)
         (flow_support deeds.now) (flow.now ∷ more.now) left.now sides.now.input.now output.old
         output.new) }
@@ -232,6 +275,8 @@ fn next<'a>(
     ensures spent { OnErr result (FlowSpendsAtStop (records_of_sides sides.now)
         (flow_support deeds.now) (flow.now ∷ more.now) sides.now.input.now output.old scratch.old
         scratch.new) }
+    ensures known { AreKnown (records_of_sides sides.now) (flow_support deeds.now)
+        sides.now.input.now known.new }
 {
     // For `spends`: what is done ends in one way.
     one_outcome_of_counts();
@@ -250,7 +295,7 @@ fn next<'a>(
             number,
             skip,
         } => {
-            let last = read_bound(deeds, bound, sides, output, scratch)?;
+            let last = bound_now(deeds, bound, sides, output, scratch, known)?;
             if last < number {
                 return Ok(behind(more, skip));
             }
@@ -287,9 +332,10 @@ pub(crate) fn carry_out(
         (length deeds.now.flows.items) deeds.now.flows.items) sides.now.input.now output.old result
         scratch.old scratch.new }
 {
+    let mut known = KnownBounds::new();
     let mut rest = deeds.flows.as_slice();
     while let Some((flow, more)) = rest.split_first() {
-        rest = next(deeds, flow, more, sides, output, scratch)?;
+        rest = next(deeds, flow, more, sides, output, scratch, &mut known)?;
     }
     Ok(())
 }

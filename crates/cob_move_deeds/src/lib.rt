@@ -28,6 +28,7 @@
 mod bound;
 mod carrying;
 mod flow;
+mod known;
 mod laws;
 mod ready;
 mod row;

@@ -56,6 +56,7 @@ loop-flow-init c =
       output = refl;
       reads = subst (λ (gs : List Flow). FlowSpends r on all gs c.args.sides.now.input.now c.args.output.now c.args.output.now c.args.scratch.now c.args.scratch.now) (sym same) (spends_first r on all c.args.sides.now.input.now c.args.output.now c.args.scratch.now);
       kept = c.requires.kept;
+      known = c.new-known.ensures r on c.args.sides.now.input.now;
     }
 
 pub loop-flow-preserved : goal.loop-flow-preserved
@@ -71,4 +72,5 @@ loop-flow-preserved c =
       output = c.next.auto.output ∙ c.loop-flow.invariant.output;
       reads = spends_on r on all fs c.in_ok-rest.rest.now c.args.sides.now.input.now c.args.output.now c.loop-flow.output c.next.new.output c.args.scratch.now c.loop-flow.scratch c.next.new.scratch spent c.in_ok-rest.ensures.spends;
       kept = c.in_ok-rest.ensures.kept;
+      known = c.in_ok-rest.ensures.known;
     }

@@ -3,9 +3,10 @@ use Rattle.std.proofs.lemmas.Result.{err_from_is_err_and}
 use Rattle.cob_move_data.specs.Moves.{Records}
 use Rattle.cob_move_deeds.specs.Carrying.{records_of_sides}
 use Rattle.cob_move_deeds.specs.Flows.{FlowSupport}
+use Rattle.cob_move_deeds.specs.Known.{Gives}
 use Rattle.cob_move_deeds.specs.Prepared.{flow_support}
 use Rattle.cob_move_deeds.proofs.ReadLemmas.{spends_first}
-use Rattle.cob_move_deeds.proofs.RowLemmas.{Gives, row_leaves, row_rises, row_spends, row_stop_reads, row_stops}
+use Rattle.cob_move_deeds.proofs.RowLemmas.{row_leaves, row_rises, row_spends, row_stop_reads, row_stops}
 use Rattle.cob_move_deeds.proofs.carrying.make_row.Goals as goal
 
 pub returns-then-not-is_of_input-clause-spends : goal.returns-then-not-is_of_input-clause-spends

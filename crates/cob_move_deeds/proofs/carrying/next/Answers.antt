@@ -116,7 +116,7 @@ returns-in_err-last-in-Until-clause-spent c =
     let r : Records = records_of_sides c.args.sides.now in
     let on : FlowSupport = flow_support c.args.deeds.now in
     let p = err_from_is_err_and c.from_residual-in_err-last-in-Until.result c.from_residual-in_err-last-in-Until.ensures.1 in
-    rw p.1 (test_stop_reads r on (c.args.flow.now ∷ c.args.more.now) c.args.sides.now.input.now c.args.output.now c.in_err-last-in-Until.field-0.0 c.args.scratch.now c.read_bound.new.scratch c.in_err-last-in-Until.ensures.reads)
+    rw p.1 (test_stop_reads r on (c.args.flow.now ∷ c.args.more.now) c.args.sides.now.input.now c.args.output.now c.in_err-last-in-Until.field-0.0 c.args.scratch.now c.bound_now.new.scratch c.in_err-last-in-Until.ensures.reads)
 
 pub returns-then-last-number-clause-spends : goal.returns-then-last-number-clause-spends
 returns-then-last-number-clause-spends c =
@@ -124,8 +124,8 @@ returns-then-last-number-clause-spends c =
     let on : FlowSupport = flow_support c.args.deeds.now in
     let more = c.args.more.now in
     let (b, at) = subst (λ (f : Flow). IsFlow on f) c.in-Until.is c.requires.each.0 in
-    subst (λ (f : Flow). FlowSpends r on (f ∷ more) c.behind.result.now c.args.sides.now.input.now c.args.output.now c.args.output.now c.args.scratch.now c.read_bound.new.scratch) (sym c.in-Until.is)
-    (past_spends r on c.in-Until.bound c.in-Until.number c.in-Until.skip more c.behind.result.now b c.args.sides.now.input.now c.args.output.now c.in_ok-last-in-Until.last c.args.scratch.now c.read_bound.new.scratch at (c.in_ok-last-in-Until.ensures.says b at)
+    subst (λ (f : Flow). FlowSpends r on (f ∷ more) c.behind.result.now c.args.sides.now.input.now c.args.output.now c.args.output.now c.args.scratch.now c.bound_now.new.scratch) (sym c.in-Until.is)
+    (past_spends r on c.in-Until.bound c.in-Until.number c.in-Until.skip more c.behind.result.now b c.args.sides.now.input.now c.args.output.now c.in_ok-last-in-Until.last c.args.scratch.now c.bound_now.new.scratch at (c.in_ok-last-in-Until.ensures.says b at)
     (grind (arith, c.if-last-number.true)) c.behind.ensures.value c.in_ok-last-in-Until.ensures.reads)
 
 pub returns-in_err-left-in-Until-clause-stops : goal.returns-in_err-left-in-Until-clause-stops
@@ -147,10 +147,10 @@ returns-in_err-left-in-Until-clause-spent c =
     let more = c.args.more.now in
     let (b, at) = subst (λ (f : Flow). IsFlow on f) c.in-Until.is c.requires.each.0 in
     let p = err_from_is_err_and c.from_residual-in_err-left-in-Until.result c.from_residual-in_err-left-in-Until.ensures.1 in
-    let first = within_spends r on c.in-Until.bound c.in-Until.number c.in-Until.skip more b c.args.sides.now.input.now c.args.output.now c.in_ok-last-in-Until.last c.args.scratch.now c.read_bound.new.scratch at (c.in_ok-last-in-Until.ensures.says b at)
+    let first = within_spends r on c.in-Until.bound c.in-Until.number c.in-Until.skip more b c.args.sides.now.input.now c.args.output.now c.in_ok-last-in-Until.last c.args.scratch.now c.bound_now.new.scratch at (c.in_ok-last-in-Until.ensures.says b at)
     (grind (arith, c.if-last-number.false)) c.in_ok-last-in-Until.ensures.reads in
     rw p.1 (subst (λ (f : Flow). FlowSpendsAtStop r on (f ∷ more) c.args.sides.now.input.now c.args.output.now c.args.scratch.now c.make_row.new.scratch) (sym c.in-Until.is)
-    (stop_on r on (flow.Until c.in-Until.bound c.in-Until.number c.in-Until.skip ∷ more) more c.args.sides.now.input.now c.args.output.now c.args.output.now c.args.scratch.now c.read_bound.new.scratch c.make_row.new.scratch first c.in_err-left-in-Until.ensures.spent))
+    (stop_on r on (flow.Until c.in-Until.bound c.in-Until.number c.in-Until.skip ∷ more) more c.args.sides.now.input.now c.args.output.now c.args.output.now c.args.scratch.now c.bound_now.new.scratch c.make_row.new.scratch first c.in_err-left-in-Until.ensures.spent))
 
 pub returns-in_ok-left-in-Until-clause-leaves : goal.returns-in_ok-left-in-Until-clause-leaves
 returns-in_ok-left-in-Until-clause-leaves c =
@@ -171,8 +171,8 @@ returns-in_ok-left-in-Until-clause-spends c =
     let more = c.args.more.now in
     let left = c.in_ok-left-in-Until.left.now in
     let (b, at) = subst (λ (f : Flow). IsFlow on f) c.in-Until.is c.requires.each.0 in
-    let first = within_spends r on c.in-Until.bound c.in-Until.number c.in-Until.skip more b c.args.sides.now.input.now c.args.output.now c.in_ok-last-in-Until.last c.args.scratch.now c.read_bound.new.scratch at (c.in_ok-last-in-Until.ensures.says b at)
+    let first = within_spends r on c.in-Until.bound c.in-Until.number c.in-Until.skip more b c.args.sides.now.input.now c.args.output.now c.in_ok-last-in-Until.last c.args.scratch.now c.bound_now.new.scratch at (c.in_ok-last-in-Until.ensures.says b at)
     (grind (arith, c.if-last-number.false)) c.in_ok-last-in-Until.ensures.reads in
     subst (λ (f : Flow). FlowSpends r on (f ∷ more) left c.args.sides.now.input.now c.args.output.now c.make_row.new.output c.args.scratch.now c.make_row.new.scratch) (sym c.in-Until.is)
-    (spends_on r on (flow.Until c.in-Until.bound c.in-Until.number c.in-Until.skip ∷ more) more left c.args.sides.now.input.now c.args.output.now c.args.output.now c.make_row.new.output c.args.scratch.now c.read_bound.new.scratch c.make_row.new.scratch first
+    (spends_on r on (flow.Until c.in-Until.bound c.in-Until.number c.in-Until.skip ∷ more) more left c.args.sides.now.input.now c.args.output.now c.args.output.now c.make_row.new.output c.args.scratch.now c.bound_now.new.scratch c.make_row.new.scratch first
     c.in_ok-left-in-Until.ensures.spends)
