@@ -115,6 +115,10 @@ one_more form tree keys told x room number count keyed ascend (inr (front, last,
     subst (λ (rs : List KeyedRecord). Ascend (rs ++ x ∷ [])) (sym is)
     (ascend_more front last x (subst Ascend is ascend) (order some last.key (subst (λ (bytes : List ℕ). AreKeyParts keys bytes last.key) key keyed_last.key)))
 
+-- the record of so many bytes that came into a room
+abbrev pub came_in : Forest Resolved → Standing → ℕ → List ℕ → Printed
+came_in tree places count slot = record { tree = tree; places = places; bytes = take count slot }
+
 pub head_waits : (form : Form) (tree : Forest Resolved) (keys : List NamedItem) (reached : Reached) (room held : FileRoom) (slot : List ℕ) (places : Standing) (count after : ℕ) (r1 r2 : Option (List ℕ))
     → reached.head ≡ head.Unread → held.bytes.items ≡ slot → held.places ≡ places → Told r1 r2 (ReadsNext form tree reached.opened slot (Ok (Some count)) after)
     → IsRecord form (greatest_length tree) (take count slot) → IsLegible form tree (take count slot) places → count ≤ length slot → HoldsRecord tree places count

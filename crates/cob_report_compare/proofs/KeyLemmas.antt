@@ -6,7 +6,7 @@ use Rattle.std.specs.List.{AllByRecursion}
 use Rattle.std.specs.Prelude.{IfSome}
 use Rattle.std.specs.Ordering.{is_gt, ordering_reverse, ordering_then}
 use Rattle.std.proofs.lemmas.Cmp.{by_ranked, nat_list_cmp_total}
-use Rattle.std.proofs.lemmas.List.{drop_at, take_at}
+use Rattle.std.proofs.lemmas.List.{drop_at, length-drop, length-take-le, take_at}
 use Rattle.std.proofs.Math.Nat.{mul-le-mul_right}
 use Rattle.cob_copybook.specs.Books.{IsRecordDescription}
 use Rattle.cob_copybook_tree.specs.declared.node.Item.{Item}
@@ -107,6 +107,10 @@ pub key_stands : RecordsAreSound → EndInLength → (r : Printed) (x : NamedIte
 key_stands sounds law r x described (laid, long) (among, none) =
     all_of (λ (y : NamedItem). AllStand r y y.tables []) x (named_in [] r.tree) among (items_stand sounds law r described laid long) []
     (subst (λ (ts : List ℕ). AreSubscriptsUpTo (table_times r ts) []) (sym none) refl)
+
+-- and is as long as its bytes
+pub key_long : (r : Printed) (x : NamedItem) (place : Place) → KeyStandsAt r x place → place.length ≡ item_size x.item → length (field_of place r.bytes) ≡ item_size x.item
+key_long r x place stands sized = length-take-le place.length (drop place.offset r.bytes) (omega (arith, stands.within, length-drop place.offset r.bytes)) ∙ sized
 
 -- ---- numbers of a key
 

@@ -60,7 +60,11 @@ whole_head form tree keys room h told next x holds keyed is =
     by head.Ended holds keyed = absurd holds
     by (head.Waits count) holds keyed = whole_here form tree keys room count x holds keyed
 
-pub whole_record : (tree : Forest Resolved) (room : FileRoom) (h : Head) → IsWhole tree room h → IsCompleteRecord (head_record tree room h)
+-- what stands next in a room, by its parts
+abbrev pub head_parts : Forest Resolved → FileRoom → Head → Printed
+head_parts tree room h = record { tree = tree; places = room.places; bytes = (head_record tree room h).bytes }
+
+pub whole_record : (tree : Forest Resolved) (room : FileRoom) (h : Head) → IsWhole tree room h → IsCompleteRecord (head_parts tree room h)
 whole_record tree room head.Unread whole = absurd whole
 whole_record tree room head.Ended whole = absurd whole
 whole_record tree room (head.Waits count) whole = whole.1
@@ -147,6 +151,18 @@ abbrev pub PairTold : FilePair → PairCounts → (m n : ℕ) → List ℕ → P
 PairTold files counts m n key a b c w0 w1 =
     IsMeasured files.by_bytes files.items a b c
     × Took w0 w1 (IfTold files.most (told_counted counts) (AreComparedRecordLines (IsHeading (numbers_text m n) files.keys key) a.bytes b.bytes c))
+
+parts_are : (tree : Forest Resolved) (room : FileRoom) (h : Head) → head_parts tree room h ≡ head_record tree room h
+parts_are tree room head.Unread = refl
+parts_are tree room head.Ended = refl
+parts_are tree room (head.Waits count) = refl
+
+pub measured_heads : (files : FilePair) (left_room right_room : FileRoom) (left right : Head) (c : Comparison)
+    → IsMeasured files.by_bytes files.items (head_parts files.tree left_room left) (head_parts files.tree right_room right) c
+    → IsMeasured files.by_bytes files.items (head_record files.tree left_room left) (head_record files.tree right_room right) c
+measured_heads files left_room right_room left right c is =
+    subst (λ (b : Printed). IsMeasured files.by_bytes files.items (head_record files.tree left_room left) b c) (parts_are files.tree right_room right)
+    (subst (λ (a : Printed). IsMeasured files.by_bytes files.items a (head_parts files.tree right_room right) c) (parts_are files.tree left_room left) is)
 
 pub pair_tells : (files : FilePair) (left_room right_room : FileRoom) (left right : Reached) (counts : PairCounts) (c : Comparison) (w0 w1 : Option (List ℕ))
     → PairTold files counts left.number right.number left_room.key.items (head_record files.tree left_room left.head) (head_record files.tree right_room right.head) c w0 w1

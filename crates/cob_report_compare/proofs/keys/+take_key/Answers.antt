@@ -1,20 +1,22 @@
-use Rattle.std.proofs.Common.{rules, map, refl, sym, subst, List, ℕ, ◌∙◌}
+use Rattle.std.proofs.Common.{arith, rules, ap, length, map, refl, sym, subst, List, ℕ, ◌∙◌}
 use Rattle.std.proofs.lemmas.Result.{IfErr-weaker, on_ok_weaker}
 use Rattle.cob_report_show.specs.declared.named.ListedItem.{ListedItem}
 use Rattle.cob_report_show.specs.Elements.{named_item}
 use Rattle.cob_report_compare.specs.Equal.{printed_of}
 use Rattle.cob_report_compare.specs.Keys.{AreKeyItems, IsKeyPart, KeyPart}
-use Rattle.cob_report_compare.proofs.KeyLemmas.{bytes_taken, key_taken, no_bytes_taken, no_key_behind, no_key_here, no_key_taken}
+use Rattle.cob_report_compare.proofs.KeyLemmas.{bytes_taken, key_long, key_taken, no_bytes_taken, no_key_behind, no_key_here, no_key_taken}
 use Rattle.cob_report_compare.proofs.keys.+take_key.Goals as goal
 
-pub key_place-requires-clause-key : goal.key_place-requires-clause-key
-key_place-requires-clause-key n c =
+pub key_place-place-requires-clause-key : goal.key_place-place-requires-clause-key
+key_place-place-requires-clause-key n c =
     let all = subst (λ (ks : List ListedItem). AreKeyItems c.args.compared.layout.now (map named_item ks)) c.in-Some.ensures.cases.0 c.requires.keys in
     (all.0, tt)
 
-pub take_key-requires-clause-keys : goal.take_key-requires-clause-keys
-take_key-requires-clause-keys n c =
-    (subst (λ (ks : List ListedItem). AreKeyItems c.args.compared.layout.now (map named_item ks)) c.in-Some.ensures.cases.0 c.requires.keys).1
+pub take_key-requires : goal.take_key-requires
+take_key-requires n c = (
+  omega (arith, c.decreases, ap (λ (ks : List ListedItem). length ks) c.in-Some.ensures.cases.0),
+  (c.requires.holds, (subst (λ (ks : List ListedItem). AreKeyItems c.args.compared.layout.now (map named_item ks)) c.in-Some.ensures.cases.0 c.requires.keys).1, search rules),
+)
 
 pub returns-in_default : goal.returns-in_default
 returns-in_default n c = record {
@@ -38,8 +40,12 @@ returns-clause-bytes n c =
 pub returns-clause-key : goal.returns-clause-key
 returns-clause-key n c =
     let part = subst (λ (bytes : List ℕ). (p : KeyPart) × IsKeyPart c.in-Some.key.now.item bytes p) (sym c.copy_from_slice.ensures.after) (c.is_key_part.ensures.yes c.if-not-is_key_part.false) in
+    let long =
+        ap (λ (bytes : List ℕ). length bytes) (c.copy_from_slice.ensures.after ∙ c.field-bytes.ensures)
+        ∙ key_long (printed_of c.args.compared) (named_item c.in-Some.key.now) c.key_place-place.result c.key_place-place.ensures.at c.key_place-place.ensures.sized
+        in
     on_ok_weaker c.take_key.result
-    (λ rest. key_taken c.args.keys.now c.in-Some.key.now c.in-Some.further.now c.copy_from_slice.new.self c.take_key.new.slot _ c.in-Some.ensures.cases.0 (search rules) part rest refl)
+    (λ rest. key_taken c.args.keys.now c.in-Some.key.now c.in-Some.further.now c.copy_from_slice.new.self c.take_key.new.slot _ c.in-Some.ensures.cases.0 long part rest refl)
     c.take_key.ensures.key
 
 pub returns-clause-none : goal.returns-clause-none

@@ -7,6 +7,6 @@ use Rattle.cob_report_compare.proofs.keys.key_items.Given as goal
 
 abbrev pub invariant-loop-number : goal.invariant-loop-number
 invariant-loop-number l = record {
-  all : AllByRecursion (IsKeyItem (map named_item l.named.now)) (map named_item l.keys.items);
+  all : AllByRecursion (IsKeyItem (map named_item l.named)) (map named_item l.keys.items);
   count : length l.keys.items ≡ l.number-index;
 }

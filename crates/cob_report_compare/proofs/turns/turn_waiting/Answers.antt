@@ -11,4 +11,4 @@ returns-in-Ended c = λ count. rw c.in-Ended.is (left_decides (map named_item c.
 
 pub returns-in-Waits : goal.returns-in-Waits
 returns-in-Waits c = λ count. rw c.in-Waits.is (keys_decide (map named_item c.args.keys.now) c.args.left_room.now c.args.right_room.now count c.in-Waits.field-0 c.turn_by.result
-    (rw (c.deref.ensures.value, c.deref-2.ensures.value) at c.turn_by.ensures))
+    (rw (c.deref.ensures.value, c.deref-in-Waits.ensures.value) at c.turn_by.ensures))
