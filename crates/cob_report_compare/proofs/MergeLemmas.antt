@@ -76,10 +76,10 @@ all_with c [] = omega arith
 all_with c (e ∷ es) = omega (arith, all_with (with_entry c e) es, entry_one c e)
 
 pub lefts_are : (es : List Entry) → lefts_counted (counts_of es) ≡ length (lefts es)
-lefts_are es = lefts_with none_counted es
+lefts_are es = omega (arith, lefts_with none_counted es)
 
 pub rights_are : (es : List Entry) → rights_counted (counts_of es) ≡ length (rights es)
-rights_are es = rights_with none_counted es
+rights_are es = omega (arith, rights_with none_counted es)
 
 counted_more : (c : PairCounts) (es : List Entry) (e : Entry) → counted_with c (es ++ e ∷ []) ≡ with_entry (counted_with c es) e
 counted_more c [] e = refl
