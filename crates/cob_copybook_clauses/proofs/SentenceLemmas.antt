@@ -1,5 +1,5 @@
 -- What is left out by name, and the words of a sentence.
-use Rattle.std.proofs.Common.{◌≡◌, ◌≢◌, ℕ, ◌+◌, ◌<◌, ◌≤◌, Bool, true, false, ◌&&◌, nat_le, nat_lt, List, [], ◌∷◌, ◌++◌, length, take, drop, get_or, refl, sym, ap, ◌∙◌, subst, ◌⊎◌, inl, inr, rules, bytes_eq, if◌then◌else◌, Option, Some, None}
+use Rattle.std.proofs.Common.{◌≡◌, ◌≢◌, ℕ, ◌+◌, ◌<◌, ◌≤◌, Bool, true, false, ◌&&◌, nat_le, nat_lt, List, [], ◌∷◌, ◌++◌, length, take, drop, get_or, refl, sym, ap, ◌∙◌, subst, ◌⊎◌, inl, inr, rules, bytes_eq, if◌then◌else◌, Some}
 use Rattle.std.proofs.lemmas.List.{at_drop_more, take-append-drop, map-append}
 use Rattle.std.proofs.lemmas.Slice.Eq.{bytes_eq-Decides}
 use Rattle.std.specs.List.{AllByRecursion, list_all}
@@ -12,7 +12,7 @@ use Rattle.cob_copybook_clauses.specs.declared.term.WordClass.TheVariants as ter
 use Rattle.cob_copybook_clauses.specs.Terms.{Keyword, term_by, word_class, term_of_kind, term_of_usage, term_of_word, reserved_words}
 use Rattle.cob_copybook_entry.specs.Kinds.{KeptWord, meaning_by, usage_word, usage_words}
 use Rattle.cob_copybook_clauses.specs.Clauses.{IsWord}
-use Rattle.cob_copybook_clauses.specs.Entries.{IsLeftOut, IsLeftOutConstant, IsLeftOutLevel, IsLeftOutWord, looked_at, names_constant}
+use Rattle.cob_copybook_clauses.specs.Entries.{IsLeftOut, IsLeftOutConstant, IsLeftOutLevel, IsLeftOutWord, looked_at}
 use Rattle.cob_copybook_clauses.specs.Reading.{StopFirst}
 
 -- at most 20 characters of ASCII
@@ -109,7 +109,3 @@ pub none_left_out : (w : List ℕ) (sentence looked : List Lexeme) → (IsLeftOu
 none_left_out w sentence looked a c b e (inl h) = a h
 none_left_out w sentence looked a c b e (inr (inl h)) = c h
 none_left_out w sentence looked a c b e (inr (inr h)) = b (subst (IsLeftOutWord w) (sym e) h)
-
--- an entry that names no constant is left out by none
-pub no_constant : (w : List ℕ) (sentence : List Lexeme) → names_constant sentence ≡ false → IsLeftOutConstant w sentence → ⊥
-no_constant w sentence e h = let t : true ≡ false = sym h.0 ∙ e in cc

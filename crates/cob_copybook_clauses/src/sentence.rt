@@ -33,6 +33,7 @@ ghost use Rattle.std.specs.Prelude.{
   drop,
   length,
   take,
+  true,
   ℕ,
 };
 

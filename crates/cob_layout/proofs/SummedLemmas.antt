@@ -128,7 +128,7 @@ summed_place u ways least shifts growths tables r receiving f further p grow kno
       through = omega (arith, fits.there.1, long, by.through);
       rises = λ c. omega (arith, (so c).within.rises, ap (slice_index (sums_of u c)) by.before, ap (slice_index (sums_of u c)) by.through);
       stands = λ c have.
-      (let sums : List ℕ = sums_of u c in
+          (let sums : List ℕ = sums_of u c in
           let first : first_by sums f ≡ first_element (spots_of (times c) u 0 0) r.node =
           (so c).first ∙ ap (λ (ss : List Spot). first_element ss r.node) (all_stand u least shifts growths sums c grow refl) in
           let offset : f.least.offset + slice_index sums f.shift.before + further ≡ p.offset + slice_index sums p.before = omega (arith, by.offset, ap (slice_index sums) by.before) in

@@ -17,6 +17,7 @@ use crate::footings::{Footing, footing_at, is_within, shift_at};
 use crate::laws::places_end_in_length;
 use crate::layout::Layout;
 use crate::shifts::Shift;
+use crate::sound::records_are_sound;
 use crate::spots::spot_at;
 use crate::ways::tables_at;
 use cob_layout_places::{Found, Ref, Spot, Table, needs_are_read, one_place};
@@ -178,11 +179,12 @@ impl Layout {
         requires refers { Refers reference.now.node reference.now.subscripts.items self.now }
         ensures { IfSome result (IsMovedBy self.now reference.now behind) }
     {
+        let tables = tables_at(&self.ways, reference.node);
         let subscripts = reference.subscripts.as_slice();
         if subscripts.is_empty() {
             return Some(0);
         }
-        let table = only_number(tables_at(&self.ways, reference.node))?;
+        let table = only_number(tables)?;
         let subscript = only_subscript(subscripts)?;
         if table >= self.shifts.len() {
             return None;
@@ -228,9 +230,11 @@ impl Layout {
         // For `found`: the counts that are read are those that the reference needs, and counts that agree on them give it one place.
         needs_are_read();
         one_place();
-        // For `fits`: an element that is there ends within the record's length, and the layout is that of a record description.
+        // For `fits`: an element that is there ends within the record's length,
         places_end_in_length();
+        // and the layout is that of a record description, which is sound.
         let _ = self.greatest();
+        records_are_sound();
         if !are_within(summed, counts.reach) {
             return None;
         }

@@ -27,12 +27,7 @@ pub struct Folders<'a, R> {
 
 impl<'a, R> Folders<'a, R> {
     /// These folders, parted by colons, with texts that stand so on their lines, for a command that writes these files.
-    pub fn new(
-        rt: &'a R,
-        folders: &'a str,
-        outputs: Outputs,
-        spacing: Spacing,
-    ) -> Folders<'a, R> {
+    pub fn new(rt: &'a R, folders: &'a str, outputs: Outputs, spacing: Spacing) -> Folders<'a, R> {
         Folders {
             rt,
             folders,

@@ -1,5 +1,5 @@
 -- Lines as far as they count.
-use Rattle.std.proofs.Common.{◌≡◌, ℕ, suc, ◌+◌, ◌≤◌, Bool, true, false, List, [], ◌∷◌, length, take, drop, refl, sym, ap, ◌∙◌, arith}
+use Rattle.std.proofs.Common.{◌≡◌, ℕ, ◌+◌, ◌≤◌, Bool, true, false, List, [], ◌∷◌, length, take, drop, refl, arith}
 use Rattle.std.specs.Prelude.{Option, None, is_some, ◌==◌, ◌&&◌, not}
 use Rattle.std.proofs.lemmas.List.{length-drop, length-take, take_all}
 use Rattle.cob_source.specs.Cuts.{open_with}

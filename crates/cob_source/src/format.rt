@@ -25,11 +25,7 @@ pub enum TextFormat {
 /// # Errors
 ///
 /// As theirs.
-pub fn tokens_in(
-    alloc: Global,
-    format: TextFormat,
-    text: &[u8],
-) -> Result<Vec<Token>, SourceFault>
+pub fn tokens_in(alloc: Global, format: TextFormat, text: &[u8]) -> Result<Vec<Token>, SourceFault>
     // What is read are the words of the text, which then breaks no rule.
     ensures words { IfOk result (λ v. AreWordsIn format text.now (lexemes v.items)) }
     // A text that has words is read, memory aside.

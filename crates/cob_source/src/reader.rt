@@ -8,9 +8,7 @@ ghost use Rattle.cob_source.specs.declared.fault.SourceRule.TheVariants.{Memory}
 
 use crate::fault::{SourceFault, SourceRule};
 use crate::joined::{Joined, begin_line, continue_line, cut_joined};
-use crate::lines::{
-    LineKind, character_fault, is_options_text, line_kind, next_line, written_in,
-};
+use crate::lines::{LineKind, character_fault, is_options_text, line_kind, next_line, written_in};
 use crate::token::{Cell, Cutting, Token};
 use cob_limits::MAX_TEXT_BYTES;
 use std::alloc::Global;

@@ -20,12 +20,7 @@ fn push_spaces(count: usize, out: &mut Vec<u8>) -> Result<(), AllocError>
 
 /// Puts a character behind a text, spaces in place of a tab before column 73, where so many columns of its line stand before it, and answers how many stand
 /// before the next one. From column 73 on they are not counted.
-#[tactic(auto, using(
-    crate::proofs::TabLemmas::feed_put,
-    crate::proofs::TabLemmas::far_put,
-    crate::proofs::TabLemmas::tab_put,
-    crate::proofs::TabLemmas::other_put
-))]
+#[tactic(auto, using(crate::proofs::TabLemmas::feed_put, crate::proofs::TabLemmas::far_put, crate::proofs::TabLemmas::tab_put, crate::proofs::TabLemmas::other_put))]
 fn push_untabbed(
     byte: u8,
     width: usize,

@@ -32,8 +32,15 @@ pub struct CopybookRows;
 /// That there is no answer, or a rule that the row's text breaks.
 fn answer(alloc: Global, table: &str, row: &Row, out: &mut String) -> Result<(), Refusal> {
     match table {
-        "lines" | "literals" | "continuations" | "comments" | "directions" | "tabs" | "free"
-        | "paragraphs" | "long_texts" => Ok(words::answer(alloc, table, row, out)?),
+        "lines"
+        | "literals"
+        | "continuations"
+        | "comments"
+        | "directions"
+        | "tabs"
+        | "free"
+        | "paragraphs"
+        | "long_texts" => Ok(words::answer(alloc, table, row, out)?),
         "clauses" => clauses::answer(alloc, row, out),
         "entries" => entries::answer(alloc, row, out),
         "trees" => trees::answer(alloc, row, out),

@@ -1,6 +1,4 @@
-use cob_source::{
-    SourceFault, SourceRule, free_tokens, paragraph_tokens, tokens, without_tabs,
-};
+use cob_source::{SourceFault, SourceRule, free_tokens, paragraph_tokens, tokens, without_tabs};
 use std::test::Fail;
 
 /// Where memory is refused, the answer is T9 with line 0, or that of the paragraph's call.

@@ -1,4 +1,4 @@
-use Rattle.std.proofs.Common.{◌∙◌, ap, refl, sym, [], ◌∷◌, ◌++◌}
+use Rattle.std.proofs.Common.{ap, refl, [], ◌∷◌, ◌++◌}
 use Rattle.cob_source.specs.Tokens.{lexeme, lexemes}
 use Rattle.cob_copybook_clauses.proofs.ClauseLemmas.{prefix_words}
 use Rattle.cob_copybook_clauses.proofs.clause.usage_at.Goals as goal

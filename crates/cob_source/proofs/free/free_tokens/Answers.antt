@@ -1,9 +1,9 @@
-use Rattle.std.proofs.Common.{◌≡◌, ◌≤◌, ◌⊎◌, inl, ℕ, ◌+◌, List, [], ◌∷◌, ◌++◌, length, refl, sym, ap, subst, ◌∙◌, append-nil, arith}
+use Rattle.std.proofs.Common.{inl, ℕ, List, [], ◌∷◌, ◌++◌, refl, sym, ap, subst, ◌∙◌, append-nil, arith}
 use Rattle.std.proofs.lemmas.Result.{err_from_is_err_and}
 use Rattle.std.proofs.lemmas.Grind.{common_steps}
 use Rattle.cob_source.specs.Tokens.{Lexeme, lexemes}
 use Rattle.cob_source.specs.Lines.{lines}
-use Rattle.cob_source.specs.Free.{AreFreeFrom, AreFreeWordsOf}
+use Rattle.cob_source.specs.Free.{AreFreeFrom}
 use Rattle.cob_source.proofs.AheadLemmas.{line_read, nothing_left, number_more}
 use Rattle.cob_source.proofs.FreeLemmas.{line_cut, not_refused, refusal_at}
 use Rattle.cob_source.proofs.free.free_tokens.Goals as goal
@@ -15,7 +15,7 @@ pub returns-then-text-gt-MAX_TEXT_BYTES-clause-refused : goal.returns-then-text-
 returns-then-text-gt-MAX_TEXT_BYTES-clause-refused c = inl (c.if-text-gt-MAX_TEXT_BYTES.true, refl)
 
 pub loop-rest-init : goal.loop-rest-init
-loop-rest-init c = record { few = omega arith; at = ([], refl, refl); read = rw c.new.ensures.items (λ behind w. w) }
+loop-rest-init c = record { few = omega arith; at = ([], refl, refl); read = rw c.new-out.ensures.items (λ behind w. w) }
 
 pub loop-rest-preserved : goal.loop-rest-preserved
 loop-rest-preserved c =
@@ -33,7 +33,7 @@ loop-rest-preserved c =
       );
       read = λ behind w.
           line_cut c.loop-rest.number line (lines more) (lexemes c.loop-rest.out.items) found.0 _ behind (λ (t : List Lexeme). AreFreeFrom 1 (lines text) t) c.in_ok-take_free_line.ensures.fits found.1 w found.2
-              (λ v. c.loop-rest.invariant.read (found.0 ++ behind) (subst (λ (ls : List (List ℕ)). AreFreeFrom c.loop-rest.number ls (found.0 ++ behind)) (sym c.next_line.ensures.line) v));
+          (λ v. c.loop-rest.invariant.read (found.0 ++ behind) (subst (λ (ls : List (List ℕ)). AreFreeFrom c.loop-rest.number ls (found.0 ++ behind)) (sym c.next_line.ensures.line) v));
     }
 
 pub returns-in_err-take_free_line-clause-reads : goal.returns-in_err-take_free_line-clause-reads
@@ -54,5 +54,5 @@ pub returns-clause-words : goal.returns-clause-words
 returns-clause-words c =
     let nothing = nothing_left c.loop-rest.rest.now (grind (arith, common_steps)) in
     let all : AreFreeFrom 1 (lines c.args.text.now) (lexemes c.loop-rest.out.items ++ []) =
-        c.loop-rest.invariant.read [] (subst (λ (t : List ℕ). AreFreeFrom c.loop-rest.number (lines t) []) (sym nothing) refl) in
+    c.loop-rest.invariant.read [] (subst (λ (t : List ℕ). AreFreeFrom c.loop-rest.number (lines t) []) (sym nothing) refl) in
     record { short = omega (arith, c.if-text-gt-MAX_TEXT_BYTES.false); words = subst (λ (t : List Lexeme). AreFreeFrom 1 (lines c.args.text.now) t) (append-nil (lexemes c.loop-rest.out.items)) all }

@@ -1,4 +1,4 @@
-use Rattle.std.proofs.Common.{◌≡◌, Bool, List, ◌++◌, sym, ap, ◌∙◌}
+use Rattle.std.proofs.Common.{List, ◌++◌, sym, ap, ◌∙◌}
 use Rattle.std.specs.Prelude.{◌&&◌, Result, Ok, Err, IfErr}
 use Rattle.std.proofs.lemmas.Result.{err_from_is_err_and, on_ok_weaker}
 use Rattle.cob_source.specs.declared.token.Cell.{Cell}
@@ -23,7 +23,7 @@ returns-in-Skipped-clause-ok c = λ front before num r. skips c.args.line.now r 
 pub returns-then-only_has_options-clause-ok : goal.returns-then-only_has_options-clause-ok
 returns-then-only_has_options-clause-ok c = λ front before num r.
     passes c.args.line.now r c.in_default.ensures.none (sym c.line_kind.ensures ∙ c.in-Plain.is)
-        (ap (λ (l : List Cell). is_nil l && is_options (program_text c.args.line.now)) (sym c.as_slice.ensures.value) ∙ (sym c.only_has_options.ensures ∙ c.if-only_has_options.true))
+    (ap (λ (l : List Cell). is_nil l && is_options (program_text c.args.line.now)) (sym c.as_slice.ensures.value) ∙ (sym c.only_has_options.ensures ∙ c.if-only_has_options.true))
 
 pub returns-in_ok-begin_line-in-Plain-clause-ok : goal.returns-in_ok-begin_line-in-Plain-clause-ok
 returns-in_ok-begin_line-in-Plain-clause-ok c = λ front before num r.

@@ -1,7 +1,21 @@
-use Rattle.std.proofs.Common.{◌≡◌, ◌-◌, ◌/◌, ◌++◌, ◌∷◌, [], ℕ, List, arith, get_or, length, length-take-le, take, refl, ◌∙◌}
-use Rattle.cob_codec.proofs.NaturalLemmas.{packed_natural}
+use Rattle.std.proofs.Common.{◌≡◌, ◌-◌, ◌/◌, ◌^◌, ◌<◌, ◌≤◌, ◌++◌, ◌∷◌, [], ℕ, List, arith, get_or, length, length-take-le, take, refl, ◌∙◌}
+use Rattle.cob_codec.proofs.NaturalLemmas.{few_halves, packed_natural}
 use Rattle.cob_codec.proofs.PackedLemmas.{all_but_last}
 use Rattle.cob_codec.proofs.packed.Packed.natural.Goals as goal
+
+pub overflow_mul-result : goal.overflow_mul-result
+overflow_mul-result c =
+    let end : ℕ = length c.args.bytes.now - 1 in
+    let few : length (take end c.args.bytes.now) ≤ 4 = omega (arith, length-take-le end c.args.bytes.now (omega arith)) in
+    let small : c.in-Some.value < 10 ^ 8 = few_halves (take end c.args.bytes.now) 4 c.in-Some.value few c.in-Some.ensures in
+    omega (arith, small)
+
+pub overflow_add-result : goal.overflow_add-result
+overflow_add-result c =
+    let end : ℕ = length c.args.bytes.now - 1 in
+    let few : length (take end c.args.bytes.now) ≤ 4 = omega (arith, length-take-le end c.args.bytes.now (omega arith)) in
+    let small : c.in-Some.value < 10 ^ 8 = few_halves (take end c.args.bytes.now) 4 c.in-Some.value few c.in-Some.ensures in
+    omega (arith, small, c.from.ensures)
 
 pub returns-in-Some : goal.returns-in-Some
 returns-in-Some c = λ signed.

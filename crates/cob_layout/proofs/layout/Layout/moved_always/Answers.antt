@@ -1,4 +1,4 @@
-use Rattle.std.proofs.Common.{◌≡◌, ◌∷◌, ◌∙◌, [], ap, arith, length, map, refl, sym}
+use Rattle.std.proofs.Common.{◌≡◌, ◌∷◌, ◌∙◌, [], ap, arith, length, map, sym}
 use Rattle.cob_copybook_tree.specs.Forests.{Forest}
 use Rattle.cob_copybook_tree.specs.Nodes.{Resolved, tree_of}
 use Rattle.cob_layout_places.specs.Counts.{tables_of}
@@ -23,7 +23,7 @@ returns c =
     let k = c.in_ok-table.table in
     let s = c.in_ok-subscript.subscript in
     let grow = growing_as t u c.deref-3.result.now c.self.inside.least.items c.deref-2.result.now c.self.inside.growths.items c.self.view_is c.self.invariant.1 c.deref-3.ensures.value c.self.invariant.10 (c.deref-2.ensures.value ∙ c.self.invariant.11) c.self.invariant.12 in
-    let tables : c.tables_at.result.now ≡ (held_at (map held ways) r.node).tables = rw c.deref.ensures.value at c.tables_at.ensures in
+    let tables : c.tables_at-tables.result.now ≡ (held_at (map held ways) r.node).tables = rw c.deref.ensures.value at c.tables_at-tables.ensures in
     let one : (held_at (map held ways) r.node).tables ≡ k ∷ [] = sym tables ∙ c.in_ok-table.ensures in
     let own : r.subscripts.items ≡ s ∷ [] = sym c.as_slice-subscripts.ensures.value ∙ c.in_ok-subscript.ensures in
     let are = c.deref-4.ensures.value ∙ c.self.invariant.2 ∙ ap (λ (v : Forest Resolved). tables_of v) c.self.view_is in

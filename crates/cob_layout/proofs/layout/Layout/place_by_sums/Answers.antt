@@ -1,7 +1,5 @@
-use Rattle.std.proofs.Common.{◌≡◌, ◌<◌, ◌∙◌, Ok, Some, ap, arith, length, refl, subst, sym}
-use Rattle.std.specs.Prelude.{slice_index}
+use Rattle.std.proofs.Common.{◌≡◌, ◌∙◌, Some, ap, arith, length, refl, sym}
 use Rattle.cob_layout_places.specs.declared.places.Found.{Found}
-use Rattle.cob_layout.specs.declared.fields.Place.{Place}
 use Rattle.cob_layout.specs.Placed.{element_under}
 use Rattle.cob_layout.specs.Sound.{IsSound}
 use Rattle.cob_layout.specs.Standing.{RoomForCounts}
@@ -15,7 +13,7 @@ use Rattle.cob_layout.proofs.layout.Layout.place_by_sums.Goals as goal
 pub summed_to-found-requires-clause-before : goal.summed_to-found-requires-clause-before
 summed_to-found-requires-clause-before c =
     let u = c.args.self.now in
-    let sound : IsSound u = subst IsSound c.self.view_is c.self.invariant.1 in
+    let sound : IsSound u = c.records_are_sound.ensures u c.greatest.ensures.record in
     let r = c.args.reference.now in
     let e = c.counts.inside.next.items in
     let reach = c.counts.inside.reach in
@@ -26,7 +24,7 @@ summed_to-found-requires-clause-before c =
 pub summed_to-found-requires-clause-through : goal.summed_to-found-requires-clause-through
 summed_to-found-requires-clause-through c =
     let u = c.args.self.now in
-    let sound : IsSound u = subst IsSound c.self.view_is c.self.invariant.1 in
+    let sound : IsSound u = c.records_are_sound.ensures u c.greatest.ensures.record in
     let r = c.args.reference.now in
     let e = c.counts.inside.next.items in
     let reach = c.counts.inside.reach in
@@ -37,7 +35,7 @@ summed_to-found-requires-clause-through c =
 pub summed_to-found-requires-clause-rises : goal.summed_to-found-requires-clause-rises
 summed_to-found-requires-clause-rises c =
     let u = c.args.self.now in
-    let sound : IsSound u = subst IsSound c.self.view_is c.self.invariant.1 in
+    let sound : IsSound u = c.records_are_sound.ensures u c.greatest.ensures.record in
     let r = c.args.reference.now in
     let e = c.counts.inside.next.items in
     let reach = c.counts.inside.reach in
@@ -48,7 +46,7 @@ summed_to-found-requires-clause-rises c =
 pub summed_to-found-requires-clause-low : goal.summed_to-found-requires-clause-low
 summed_to-found-requires-clause-low c =
     let u = c.args.self.now in
-    let sound : IsSound u = subst IsSound c.self.view_is c.self.invariant.1 in
+    let sound : IsSound u = c.records_are_sound.ensures u c.greatest.ensures.record in
     let r = c.args.reference.now in
     let e = c.counts.inside.next.items in
     let reach = c.counts.inside.reach in
@@ -59,7 +57,7 @@ summed_to-found-requires-clause-low c =
 pub returns-clause-found : goal.returns-clause-found
 returns-clause-found c =
     let u = c.args.self.now in
-    let sound : IsSound u = subst IsSound c.self.view_is c.self.invariant.1 in
+    let sound : IsSound u = c.records_are_sound.ensures u c.greatest.ensures.record in
     let r = c.args.reference.now in
     let e = c.counts.inside.next.items in
     let reach = c.counts.inside.reach in
@@ -74,7 +72,7 @@ returns-clause-found c =
 pub returns-clause-fits : goal.returns-clause-fits
 returns-clause-fits c =
     let u = c.args.self.now in
-    let sound : IsSound u = subst IsSound c.self.view_is c.self.invariant.1 in
+    let sound : IsSound u = c.records_are_sound.ensures u c.greatest.ensures.record in
     let r = c.args.reference.now in
     let e = c.counts.inside.next.items in
     let reach = c.counts.inside.reach in
@@ -85,4 +83,3 @@ returns-clause-fits c =
     let is : c.summed_to-found.result ≡ summed_to c.args.summed _ = c.summed_to-found.ensures ∙ ap (summed_to c.args.summed) are in
     let at : element_under found.0 u r ≡ Some c.summed_to-found.result = found.2 ∙ ap (λ (f : Found). Some f) (sym is) in
     answer_fits c.places_end_in_length.ensures u u found.0 r.node r.subscripts.items c.summed_to-found.result _ c.greatest.ensures.record refl c.requires.refers at (place_of_found c.summed_to-found.result (ap (λ (f : Found). f.within) is))
-

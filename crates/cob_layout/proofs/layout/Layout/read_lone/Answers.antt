@@ -15,14 +15,14 @@ use Rattle.cob_layout.proofs.layout.Layout.read_lone.Goals as goal
 pub keep_lone-requires-clause-as_many : goal.keep_lone-requires-clause-as_many
 keep_lone-requires-clause-as_many c = c.requires.as_many ∙ ap length c.requires.lone.only
 
-pub offset_bounds-counts-table : goal.offset_bounds-counts-table
-offset_bounds-counts-table c =
+pub offset_bounds-counts-lone : goal.offset_bounds-counts-lone
+offset_bounds-counts-lone c =
     let u = c.args.self.now in
     let lt : c.args.lone.table.number < length c.args.counts.now = number_below u c.args.lone.table (length c.args.counts.now) c.requires.sound (is_lone u c.args.lone.table c.requires.lone.only) c.requires.counts in
     search rules
 
-pub bounds-counts-table : goal.bounds-counts-table
-bounds-counts-table c =
+pub bounds-counts-lone : goal.bounds-counts-lone
+bounds-counts-lone c =
     let u = c.args.self.now in
     number_below u c.args.lone.table (length c.args.counts.now) c.requires.sound (is_lone u c.args.lone.table c.requires.lone.only) c.requires.counts
 
