@@ -37,7 +37,7 @@ use Rattle.cob_report_compare.proofs.TurnLemmas.{has_key, whole_head}
 
 flat_more : {X Y : Type 0} (f : X → List Y) (xs : List X) (x : X) → flat_map f (xs ++ x ∷ []) ≡ flat_map f xs ++ f x
 flat_more f [] x = append-nil (f x)
-flat_more f (y ∷ xs) x = ap (λ (ys : List Y). f y ++ ys) (flat_more f xs x) ∙ sym (append_assoc (f y) (flat_map f xs) (f x))
+flat_more {Y = Y} f (y ∷ xs) x = ap (λ (ys : List Y). f y ++ ys) (flat_more f xs x) ∙ sym (append_assoc (f y) (flat_map f xs) (f x))
 
 entry_left : (c : PairCounts) (e : Entry) → lefts_counted (with_entry c e) ≡ lefts_counted c + length (left_of e)
 entry_left c (Pair l r Same) = omega arith

@@ -15,7 +15,7 @@ key_place-place-requires-clause-key n c =
 pub take_key-requires : goal.take_key-requires
 take_key-requires n c = (
   omega (arith, c.decreases, ap (λ (ks : List ListedItem). length ks) c.in-Some.ensures.cases.0),
-  (c.requires.holds, (subst (λ (ks : List ListedItem). AreKeyItems c.args.compared.layout.now (map named_item ks)) c.in-Some.ensures.cases.0 c.requires.keys).1, search rules),
+  (c.requires.holds, ((subst (λ (ks : List ListedItem). AreKeyItems c.args.compared.layout.now (map named_item ks)) c.in-Some.ensures.cases.0 c.requires.keys).1, search rules)),
 )
 
 pub returns-in_default : goal.returns-in_default
