@@ -1,9 +1,10 @@
-use Rattle.std.proofs.Common.{arith, rules, ap, length, map, refl, sym, subst, List, ℕ, ◌∙◌}
+use Rattle.std.proofs.Common.{arith, ap, length, map, refl, sym, subst, List, ℕ, ◌≡◌, ◌+◌, ◌∙◌}
+use Rattle.cob_copybook_tree.specs.Lengths.{item_size}
 use Rattle.std.proofs.lemmas.Result.{IfErr-weaker, on_ok_weaker}
 use Rattle.cob_report_show.specs.declared.named.ListedItem.{ListedItem}
 use Rattle.cob_report_show.specs.Elements.{named_item}
 use Rattle.cob_report_compare.specs.Equal.{printed_of}
-use Rattle.cob_report_compare.specs.Keys.{AreKeyItems, IsKeyPart, KeyPart}
+use Rattle.cob_report_compare.specs.Keys.{AreKeyItems, IsKeyPart, KeyPart, key_size}
 use Rattle.cob_report_compare.proofs.KeyLemmas.{bytes_taken, key_long, key_taken, no_bytes_taken, no_key_behind, no_key_here, no_key_taken}
 use Rattle.cob_report_compare.proofs.keys.+take_key.Goals as goal
 
@@ -13,10 +14,23 @@ key_place-place-requires-clause-key n c =
     (all.0, tt)
 
 pub take_key-requires : goal.take_key-requires
-take_key-requires n c = (
-  omega (arith, c.decreases, ap (λ (ks : List ListedItem). length ks) c.in-Some.ensures.cases.0),
-  (c.requires.holds, ((subst (λ (ks : List ListedItem). AreKeyItems c.args.compared.layout.now (map named_item ks)) c.in-Some.ensures.cases.0 c.requires.keys).1, search rules)),
-)
+take_key-requires n c =
+    let first = c.in-Some.ensures.cases.0 in
+    let sizes : key_size (map named_item c.args.keys.now) ≡ item_size c.in-Some.key.now.item + key_size (map named_item c.in-Some.further.now) =
+    ap (λ (ks : List ListedItem). key_size (map named_item ks)) first in
+    let long : length c.field-bytes.result.now ≡ item_size c.in-Some.key.now.item =
+    ap (λ (bytes : List ℕ). length bytes) c.field-bytes.ensures
+    ∙ key_long (printed_of c.args.compared) (named_item c.in-Some.key.now) c.key_place-place.result c.key_place-place.ensures.at c.key_place-place.ensures.sized in
+    (
+      omega (arith, c.decreases, ap (λ (ks : List ListedItem). length ks) first),
+      (
+        c.requires.holds,
+        (
+          (subst (λ (ks : List ListedItem). AreKeyItems c.args.compared.layout.now (map named_item ks)) first c.requires.keys).1,
+          omega (arith, sizes, long, c.requires.room, c.split_at_mut-front.ensures.back_len),
+        ),
+      ),
+    )
 
 pub returns-in_default : goal.returns-in_default
 returns-in_default n c = record {

@@ -132,7 +132,7 @@ loop-done-preserved g c =
     record {
       left_room = search rules;
       right_room = search rules;
-      so_far = rw (c.left_behind-left_at.ensures, c.right_behind-right_at.ensures) (turn_told (file_pair c.args.files) c.turn_of-turn.result c.loop-done.done c.loop-done.counts c.in_ok-counts.field-0
+      so_far = rw (c.left_behind-left_at.ensures, c.right_behind-right_at.ensures) (turn_told (file_pair c.args.files) c.turn_of-turn.result c.loop-done.done c.loop-done.counts c.in_ok-counts.counts
           c.in_ok-left_now.left_now c.in_ok-right_now.right_now c.fill.new.room c.fill-in-loop-done.new.room _ _ _ _ _ _ _ both is c.in_ok-counts.ensures.tells);
       writes = search rules;
       left_reads = search rules;
