@@ -1,15 +1,18 @@
 //! The comparison of two files.
 
-ghost use Rattle.std.specs.Prelude.{◌≡◌, [], None, IfOk, OnOk};
+ghost use Rattle.std.specs.Prelude.{◌≡◌, ◌≤◌, [], length, map, None, IfOk, OnOk};
 ghost use Rattle.std.specs.Io.Buffered.{writer_buffer};
 ghost use Rattle.cob_records.specs.Forms.{HasBlockSize};
 ghost use Rattle.cob_records.specs.Streams.{sink_writer};
+ghost use Rattle.cob_report_show.specs.Elements.{named_in, named_item};
+ghost use Rattle.cob_report_compare.specs.Keys.{AreKeyItems, most_keys};
 ghost use Rattle.cob_report_compare.specs.Runs.{ComparesFiles, files_of};
-ghost use Rattle.cob_program_compare.specs.Ends.{EndsCompare, comparison_fault, comparison_outcome};
+ghost use Rattle.cob_program_compare.specs.Ends.{EndsCompare, comparison_fault, comparison_outcome, stop_by};
 
 use crate::ends::end_of;
 use crate::fault::ComparisonFault;
-use crate::ignored::ignored_entries;
+use crate::key::key_of;
+use crate::names::entries_named;
 use cob_convert::Status;
 use cob_convert_stream::Cause;
 use cob_layout::{Book, Layout, Role};
@@ -18,7 +21,10 @@ use cob_program_line::{CompareLine, Measure};
 use cob_records::{
     DeviceFault, OpenFault, RecordFault, Sink, Source, WriteSink, create_sink, open_source,
 };
-use cob_report_compare::{CompareFault, CompareOptions, FileSide, PairCounts, compare_files};
+use cob_report_compare::{
+    CompareFault, CompareOptions, CompareStop, FileSide, PairCounts, StopReason, compare_files,
+};
+use cob_report_show::{ListedItem, items_of};
 use std::alloc::Global;
 use std::io::{BufWriter, Eprint, Input, Print, Write};
 use std::rt::Files;
@@ -34,6 +40,8 @@ fn compare_to_end<L: Source, R: Source, W: Write + Drop>(
 ) -> Result<Result<PairCounts, CompareFault>, DeviceFault>
     requires left_block { HasBlockSize options.left_form }
     requires right_block { HasBlockSize options.right_form }
+    requires keys { AreKeyItems layout.now (map named_item options.keys.now) }
+    requires few { length options.keys.now ≤ most_keys }
     // What was compared; what a device took is not told.
     ensures compares { IfOk result (λ answer. ComparesFiles (files_of layout.now options.entry)
         (L.coming left.old) (L.coming left.new) (R.coming right.old) (R.coming right.new)
@@ -45,6 +53,18 @@ fn compare_to_end<L: Source, R: Source, W: Write + Drop>(
     Ok(answer)
 }
 
+/// The fault of a record that stops a comparison for this cause: a line that is not printed is told by no other.
+fn stop_by(cause: Cause, stop: CompareStop) -> ComparisonFault
+    ensures { result ≡ stop_by cause stop }
+{
+    match cause {
+        Cause::Record(RecordFault::WriteFailed { .. } | RecordFault::TookNothing { .. }) => {
+            ComparisonFault::Command(CommandFault::Unprinted)
+        }
+        _ => ComparisonFault::Stopped(stop),
+    }
+}
+
 /// The fault of a comparison.
 fn fault_of(fault: CompareFault) -> ComparisonFault
     ensures { result ≡ comparison_fault fault }
@@ -52,11 +72,10 @@ fn fault_of(fault: CompareFault) -> ComparisonFault
     match fault {
         CompareFault::Memory => ComparisonFault::Command(CommandFault::Memory),
         CompareFault::Uncounted => ComparisonFault::Command(CommandFault::Unprinted),
-        CompareFault::Stop(stop) => match stop.reason.cause {
-            Cause::Record(RecordFault::WriteFailed { .. } | RecordFault::TookNothing { .. }) => {
-                ComparisonFault::Command(CommandFault::Unprinted)
-            }
-            _ => ComparisonFault::Stopped(stop),
+        CompareFault::Stop(stop) => match stop.reason {
+            StopReason::Record(reason) => stop_by(reason.cause, stop),
+            StopReason::NoNumber { .. } => ComparisonFault::Stopped(stop),
+            StopReason::Order { .. } => ComparisonFault::Stopped(stop),
         },
     }
 }
@@ -82,13 +101,19 @@ fn unopened(fault: OpenFault, side: FileSide) -> ComparisonFault {
     }
 }
 
-/// How the files of this line are compared, where these entries are ignored.
-fn options_of<'a>(line: &CompareLine<'_>, ignored: &'a [usize]) -> CompareOptions<'a>
+/// How the files of this line are compared, where these entries are ignored, and the key has these items.
+fn options_of<'a>(
+    line: &CompareLine<'_>,
+    ignored: &'a [usize],
+    keys: &'a [ListedItem],
+) -> CompareOptions<'a>
     ensures left { result.left_form ≡ line.now.left_form }
     ensures right { result.right_form ≡ line.now.right_form }
+    ensures keys { result.keys.now ≡ keys.now }
 {
     CompareOptions {
         ignored,
+        keys,
         by_bytes: line.measure == Measure::Bytes,
         most: line.most.unwrap_or(u64::MAX),
         left_form: line.left_form,
@@ -96,24 +121,38 @@ fn options_of<'a>(line: &CompareLine<'_>, ignored: &'a [usize]) -> CompareOption
     }
 }
 
-/// The layout of the records, of the copybook that `--book` names.
-fn layout_of<R: AllocGlobal + Files>(rt: &R, path: &str) -> Result<Layout, CommandFault> {
-    let text = text_of(rt, path, FileName::Book)?;
-    let book = Book::read(rt.alloc(), Role::In, &text)?;
-    Ok(Layout::of(rt.alloc(), &book)?)
+/// The records of a copybook: their layout, and their named items.
+#[derive(Drop)]
+struct Described {
+    layout: Layout,
+    named: Vec<ListedItem>,
 }
 
-/// Compares the files that `--left` and `--right` name, of records of this layout, prints what differs, and answers how many pairs of records there are of
-/// each kind.
+/// The records of the copybook that `--book` names.
+fn described_by<R: AllocGlobal + Files>(rt: &R, path: &str) -> Result<Described, CommandFault>
+    ensures { IfOk result (λ described. map named_item described.named.items ≡ named_in [] described.layout) }
+{
+    let text = text_of(rt, path, FileName::Book)?;
+    let book = Book::read(rt.alloc(), Role::In, &text)?;
+    let layout = Layout::of(rt.alloc(), &book)?;
+    let named = items_of(rt.alloc(), &book)?;
+    Ok(Described { layout, named })
+}
+
+/// Compares the files that `--left` and `--right` name, of records of this layout and with a key of these items, prints what differs, and answers how many
+/// pairs of records there are of each kind.
 fn compare_by<R: AllocGlobal + Files + Input + Print + Eprint>(
     rt: &R,
     line: &CompareLine<'_>,
     layout: &Layout,
+    keys: &[ListedItem],
+    ignored: &[usize],
 ) -> Result<PairCounts, ComparisonFault>
     requires left_block { HasBlockSize line.now.left_form }
     requires right_block { HasBlockSize line.now.right_form }
+    requires keys { AreKeyItems layout.now (map named_item keys.now) }
+    requires few { length keys.now ≤ most_keys }
 {
-    let ignored = ignored_entries(rt.alloc(), layout, line.ignored)?;
     let mut left = match open_source(rt, line.left) {
         Ok(left) => left,
         Err(fault) => return Err(unopened(fault, FileSide::Left)),
@@ -125,7 +164,7 @@ fn compare_by<R: AllocGlobal + Files + Input + Print + Eprint>(
     let Ok(mut sink) = create_sink(rt, "-") else {
         return Err(ComparisonFault::Command(CommandFault::Memory));
     };
-    let options = options_of(line, &ignored);
+    let options = options_of(line, ignored, keys);
     outcome_of(compare_to_end(
         rt.alloc(),
         layout,
@@ -140,8 +179,8 @@ fn compare_by<R: AllocGlobal + Files + Input + Print + Eprint>(
 ///
 /// # Errors
 ///
-/// Two names of standard input; a file that is not opened or not read, a copybook that is refused, names that name no entry alone, a record that stops the
-/// comparison, a line that is not printed, want of memory.
+/// Two names of standard input; a file that is not opened or not read, a copybook that is refused, names that name no entry alone or no item of a key, a
+/// record that stops the comparison, a line that is not printed, want of memory.
 pub fn compare_records_of<R: AllocGlobal + Files + Input + Print + Eprint>(
     rt: &R,
     line: &CompareLine<'_>,
@@ -152,8 +191,14 @@ pub fn compare_records_of<R: AllocGlobal + Files + Input + Print + Eprint>(
     if line.left == "-" && line.right == "-" {
         return Err(ComparisonFault::OneStream);
     }
-    let layout = layout_of(rt, line.book)?;
-    compare_by(rt, line, &layout)
+    let described = described_by(rt, line.book)?;
+    let layout = &described.layout;
+    let keys = key_of(rt.alloc(), layout, &described.named, line.key)?;
+    let ignored = match entries_named(rt.alloc(), layout, line.ignored)? {
+        Ok(ignored) => ignored,
+        Err(rule) => return Err(ComparisonFault::Ignore(rule)),
+    };
+    compare_by(rt, line, layout, &keys, &ignored)
 }
 
 /// Compares the files that a line names, prints what differs or what is at fault, and answers how the program ends.

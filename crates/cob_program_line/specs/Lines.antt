@@ -93,8 +93,8 @@ pub record IsShow (look : Look) (line : ShowLine) : Type 0 where
   pub progress : is_flagged (codes "progress") look ≡ line.progress
   pub choice : NameChoice look line.skip line.records
 
--- The options of `compare` name the line's files, its forms, whose blocks may be the longest, what is not compared, how many records are told, and by what
--- they are compared.
+-- The options of `compare` name the line's files, its forms, whose blocks may be the longest, the key of its pairs, what is not compared, how many records are
+-- told, and by what they are compared.
 pub record IsCompare (look : Look) (line : CompareLine) : Type 0 where
   pub book : look (codes "book") ≡ Some line.book.now
   pub left : look (codes "left") ≡ Some line.left.now
@@ -102,6 +102,7 @@ pub record IsCompare (look : Look) (line : CompareLine) : Type 0 where
   pub form : look (codes "form") ≡ Some (letter_of line.left_form)
   pub sized : line.left_form ≡ sized_by longest_block line.left_form
   pub right_form : NamesRightForm look line.left_form line.right_form
+  pub key : look (codes "key") ≡ option_map (λ names. names.now) line.key
   pub ignored : look (codes "ignore") ≡ option_map (λ names. names.now) line.ignored
   pub most : NamesBound look (codes "most") line.most
   pub measure : look (codes "by") ≡ Some (word_of_measure line.measure)

@@ -160,6 +160,7 @@ pub fn compare_line<'a>(options: &ArgMatches<'a>) -> Result<CompareLine<'a>, Lin
         right: named(options, "right"),
         left_form,
         right_form,
+        key: named_if_there(options, "key"),
         ignored: named_if_there(options, "ignore"),
         most,
         measure,

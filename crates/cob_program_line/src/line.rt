@@ -306,6 +306,8 @@ pub struct CompareLine<'a> {
     pub left_form: Form,
     /// How the records on the right stand.
     pub right_form: Form,
+    /// The names of the items by which records are pairs, with commas between them, where there are some.
+    pub key: Option<&'a str>,
     /// The names of what is not compared, with commas between them, where there are some.
     pub ignored: Option<&'a str>,
     /// How many records that differ or stand alone are told, where it is not all.

@@ -85,8 +85,8 @@ show_options = records_options ++ (codes "as", Default (codes "text")) ∷ (code
 -- the options of `compare`
 abbrev pub compare_options : Options
 compare_options = (codes "book", Required) ∷ (codes "left", Required) ∷ (codes "right", Required) ∷ (codes "form", Default (codes "f"))
-    ∷ (codes "right-form", Optional) ∷ (codes "ignore", Optional) ∷ (codes "most", Default (codes "100")) ∷ (codes "by", Default (codes "value"))
-    ∷ book_handing ++ shared_options
+    ∷ (codes "right-form", Optional) ∷ (codes "key", Optional) ∷ (codes "ignore", Optional) ∷ (codes "most", Default (codes "100"))
+    ∷ (codes "by", Default (codes "value")) ∷ book_handing ++ shared_options
 
 -- the options of `pieces`
 abbrev pub pieces_options : Options

@@ -104,7 +104,8 @@ Example:
 // What `compare` prints.
 const COMPARE_NOTES: &str =
     "The records of both files in order, pair by pair: each named item that differs,
-with both values, and the counts at the end. A number is compared as a number,
+with both values, and the counts at the end. With --key records of one key are a
+pair, and else the lesser stands alone. A number is compared as a number,
 whatever its sign code. The statuses are 0 where all are equal, 1 where not.
 
 Example: cobconv compare --book new.cpy --left ours.dat --right theirs.dat";

@@ -12,7 +12,10 @@ pub(crate) const BINARY_HELP: &str =
 pub(crate) const LISTING_HELP: &str =
     "How values are listed: text, a line for each;\njson or csv, a line for each record";
 
-// What `--ignore` and `--by` name.
+// What `--key`, `--ignore` and `--by` name.
+pub(crate) const KEY_HELP: &str =
+    "Items by which records are pairs, with commas between\nthem; both files ascend by them: A, B OF C";
+
 pub(crate) const IGNORE_HELP: &str =
     "Items and groups that are not compared, with commas\nbetween them: A, B OF C";
 

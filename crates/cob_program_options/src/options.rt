@@ -3,8 +3,8 @@
 use crate::definition::{OptionDefinition, Standing};
 use crate::help::{
     ATOMIC_HELP, BINARY_HELP, COPY_DIR_HELP, EXPLAINED_HELP, EXPLAINED_RUN_HELP, FORM_HELP,
-    FREE_HELP, IGNORE_HELP, LISTING_HELP, LRECL_HELP, MEASURE_HELP, PROGRESS_HELP, REPLACE_HELP,
-    STRICT_HELP, TABS_HELP,
+    FREE_HELP, IGNORE_HELP, KEY_HELP, LISTING_HELP, LRECL_HELP, MEASURE_HELP, PROGRESS_HELP,
+    REPLACE_HELP, STRICT_HELP, TABS_HELP,
 };
 
 // How an option stands for a form, which is f where it is not there, and for the greatest size of blocks.
@@ -213,11 +213,16 @@ pub(crate) const COMPARED: [OptionDefinition<'static>; 3] = [
 ];
 
 // How the files are compared.
-pub(crate) const COMPARISON: [OptionDefinition<'static>; 4] = [
+pub(crate) const COMPARISON: [OptionDefinition<'static>; 5] = [
     OptionDefinition {
         name: "right-form",
         standing: Standing::Optional("FORM"),
         help: "How the records on the right stand, where otherwise",
+    },
+    OptionDefinition {
+        name: "key",
+        standing: Standing::Optional("NAMES"),
+        help: KEY_HELP,
     },
     OptionDefinition {
         name: "ignore",

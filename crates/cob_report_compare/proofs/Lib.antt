@@ -5,5 +5,9 @@ pub mod PrintLemmas
 pub mod PrintableLemmas
 pub mod BytesLemmas
 pub mod CameLemmas
-pub mod PairLemmas
+pub mod KeyLemmas
+pub mod HeadLemmas
+pub mod TurnLemmas
+pub mod MergeLemmas
+pub mod OrderLemmas
 pub mod RunLemmas

@@ -1,11 +1,13 @@
 -- What is printed, text behind text.
-use Rattle.std.proofs.Common.{◌≡◌, ◌∙◌, ℕ, ◌+◌, ◌-◌, ◌<◌, ◌≤◌, true≢false, List, [], ◌∷◌, ◌++◌, length, drop, map, refl, sym, ap, subst, append_assoc, append-nil, arith, Option, Some, None, is_some, codes, get_or, Ok, Err, Result}
+use Rattle.std.proofs.Common.{◌≡◌, ◌∙◌, ℕ, ◌+◌, ◌-◌, ◌<◌, ◌≤◌, true≢false, List, [], ◌∷◌, ◌++◌, length, take, drop, map, refl, sym, ap, subst, append_assoc, append-nil, arith, Option, Some, None, is_some, codes, get_or, Ok, Err, Result}
 use Rattle.std.specs.Prelude.{OnOk, flat_map}
 use Rattle.std.specs.Io.KnownBytes.{append_known}
 use Rattle.std.proofs.lemmas.List.{drop_all, drop_more, length-append}
 use Rattle.cob_copybook_tree.specs.declared.node.Item.{Item}
+use Rattle.cob_copybook_tree.specs.Lengths.{item_size}
 use Rattle.cob_layout.specs.Fields.{field_of}
-use Rattle.cob_report_show.specs.Elements.{NamedItem}
+use Rattle.cob_report_show.specs.declared.named.ListedItem.{ListedItem}
+use Rattle.cob_report_show.specs.Elements.{NamedItem, named_item}
 use Rattle.cob_report_show.specs.Values.{AreQuoted, AreUnknown, IsByteShown, IsValueShown}
 use Rattle.cob_records.specs.declared.records.RecordFault.{RecordFault}
 use Rattle.cob_records.specs.Device.{Took}
@@ -13,7 +15,7 @@ use Rattle.cob_records.specs.Frame.{Puts}
 use Rattle.cob_records.specs.Hex.{byte_text}
 use Rattle.cob_report_show.proofs.SentLemmas.{append_none, append_twice, took_as, took_both}
 use Rattle.cob_report_compare.specs.Differences.{PlainDifference, plain_difference}
-use Rattle.cob_report_compare.specs.Lines.{AreDifferenceLines, AreComparedElementLines, AreBytesShown, AreValuesShown, IsDifferenceLine, byte_line, header_line, more_line, place_text, unlike_lines}
+use Rattle.cob_report_compare.specs.Lines.{AreDifferenceLines, AreComparedElementLines, AreBytesShown, AreKeysShown, AreValuesShown, IsDifferenceLine, IsHeaded, IsHeading, byte_line, header_end, more_line, place_text, unlike_lines}
 use Rattle.cob_report_compare.specs.Printable.{ArePrintable, IsPrintable}
 use Rattle.cob_report_compare.specs.declared.bytes.ByteDifference.{ByteDifference}
 use Rattle.cob_report_compare.specs.declared.bytes.FirstBytes.{FirstBytes}
@@ -178,29 +180,68 @@ line_more d e ds piece rest is line lines = ap (λ (t : List ℕ). t ++ rest) (l
 pub more_none : (n : ℕ) → n ≡ 0 → [] ≡ more_line n
 more_none n is = subst (λ (k : ℕ). [] ≡ more_line k) (sym is) refl
 
-pub element_lines : (number : ℕ) (l r : List ℕ) (told : FirstDifferences) (shown : List Difference) (more : ℕ) (w0 w1 w2 w3 : Option (List ℕ)) → shown ≡ told.first.items
-    → more ≡ told.count - length shown → Took w0 w1 (λ part. part ≡ header_line number (length l) (length r)) → Took w1 w2 (AreDifferenceLines l r (map plain_difference shown))
-    → Took w2 w3 (λ part. part ≡ more_line more) → Took w0 w3 (AreComparedElementLines number l r told)
-element_lines number l r told shown more w0 w1 w2 w3 all is header lines last =
+pub element_lines : (l r : List ℕ) (told : FirstDifferences) (shown : List Difference) (more : ℕ) (w0 w1 w2 w3 : Option (List ℕ)) → shown ≡ told.first.items
+    → more ≡ told.count - length shown → Took w0 w1 (λ part. part ≡ header_end (length l) (length r)) → Took w1 w2 (AreDifferenceLines l r (map plain_difference shown))
+    → Took w2 w3 (λ part. part ≡ more_line more) → Took w0 w3 (AreComparedElementLines l r told)
+element_lines l r told shown more w0 w1 w2 w3 all is header lines last =
     let ds = map plain_difference told.first.items in
     let end = more_line (told.count - length told.first.items) in
     let rest : more ≡ told.count - length told.first.items = is ∙ ap (λ (es : List Difference). told.count - length es) all in
-    took_front (header_line number (length l) (length r)) (λ text. (lines : List ℕ) × AreDifferenceLines l r ds lines × (text ≡ lines ++ end)) (AreComparedElementLines number l r told) w0 w1 w3
-    (λ q is. (is.0, is.1, ap (λ (t : List ℕ). header_line number (length l) (length r) ++ t) is.2)) header
+    took_front (header_end (length l) (length r)) (λ text. (lines : List ℕ) × AreDifferenceLines l r ds lines × (text ≡ lines ++ end)) (AreComparedElementLines l r told) w0 w1 w3
+    (λ q is. (is.0, is.1, ap (λ (t : List ℕ). header_end (length l) (length r) ++ t) is.2)) header
     (took_end end (AreDifferenceLines l r ds) (λ text. (lines : List ℕ) × AreDifferenceLines l r ds lines × (text ≡ lines ++ end)) w1 w2 w3 (λ p are. (p, are, refl))
     (subst (λ (es : List Difference). Took w1 w2 (AreDifferenceLines l r (map plain_difference es))) all lines) (subst (λ (n : ℕ). Took w2 w3 (λ part. part ≡ more_line n)) rest last))
 
-pub unlike_is : (number : ℕ) (l r : List ℕ) (told : FirstBytes) (shown : List ByteDifference) (more : ℕ) (w0 w1 w2 w3 : Option (List ℕ)) → shown ≡ told.first.items
-    → more ≡ told.count - length shown → Took w0 w1 (λ part. part ≡ header_line number (length l) (length r)) → Took w1 w2 (λ part. part ≡ flat_map byte_line shown)
-    → Took w2 w3 (λ part. part ≡ more_line more) → Took w0 w3 (λ part. part ≡ unlike_lines number l r told)
-unlike_is number l r told shown more w0 w1 w2 w3 all is header lines last =
+pub unlike_is : (l r : List ℕ) (told : FirstBytes) (shown : List ByteDifference) (more : ℕ) (w0 w1 w2 w3 : Option (List ℕ)) → shown ≡ told.first.items
+    → more ≡ told.count - length shown → Took w0 w1 (λ part. part ≡ header_end (length l) (length r)) → Took w1 w2 (λ part. part ≡ flat_map byte_line shown)
+    → Took w2 w3 (λ part. part ≡ more_line more) → Took w0 w3 (λ part. part ≡ unlike_lines l r told)
+unlike_is l r told shown more w0 w1 w2 w3 all is header lines last =
     let bytes = flat_map byte_line told.first.items in
     let end = more_line (told.count - length told.first.items) in
     let rest : more ≡ told.count - length told.first.items = is ∙ ap (λ (ds : List ByteDifference). told.count - length ds) all in
-    took_front (header_line number (length l) (length r)) (λ text. text ≡ bytes ++ end) (λ text. text ≡ unlike_lines number l r told) w0 w1 w3
-    (λ q is. ap (λ (t : List ℕ). header_line number (length l) (length r) ++ t) is) header
+    took_front (header_end (length l) (length r)) (λ text. text ≡ bytes ++ end) (λ text. text ≡ unlike_lines l r told) w0 w1 w3
+    (λ q is. ap (λ (t : List ℕ). header_end (length l) (length r) ++ t) is) header
     (took_end end (λ text. text ≡ bytes) (λ text. text ≡ bytes ++ end) w1 w2 w3 (λ p is. ap (λ (t : List ℕ). t ++ end) is)
     (subst (λ (ds : List ByteDifference). Took w1 w2 (λ part. part ≡ flat_map byte_line ds)) all lines) (subst (λ (n : ℕ). Took w2 w3 (λ part. part ≡ more_line n)) rest last))
+
+-- a heading, and what stands behind it
+pub headed : (heading is : List ℕ → Type 0) (w0 w1 w2 : Option (List ℕ)) → Took w0 w1 heading → Took w1 w2 is → Took w0 w2 (IsHeaded heading is)
+headed heading is w0 w1 w2 front rest = took_both w0 w1 w2 heading is (IsHeaded heading is) front rest (λ p q h i. (p, q, h, i, refl))
+
+-- the items of a key, the first one and those behind it
+pub keys_printed : (x : NamedItem) (xs : List NamedItem) (key bytes behind : List ℕ) (w0 w1 w2 w3 : Option (List ℕ)) → bytes ≡ take (item_size x.item) key → behind ≡ drop (item_size x.item) key
+    → Took w0 w1 (λ part. part ≡ codes ", " ++ (x.name ++ 32 ∷ [])) → Took w1 w2 (IsValueShown x.item bytes) → Took w2 w3 (AreKeysShown xs behind) → Took w0 w3 (AreKeysShown (x ∷ xs) key)
+keys_printed x xs key bytes behind w0 w1 w2 w3 is also name value rest =
+    took_both w0 w1 w3 (λ part. part ≡ codes ", " ++ (x.name ++ 32 ∷ [])) both (AreKeysShown (x ∷ xs) key) name
+    (took_both w1 w2 w3 (IsValueShown x.item bytes) (AreKeysShown xs behind) both value rest (λ p q shown are. (p, q, shown, are, refl)))
+    (λ p q e more. (
+      more.0,
+      more.1,
+      subst (λ (bs : List ℕ). IsValueShown x.item bs more.0) is more.2,
+      subst (λ (bs : List ℕ). AreKeysShown xs bs more.1) also more.3,
+      ap (λ (t : List ℕ). t ++ q) e ∙ append_assoc (codes ", ") (x.name ++ 32 ∷ []) q ∙ ap (λ (t : List ℕ). codes ", " ++ t) (append_assoc x.name (32 ∷ []) q)
+          ∙ ap (λ (t : List ℕ). codes ", " ++ (x.name ++ 32 ∷ t)) more.4,
+    ))
+  where
+    both : List ℕ → Type 0
+    both text = (value : List ℕ) × (rest : List ℕ) × IsValueShown x.item bytes value × AreKeysShown xs behind rest × (text ≡ value ++ rest)
+
+pub first_key_printed : (keys : List ListedItem) (key : ListedItem) (further : List ListedItem) (all bytes behind : List ℕ) (w0 w1 w2 w3 : Option (List ℕ)) → keys ≡ key ∷ further
+    → bytes ≡ take (item_size key.item) all → behind ≡ drop (item_size key.item) all → Took w0 w1 (λ part. part ≡ codes ", " ++ ((named_item key).name ++ 32 ∷ []))
+    → Took w1 w2 (IsValueShown key.item bytes) → Took w2 w3 (AreKeysShown (map named_item further) behind) → Took w0 w3 (AreKeysShown (map named_item keys) all)
+first_key_printed keys key further all bytes behind w0 w1 w2 w3 same is also name value rest =
+    subst (λ (ks : List ListedItem). Took w0 w3 (AreKeysShown (map named_item ks) all)) (sym same)
+    (keys_printed (named_item key) (map named_item further) all bytes behind w0 w1 w2 w3 is also name value rest)
+
+pub no_keys_printed : (keys : List ListedItem) (all : List ℕ) (w : Option (List ℕ)) → length keys ≡ 0 → Took w w (AreKeysShown (map named_item keys) all)
+no_keys_printed [] all w none = took_none (AreKeysShown [] all) w refl
+no_keys_printed (k ∷ ks) all w none = absurd (omega (arith, none))
+
+-- numbers, and the items of a key behind them
+pub heading_printed : (numbers : List ℕ) (keys : List NamedItem) (key : List ℕ) (w0 w1 w2 : Option (List ℕ)) → Took w0 w1 (λ part. part ≡ numbers) → Took w1 w2 (AreKeysShown keys key)
+    → Took w0 w2 (IsHeading numbers keys key)
+heading_printed numbers keys key w0 w1 w2 front rest =
+    took_front numbers (AreKeysShown keys key) (IsHeading numbers keys key) w0 w1 w2 (λ q are. (q, are, refl)) front rest
 
 -- a text with another one behind it that is not empty
 pub not_empty : (a b text : List ℕ) → text ≡ a ++ b → 0 < length b → 0 < length text

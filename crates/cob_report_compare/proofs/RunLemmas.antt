@@ -9,7 +9,8 @@ use Rattle.cob_report_compare.specs.declared.files.FileSide.{FileSide}
 use Rattle.cob_report_compare.specs.declared.runs.CompareFault.{CompareFault}
 use Rattle.cob_report_compare.specs.declared.runs.CompareFault.TheVariants.{Memory, Stop, Uncounted}
 use Rattle.cob_report_compare.specs.Files.{is_stopped_for, is_stopped_on}
-use Rattle.cob_report_compare.specs.InOrder.{ComparesInOrder, FilePair}
+use Rattle.cob_report_compare.specs.Merged.{FilePair}
+use Rattle.cob_report_compare.specs.Merging.{Merges}
 use Rattle.cob_report_compare.specs.Runs.{ComparesFiles, CountsUp, is_stopped_at, is_uncounted, is_unprinted}
 
 -- for want of memory nothing was read or printed
@@ -24,15 +25,15 @@ none_unprinted answer n is = ap (λ (a : Result PairCounts CompareFault). counte
 
 -- what came of the comparison, and the line with its counts
 pub as_counted : (files like : FilePair) (l0 l1 r0 r1 w0 w1 w2 : Option (List ℕ)) (answer : Result PairCounts CompareStop) (told : Result PairCounts CompareFault) → like ≡ files
-    → ComparesInOrder like l0 l1 r0 r1 w0 w1 answer → CountsUp w1 w2 answer told → ComparesFiles files l0 l1 r0 r1 w0 w2 told
+    → Merges like l0 l1 r0 r1 w0 w1 answer → CountsUp w1 w2 answer told → ComparesFiles files l0 l1 r0 r1 w0 w2 told
 as_counted files like l0 l1 r0 r1 w0 w1 w2 answer (Ok counts) same compares (is, took) =
-    (w1, subst (λ (f : FilePair). ComparesInOrder f l0 l1 r0 r1 w0 w1 (Ok counts)) same (subst (ComparesInOrder like l0 l1 r0 r1 w0 w1) is compares), took)
+    (w1, subst (λ (f : FilePair). Merges f l0 l1 r0 r1 w0 w1 (Ok counts)) same (subst (Merges like l0 l1 r0 r1 w0 w1) is compares), took)
 as_counted files like l0 l1 r0 r1 w0 w1 w2 answer (Err Memory) same compares counts = absurd counts
 as_counted files like l0 l1 r0 r1 w0 w1 w2 answer (Err (Stop stop)) same compares (is, kept) =
-    subst (λ (w : Option (List ℕ)). ComparesInOrder files l0 l1 r0 r1 w0 w (Err stop)) (sym kept)
-    (subst (λ (f : FilePair). ComparesInOrder f l0 l1 r0 r1 w0 w1 (Err stop)) same (subst (ComparesInOrder like l0 l1 r0 r1 w0 w1) is compares))
+    subst (λ (w : Option (List ℕ)). Merges files l0 l1 r0 r1 w0 w (Err stop)) (sym kept)
+    (subst (λ (f : FilePair). Merges f l0 l1 r0 r1 w0 w1 (Err stop)) same (subst (Merges like l0 l1 r0 r1 w0 w1) is compares))
 as_counted files like l0 l1 r0 r1 w0 w1 w2 answer (Err Uncounted) same compares (counts, is) =
-    (w1, counts, subst (λ (f : FilePair). ComparesInOrder f l0 l1 r0 r1 w0 w1 (Ok counts)) same (subst (ComparesInOrder like l0 l1 r0 r1 w0 w1) is compares))
+    (w1, counts, subst (λ (f : FilePair). Merges f l0 l1 r0 r1 w0 w1 (Ok counts)) same (subst (Merges like l0 l1 r0 r1 w0 w1) is compares))
 
 stops_as : (side : FileSide) (f : Cause → Bool) (w1 w2 : Option (List ℕ)) (answer : Result PairCounts CompareStop) (told : Result PairCounts CompareFault) → CountsUp w1 w2 answer told
     → is_stopped_on side f answer ≡ is_stopped_at side f told

@@ -3,9 +3,13 @@ pub mod Equal
 pub mod Bytes
 pub mod Differences
 pub mod Shared
-pub mod Laws
+pub mod Keys
 pub mod Lines
+pub mod Headings
 pub mod Printable
+pub mod Merged
+pub mod Laws
 pub mod Files
-pub mod InOrder
+pub mod Merging
+pub mod Turns
 pub mod Runs

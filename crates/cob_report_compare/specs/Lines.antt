@@ -1,6 +1,7 @@
 -- The lines that are printed of two files that are compared.
-use Rattle.std.specs.Prelude.{◌≡◌, ℕ, zero, suc, ◌+◌, ◌-◌, ◌<◌, ◌≤◌, ◌==◌, ◌⊎◌, List, [], ◌∷◌, ◌++◌, length, map, flat_map, Some, if◌then◌else◌, codes, decimal}
+use Rattle.std.specs.Prelude.{◌≡◌, ℕ, ◌+◌, ◌-◌, ◌<◌, ◌≤◌, ◌==◌, ◌⊎◌, List, [], ◌∷◌, ◌++◌, length, map, take, drop, flat_map, Some, if◌then◌else◌, codes, decimal}
 use Rattle.cob_copybook_tree.specs.declared.node.Item.{Item}
+use Rattle.cob_copybook_tree.specs.Lengths.{item_size}
 use Rattle.cob_layout.specs.Fields.{field_of}
 use Rattle.cob_records.specs.Hex.{byte_text}
 use Rattle.cob_report_show.specs.Elements.{NamedItem}
@@ -25,9 +26,29 @@ AreBytesShown (byte ∷ bytes) text = (first : List ℕ) × (rest : List ℕ) ×
 abbrev pub lengths_text : (left right : ℕ) → List ℕ
 lengths_text left right = if left == right then [] else codes ": length " ++ (decimal left ++ (codes " | " ++ decimal right))
 
--- the line before the differences of two records of one number and of these lengths
-abbrev pub header_line : (number left right : ℕ) → List ℕ
-header_line number left right = codes "record " ++ (decimal number ++ (lengths_text left right ++ 10 ∷ []))
+-- what names two records: their number, or both where they have not one
+abbrev pub numbers_text : (left right : ℕ) → List ℕ
+numbers_text left right = codes "record " ++ (decimal left ++ (if left == right then [] else codes " | " ++ decimal right))
+
+-- what names a record that stands alone
+abbrev pub number_text : FileSide → ℕ → List ℕ
+number_text Left number = codes "record " ++ decimal number
+number_text Right number = codes "record | " ++ decimal number
+
+-- the items of a key of these bytes, each behind a comma: its name, and its value as the listing of values shows it
+abbrev pub AreKeysShown : List NamedItem → List ℕ → List ℕ → Type 0
+AreKeysShown [] bytes text = text ≡ []
+AreKeysShown (x ∷ xs) bytes text =
+    (value : List ℕ) × (rest : List ℕ) × IsValueShown x.item (take (item_size x.item) bytes) value × AreKeysShown xs (drop (item_size x.item) bytes) rest
+    × (text ≡ codes ", " ++ (x.name ++ 32 ∷ (value ++ rest)))
+
+-- what names records, and behind it their key
+abbrev pub IsHeading : List ℕ → List NamedItem → List ℕ → List ℕ → Type 0
+IsHeading numbers keys key_bytes text = (shown : List ℕ) × AreKeysShown keys key_bytes shown × (text ≡ numbers ++ shown)
+
+-- the end of the line before the differences of two records of these lengths
+abbrev pub header_end : (left right : ℕ) → List ℕ
+header_end left right = lengths_text left right ++ 10 ∷ []
 
 -- the line that says how many differences of two records are not told
 abbrev pub more_line : ℕ → List ℕ
@@ -57,40 +78,41 @@ AreDifferenceLines l r (d ∷ ds) text = (front : List ℕ) × (rest : List ℕ)
 abbrev pub byte_line : ByteDifference → List ℕ
 byte_line d = codes "  byte " ++ (decimal d.offset ++ (codes ": " ++ (byte_text d.left ++ (codes " | " ++ (byte_text d.right ++ 10 ∷ [])))))
 
--- the lines of two records of one number that are not equal by value
-abbrev pub AreComparedElementLines : (number : ℕ) → List ℕ → List ℕ → FirstDifferences → List ℕ → Type 0
-AreComparedElementLines number l r told text =
+-- the lines behind the heading of two records that are not equal by value
+abbrev pub AreComparedElementLines : List ℕ → List ℕ → FirstDifferences → List ℕ → Type 0
+AreComparedElementLines l r told text =
     (lines : List ℕ) × AreDifferenceLines l r (map plain_difference told.first.items) lines
-    × (text ≡ header_line number (length l) (length r) ++ (lines ++ more_line (told.count - length told.first.items)))
+    × (text ≡ header_end (length l) (length r) ++ (lines ++ more_line (told.count - length told.first.items)))
 
--- the lines of two records of one number that have not the same bytes
-abbrev pub unlike_lines : (number : ℕ) → List ℕ → List ℕ → FirstBytes → List ℕ
-unlike_lines number l r told =
-    header_line number (length l) (length r) ++ (flat_map byte_line told.first.items ++ more_line (told.count - length told.first.items))
+-- the lines behind the heading of two records that have not the same bytes
+abbrev pub unlike_lines : List ℕ → List ℕ → FirstBytes → List ℕ
+unlike_lines l r told =
+    header_end (length l) (length r) ++ (flat_map byte_line told.first.items ++ more_line (told.count - length told.first.items))
 
--- The lines of two records of one number that were compared: none where they are equal, and else a line with their number, one for each of the first
--- differences, and how many more there are.
-abbrev pub AreComparedRecordLines : (number : ℕ) → List ℕ → List ℕ → Comparison → List ℕ → Type 0
-AreComparedRecordLines number l r Same text = text ≡ []
-AreComparedRecordLines number l r Equal text = text ≡ []
-AreComparedRecordLines number l r (Differ told) text = AreComparedElementLines number l r told text
-AreComparedRecordLines number l r (Unlike told) text = text ≡ unlike_lines number l r told
+-- what stands behind the heading, where there is one
+abbrev pub IsHeaded : (List ℕ → Type 0) → (List ℕ → Type 0) → List ℕ → Type 0
+IsHeaded heading is text = (front : List ℕ) × (rest : List ℕ) × heading front × is rest × (text ≡ front ++ rest)
+
+-- The lines of two records that were compared: none where they are equal, and else a line with the heading, one for each of the first differences, and how
+-- many more there are.
+abbrev pub AreComparedRecordLines : (List ℕ → Type 0) → List ℕ → List ℕ → Comparison → List ℕ → Type 0
+AreComparedRecordLines heading l r Same text = text ≡ []
+AreComparedRecordLines heading l r Equal text = text ≡ []
+AreComparedRecordLines heading l r (Differ told) text = IsHeaded heading (AreComparedElementLines l r told) text
+AreComparedRecordLines heading l r (Unlike told) text = IsHeaded heading (λ rest. rest ≡ unlike_lines l r told) text
 
 -- what is printed of a record, of which so many were told before: its text, where they are fewer than are told at most
 abbrev pub IfTold : (most told : ℕ) → (List ℕ → Type 0) → List ℕ → Type 0
 IfTold most told is text = ((told < most) × is text) ⊎ ((most ≤ told) × (text ≡ []))
 
--- the line of a record that stands alone
-abbrev pub alone_line : FileSide → ℕ → List ℕ
-alone_line Left number = codes "record " ++ (decimal number ++ codes ": left alone\n")
-alone_line Right number = codes "record | " ++ (decimal number ++ codes ": right alone\n")
+-- the end of the line of a record that stands alone
+abbrev pub alone_end : FileSide → List ℕ
+alone_end Left = codes ": left alone\n"
+alone_end Right = codes ": right alone\n"
 
--- what is printed of so many records that stand alone behind others of this number, where so many records were told before
-abbrev pub AreAloneLines : FileSide → (most told number : ℕ) → ℕ → List ℕ → Type 0
-AreAloneLines side most told number zero text = text ≡ []
-AreAloneLines side most told number (suc n) text =
-    (front : List ℕ) × (last : List ℕ) × AreAloneLines side most told number n front
-    × IfTold most (told + n) (λ line. line ≡ alone_line side (number + n + 1)) last × (text ≡ front ++ last)
+-- the line of a record that stands alone
+abbrev pub IsAloneLine : FileSide → (List ℕ → Type 0) → List ℕ → Type 0
+IsAloneLine side heading text = IsHeaded heading (λ rest. rest ≡ alone_end side) text
 
 -- The line with the counts at the end: how many records there are on either side, how many are equal and how many of these not byte for byte, how many
 -- differ, and how many stand alone.

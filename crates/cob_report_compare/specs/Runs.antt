@@ -1,10 +1,11 @@
 -- Two files of one layout, compared from their first records to the end.
-use Rattle.std.specs.Prelude.{◌≡◌, ℕ, Bool, true, false, List, Option, Ok, Err, Result}
+use Rattle.std.specs.Prelude.{◌≡◌, ℕ, Bool, true, false, List, map, Option, Ok, Err, Result}
 use Rattle.cob_copybook_tree.specs.Forests.{Forest}
 use Rattle.cob_copybook_tree.specs.Nodes.{Resolved}
 use Rattle.cob_records.specs.Device.{Took}
 use Rattle.cob_convert_stream.specs.Reasons.{is_write_cause}
 use Rattle.cob_convert_stream.specs.declared.fault.Cause.{Cause}
+use Rattle.cob_report_show.specs.Elements.{named_item}
 use Rattle.cob_report_compare.specs.declared.counted.PairCounts.{PairCounts}
 use Rattle.cob_report_compare.specs.declared.files.CompareStop.{CompareStop}
 use Rattle.cob_report_compare.specs.declared.files.FileSide.{FileSide}
@@ -12,8 +13,9 @@ use Rattle.cob_report_compare.specs.declared.runs.CompareFault.{CompareFault}
 use Rattle.cob_report_compare.specs.declared.runs.CompareFault.TheVariants.{Memory, Stop, Uncounted}
 use Rattle.cob_report_compare.specs.declared.runs.CompareOptions.{CompareOptions}
 use Rattle.cob_report_compare.specs.Chosen.{compared_in}
-use Rattle.cob_report_compare.specs.Files.{is_stopped_on}
-use Rattle.cob_report_compare.specs.InOrder.{ComparesInOrder, FilePair}
+use Rattle.cob_report_compare.specs.Files.{is_reason_for, is_stopped_on}
+use Rattle.cob_report_compare.specs.Merged.{FilePair}
+use Rattle.cob_report_compare.specs.Merging.{Merges}
 use Rattle.cob_report_compare.specs.Lines.{counts_line}
 
 -- two files of this layout, compared with these options
@@ -21,6 +23,7 @@ abbrev pub files_of : Forest Resolved → CompareOptions → FilePair
 files_of tree options = record {
   tree = tree;
   items = compared_in options.ignored.now tree;
+  keys = map named_item options.keys.now;
   by_bytes = options.by_bytes;
   most = options.most;
   left_form = options.left_form;
@@ -34,14 +37,14 @@ CountsUp w0 w1 answer (Err Memory) = ⊥
 CountsUp w0 w1 answer (Err (Stop stop)) = (answer ≡ Err stop) × (w1 ≡ w0)
 CountsUp w0 w1 answer (Err Uncounted) = (counts : PairCounts) × (answer ≡ Ok counts)
 
--- Two files compared in the order of their records, with this answer, and told with their counts: for want of memory nothing was read or printed.
+-- Two files compared as their keys merge them, with this answer, and told with their counts: for want of memory nothing was read or printed.
 abbrev pub ComparesFiles : FilePair → (l0 l1 r0 r1 w0 w1 : Option (List ℕ)) → Result PairCounts CompareFault → Type 0
 ComparesFiles files l0 l1 r0 r1 w0 w1 (Ok counts) =
-    (w : Option (List ℕ)) × ComparesInOrder files l0 l1 r0 r1 w0 w (Ok counts) × Took w w1 (λ part. part ≡ counts_line counts)
+    (w : Option (List ℕ)) × Merges files l0 l1 r0 r1 w0 w (Ok counts) × Took w w1 (λ part. part ≡ counts_line counts)
 ComparesFiles files l0 l1 r0 r1 w0 w1 (Err Memory) = (l1 ≡ l0) × (r1 ≡ r0) × (w1 ≡ w0)
-ComparesFiles files l0 l1 r0 r1 w0 w1 (Err (Stop stop)) = ComparesInOrder files l0 l1 r0 r1 w0 w1 (Err stop)
+ComparesFiles files l0 l1 r0 r1 w0 w1 (Err (Stop stop)) = Merges files l0 l1 r0 r1 w0 w1 (Err stop)
 ComparesFiles files l0 l1 r0 r1 w0 w1 (Err Uncounted) =
-    (w : Option (List ℕ)) × (counts : PairCounts) × ComparesInOrder files l0 l1 r0 r1 w0 w (Ok counts)
+    (w : Option (List ℕ)) × (counts : PairCounts) × Merges files l0 l1 r0 r1 w0 w (Ok counts)
 
 -- a record of this file stops it, for a cause of this kind
 abbrev pub is_stopped_at : FileSide → (Cause → Bool) → Result PairCounts CompareFault → Bool
@@ -61,5 +64,5 @@ is_uncounted (Err Uncounted) = true
 abbrev pub is_unprinted : Result PairCounts CompareFault → Bool
 is_unprinted (Ok counts) = false
 is_unprinted (Err Memory) = false
-is_unprinted (Err (Stop stop)) = is_write_cause stop.reason.cause
+is_unprinted (Err (Stop stop)) = is_reason_for is_write_cause stop.reason
 is_unprinted (Err Uncounted) = true

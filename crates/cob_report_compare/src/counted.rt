@@ -1,10 +1,10 @@
 //! How many records of two files came, and how they compare.
 
-ghost use Rattle.std.specs.Prelude.{◌≡◌, ◌+◌, ◌<◌, IfOk};
+ghost use Rattle.std.specs.Prelude.{◌≡◌, ◌<◌};
 ghost use Rattle.cob_report_show.specs.Runs.{most_shown};
-ghost use Rattle.cob_report_compare.specs.InOrder.{with_comparison, with_left_alone, with_right_alone};
+ghost use Rattle.cob_report_compare.specs.Merged.{Alone, KeyedRecord, all_counted, none_counted, told_counted, with_comparison, with_entry};
 
-use crate::files::CompareStop;
+use crate::files::FileSide;
 use crate::records::Comparison;
 
 /// How many pairs of records there are of each kind, and how many records stand alone.
@@ -25,13 +25,7 @@ pub struct PairCounts {
 impl PairCounts {
     /// None.
     pub(crate) fn none() -> PairCounts
-        ensures { result ≡ record {
-          same = 0;
-          equal = 0;
-          differ = 0;
-          left_alone = 0;
-          right_alone = 0;
-        } }
+        ensures { result ≡ none_counted }
     {
         PairCounts {
             same: 0,
@@ -44,7 +38,7 @@ impl PairCounts {
 
     /// These, and one pair more.
     pub(crate) fn with(self, comparison: &Comparison) -> PairCounts
-        requires { self.same + self.equal + self.differ < most_shown }
+        requires { all_counted self < most_shown }
         ensures { result ≡ with_comparison self comparison.now }
     {
         match comparison {
@@ -67,36 +61,28 @@ impl PairCounts {
         }
     }
 
-    /// These, and a record that stands alone on the left with so many behind it.
-    pub(crate) fn with_left_alone(
-        self,
-        alone: Result<u64, CompareStop>,
-    ) -> Result<PairCounts, CompareStop>
-        requires { IfOk alone (λ n. n < most_shown) }
-        ensures { result ≡ with_left_alone self alone }
+    /// These, and a record more that stands alone on this side.
+    pub(crate) fn with_alone(self, side: FileSide) -> PairCounts
+        requires { all_counted self < most_shown }
+        ensures { (x : KeyedRecord) → result ≡ with_entry self (Alone side x) }
     {
-        match alone {
-            Ok(behind) => Ok(PairCounts {
-                left_alone: behind + 1,
+        match side {
+            FileSide::Left => PairCounts {
+                left_alone: self.left_alone + 1,
                 ..self
-            }),
-            Err(stop) => Err(stop),
+            },
+            FileSide::Right => PairCounts {
+                right_alone: self.right_alone + 1,
+                ..self
+            },
         }
     }
 
-    /// These, and so many records that stand alone on the right.
-    pub(crate) fn with_right_alone(
-        self,
-        alone: Result<u64, CompareStop>,
-    ) -> Result<PairCounts, CompareStop>
-        ensures { result ≡ with_right_alone self alone }
+    /// How many of them are told.
+    pub(crate) fn told(self) -> u64
+        requires { all_counted self < most_shown }
+        ensures { result ≡ told_counted self }
     {
-        match alone {
-            Ok(right_alone) => Ok(PairCounts {
-                right_alone,
-                ..self
-            }),
-            Err(stop) => Err(stop),
-        }
+        self.differ + self.left_alone + self.right_alone
     }
 }

@@ -24,7 +24,7 @@ pub struct ComparedRecord<'a> {
 }
 
 /// The place of an element that is there.
-fn place_of(compared: ComparedRecord, item: &ListedItem, reference: &Ref) -> Place
+pub(crate) fn place_of(compared: ComparedRecord, item: &ListedItem, reference: &Ref) -> Place
     requires laid { IsLaidOut (printed_of compared) }
     requires node { reference.now.node ≡ item.now.number }
     requires stands { StandsWithin (printed_of compared) (named_item item.now)

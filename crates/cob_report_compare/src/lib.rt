@@ -6,8 +6,8 @@
 //! - [`compare_records`] compares two records of one layout. It looks at their bytes first, and at items only where these are not the same. It takes no
 //!   memory.
 //! - [`compare_bytes`] compares two records by their bytes.
-//! - [`compare_files`] compares the records of two files in the order in which they come, prints what differs, and counts them. It asks for memory before the
-//!   first record alone.
+//! - [`key_items`] are the items of a key. [`compare_files`] compares the records of two files, those of one key or, without a key, in the order in which they
+//!   come, prints what differs, and counts them. It asks for memory before the first record alone.
 //!
 //! What is promised of [`compare_records`] (its clause `is`, by `IsComparison` of specs/Differences.antt):
 //!
@@ -21,22 +21,27 @@
 //! That records with the same bytes are equal by value is the law [`same_bytes_are_equal`]. Of [`compare_bytes`] it is promised that it answers that two records
 //! are the same exactly where their bytes are, and else hands out the first bytes that differ (`IsBytesComparison`).
 //!
-//! What is promised of [`compare_files`] (its clause `compares`, by `ComparesInOrder` of specs/InOrder.antt):
+//! What is promised of [`compare_files`] (its clause `compares`, by `Merges` of specs/Merging.antt):
 //!
-//! - the records that came are pairs, each the next of either file, whole and legible as [`show`](cob_report_show::show) reads them, each compared as above;
-//!   behind them records stand alone on one side at most, and both files are at their end;
-//! - the answer says how many pairs there are of each kind, and how many records stand alone (`ArePairCounts`);
-//! - what is printed are the lines of the pairs that differ and of the records that stand alone, in their order, of at most so many records (`AreLines`), and
-//!   behind them the line with the counts (`counts_line`). The lines of a pair are its number, and each difference that is handed out with both values, as
-//!   [`show`](cob_report_show::show) prints them (`AreComparedRecordLines` of specs/Lines.antt);
-//! - or it names the first record that stops it, by its file, its number and the reason, and the definition says what was read of the other file (`StopsOn`).
-//!   Where it is the printing of a record's lines that failed, what the sink took is not told (`StopsPrinting`);
+//! - each record that came is whole and legible as [`show`](cob_report_show::show) reads it, has its key, and does not stand below the one before it
+//!   (`FileSoFar` of specs/Files.antt). It stands in one entry, in the order of its file: a pair, compared as above, or alone;
+//! - the next records of both files are a pair where they have one key, and else the lesser stands alone (`AreMerged` of specs/Merged.antt). Keys are ordered by
+//!   the first of their items that are not alike: numbers by their values, characters by their bytes (`key_order` of specs/Keys.antt). Without a key they are
+//!   pairs in their order, and behind them records of one file stand alone: the law [`without_key_in_order`];
+//! - the answer says how many pairs there are of each kind, and how many records stand alone (`counts_of`), and both files are at their end. Pairs and records
+//!   alone are as many as the records of their file: the law [`each_record_stands_once`];
+//! - what is printed are the lines of the pairs that differ and of the records that stand alone, in their order, of at most so many records
+//!   (`AreEntryLines`), and behind them the line with the counts (`counts_line`). The lines of a pair are its numbers and its key, and each difference that is
+//!   handed out with both values, as [`show`](cob_report_show::show) prints them (`AreComparedRecordLines` of specs/Lines.antt);
+//! - or it names the first record that stops it, by its file, its number and the reason (`StopsFile`), and the definition says what was read of the other file
+//!   (`StopsOn`). A key stops it exactly where an item of it is no number, or it stands below the one before it. Where it is the printing of a record's lines
+//!   that failed, what the sink took is not told (`StopsPrinting`);
 //! - a read or a write failed exactly where the answer says so (`left_reads`, `right_reads`, `writes`), and where memory is refused nothing was read or printed.
 //!
 //! # Where it is proved
 //!
 //! The clauses `compares`, `left_reads`, `right_reads`, `writes` of `compare_files`; the clauses `is` of `compare_records` and `compare_bytes`; the clause `items`
-//! of `compared_items`; the law `same_bytes_are_equal`.
+//! of `compared_items`; the clause `keys` of `key_items`; the laws `same_bytes_are_equal`, `each_record_stands_once`, `without_key_in_order`.
 #![tactic(auto)]
 
 mod bytes;
@@ -45,11 +50,16 @@ mod counted;
 mod differences;
 mod elements;
 mod files;
-mod in_order;
+mod headings;
+mod heads;
+mod keys;
 mod laws;
 mod lines;
+mod merging;
+mod pairs;
 mod records;
 mod runs;
+mod turns;
 mod values;
 
 pub use bytes::{ByteDifference, FirstBytes};
@@ -57,7 +67,8 @@ pub use chosen::compared_items;
 pub use counted::PairCounts;
 pub use differences::{Difference, FirstDifferences, MOST_TOLD};
 pub use elements::ComparedRecord;
-pub use files::{CompareStop, FileSide};
-pub use laws::same_bytes_are_equal;
+pub use files::{CompareStop, FileSide, StopReason};
+pub use keys::{MOST_KEYS, key_items};
+pub use laws::{each_record_stands_once, same_bytes_are_equal, without_key_in_order};
 pub use records::{Comparison, compare_bytes, compare_records};
 pub use runs::{CompareFault, CompareOptions, compare_files};

@@ -11,13 +11,16 @@ ghost use Rattle.cob_report_show.specs.Elements.{named_item};
 ghost use Rattle.cob_report_show.specs.Runs.{most_shown};
 ghost use Rattle.cob_report_show.specs.Values.{AreQuoted, AreUnknown, IsNumberShown, IsNumberValue, IsValueShown};
 ghost use Rattle.cob_report_compare.specs.Differences.{plain_difference};
-ghost use Rattle.cob_report_compare.specs.Lines.{AreDifferenceLines, AreComparedElementLines, AreComparedRecordLines, AreBytesShown, AreValuesShown, IfTold, IsDifferenceLine, alone_line, byte_line, counts_line, header_line, lengths_text, more_line, place_text, unlike_lines};
+ghost use Rattle.cob_report_compare.specs.Lines.{AreDifferenceLines, AreComparedElementLines, AreComparedRecordLines, AreBytesShown, AreValuesShown, IfTold, IsDifferenceLine, IsAloneLine, IsHeaded, alone_end, byte_line, counts_line, header_end, lengths_text, more_line, place_text, unlike_lines};
+ghost use Rattle.cob_report_compare.specs.Headings.{IsPlainHeading, heading_text};
+ghost use Rattle.cob_report_compare.specs.Merged.{lefts_counted, rights_counted};
 ghost use Rattle.cob_report_compare.specs.Printable.{ArePrintable, IsPrintable, IsTellable};
 
 use crate::bytes::{ByteDifference, FirstBytes};
 use crate::counted::PairCounts;
 use crate::differences::{Difference, FirstDifferences};
 use crate::files::FileSide;
+use crate::headings::{Heading, put_heading};
 use crate::records::Comparison;
 use arrayvec::ArrayVec;
 use cob_layout::{Item, field, is_number_item};
@@ -28,7 +31,7 @@ use cob_report_show::{
 use itoa::Buffer;
 
 /// Prints a text.
-fn put_text<W: Sink>(sink: &mut W, text: &[u8]) -> Result<(), RecordFault>
+pub(crate) fn put_text<W: Sink>(sink: &mut W, text: &[u8]) -> Result<(), RecordFault>
     requires some { 0 < length text.now }
     requires most { length text.now ≤ longest_record }
     ensures text { OnOk result (Took (W.taken sink.old) (W.taken sink.new) (λ part. part ≡ text.now)) }
@@ -102,7 +105,7 @@ fn put_number<W: Sink>(sink: &mut W, item: &Item, bytes: &[u8]) -> Result<(), Re
 }
 
 /// Prints the value of an item.
-fn put_value<W: Sink>(sink: &mut W, item: &Item, bytes: &[u8]) -> Result<(), RecordFault>
+pub(crate) fn put_value<W: Sink>(sink: &mut W, item: &Item, bytes: &[u8]) -> Result<(), RecordFault>
     requires long { length bytes.now ≡ item_size item.now }
     ensures text { OnOk result (Took (W.taken sink.old) (W.taken sink.new) (IsValueShown item.now bytes.now)) }
     ensures kind { IfErr result (λ fault. is_write_fault fault ≡ true) }
@@ -236,22 +239,14 @@ fn push_lengths(line: &mut ListingLine, left: usize, right: usize)
     push_text(line, buffer.format(right as u64).as_bytes());
 }
 
-/// Prints the line before the differences of two records of one number and of these lengths.
-fn put_header<W: Sink>(
-    sink: &mut W,
-    number: u64,
-    left: usize,
-    right: usize,
-) -> Result<(), RecordFault>
+/// Ends the line before the differences of two records of these lengths.
+fn put_header_end<W: Sink>(sink: &mut W, left: usize, right: usize) -> Result<(), RecordFault>
     ensures text { OnOk result (Took (W.taken sink.old) (W.taken sink.new)
-        (λ part. part ≡ header_line number left right)) }
+        (λ part. part ≡ header_end left right)) }
     ensures kind { IfErr result (λ fault. is_write_fault fault ≡ true) }
     ensures cause { W.failures sink.new ≡ counted (is_err result) (W.failures sink.old) }
 {
-    let mut buffer = Buffer::new();
     let mut line = ListingLine::new();
-    push_text(&mut line, b"record ");
-    push_text(&mut line, buffer.format(number).as_bytes());
     push_lengths(&mut line, left, right);
     line.push(b'\n');
     put_text(sink, line.as_slice())
@@ -305,108 +300,126 @@ fn put_bytes<W: Sink>(sink: &mut W, bytes: &[ByteDifference]) -> Result<(), Reco
     Ok(())
 }
 
-/// Prints the lines of two records of one number that are not equal by value.
+/// Prints the lines behind the heading of two records that are not equal by value.
 fn put_elements<W: Sink>(
     sink: &mut W,
-    number: u64,
     left: &[u8],
     right: &[u8],
     told: &FirstDifferences,
 ) -> Result<(), RecordFault>
     requires { ArePrintable left.now right.now (map plain_difference told.now.first.items) }
     ensures text { OnOk result (Took (W.taken sink.old) (W.taken sink.new)
-        (AreComparedElementLines number left.now right.now told.now)) }
+        (AreComparedElementLines left.now right.now told.now)) }
     ensures kind { IfErr result (λ fault. is_write_fault fault ≡ true) }
     ensures cause { W.failures sink.new ≡ counted (is_err result) (W.failures sink.old) }
 {
     let differences = told.first.as_slice();
-    put_header(sink, number, left.len(), right.len())?;
+    put_header_end(sink, left.len(), right.len())?;
     put_differences(sink, left, right, differences)?;
     put_more(sink, told.count.saturating_sub(differences.len() as u64))
 }
 
-/// Prints the lines of two records of one number that have not the same bytes.
+/// Prints the lines behind the heading of two records that have not the same bytes.
 fn put_unlike<W: Sink>(
     sink: &mut W,
-    number: u64,
     left: &[u8],
     right: &[u8],
     told: &FirstBytes,
 ) -> Result<(), RecordFault>
     ensures text { OnOk result (Took (W.taken sink.old) (W.taken sink.new)
-        (λ part. part ≡ unlike_lines number left.now right.now told.now)) }
+        (λ part. part ≡ unlike_lines left.now right.now told.now)) }
     ensures kind { IfErr result (λ fault. is_write_fault fault ≡ true) }
     ensures cause { W.failures sink.new ≡ counted (is_err result) (W.failures sink.old) }
 {
     let bytes = told.first.as_slice();
-    put_header(sink, number, left.len(), right.len())?;
+    put_header_end(sink, left.len(), right.len())?;
     put_bytes(sink, bytes)?;
     put_more(sink, told.count.saturating_sub(bytes.len()) as u64)
 }
 
-/// Prints the lines of two records of one number that were compared: none where they are equal.
+/// Prints the lines of two records that are not equal by value.
+fn put_differing<W: Sink>(
+    sink: &mut W,
+    heading: &Heading,
+    left: &[u8],
+    right: &[u8],
+    told: &FirstDifferences,
+) -> Result<(), RecordFault>
+    requires heading { IsPlainHeading heading.now }
+    requires told { ArePrintable left.now right.now (map plain_difference told.now.first.items) }
+    ensures text { OnOk result (Took (W.taken sink.old) (W.taken sink.new)
+        (IsHeaded (heading_text heading.now) (AreComparedElementLines left.now right.now told.now))) }
+    ensures kind { IfErr result (λ fault. is_write_fault fault ≡ true) }
+    ensures cause { W.failures sink.new ≡ counted (is_err result) (W.failures sink.old) }
+{
+    put_heading(sink, heading)?;
+    put_elements(sink, left, right, told)
+}
+
+/// Prints the lines of two records that have not the same bytes.
+fn put_unequal<W: Sink>(
+    sink: &mut W,
+    heading: &Heading,
+    left: &[u8],
+    right: &[u8],
+    told: &FirstBytes,
+) -> Result<(), RecordFault>
+    requires heading { IsPlainHeading heading.now }
+    ensures text { OnOk result (Took (W.taken sink.old) (W.taken sink.new)
+        (IsHeaded (heading_text heading.now) (λ rest. rest ≡ unlike_lines left.now right.now told.now))) }
+    ensures kind { IfErr result (λ fault. is_write_fault fault ≡ true) }
+    ensures cause { W.failures sink.new ≡ counted (is_err result) (W.failures sink.old) }
+{
+    put_heading(sink, heading)?;
+    put_unlike(sink, left, right, told)
+}
+
+/// Prints the lines of two records that were compared: none where they are equal.
 fn put_comparison<W: Sink>(
     sink: &mut W,
-    number: u64,
+    heading: &Heading,
     left: &[u8],
     right: &[u8],
     comparison: &Comparison,
 ) -> Result<(), RecordFault>
-    requires { IsTellable left.now right.now comparison.now }
+    requires heading { IsPlainHeading heading.now }
+    requires tells { IsTellable left.now right.now comparison.now }
     ensures text { OnOk result (Took (W.taken sink.old) (W.taken sink.new)
-        (AreComparedRecordLines number left.now right.now comparison.now)) }
+        (AreComparedRecordLines (heading_text heading.now) left.now right.now comparison.now)) }
     ensures kind { IfErr result (λ fault. is_write_fault fault ≡ true) }
     ensures cause { W.failures sink.new ≡ counted (is_err result) (W.failures sink.old) }
 {
     match comparison {
         Comparison::Same => Ok(()),
         Comparison::Equal => Ok(()),
-        Comparison::Differ(told) => put_elements(sink, number, left, right, told),
-        Comparison::Unlike(told) => put_unlike(sink, number, left, right, told),
+        Comparison::Differ(told) => put_differing(sink, heading, left, right, told),
+        Comparison::Unlike(told) => put_unequal(sink, heading, left, right, told),
     }
 }
 
-/// Prints the line of a record that stands alone on the left.
-fn put_left_alone<W: Sink>(sink: &mut W, number: u64) -> Result<(), RecordFault>
+/// Prints the end of the line of a record that stands alone.
+fn put_alone_end<W: Sink>(sink: &mut W, side: FileSide) -> Result<(), RecordFault>
     ensures text { OnOk result (Took (W.taken sink.old) (W.taken sink.new)
-        (λ part. part ≡ alone_line FileSide.Left number)) }
-    ensures kind { IfErr result (λ fault. is_write_fault fault ≡ true) }
-    ensures cause { W.failures sink.new ≡ counted (is_err result) (W.failures sink.old) }
-{
-    let mut buffer = Buffer::new();
-    let mut line = ListingLine::new();
-    push_text(&mut line, b"record ");
-    push_text(&mut line, buffer.format(number).as_bytes());
-    push_text(&mut line, b": left alone\n");
-    put_text(sink, line.as_slice())
-}
-
-/// Prints the line of a record that stands alone on the right.
-fn put_right_alone<W: Sink>(sink: &mut W, number: u64) -> Result<(), RecordFault>
-    ensures text { OnOk result (Took (W.taken sink.old) (W.taken sink.new)
-        (λ part. part ≡ alone_line FileSide.Right number)) }
-    ensures kind { IfErr result (λ fault. is_write_fault fault ≡ true) }
-    ensures cause { W.failures sink.new ≡ counted (is_err result) (W.failures sink.old) }
-{
-    let mut buffer = Buffer::new();
-    let mut line = ListingLine::new();
-    push_text(&mut line, b"record | ");
-    push_text(&mut line, buffer.format(number).as_bytes());
-    push_text(&mut line, b": right alone\n");
-    put_text(sink, line.as_slice())
-}
-
-/// Prints the line of a record that stands alone.
-fn put_alone<W: Sink>(sink: &mut W, side: FileSide, number: u64) -> Result<(), RecordFault>
-    ensures text { OnOk result (Took (W.taken sink.old) (W.taken sink.new)
-        (λ part. part ≡ alone_line side number)) }
+        (λ part. part ≡ alone_end side)) }
     ensures kind { IfErr result (λ fault. is_write_fault fault ≡ true) }
     ensures cause { W.failures sink.new ≡ counted (is_err result) (W.failures sink.old) }
 {
     match side {
-        FileSide::Left => put_left_alone(sink, number),
-        FileSide::Right => put_right_alone(sink, number),
+        FileSide::Left => put_text(sink, b": left alone\n"),
+        FileSide::Right => put_text(sink, b": right alone\n"),
     }
+}
+
+/// Prints the line of a record that stands alone.
+fn put_alone<W: Sink>(sink: &mut W, heading: &Heading, side: FileSide) -> Result<(), RecordFault>
+    requires heading { IsPlainHeading heading.now }
+    ensures text { OnOk result (Took (W.taken sink.old) (W.taken sink.new)
+        (IsAloneLine side (heading_text heading.now))) }
+    ensures kind { IfErr result (λ fault. is_write_fault fault ≡ true) }
+    ensures cause { W.failures sink.new ≡ counted (is_err result) (W.failures sink.old) }
+{
+    put_heading(sink, heading)?;
+    put_alone_end(sink, side)
 }
 
 /// Prints the lines of two records that were compared, where fewer were told before than at most.
@@ -414,19 +427,20 @@ pub(crate) fn tell_comparison<W: Sink>(
     sink: &mut W,
     most: u64,
     told: u64,
-    number: u64,
+    heading: &Heading,
     left: &[u8],
     right: &[u8],
     comparison: &Comparison,
 ) -> Result<(), RecordFault>
-    requires { IsTellable left.now right.now comparison.now }
+    requires heading { IsPlainHeading heading.now }
+    requires tells { IsTellable left.now right.now comparison.now }
     ensures text { OnOk result (Took (W.taken sink.old) (W.taken sink.new)
-        (IfTold most told (AreComparedRecordLines number left.now right.now comparison.now))) }
+        (IfTold most told (AreComparedRecordLines (heading_text heading.now) left.now right.now comparison.now))) }
     ensures kind { IfErr result (λ fault. is_write_fault fault ≡ true) }
     ensures cause { W.failures sink.new ≡ counted (is_err result) (W.failures sink.old) }
 {
     if told < most {
-        put_comparison(sink, number, left, right, comparison)
+        put_comparison(sink, heading, left, right, comparison)
     } else {
         Ok(())
     }
@@ -437,16 +451,17 @@ pub(crate) fn tell_alone<W: Sink>(
     sink: &mut W,
     most: u64,
     told: u64,
+    heading: &Heading,
     side: FileSide,
-    number: u64,
 ) -> Result<(), RecordFault>
+    requires heading { IsPlainHeading heading.now }
     ensures text { OnOk result (Took (W.taken sink.old) (W.taken sink.new)
-        (IfTold most told (λ line. line ≡ alone_line side number))) }
+        (IfTold most told (IsAloneLine side (heading_text heading.now)))) }
     ensures kind { IfErr result (λ fault. is_write_fault fault ≡ true) }
     ensures cause { W.failures sink.new ≡ counted (is_err result) (W.failures sink.old) }
 {
     if told < most {
-        put_alone(sink, side, number)
+        put_alone(sink, heading, side)
     } else {
         Ok(())
     }
@@ -465,8 +480,8 @@ fn push_count(line: &mut ListingLine, words: &[u8], number: u64)
 
 /// Prints the line with the counts.
 pub(crate) fn put_counts<W: Sink>(sink: &mut W, counts: PairCounts) -> Result<(), RecordFault>
-    requires left { counts.same + counts.equal + counts.differ + counts.left_alone ≤ most_shown }
-    requires right { counts.same + counts.equal + counts.differ + counts.right_alone ≤ most_shown }
+    requires left { lefts_counted counts ≤ most_shown }
+    requires right { rights_counted counts ≤ most_shown }
     ensures text { OnOk result (Took (W.taken sink.old) (W.taken sink.new)
         (λ part. part ≡ counts_line counts)) }
     ensures kind { IfErr result (λ fault. is_write_fault fault ≡ true) }

@@ -1,5 +1,0 @@
-use Rattle.std.proofs.Common.{length}
-use Rattle.cob_program_compare.proofs.ignored.+add_numbers.Given as goal
-
-abbrev pub decreases-add_numbers : goal.decreases-add_numbers
-decreases-add_numbers l = length l.words.now
