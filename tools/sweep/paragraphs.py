@@ -59,13 +59,14 @@ class Paragraph:
     def statement(self, statement):
         """The moves of a statement."""
         self.line, sender, receivers = statement.line, statement.sender, statement.receivers
+        found = self.corresponding(sender, receivers[0]) if statement.together else [self.single(sender, receivers)]
         self.count += 1
         if self.is_tested and self.count > MOST_WRITTEN_OUT:
             raise TooMany("M12", self.first_loop)
-        return self.corresponding(sender, receivers[0]) if statement.together else [self.single(sender, receivers)]
+        return found
 
     def tested(self, loop, numbers):
-        """A loop to an item: the turns up to the greatest number whose turn is legal. The first one has to be."""
+        """A loop to an item: the turns up to the greatest number whose turn is legal. The first one has to be. Those that BY passes over count too."""
         self.line = loop.line
         side, bound = self.reference(bound_in_turn(loop, numbers, self.bearers))
         if bound.entry.category != "numeric" or bound.entry.picture.scale != 0:
@@ -84,8 +85,6 @@ class Paragraph:
                 return Tested(side, bound, number - 1, turns, loop.first + len(turns) * loop.step)
             if (number - loop.first) % loop.step == 0:
                 turns.append((number, deeds))
-            else:
-                self.count = before
             number += 1
             if number > loop.first + MOST_BYTES:
                 raise Refused("M11", loop.line)

@@ -47,6 +47,7 @@ empty_made r = record {
   bounds = tt;
   flows = λ on f. record { each = tt; nested = refl };
   parted = λ on f. tt;
+  few = omega arith;
 }
 
 -- ---- why they are not read
@@ -158,11 +159,11 @@ made_ready r m d own is comes whole straight =
 
 -- statements, and nothing else
 abbrev pub list_made : List StatementMoves → MadeLists
-list_made list = record { list = list; ends = []; bounds = []; flows = [] }
+list_made list = record { list = list; ends = []; bounds = []; flows = []; read = 0 }
 
 -- nothing made yet, with these statements in its place
-pub set_list : (new : Made) (list : Vec StatementMoves) → made_lists new ≡ nothing_made → made_lists (record { list = list; ends = new.ends; bounds = new.bounds; flows = new.flows }) ≡ list_made list.items
-set_list new list none = λ i. record { list = list.items; ends = (none i).ends; bounds = (none i).bounds; flows = (none i).flows }
+pub set_list : (new : Made) (list : Vec StatementMoves) → made_lists new ≡ nothing_made → made_lists (record { list = list; ends = new.ends; bounds = new.bounds; flows = new.flows; read = new.read }) ≡ list_made list.items
+set_list new list none = λ i. record { list = list.items; ends = (none i).ends; bounds = (none i).bounds; flows = (none i).flows; read = (none i).read }
 
 pub list_is_made : (r : Records) (list : List StatementMoves) → AreMoves r (moves r list) → IsMade r (list_made list)
 list_is_made r list given = record {
@@ -172,6 +173,7 @@ list_is_made r list given = record {
   bounds = tt;
   flows = λ on f. record { each = tt; nested = refl };
   parted = λ on f. tt;
+  few = omega arith;
 }
 
 pub list_ready : (r : Records) (list : List StatementMoves) (m : MadeLists) (d : ReadyDeeds) → m ≡ list_made list → IsReadied r m d → (deeds_of r d ≡ open_deeds r list) × AreReady r d

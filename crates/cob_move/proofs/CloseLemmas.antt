@@ -155,6 +155,7 @@ none_made true r m is = record {
   bounds = is.bounds;
   flows = λ on f. record { each = tt; nested = refl };
   parted = λ on f. tt;
+  few = is.few;
 }
 none_made false r m is = record {
   moves = is.moves;
@@ -163,10 +164,19 @@ none_made false r m is = record {
   bounds = is.bounds;
   flows = λ on f. record { each = tt; nested = refl };
   parted = λ on f. tt;
+  few = is.few;
 }
 
 pub closed_made : (r : Records) (m : MadeLists) → IsMade r m → IsMade r (without_flows (closed m))
 closed_made r m is = none_made (nat_eq (length m.list) (last_marked 0 m.ends)) r m is
+
+-- a mark reads no statement
+pub closed_read : (m : MadeLists) → (closed m).read ≡ m.read
+closed_read m = read_where (nat_eq (length m.list) (last_marked 0 m.ends)) m
+  where
+    read_where : (b : Bool) (m : MadeLists) → (closed_where b m).read ≡ m.read
+    read_where true m = refl
+    read_where false m = refl
 
 -- ---- the last mark
 

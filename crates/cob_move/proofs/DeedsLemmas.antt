@@ -121,18 +121,15 @@ loop_one reference named all ns l (ToItem ws) meant one f g count other d e m n 
     let same = bound_one reference named all (in_turn ns false 0 ws) t s is si in
     let most : t.most ≡ s.most = most_one l.from t.most s.most (λ i. (k : Deeds Past) × (c : ℕ) × meant i k c) first tsrif
     (λ i low high. (f i, count i, are i low high)) (λ (k, c, x). none k c x) (λ i low high. (g i, other i, era i low high)) (λ (k, c, x). enon k c x) in
-    let turn : (k : ℕ) → k < turns_between l.from l.by t.most → (f (l.from + k * l.by) ≡ g (l.from + k * l.by)) × (count (l.from + k * l.by) ≡ other (l.from + k * l.by)) =
-    λ k less.
-    let i = l.from + k * l.by in
-    let within : i ≤ t.most = turn_within l.from l.by t.most k first less in
-    let low : l.from ≤ i = omega arith in
-    one i (f i) (g i) (count i) (other i) (are i low within) (era i low (omega (arith, within, most))) in
+    let turn : (i : ℕ) → l.from ≤ i → i ≤ t.most → (f i ≡ g i) × (count i ≡ other i) =
+    λ i low within. one i (f i) (g i) (count i) (other i) (are i low within) (era i low (omega (arith, within, most))) in
     let tests : with_number t ≡ with_number s = λ j i. record { number = i; most = most j; side = same.0 j; bound = same.1 j } in (
-      d_is ∙ tested_same (with_number t) f g l.by (turns_between l.from l.by t.most) l.from (λ k less. (turn k less).0)
+      d_is ∙ tested_same (with_number t) f g l.by (turns_between l.from l.by t.most) l.from
+          (λ k less. (turn (l.from + k * l.by) (omega arith) (turn_within l.from l.by t.most k first less)).0)
           ∙ ap (λ (u : ℕ → Past). turns_from u g l.by (turns_between l.from l.by t.most) l.from) tests
           ∙ ap (λ (k : ℕ). turns_from (with_number s) g l.by (turns_between l.from l.by k) l.from) most ∙ sym e_is,
-      m_is ∙ counted_same count other l.by (turns_between l.from l.by t.most) l.from (λ k less. (turn k less).1)
-          ∙ ap (λ (k : ℕ). count_of_turns other l.by (turns_between l.from l.by k) l.from) most ∙ sym n_is,
+      m_is ∙ counted_same count other 1 (t.most + 1 - l.from) l.from (λ k less. (turn (l.from + k * 1) (omega arith) (omega (arith, less))).1)
+          ∙ ap (λ (k : ℕ). count_of_turns other 1 (k + 1 - l.from) l.from) most ∙ sym n_is,
     )
 
 pub deeds_one : OneListOfEnded → OneMeant → OneReference → OneNamed → (all : List Candidate) (input output : Forest Resolved) (ns : List Counted) (p : Passage) (d e : Deeds Past) (m n : ℕ)

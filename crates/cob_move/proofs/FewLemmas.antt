@@ -1,5 +1,5 @@
 -- Few statements come first: those of what is read, and of what is not.
-use Rattle.std.proofs.Common.{◌≡◌, ◌⊎◌, inl, inr, false, ℕ, zero, suc, ◌+◌, ◌*◌, ◌<◌, ◌≤◌, List, [], ◌∷◌, ◌++◌, length, refl, sym, ap, subst, ◌∙◌, arith}
+use Rattle.std.proofs.Common.{◌≡◌, ◌⊎◌, inl, inr, false, ℕ, zero, suc, ◌+◌, ◌-◌, ◌*◌, ◌<◌, ◌≤◌, List, [], ◌∷◌, ◌++◌, length, refl, sym, ap, subst, ◌∙◌, arith}
 use Rattle.std.proofs.Math.Nat.{suc-mul}
 use Rattle.cob_limits.specs.Limits.{longest_record, most_written_out}
 use Rattle.cob_source.specs.Tokens.{Lexeme}
@@ -210,43 +210,34 @@ kept_below from by (suc kept) behind next k is less =
     let few : k * by ≤ kept * by = mul_within k kept by (omega (arith, less)) in
     omega (arith, is.at, is.last (omega arith), suc-mul kept by, few)
 
--- so many turns are kept before a number, in one way
-kept_one : (from by kept behind next k : ℕ) → AreKept from by kept behind next → behind ≤ from + k * by → ((j : ℕ) → j < k → from + j * by < behind) → k ≡ kept
-kept_one from by kept behind next k is over below = elim (either_side k kept) [
-  | inl less ↦ absurd (omega (arith, over, kept_below from by kept behind next k is less))
-  | inr above ↦ elim (either_side kept k) [
-    | inl more ↦ absurd (omega (arith, below kept more, is.below, is.at))
-    | inr same ↦ omega (arith, above, same)
-  ]
-]
-
 -- turns that are read are counted as they come
-counts_read : OneDeeds → (e : Entries) (ns : List Counted) (l : WrittenLoop) (p : Passage) (count other : ℕ → ℕ) (f : ℕ → Deeds Past) (behind n : ℕ) → ((i : ℕ) → l.from ≤ i → i < behind → PassageComesTo e (in_its_turn ns l i) p (f i) (other i))
-    → ((i : ℕ) → l.from ≤ i → i < behind → (d : Deeds Past) × PassageComesTo e (in_its_turn ns l i) p d (count i)) → ((k : ℕ) → k < n → l.from + k * l.by < behind)
-    → count_of_turns count l.by n l.from ≡ count_of_turns other l.by n l.from
-counts_read law e ns l p count other f behind n are whole below =
-    counted_same count other l.by n l.from (λ k less.
-    let i = l.from + k * l.by in
-    let (d, comes) = whole i (omega arith) (below k less) in
-    count_one law e (in_its_turn ns l i) p d (f i) (count i) (other i) comes (are i (omega arith) (below k less)))
+counts_read : OneDeeds → (e : Entries) (ns : List Counted) (l : WrittenLoop) (p : Passage) (count other : ℕ → ℕ) (f : ℕ → Deeds Past) (behind : ℕ)
+    → ((i : ℕ) → l.from ≤ i → i < behind → PassageComesTo e (in_its_turn ns l i) p (f i) (other i))
+    → ((i : ℕ) → l.from ≤ i → i < behind → (d : Deeds Past) × PassageComesTo e (in_its_turn ns l i) p d (count i))
+    → count_of_turns count 1 (behind - l.from) l.from ≡ count_of_turns other 1 (behind - l.from) l.from
+counts_read law e ns l p count other f behind are whole =
+    counted_same count other 1 (behind - l.from) l.from (λ k less.
+    let i = l.from + k * 1 in
+    let below : i < behind = omega (arith, less) in
+    let (d, comes) = whole i (omega arith) below in
+    count_one law e (in_its_turn ns l i) p d (f i) (count i) (other i) comes (are i (omega arith) below))
 
 pub below_few_first : (e : Entries) (ns : List Counted) (l : WrittenLoop) (p : Passage) (n : ℕ) → FewWith (λ many. FirstBelow e ns l p l.from many) n
-below_few_first e ns l p n fits many (i, own, kept, count, low, less, whole, over, below, part, is) = absurd (omega (arith, low, less))
+below_few_first e ns l p n fits many (i, own, count, low, less, whole, part, is) = absurd (omega (arith, low, less))
 
 -- one number more
-pub below_few_next : OneDeeds → (e : Entries) (ns : List Counted) (l : WrittenLoop) (p : Passage) (behind next kept old now : ℕ) (f : ℕ → Deeds Past) (other : ℕ → ℕ) → AreKept l.from l.by kept behind next
-    → ((i : ℕ) → l.from ≤ i → i < behind → PassageComesTo e (in_its_turn ns l i) p (f i) (other i)) → now ≡ old + count_of_turns other l.by kept l.from
+pub below_few_next : OneDeeds → (e : Entries) (ns : List Counted) (l : WrittenLoop) (p : Passage) (behind old now : ℕ) (f : ℕ → Deeds Past) (other : ℕ → ℕ)
+    → ((i : ℕ) → l.from ≤ i → i < behind → PassageComesTo e (in_its_turn ns l i) p (f i) (other i)) → now ≡ old + count_of_turns other 1 (behind - l.from) l.from
     → (old ≤ most_written_out → now ≤ most_written_out) → FewWith (λ many. FirstIn e (in_its_turn ns l behind) p many) now → FewWith (λ many. FirstBelow e ns l p behind many) old
     → FewWith (λ many. FirstBelow e ns l p (behind + 1) many) old
-below_few_next law e ns l p behind next kept old now f other are_kept are size fits few before le many (i, own, k, count, low, less, whole, over, below, part, is) = elim (either_side i behind) [
-  | inl first ↦ before le many (i, own, k, count, low, first, whole, over, below, part, is)
+below_few_next law e ns l p behind old now f other are size fits few before le many (i, own, count, low, less, whole, part, is) = elim (either_side i behind) [
+  | inl first ↦ before le many (i, own, count, low, first, whole, part, is)
   | inr above ↦
       let same : i ≡ behind = omega (arith, above, less) in
-      let one : k ≡ kept = kept_one l.from l.by kept behind next k are_kept (omega (arith, over, same)) (λ j lt. omega (arith, below j lt, same)) in
-      let counted : count_of_turns count l.by k l.from ≡ count_of_turns other l.by k l.from =
-      counts_read law e ns l p count other f behind k are (λ j low lt. whole j low (omega (arith, lt, same))) (λ j lt. omega (arith, below j lt, same)) in
+      let counted : count_of_turns count 1 (behind - l.from) l.from ≡ count_of_turns other 1 (behind - l.from) l.from =
+      counts_read law e ns l p count other f behind are (λ j low lt. whole j low (omega (arith, lt, same))) in
       let within = few (fits le) own (subst (λ (t : ℕ). FirstIn e (in_its_turn ns l t) p own) same part) in
-      omega (arith, within, size, is, counted, ap (λ (t : ℕ). count_of_turns other l.by t l.from) one)
+      omega (arith, within, size, is, counted, ap (λ (t : ℕ). count_of_turns count 1 (t - l.from) l.from) same)
 ]
 
 first_to_item : (e : Entries) (ns : List Counted) (l : WrittenLoop) (p : Passage) (ws : List Lexeme) (many : ℕ) → l.bound ≡ ToItem ws → FirstInLoop e ns l p many
@@ -258,26 +249,26 @@ first_to_item e ns l p ws many bound first =
 pub item_few : (e : Entries) (ns : List Counted) (l : WrittenLoop) (p : Passage) (ws : List Lexeme) (behind old : ℕ) → l.bound ≡ ToItem ws → l.from ≤ behind → ((d : Deeds Past) (c : ℕ) → PassageComesTo e (in_its_turn ns l behind) p d c → ⊥)
     → FewWith (λ many. FirstBelow e ns l p (behind + 1) many) old → FewWith (λ many. FirstInLoop e ns l p many) old
 item_few e ns l p ws behind old bound from none few le many first =
-    let (t, i, own, k, count, named, low, far, whole, over, below, part, is) = first_to_item e ns l p ws many bound first in
+    let (t, i, own, count, named, low, far, whole, part, is) = first_to_item e ns l p ws many bound first in
     elim (either_side behind i) [
       | inl past ↦
           let (d, comes) = whole behind from past in
           absurd (none d (count behind) comes)
-      | inr at ↦ few le many (i, own, k, count, low, omega (arith, at), whole, over, below, part, is)
+      | inr at ↦ few le many (i, own, count, low, omega (arith, at), whole, part, is)
     ]
 
 -- no turn comes first whose number is greater than a table may have elements
 pub far_few : (e : Entries) (ns : List Counted) (l : WrittenLoop) (p : Passage) (ws : List Lexeme) (behind old : ℕ) → l.bound ≡ ToItem ws → l.from + longest_record < behind
     → FewWith (λ many. FirstBelow e ns l p behind many) old → FewWith (λ many. FirstInLoop e ns l p many) old
 far_few e ns l p ws behind old bound past few le many first =
-    let (t, i, own, k, count, named, low, far, whole, over, below, part, is) = first_to_item e ns l p ws many bound first in
-    few le many (i, own, k, count, low, omega (arith, far, past), whole, over, below, part, is)
+    let (t, i, own, count, named, low, far, whole, part, is) = first_to_item e ns l p ws many bound first in
+    few le many (i, own, count, low, omega (arith, far, past), whole, part, is)
 
 -- nothing comes first in a loop whose bound is refused
 pub bound_few : OneReference → OneNamed → NamedBreakNoRule → (r : MoveRule) (e : Entries) (ns : List Counted) (l : WrittenLoop) (p : Passage) (ws : List Lexeme) (old : ℕ) → l.bound ≡ ToItem ws → IsBoundRefusal r (nameable e) (in_turn ns false 0 ws)
     → FewWith (λ many. FirstInLoop e ns l p many) old
 bound_few one named none r e ns l p ws old bound refused le many first =
-    let (t, i, own, k, count, is, low, far, whole, over, below, part, at) = first_to_item e ns l p ws many bound first in
+    let (t, i, own, count, is, low, far, whole, part, at) = first_to_item e ns l p ws many bound first in
     absurd (bound_refused one named none r (nameable e) (in_turn ns false 0 ws) t is refused)
 
 -- where the first turn breaks a rule, what comes first is in it
@@ -285,5 +276,8 @@ pub first_turn_few : OneDeeds → DeedsBreakNoRule → (f : MoveFault) (e : Entr
     → IsRefusedIn f e (in_its_turn ns l l.from) p → FewWith (λ many. FirstIn e (in_its_turn ns l l.from) p many) old → FewWith (λ many. FirstInLoop e ns l p many) old
 first_turn_few law unbroken f e ns l p ws old named other bound refused few =
     item_few e ns l p ws l.from old bound (omega arith) (λ d c comes. other (turn_unbroken unbroken f e (in_its_turn ns l l.from) p d c named comes refused))
-    (below_few_next law e ns l p l.from l.from 0 old old (λ i. Nothing) (λ i. 0) (record { at = omega arith; first = omega arith; below = omega arith; last = λ some. absurd (omega (arith, some)); none = λ same. refl })
-    (λ i low less. absurd (omega (arith, low, less))) (omega arith) (λ le. le) few (below_few_first e ns l p old))
+    (below_few_next law e ns l p l.from old old (λ i. Nothing) (λ i. 0) (λ i low less. absurd (omega (arith, low, less))) (omega (arith, none_before))
+    (λ le. le) few (below_few_first e ns l p old))
+  where
+    none_before : count_of_turns (λ i. 0) 1 (l.from - l.from) l.from ≡ 0
+    none_before = let none : l.from - l.from ≡ 0 = omega arith in ap (λ (n : ℕ). count_of_turns (λ i. 0) 1 n l.from) none

@@ -26,7 +26,7 @@ use Rattle.cob_move.specs.declared.made.Sizes.{Sizes}
 use Rattle.cob_move.specs.declared.entries.Entries.{Entries}
 use Rattle.cob_move.specs.Deeds.{IsRunMeant}
 use Rattle.cob_move.specs.Among.{nameable}
-use Rattle.cob_move.specs.DeedsRead.{AddsMoved, AreParted, IsNotBroken, LeavesFront, LoopRefused, MovedRefused, TurnRefused, HasGrown, IsFrontOf, IsMade, IsSizeOf, FirstInRun, MadeLists, all_deeds, last_marked, made_deeds, open_deeds, open_statements, taken_back}
+use Rattle.cob_move.specs.DeedsRead.{AddsMoved, AreParted, IsNotBroken, LeavesFront, LoopRefused, MovedRefused, TurnRefused, HasGrown, IsFrontOf, IsMade, IsSizeOf, FirstInRun, MadeLists, all_deeds, forgotten, last_marked, made_deeds, open_deeds, open_statements, taken_back}
 use Rattle.cob_move.specs.Entries.{AllMayBeNamed, records_of}
 use Rattle.cob_move.specs.Joined.{joined_deeds}
 use Rattle.cob_move.specs.Loops.{AddsRun, RunRefused}
@@ -76,12 +76,43 @@ front_taken : {A : Type 0} (xs ys more : List A) (n : ℕ) → n ≡ length xs �
 front_taken xs ys more n size e =
     ap (λ (k : ℕ). take k ys) size ∙ ap (λ t. take (length xs) t) e ∙ take-append-le (length xs) xs more (omega arith) ∙ take-length xs
 
-pub back_again : (s : Sizes) (old new : MadeLists) → IsSizeOf old s → HasGrown old new → taken_back s new ≡ old
+-- the same, but so many statements were read
+abbrev pub with_read : MadeLists → ℕ → MadeLists
+with_read m read = record { list = m.list; ends = m.ends; bounds = m.bounds; flows = m.flows; read = read }
+
+pub read_front : (m : MadeLists) (read : ℕ) (on : FlowSupport) → IsFrontOf (with_read m read) on → IsFrontOf m on
+read_front m read on f = record { reading = f.reading; statements = f.statements; marks = f.marks; bounds = f.bounds }
+
+pub read_made : (r : Records) (m : MadeLists) (read : ℕ) → read ≤ most_written_out → IsMade r m → IsMade r (with_read m read)
+read_made r m read few is = record {
+  moves = is.moves;
+  ends = is.ends;
+  behind = is.behind;
+  bounds = is.bounds;
+  flows = λ on f. is.flows on (read_front m read on f);
+  parted = λ on f. is.parted on (read_front m read on f);
+  few = few;
+}
+
+pub read_grown : (old now : MadeLists) (read : ℕ) → HasGrown old now → HasGrown old (with_read now read)
+read_grown old now read g = record { list = g.list; ends = g.ends; bounds = g.bounds; flows = g.flows }
+
+pub back_again : (s : Sizes) (old new : MadeLists) → IsSizeOf old s → HasGrown old new → taken_back s new ≡ with_read old new.read
 back_again s old new size g = λ i. record {
   list = front_taken old.list new.list g.list.0 s.list size.list g.list.1 i;
   ends = front_taken old.ends new.ends g.ends.0 s.ends size.ends g.ends.1 i;
   bounds = front_taken old.bounds new.bounds g.bounds.0 s.bounds size.bounds g.bounds.1 i;
   flows = front_taken old.flows new.flows g.flows.0 s.flows size.flows g.flows.1 i;
+  read = new.read;
+}
+
+pub forgotten_again : (s : Sizes) (old new : MadeLists) → IsSizeOf old s → HasGrown old new → forgotten s new ≡ old
+forgotten_again s old new size g = λ i. record {
+  list = front_taken old.list new.list g.list.0 s.list size.list g.list.1 i;
+  ends = front_taken old.ends new.ends g.ends.0 s.ends size.ends g.ends.1 i;
+  bounds = front_taken old.bounds new.bounds g.bounds.0 s.bounds size.bounds g.bounds.1 i;
+  flows = front_taken old.flows new.flows g.flows.0 s.flows size.flows g.flows.1 i;
+  read = size.read i;
 }
 
 -- ---- words of MOVE statements
@@ -95,9 +126,9 @@ open_more : (r : Records) (xs : List StatementMoves) (y : StatementMoves) (ys : 
 open_more r [] y ys = refl
 open_more r (x ∷ xs) y ys = ap (λ (ms : List Move). Moving ms Nothing) (moves_both r (x ∷ xs) (y ∷ ys))
 
--- the same with statements more
+-- the same with statements more, which were read
 abbrev pub with_more : MadeLists → List StatementMoves → MadeLists
-with_more m own = record { list = m.list ++ own; ends = m.ends; bounds = m.bounds; flows = m.flows }
+with_more m own = record { list = m.list ++ own; ends = m.ends; bounds = m.bounds; flows = m.flows; read = m.read + length own }
 
 pub more_grown : (m : MadeLists) (own : List StatementMoves) → HasGrown m (with_more m own)
 more_grown m own = record {
@@ -107,14 +138,15 @@ more_grown m own = record {
   flows = ([], sym (append-nil m.flows));
 }
 
-pub more_made : (r : Records) (m : MadeLists) (own : List StatementMoves) → AreMoves r (moves r own) → IsMade r m → IsMade r (with_more m own)
-more_made r m own given is = record {
+pub more_made : (r : Records) (m : MadeLists) (own : List StatementMoves) → AreMoves r (moves r own) → m.read + length own ≤ most_written_out → IsMade r m → IsMade r (with_more m own)
+more_made r m own given few is = record {
   moves = subst (λ (ms : List Move). AreMoves r ms) (sym (moves_both r m.list own)) (all_append (IsMove r) (moves r m.list) (moves r own) is.moves given);
   ends = is.ends;
   behind = omega (arith, is.behind, length-append m.list own);
   bounds = is.bounds;
   flows = λ on f. is.flows on (front_back m (with_more m own) on (more_grown m own) f);
   parted = λ on f. is.parted on (front_back m (with_more m own) on (more_grown m own) f);
+  few = few;
 }
 
 more_added : (r : Records) (m : MadeLists) (s : StatementMoves) (ss : List StatementMoves) → IsMade r m → (on : FlowSupport) → IsFrontOf (with_more m (s ∷ ss)) on
@@ -138,40 +170,56 @@ some_statements (s ∷ ss) ws some is = omega arith
 
 moved_by : (e : Entries) (ns : List Counted) (ws : List Lexeme) (m : MadeLists) (ss : List WrittenStatement) (own : List StatementMoves) → IsMade (records_of e) m
     → Several IsEndedStatement ss (in_turn ns false 0 ws) → AreMeant e.input.now e.output.now ss (moves (records_of e) own)
-    → length own ≡ length ss → 0 < length own → OneListOfEnded → length (m.list ++ own) ≤ most_written_out → AddsMoved e ns ws m (with_more m own)
+    → length own ≡ length ss → 0 < length own → OneListOfEnded → m.read + length own ≤ most_written_out → AddsMoved e ns ws m (with_more m own)
 moved_by e ns ws m ss [] is spelled meant many some one fits = absurd (omega (arith, some))
 moved_by e ns ws m ss (s ∷ own) is spelled meant many some one fits = record {
   deeds = Moving (moves (records_of e) (s ∷ own)) Nothing;
   many = length ss;
   are = (moves (records_of e) (s ∷ own), record { statements = ss; spelled = spelled; meant = meant; many = refl }, refl);
   added = more_added (records_of e) m s own is;
-  longer = omega (arith, many, length-append m.list (s ∷ own));
+  longer = omega (arith, many);
   whole = moves_both (records_of e) m.list (s ∷ own) ∙ ap (λ (t : List Move). moves (records_of e) m.list ++ t) (sym (append-nil (moves (records_of e) (s ∷ own))));
   straight = λ is. refl;
   fits = λ le. fits;
-  few = run_few one e ns ws (length m.list) ss spelled (omega (arith, fits, many, length-append m.list (s ∷ own)));
+  few = run_few one e ns ws m.read ss spelled (omega (arith, fits, many));
 }
 
--- the same with these statements
-abbrev pub with_list : MadeLists → List StatementMoves → MadeLists
-with_list m xs = record { list = xs; ends = m.ends; bounds = m.bounds; flows = m.flows }
+-- the same with these statements, where so many were read
+abbrev pub with_list : MadeLists → List StatementMoves → ℕ → MadeLists
+with_list m xs read = record { list = xs; ends = m.ends; bounds = m.bounds; flows = m.flows; read = read }
 
-pub adds_moved : OneListOfEnded → (e : Entries) (ns : List Counted) (ws : List Lexeme) (m : MadeLists) (new : List StatementMoves) → AllMayBeNamed e → IsMade (records_of e) m → IsRun ws → length new ≤ most_written_out
-    → AddsRun e (in_turn ns false 0 ws) m.list new → AddsMoved e ns ws m (with_list m new)
-adds_moved one e ns ws m new named is run fits a =
+-- with a run more there are not fewer
+pub run_longer : (e : Entries) (ws : List Lexeme) (old new : List StatementMoves) → AddsRun e ws old new → length old ≤ length new
+run_longer e ws old new a = omega (arith, ap length a.added, length-append old a.own)
+
+-- what stands behind with statements more, as it lies in memory
+more_as : (e : Entries) (ws : List Lexeme) (m : MadeLists) (new : List StatementMoves) (read : ℕ) → read + length m.list ≡ m.read + length new → (a : AddsRun e ws m.list new) → with_more m a.own ≡ with_list m new read
+more_as e ws m new read size a =
+    let all : m.read + length a.own ≡ read = omega (arith, size, ap length a.added, length-append m.list a.own) in
+    λ i. record { list = sym a.added i; ends = m.ends; bounds = m.bounds; flows = m.flows; read = all i }
+
+pub adds_moved : OneListOfEnded → (e : Entries) (ns : List Counted) (ws : List Lexeme) (m : MadeLists) (new : List StatementMoves) (read : ℕ) → AllMayBeNamed e → IsMade (records_of e) m → IsRun ws → read ≤ most_written_out
+    → read + length m.list ≡ m.read + length new → AddsRun e (in_turn ns false 0 ws) m.list new → AddsMoved e ns ws m (with_list m new read)
+adds_moved one e ns ws m new read named is run fits size a =
     let some : 0 < length a.statements = some_statements a.statements (in_turn ns false 0 ws) (some_in_turn ns ws run) a.spelled in
-    subst (λ (xs : List StatementMoves). AddsMoved e ns ws m (with_list m xs)) (sym a.added)
-    (moved_by e ns ws m a.statements a.own is a.spelled (meant_here (nameable e) (records_of e) a.statements a.own named a.meant) a.many (omega (arith, a.many, some)) one (subst (λ (xs : List StatementMoves). length xs ≤ most_written_out) a.added fits))
+    subst (λ (k : MadeLists). AddsMoved e ns ws m k) (more_as e (in_turn ns false 0 ws) m new read size a)
+    (moved_by e ns ws m a.statements a.own is a.spelled (meant_here (nameable e) (records_of e) a.statements a.own named a.meant) a.many (omega (arith, a.many, some)) one (omega (arith, fits, size, ap length a.added, length-append m.list a.own)))
 
-pub moved_made : (e : Entries) (ws : List Lexeme) (m : MadeLists) (new : List StatementMoves) → AllMayBeNamed e → MeantAreMoves → IsRecordDescription e.input.now → IsRecordDescription e.output.now → IsMade (records_of e) m
-    → AddsRun e ws m.list new → IsMade (records_of e) (with_list m new)
-moved_made e ws m new named law input output is a =
+pub moved_made : (e : Entries) (ws : List Lexeme) (m : MadeLists) (new : List StatementMoves) (read : ℕ) → AllMayBeNamed e → MeantAreMoves → IsRecordDescription e.input.now → IsRecordDescription e.output.now → IsMade (records_of e) m
+    → read ≤ most_written_out → read + length m.list ≡ m.read + length new → AddsRun e ws m.list new → IsMade (records_of e) (with_list m new read)
+moved_made e ws m new read named law input output is fits size a =
     let given : AreMoves (records_of e) (moves (records_of e) a.own) =
     law (records_of e) a.statements (moves (records_of e) a.own) input output (meant_here (nameable e) (records_of e) a.statements a.own named a.meant) in
-    subst (λ (xs : List StatementMoves). IsMade (records_of e) (with_list m xs)) (sym a.added) (more_made (records_of e) m a.own given is)
+    subst (λ (k : MadeLists). IsMade (records_of e) k) (more_as e ws m new read size a)
+    (more_made (records_of e) m a.own given (omega (arith, fits, size, ap length a.added, length-append m.list a.own)) is)
 
-pub moved_grown : (e : Entries) (ws : List Lexeme) (m : MadeLists) (new : List StatementMoves) → AddsRun e ws m.list new → HasGrown m (with_list m new)
-moved_grown e ws m new a = subst (λ (xs : List StatementMoves). HasGrown m (with_list m xs)) (sym a.added) (more_grown m a.own)
+pub moved_grown : (e : Entries) (ws : List Lexeme) (m : MadeLists) (new : List StatementMoves) (read : ℕ) → AddsRun e ws m.list new → HasGrown m (with_list m new read)
+moved_grown e ws m new read a = record {
+  list = (a.own, a.added);
+  ends = ([], sym (append-nil m.ends));
+  bounds = ([], sym (append-nil m.bounds));
+  flows = ([], sym (append-nil m.flows));
+}
 
 -- so many statements come first in words of MOVE statements
 pub first_moved : (e : Entries) (ns : List Counted) (ws : List Lexeme) (old new : List StatementMoves) → AllMayBeNamed e → (a : AddsRun e (in_turn ns false 0 ws) old new)
@@ -219,7 +267,7 @@ moves_refused one unbroken n f e ns ws m named memory broken given = elim (eithe
   | inl is ↦ subst (λ (k : NotRead). MovedRefused k e ns ws m) (sym (memory is)) tt
   | inr other ↦
       let refused = told_refused f e ns ws other given in
-      subst (λ (k : NotRead). MovedRefused k e ns ws m) (sym (broken other)) (other, refused, run_none_few one unbroken f e ns ws (length m.list) named other refused)
+      subst (λ (k : NotRead). MovedRefused k e ns ws m) (sym (broken other)) (other, refused, run_none_few one unbroken f e ns ws m.read named other refused)
 ]
 
 -- ---- what is left where words aren't read
@@ -242,5 +290,5 @@ leaves_unbroken (why.Broken f) a b only = absurd only
 pub leaves_memory : (n : NotRead) (a b : MadeLists) → n ≡ why.Memory → LeavesFront n a b
 leaves_memory n a b is = subst (λ (k : NotRead). LeavesFront k a b) (sym is) tt
 
-pub leaves_list : (n : NotRead) (m : MadeLists) (new : List StatementMoves) → new ≡ m.list → LeavesFront n m (with_list m new)
-leaves_list n m new same = subst (λ (xs : List StatementMoves). LeavesFront n m (with_list m xs)) (sym same) (leaves_same n m)
+pub leaves_list : (n : NotRead) (m : MadeLists) (new : List StatementMoves) → new ≡ m.list → LeavesFront n m (with_list m new m.read)
+leaves_list n m new same = subst (λ (xs : List StatementMoves). LeavesFront n m (with_list m xs m.read)) (sym same) (leaves_same n m)

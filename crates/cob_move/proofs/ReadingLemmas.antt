@@ -81,18 +81,18 @@ first_behind e ns (Looped l ws) body others own count m (f, counted, loop) first
 pub record LeftToMake (e : Entries) (ns : List Counted) (p q : Passage) (old now : MadeLists) : Type 0 where
   pub comes : (d : Deeds Past) (m : ℕ) → PassageComesTo e ns q d m → (k : Deeds Past) × (n : ℕ) × PassageComesTo e ns p k n
       × ((on : FlowSupport) → IsFrontOf now on → joined_deeds (made_deeds (records_of e) on now) d ≡ joined_deeds (made_deeds (records_of e) on old) k)
-      × (length now.list + m ≡ length old.list + n)
+      × (now.read + m ≡ old.read + n)
       × (moves (records_of e) now.list ++ moves_of_deeds d ≡ moves (records_of e) old.list ++ moves_of_deeds k)
       × (IsStraight k → IsStraight d × (now.ends ≡ old.ends))
   pub refused : (f : MoveFault) → IsRefusedIn f e ns q → IsRefusedIn f e ns p
-  pub first : (m : ℕ) → FirstIn e ns q m → (n : ℕ) × FirstIn e ns p n × (length now.list + m ≡ length old.list + n)
-  pub few : LeftFew e ns p q (length old.list) (length now.list)
+  pub first : (m : ℕ) → FirstIn e ns q m → (n : ℕ) × FirstIn e ns p n × (now.read + m ≡ old.read + n)
+  pub few : LeftFew e ns p q old.read now.read
 
 abbrev pub LeftOfDeeds : Entries → List Counted → (words rest : List Lexeme) → (old now : MadeLists) → Type 0
 LeftOfDeeds e ns words rest old now = (p : Passage) → IsPassage p words → (q : Passage) × IsPassage q rest × LeftToMake e ns p q old now
 
 pub deeds_first : (e : Entries) (ns : List Counted) (words : List Lexeme) (m : MadeLists) → LeftOfDeeds e ns words words m m
-deeds_first e ns words m p is = (p, is, record { comes = λ d n k. (d, n, k, λ on f. refl, refl, refl, λ is. (is, refl)); refused = λ f k. k; first = λ n k. (n, k, refl); few = left_few_first e ns p (length m.list) })
+deeds_first e ns words m p is = (p, is, record { comes = λ d n k. (d, n, k, λ on f. refl, refl, refl, λ is. (is, refl)); refused = λ f k. k; first = λ n k. (n, k, refl); few = left_few_first e ns p m.read })
 
 more_left : OneDeeds → (e : Entries) (ns : List Counted) (p q : Passage) (f : PassageFront) (body others : Passage) (old now after : MadeLists) → q ≡ joined f body others → LeftToMake e ns p q old now → HasGrown now after
     → AddsMade e (λ d many. FrontComesTo e ns f body d many) (λ many. FirstInFront e ns f body many) now after → LeftToMake e ns p others old after
@@ -117,7 +117,7 @@ more_left law e ns p q f body others old now after same left grown a = record {
   first = λ m first.
       let (n, is, size) = left.first (a.many + m) (subst (λ (t : Passage). FirstIn e ns t (a.many + m)) (sym same) (first_behind e ns f body others a.deeds a.many m a.are first)) in
       (n, is, omega (arith, size, a.longer));
-  few = left_few_more law e ns p q f body others (length old.list) (length now.list) (length after.list) a.deeds a.many same a.are a.longer a.fits a.few left.few;
+  few = left_few_more law e ns p q f body others old.read now.read after.read a.deeds a.many same a.are a.longer a.fits a.few left.few;
 }
 
 pub deeds_more : OneDeeds → (e : Entries) (ns : List Counted) (words rest more : List Lexeme) (f : PassageFront) (old now after : MadeLists) → LeftOfDeeds e ns words rest old now → 0 < length rest → IsOnlyFront f rest more
@@ -142,7 +142,7 @@ deeds_end e ns words rest old now made left none p is =
       whole = sym (append-nil (moves (records_of e) now.list)) ∙ all;
       straight = λ is. (straight is).1;
       fits = λ le. (so.few le).0;
-      few = left_few_end e ns p q (length old.list) (length now.list) nothing so.few;
+      few = left_few_end e ns p q old.read now.read nothing so.few;
     }
 
 left_refused : DeedsBreakNoRule → (n : NotRead) (e : Entries) (ns : List Counted) (p q : Passage) (f : PassageFront) (body others : Passage) (old now : MadeLists) → AllMayBeNamed e → q ≡ joined f body others → LeftToMake e ns p q old now
@@ -151,7 +151,7 @@ left_refused law why.Memory e ns p q f body others old now named same left refus
 left_refused law (why.Broken g) e ns p q f body others old now named same left refused = (
   refused.0,
   left.refused g (subst (λ (t : Passage). IsRefusedIn g e ns t) (sym same) (refused_joined g e ns f body others refused.1)),
-  left_few_refused law g e ns p q f body others (length old.list) (length now.list) named refused.0 same refused.1 refused.2 left.few,
+  left_few_refused law g e ns p q f body others old.read now.read named refused.0 same refused.1 refused.2 left.few,
 )
 left_refused law why.TooMany e ns p q f body others old now named same left (m, first, most) =
     let (n, is, size) = left.first m (subst (λ (t : Passage). FirstIn e ns t m) (sym same) (first_joined e ns f body others m first)) in

@@ -39,11 +39,11 @@ use Rattle.cob_move.specs.DeedsRead.{AddsDeeds, AddsLoop, AddsMade, AreKept, Are
 use Rattle.cob_move.specs.Entries.{AllMayBeNamed, records_of}
 use Rattle.cob_move.specs.DeedsLaws.{DeedsBreakNoRule, OneDeeds}
 use Rattle.cob_move.specs.Joined.{before_deeds, joined_deeds}
-use Rattle.cob_move.proofs.CloseLemmas.{closed_deeds, closed_flows, closed_grown, closed_made, closed_open, equal_is, equal_not}
+use Rattle.cob_move.proofs.CloseLemmas.{closed_deeds, closed_flows, closed_grown, closed_made, closed_open, closed_read, equal_is, equal_not}
 use Rattle.cob_move.proofs.DeedsLemmas.{counted_same, either_side, mul_within, up_to_some}
 use Rattle.cob_move.proofs.FlowLemmas.{before_parted, before_turns, both_assoc, both_flows, both_nothing, both_parted, flows_both, linked_deeds, linked_flows, parted_joined, turns_parted}
 use Rattle.cob_move.proofs.FewLemmas.{below_few_first, below_few_next, bound_few, far_few, first_turn_few, item_few, kept_below}
-use Rattle.cob_move.proofs.MadeLemmas.{back_again, front_back, grown_both, grown_none}
+use Rattle.cob_move.proofs.MadeLemmas.{back_again, front_back, grown_both, grown_none, read_front, read_grown, read_made, with_read}
 use Rattle.cob_move.proofs.TurnsLemmas.{changed, changed_elsewhere, changed_there}
 use Rattle.cob_move.proofs.WholeLemmas.{moves_of_tested, tested_not_straight, turns_as, turns_one_more}
 
@@ -107,6 +107,23 @@ count_more f by (suc n) i =
     let at : i + by + n * by ≡ i + suc n * by = omega (arith, suc-mul n by) in
     omega (arith, count_more f by n (i + by), ap f at)
 
+-- before the first number there is nothing to count
+none_before : (f : ℕ → ℕ) (from behind : ℕ) → behind ≡ from → count_of_turns f 1 (behind - from) from ≡ 0
+none_before f from behind first =
+    let none : behind - from ≡ 0 = omega (arith, first) in
+    ap (λ (n : ℕ). count_of_turns f 1 n from) none
+
+-- one number more counts, whether its turn is kept or not
+one_counted : (f : ℕ → ℕ) (from behind m : ℕ) → from ≤ behind → count_of_turns (changed f behind m) 1 (behind + 1 - from) from ≡ count_of_turns f 1 (behind - from) from + m
+one_counted f from behind m le =
+    let g = changed f behind m in
+    let more : behind + 1 - from ≡ suc (behind - from) = omega (arith, le) in
+    let at : from + (behind - from) * 1 ≡ behind = omega (arith, le) in
+    let before : count_of_turns f 1 (behind - from) from ≡ count_of_turns g 1 (behind - from) from =
+    counted_same f g 1 (behind - from) from (λ k less. sym (changed_elsewhere f behind m (from + k * 1) (λ e. omega (arith, less, e)))) in
+    let last : g (from + (behind - from) * 1) ≡ m = changed_there f behind m (from + (behind - from) * 1) at in
+    omega (arith, ap (λ (n : ℕ). count_of_turns g 1 n from) more, count_more g 1 (behind - from) from, before, last)
+
 turns_same : (r : Records) (on : FlowSupport) (f g : ℕ → Deeds Past) (by i : ℕ) (turns : List (List Flow)) → ((k : ℕ) → k < length turns → f (i + k * by) ≡ g (i + k * by)) → AreTurns r on f by i turns → AreTurns r on g by i turns
 turns_same r on f g by i [] same are = tt
 turns_same r on f g by i (fs ∷ turns) same are =
@@ -136,10 +153,10 @@ no_reads e ns l p m = record {
   count = λ i. 0;
   are = λ i low less. absurd (omega (arith, low, less));
   flows = λ on f. tt;
-  longer = omega arith;
+  longer = omega (arith, none_before (λ i. 0) l.from l.from refl);
   whole = sym (append-nil (moves (records_of e) m.list));
   fits = λ le. le;
-  few = below_few_first e ns l p (length m.list);
+  few = below_few_first e ns l p m.read;
 }
 
 pub reads_first : (e : Entries) (ns : List Counted) (l : WrittenLoop) (p : Passage) (behind : ℕ) (turns : List (List Flow)) (m : MadeLists) → behind ≡ l.from → turns ≡ [] → ReadsTurns e ns l p behind turns m m
@@ -168,22 +185,23 @@ moves_changed f behind d by n i other =
     turns_as (λ j. moves_of_deeds (f j)) (λ j. moves_of_deeds (changed f behind d j)) by n i
     (λ k less. ap (λ (t : Deeds Past). moves_of_deeds t) (sym (changed_elsewhere f behind d (i + k * by) (other k less))))
 
--- the turn of a number that the counter doesn't take is not kept
+-- the turn of a number that the counter doesn't take is not kept, but its statements were read
 pub reads_passed : OneDeeds → (e : Entries) (ns : List Counted) (l : WrittenLoop) (p : Passage) (behind next : ℕ) (turns : List (List Flow)) (old now after : MadeLists) → AreKept l.from l.by (length turns) behind next
-    → ReadsTurns e ns l p behind turns old now → AddsMade e (λ d many. PassageComesTo e (in_its_turn ns l behind) p d many) (λ many. FirstIn e (in_its_turn ns l behind) p many) now after → ReadsTurns e ns l p (behind + 1) turns old now
+    → ReadsTurns e ns l p behind turns old now → AddsMade e (λ d many. PassageComesTo e (in_its_turn ns l behind) p d many) (λ many. FirstIn e (in_its_turn ns l behind) p many) now after
+    → ReadsTurns e ns l p (behind + 1) turns old (with_read now after.read)
 reads_passed law e ns l p behind next turns old now after kept so a =
     let other : (k : ℕ) → k < length turns → (l.from + k * l.by ≡ behind) → ⊥ = λ k less e. omega (arith, kept_below l.from l.by (length turns) behind next k kept less, e) in
     record {
       comes = changed so.comes behind a.deeds;
       count = changed so.count behind a.many;
       are = read_each e ns l p behind so.comes so.count a.deeds a.many a.are so.are;
-      flows = λ on f. turns_same (records_of e) on so.comes (changed so.comes behind a.deeds) l.by l.from turns (λ k less. sym (changed_elsewhere so.comes behind a.deeds (l.from + k * l.by) (other k less))) (so.flows on f);
-      longer = so.longer ∙ ap (λ (n : ℕ). length old.list + n)
-          (counted_same so.count (changed so.count behind a.many) l.by (length turns) l.from (λ k less. sym (changed_elsewhere so.count behind a.many (l.from + k * l.by) (other k less))));
+      flows = λ on f. turns_same (records_of e) on so.comes (changed so.comes behind a.deeds) l.by l.from turns (λ k less. sym (changed_elsewhere so.comes behind a.deeds (l.from + k * l.by) (other k less)))
+          (so.flows on (read_front now after.read on f));
+      longer = omega (arith, a.longer, so.longer, one_counted so.count l.from behind a.many kept.first);
       whole = so.whole ∙ ap (λ (t : List Move). moves (records_of e) old.list ++ t)
           (moves_changed so.comes behind a.deeds l.by (length turns) l.from (λ k less. other k less));
-      fits = so.fits;
-      few = below_few_next law e ns l p behind next (length turns) (length old.list) (length now.list) so.comes so.count kept so.are so.longer so.fits a.few so.few;
+      fits = λ le. a.fits (so.fits le);
+      few = below_few_next law e ns l p behind old.read now.read so.comes so.count so.are so.longer so.fits a.few so.few;
     }
 
 -- nothing is made but what has a mark behind it
@@ -221,8 +239,6 @@ reads_kept law e ns l p behind next turns old now mid kept here none marked grow
     let at : l.from + length turns * l.by ≡ behind = sym kept.at ∙ sym here in
     let f = changed so.comes behind a.deeds in
     let count = changed so.count behind a.many in
-    let counts : count_of_turns so.count l.by (length turns) l.from ≡ count_of_turns count l.by (length turns) l.from =
-    counted_same so.count count l.by (length turns) l.from (λ k less. sym (changed_elsewhere so.count behind a.many (l.from + k * l.by) (other k less))) in
     record {
       comes = f;
       count = count;
@@ -236,11 +252,7 @@ reads_kept law e ns l p behind next turns old now mid kept here none marked grow
           (closed_flows r mid made on stands)
           (closed_deeds r mid made on stands ∙ a.added on middle ∙ ap (λ (t : Deeds Past). joined_deeds t a.deeds) (nothing_open r now on none marked)
           ∙ sym (changed_there so.comes behind a.deeds (l.from + length turns * l.by) at));
-      longer =
-          let many : count (l.from + length turns * l.by) ≡ a.many = changed_there so.count behind a.many (l.from + length turns * l.by) at in
-          let more : count_of_turns count l.by (length (turns ++ (closed mid).flows ∷ [])) l.from ≡ count_of_turns count l.by (suc (length turns)) l.from =
-          ap (λ (n : ℕ). count_of_turns count l.by n l.from) (long_more turns (closed mid).flows) in
-          omega (arith, ap length (closed_list mid), a.longer, so.longer, counts, count_more count l.by (length turns) l.from, many, more);
+      longer = omega (arith, closed_read mid, a.longer, so.longer, one_counted so.count l.from behind a.many kept.first);
       whole =
           let g = λ (i : ℕ). moves_of_deeds (f i) in
           let last : moves_of_deeds a.deeds ≡ g (l.from + length turns * l.by) =
@@ -252,21 +264,21 @@ reads_kept law e ns l p behind next turns old now mid kept here none marked grow
           ∙ ap (λ (t : List Move). moves r old.list ++ (loop_turns g l.by (length turns) l.from ++ t)) last
           ∙ ap (λ (t : List Move). moves r old.list ++ t) (sym (turns_one_more g l.by (length turns) l.from))
           ∙ ap (λ (n : ℕ). moves r old.list ++ loop_turns g l.by n l.from) (sym size);
-      fits = λ le. subst (λ (ss : List StatementMoves). length ss ≤ most_written_out) (sym (closed_list mid)) (a.fits (so.fits le));
-      few = below_few_next law e ns l p behind next (length turns) (length old.list) (length now.list) so.comes so.count kept so.are so.longer so.fits a.few so.few;
+      fits = λ le. subst (λ (n : ℕ). n ≤ most_written_out) (sym (closed_read mid)) (a.fits (so.fits le));
+      few = below_few_next law e ns l p behind old.read now.read so.comes so.count so.are so.longer so.fits a.few so.few;
     }
 
 -- ---- why a loop to an item isn't read
 
 pub first_refused : OneDeeds → DeedsBreakNoRule → (f : MoveFault) (e : Entries) (ns : List Counted) (l : WrittenLoop) (ws body : List Lexeme) (number : ℕ) (old : MadeLists) → AllMayBeNamed e → l.bound ≡ ToItem ws → number ≡ l.from
-    → BreaksInTurn f e (in_its_turn ns l number) body (length old.list) → LoopRefused (why.Broken f) e ns l body old
+    → BreaksInTurn f e (in_its_turn ns l number) body old.read → LoopRefused (why.Broken f) e ns l body old
 first_refused law unbroken f e ns l ws body number old named bound first broken p is =
-    let k : ((f.rule ≡ rule.Memory) → ⊥) × IsRefusedIn f e (in_its_turn ns l l.from) p × FewWith (λ many. FirstIn e (in_its_turn ns l l.from) p many) (length old.list) =
-    subst (λ (i : ℕ). ((f.rule ≡ rule.Memory) → ⊥) × IsRefusedIn f e (in_its_turn ns l i) p × FewWith (λ many. FirstIn e (in_its_turn ns l i) p many) (length old.list)) first (broken p is) in (
+    let k : ((f.rule ≡ rule.Memory) → ⊥) × IsRefusedIn f e (in_its_turn ns l l.from) p × FewWith (λ many. FirstIn e (in_its_turn ns l l.from) p many) old.read =
+    subst (λ (i : ℕ). ((f.rule ≡ rule.Memory) → ⊥) × IsRefusedIn f e (in_its_turn ns l i) p × FewWith (λ many. FirstIn e (in_its_turn ns l i) p many) old.read) first (broken p is) in (
       k.0,
       subst (λ (b : WrittenBound). IsLoopRefused f (nameable e) ns l b (λ i. IsRefusedIn f e (in_its_turn ns l i) p) (λ i. (d : Deeds Past) × (c : ℕ) × PassageComesTo e (in_its_turn ns l i) p d c)) (sym bound)
           (inr (inl k.1)),
-      first_turn_few law unbroken f e ns l p ws (length old.list) named k.0 bound k.1 k.2,
+      first_turn_few law unbroken f e ns l p ws old.read named k.0 bound k.1 k.2,
     )
 
 pub later_refused : (n : NotRead) (e : Entries) (ns : List Counted) (l : WrittenLoop) (ws body : List Lexeme) (behind next : ℕ) (turns : List (List Flow)) (old now : MadeLists) → l.bound ≡ ToItem ws
@@ -277,20 +289,17 @@ later_refused (why.Broken f) e ns l ws body behind next turns old now bound kept
 later_refused why.TooMany e ns l ws body behind next turns old now bound kept reads far item only refused p is =
     let (m, first, most) = refused p is in
     let so = reads p is in
-    let begin = count_of_turns so.count l.by (length turns) l.from in (
+    let begin = count_of_turns so.count 1 (behind - l.from) l.from in (
       begin + m,
       subst (λ (b : WrittenBound). ComeFirstInLoop (nameable e) ns l b (λ i c. (d : Deeds Past) × PassageComesTo e (in_its_turn ns l i) p d c) (λ i c. FirstIn e (in_its_turn ns l i) p c) (begin + m)) (sym bound) (
         item.0,
         behind,
         m,
-        length turns,
         so.count,
         item.1,
         kept.first,
         far,
         λ j low less. (so.comes j, so.are j low less),
-        omega (arith, kept.below, kept.at),
-        λ k less. kept_below l.from l.by (length turns) behind next k kept less,
         first,
         refl,
       ),
@@ -304,7 +313,7 @@ never_refused f e ns l ws body behind turns old now bound same line far reads p 
       λ memory. let never : rule.Counter ≡ rule.Memory = sym same ∙ memory in cc,
       subst (λ (b : WrittenBound). IsLoopRefused f (nameable e) ns l b (λ i. IsRefusedIn f e (in_its_turn ns l i) p) (λ i. (d : Deeds Past) × (c : ℕ) × PassageComesTo e (in_its_turn ns l i) p d c)) (sym bound)
           (inr (inr (same, line, λ i low high. (so.comes i, so.count i, so.are i low (omega (arith, high, far)))))),
-      far_few e ns l p ws behind (length old.list) bound far so.few,
+      far_few e ns l p ws behind old.read bound far so.few,
     )
 
 pub bound_not_read : OneReference → OneNamed → NamedBreakNoRule → (n : NotRead) (e : Entries) (ns : List Counted) (l : WrittenLoop) (ws body : List Lexeme) (old : MadeLists) → l.bound ≡ ToItem ws
@@ -315,7 +324,7 @@ bound_not_read one named none (why.Broken f) e ns l ws body old bound refused p 
   refused.0,
   subst (λ (b : WrittenBound). IsLoopRefused f (nameable e) ns l b (λ i. IsRefusedIn f e (in_its_turn ns l i) p) (λ i. (d : Deeds Past) × (c : ℕ) × PassageComesTo e (in_its_turn ns l i) p d c)) (sym bound)
       (inl (refused.2, refused.1)),
-  bound_few one named none f.rule e ns l p ws (length old.list) bound refused.2,
+  bound_few one named none f.rule e ns l p ws old.read bound refused.2,
 )
 
 -- the mark that was put before the turns changes nothing of it
@@ -323,16 +332,16 @@ pub closed_refused : (n : NotRead) (e : Entries) (ns : List Counted) (l : Writte
 closed_refused why.Memory e ns l body old refused p is = tt
 closed_refused (why.Broken f) e ns l body old refused p is =
     let k = refused p is in
-    (k.0, k.1, subst (λ (ss : List StatementMoves). FewWith (λ many. FirstInLoop e ns l p many) (length ss)) (closed_list old) k.2)
+    (k.0, k.1, subst (λ (n : ℕ). FewWith (λ many. FirstInLoop e ns l p many) n) (closed_read old) k.2)
 closed_refused why.TooMany e ns l body old refused p is =
     let (m, first, most) = refused p is in
-    (m, first, subst (λ (ss : List StatementMoves). most_written_out < length ss + m) (closed_list old) most)
+    (m, first, subst (λ (n : ℕ). most_written_out < n + m) (closed_read old) most)
 
 -- ---- a loop to an item
 
 -- what is made with a loop to an item: its bound, and its flows behind those before
 abbrev pub with_loop : (old now : MadeLists) → Bound → List Flow → MadeLists
-with_loop old now b linked = record { list = now.list; ends = now.ends; bounds = now.bounds ++ b ∷ []; flows = (closed old).flows ++ linked }
+with_loop old now b linked = record { list = now.list; ends = now.ends; bounds = now.bounds ++ b ∷ []; flows = (closed old).flows ++ linked; read = now.read }
 
 slice_at : (bs more : List Bound) (b : Bound) → slice_get ((bs ++ b ∷ []) ++ more) (length bs) ≡ Some b
 slice_at [] more b = refl
@@ -453,12 +462,13 @@ loop_made e ns l p n behind turns b old now so = record {
   parted = λ on f.
       let k = loop_stands e ns l p n behind turns b old now so on f in
       subst AreParted (sym k.come) (turns_all_parted (records_of e) old on (with_number (past_of e n (behind - 1))) so.reads.comes l.by (length turns) l.from k.parted);
+  few = so.after.few;
 }
 
 pub loop_added : (e : Entries) (ns : List Counted) (l : WrittenLoop) (p : Passage) (n : NamedEntry) (ws : List Lexeme) (behind next : ℕ) (turns : List (List Flow)) (b : Bound) (old now : MadeLists) → l.bound ≡ ToItem ws
     → IsBoundRead e (in_turn ns false 0 ws) n → AreKept l.from l.by (length turns) behind next → l.from < behind → behind ≤ l.from + longest_record
     → ((d : Deeds Past) (c : ℕ) → PassageComesTo e (in_its_turn ns l behind) p d c → ⊥) → IsLoopRead e ns l p n behind turns b old now
-    → FewWith (λ many. FirstIn e (in_its_turn ns l behind) p many) (length now.list) → OneDeeds
+    → FewWith (λ many. FirstIn e (in_its_turn ns l behind) p many) now.read → OneDeeds
     → AddsMade e (λ d many. LoopComesTo e ns l p d many) (λ many. FirstInLoop e ns l p many) old (with_loop old now b (linked_turns (length now.bounds) l.by l.from turns))
 loop_added e ns l p n ws behind next turns b old now bound named kept first last none so few law =
     let r = records_of e in
@@ -466,7 +476,7 @@ loop_added e ns l p n ws behind next turns b old now bound named kept first last
     let many : turns_between l.from l.by (behind - 1) ≡ length turns = kept_turns l.from l.by (length turns) behind next kept first in
     let back : behind - 1 + 1 ≡ behind = omega (arith, first) in
     let deeds = turns_from (with_number t) so.reads.comes l.by (length turns) l.from in
-    let count = count_of_turns so.reads.count l.by (length turns) l.from in record {
+    let count = count_of_turns so.reads.count 1 (behind - l.from) l.from in record {
       deeds = deeds;
       many = count;
       are = (
@@ -480,7 +490,7 @@ loop_added e ns l p n ws behind next turns b old now bound named kept first last
           λ i low high. so.reads.are i low (omega (arith, high, first)),
           λ d c is. none d c (subst (λ (i : ℕ). PassageComesTo e (in_its_turn ns l i) p d c) back is),
           ap (λ (k : ℕ). turns_from (with_number t) so.reads.comes l.by k l.from) (sym many),
-          ap (λ (k : ℕ). count_of_turns so.reads.count l.by k l.from) (sym many),
+          ap (λ (k : ℕ). count_of_turns so.reads.count 1 (k - l.from) l.from) (sym back),
         ),
       );
       added = λ on f.
@@ -488,14 +498,14 @@ loop_added e ns l p n ws behind next turns b old now bound named kept first last
           let new = with_loop old now b (linked_turns (length now.bounds) l.by l.from turns) in
           ap (λ (ss : List StatementMoves). both_deeds (all_deeds r on new.flows) (open_deeds r ss)) so.marked ∙ both_nothing (all_deeds r on new.flows) ∙ k.come
           ∙ sym (turns_joined r old on (with_number t) so.reads.comes l.by (length turns) l.from k.parted);
-      longer = omega (arith, so.reads.longer, ap length (closed_list old));
+      longer = omega (arith, so.reads.longer, closed_read old);
       whole = so.reads.whole ∙ ap (λ (ss : List StatementMoves). moves r ss ++ loop_turns (λ i. moves_of_deeds (so.reads.comes i)) l.by (length turns) l.from) (closed_list old)
           ∙ ap (λ (t : List Move). moves r old.list ++ t) (sym (moves_of_tested (with_number t) so.reads.comes l.by (length turns) l.from));
       straight = λ is. absurd (tested_not_straight (with_number t) so.reads.comes l.by (length turns) l.from is);
-      fits = λ le. so.reads.fits (subst (λ (ss : List StatementMoves). length ss ≤ most_written_out) (sym (closed_list old)) le);
-      few = subst (λ (ss : List StatementMoves). FewWith (λ many. FirstInLoop e ns l p many) (length ss)) (closed_list old)
-          (item_few e ns l p ws behind (length (closed old).list) bound (omega (arith, first)) none
-          (below_few_next law e ns l p behind next (length turns) (length (closed old).list) (length now.list) so.reads.comes so.reads.count kept so.reads.are so.reads.longer so.reads.fits few so.reads.few));
+      fits = λ le. so.reads.fits (subst (λ (n : ℕ). n ≤ most_written_out) (sym (closed_read old)) le);
+      few = subst (λ (n : ℕ). FewWith (λ many. FirstInLoop e ns l p many) n) (closed_read old)
+          (item_few e ns l p ws behind (closed old).read bound (omega (arith, first)) none
+          (below_few_next law e ns l p behind (closed old).read now.read so.reads.comes so.reads.count so.reads.are so.reads.longer so.reads.fits few so.reads.few));
     }
 
 -- a turn that breaks a rule comes to nothing
@@ -532,7 +542,7 @@ loop_read e ns l body n behind turns b old now so p is = record {
 pub tested_added : (e : Entries) (ns : List Counted) (l : WrittenLoop) (ws body : List Lexeme) (n : NamedEntry) (behind next : ℕ) (turns : List (List Flow)) (b : Bound) (old now new : MadeLists) → l.bound ≡ ToItem ws
     → IsBoundRead e (in_turn ns false 0 ws) n → AreKept l.from l.by (length turns) behind next → l.from < behind → behind ≤ l.from + longest_record
     → ((p : Passage) → IsPassage p body → (d : Deeds Past) (c : ℕ) → PassageComesTo e (in_its_turn ns l behind) p d c → ⊥) → HasReadLoop e ns l body n behind turns b old now
-    → HasNoTurn e (in_its_turn ns l behind) body (length now.list) → OneDeeds → new ≡ with_loop old now b (linked_turns (length now.bounds) l.by l.from turns) → AddsLoop e ns l body old new
+    → HasNoTurn e (in_its_turn ns l behind) body now.read → OneDeeds → new ≡ with_loop old now b (linked_turns (length now.bounds) l.by l.from turns) → AddsLoop e ns l body old new
 tested_added e ns l ws body n behind next turns b old now new bound named kept first last none so (f, broken) law same p is =
     subst (λ (m : MadeLists). AddsMade e (λ d many. LoopComesTo e ns l p d many) (λ many. FirstInLoop e ns l p many) old m) (sym same)
     (loop_added e ns l p n ws behind next turns b old now bound named kept first last (none p is) (loop_read e ns l body n behind turns b old now so p is) (broken p is).2 law)
@@ -546,7 +556,7 @@ pub tested_grown : (old now new : MadeLists) (b : Bound) (linked : List Flow) �
 tested_grown old now new b linked g same = subst (λ (m : MadeLists). HasGrown old m) (sym same) (all_grown old now b linked g)
 
 -- where a turn of it breaks a rule, what was made before it stands in front
-left_closed : (n : NotRead) (old now : MadeLists) → LeavesFront n (without_flows (closed old)) now → LeavesFront n old (record { list = now.list; ends = now.ends; bounds = now.bounds; flows = (closed old).flows })
+left_closed : (n : NotRead) (old now : MadeLists) → LeavesFront n (without_flows (closed old)) now → LeavesFront n old (record { list = now.list; ends = now.ends; bounds = now.bounds; flows = (closed old).flows; read = now.read })
 left_closed why.Memory old now left = tt
 left_closed why.TooMany old now left = tt
 left_closed (why.Broken f) old now g =
@@ -557,19 +567,19 @@ left_closed (why.Broken f) old now g =
       flows = h.flows;
     }
 
-pub loop_left : (n : NotRead) (old now : MadeLists) (fs : List Flow) → fs ≡ (closed old).flows → LeavesFront n (without_flows (closed old)) now → LeavesFront n old (record { list = now.list; ends = now.ends; bounds = now.bounds; flows = fs })
-loop_left n old now fs same left = subst (λ (t : List Flow). LeavesFront n old (record { list = now.list; ends = now.ends; bounds = now.bounds; flows = t })) (sym same) (left_closed n old now left)
+pub loop_left : (n : NotRead) (old now : MadeLists) (fs : List Flow) → fs ≡ (closed old).flows → LeavesFront n (without_flows (closed old)) now → LeavesFront n old (record { list = now.list; ends = now.ends; bounds = now.bounds; flows = fs; read = now.read })
+loop_left n old now fs same left = subst (λ (t : List Flow). LeavesFront n old (record { list = now.list; ends = now.ends; bounds = now.bounds; flows = t; read = now.read })) (sym same) (left_closed n old now left)
 
 -- with no flows, it is the same without them
-pub emptied : (m : MadeLists) (fs : List Flow) → fs ≡ [] → record { list = m.list; ends = m.ends; bounds = m.bounds; flows = fs } ≡ without_flows m
-emptied m fs none = λ i. record { list = m.list; ends = m.ends; bounds = m.bounds; flows = none i }
+pub emptied : (m : MadeLists) (fs : List Flow) → fs ≡ [] → record { list = m.list; ends = m.ends; bounds = m.bounds; flows = fs; read = m.read } ≡ without_flows m
+emptied m fs none = λ i. record { list = m.list; ends = m.ends; bounds = m.bounds; flows = none i; read = m.read }
 
 -- what is made with a loop, by its parts
 pub loop_same : (old now : MadeLists) (b : Bound) (bounds : List Bound) (flows outside linked : List Flow) → bounds ≡ now.bounds ++ b ∷ [] → flows ≡ outside ++ linked → outside ≡ (closed old).flows
-    → record { list = now.list; ends = now.ends; bounds = bounds; flows = flows } ≡ with_loop old now b linked
+    → record { list = now.list; ends = now.ends; bounds = bounds; flows = flows; read = now.read } ≡ with_loop old now b linked
 loop_same old now b bounds flows outside linked more behind same =
     let all : flows ≡ (closed old).flows ++ linked = behind ∙ ap (λ (t : List Flow). t ++ linked) same in
-    λ i. record { list = now.list; ends = now.ends; bounds = more i; flows = all i }
+    λ i. record { list = now.list; ends = now.ends; bounds = more i; flows = all i; read = now.read }
 
 -- the bound that words name, placed
 pub bound_for : (e : Entries) (ws : List Lexeme) (n : NamedEntry) (most : ℕ) (item : PlacedEntry) → item.side ≡ n.side → item.entry ≡ n.entry → IsPlacedEntry (records_of e) item → IsBoundRead e ws n
@@ -623,14 +633,14 @@ tried_kept law e ns l body behind next turns old now mid some t made grown adds 
 }
 
 tried_passed : OneDeeds → (e : Entries) (ns : List Counted) (l : WrittenLoop) (body : List Lexeme) (behind next : ℕ) (turns : List (List Flow)) (old now mid : MadeLists) → HasTried e ns l body behind next turns old now
-    → AddsDeeds e (in_its_turn ns l behind) body now mid → (behind ≡ next → ⊥) → HasTried e ns l body (behind + 1) next turns old now
-tried_passed law e ns l body behind next turns old now mid t adds other = record {
+    → IsMade (records_of e) mid → AddsDeeds e (in_its_turn ns l behind) body now mid → (behind ≡ next → ⊥) → HasTried e ns l body (behind + 1) next turns old (with_read now mid.read)
+tried_passed law e ns l body behind next turns old now mid t made adds other = record {
   kept = kept_same l.from l.by (length turns) behind next t.kept other;
   reads = λ p is. reads_passed law e ns l p behind next turns old now mid t.kept (t.reads p is) (adds p is);
   none = t.none;
   marked = t.marked;
-  made = t.made;
-  grown = t.grown;
+  made = read_made (records_of e) now mid.read made.few t.made;
+  grown = read_grown old now mid.read t.grown;
 }
 
 tried_as : (e : Entries) (ns : List Counted) (l : WrittenLoop) (body : List Lexeme) (behind next then_next : ℕ) (turns then_turns : List (List Flow)) (old now after : MadeLists) → then_next ≡ next → after ≡ now → then_turns ≡ turns
@@ -654,7 +664,7 @@ tried_where law true e ns l body behind next then_next turns then_turns size old
 tried_where law false e ns l body behind next then_next turns then_turns size old now mid after same some t sized made grown adds k =
     let other : (behind ≡ next) → ⊥ = equal_not behind next (sym same) in
     let is = k.passed other in
-    tried_as e ns l body (behind + 1) next then_next turns then_turns old now after is.0 (is.1 ∙ back_again size now mid sized grown) is.2 (tried_passed law e ns l body behind next turns old now mid t adds other)
+    tried_as e ns l body (behind + 1) next then_next turns then_turns old (with_read now mid.read) after is.0 (is.1 ∙ back_again size now mid sized grown) is.2 (tried_passed law e ns l body behind next turns old now mid t made adds other)
 
 pub tried_more : OneDeeds → (e : Entries) (ns : List Counted) (l : WrittenLoop) (body : List Lexeme) (behind next then_next : ℕ) (turns then_turns : List (List Flow)) (size : Sizes) (old now mid after : MadeLists) → 0 < l.by
     → HasTried e ns l body behind next turns old now → IsSizeOf now size → IsMade (records_of e) mid → HasGrown now mid → AddsDeeds e (in_its_turn ns l behind) body now mid
@@ -682,21 +692,15 @@ pub tried_now : (e : Entries) (ns : List Counted) (l : WrittenLoop) (body : List
 tried_now e ns l body behind number next turns old now new at same t =
     subst (λ (i : ℕ). HasTried e ns l body i next turns old new) (sym at) (subst (λ (m : MadeLists). HasTried e ns l body behind next turns old m) (sym same) t)
 
--- before the first number nothing is kept
-none_kept : (from by kept behind next : ℕ) → AreKept from by kept behind next → behind ≡ from → kept ≡ 0
-none_kept from by zero behind next is same = refl
-none_kept from by (suc kept) behind next is same = absurd (omega (arith, is.at, is.last (omega arith), suc-mul kept by, same))
-
 -- so a first turn that breaks a rule does so behind what was made before the loop
 pub breaks_first : (f : MoveFault) (e : Entries) (ns inner : List Counted) (l : WrittenLoop) (body : List Lexeme) (behind next : ℕ) (turns : List (List Flow)) (old now : MadeLists) → HasTried e ns l body behind next turns old now → behind ≡ l.from
-    → BreaksInTurn f e inner body (length now.list) → BreaksInTurn f e inner body (length old.list)
+    → BreaksInTurn f e inner body now.read → BreaksInTurn f e inner body old.read
 breaks_first f e ns inner l body behind next turns old now t same broken p is =
     let r = t.reads p is in
-    let none : length turns ≡ 0 = none_kept l.from l.by (length turns) behind next t.kept same in
-    let size : length now.list ≡ length old.list = omega (arith, r.longer, ap (λ (n : ℕ). count_of_turns r.count l.by n l.from) none) in
+    let size : now.read ≡ old.read = omega (arith, r.longer, none_before r.count l.from behind same) in
     let k = broken p is in
     (k.0, k.1, subst (λ (n : ℕ). FewWith (λ many. FirstIn e inner p many) n) size k.2)
 
 -- behind a turn that was taken back the same is made
-pub breaks_same : (f : MoveFault) (e : Entries) (inner : List Counted) (body : List Lexeme) (now new : MadeLists) → new ≡ now → BreaksInTurn f e inner body (length now.list) → HasNoTurn e inner body (length new.list)
-breaks_same f e inner body now new same broken = (f, subst (λ (m : MadeLists). BreaksInTurn f e inner body (length m.list)) (sym same) broken)
+pub breaks_same : (f : MoveFault) (e : Entries) (inner : List Counted) (body : List Lexeme) (now new : MadeLists) → new ≡ now → BreaksInTurn f e inner body now.read → HasNoTurn e inner body new.read
+breaks_same f e inner body now new same broken = (f, subst (λ (m : MadeLists). BreaksInTurn f e inner body m.read) (sym same) broken)

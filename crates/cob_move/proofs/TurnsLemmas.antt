@@ -133,7 +133,7 @@ turns_begin e ns l body m made p is = record {
   whole = sym (append-nil (moves (records_of e) m.list));
   straight = λ is. refl;
   fits = λ le. le;
-  few = turns_few_begin e ns l p (length m.list);
+  few = turns_few_begin e ns l p m.read;
 }
 
 after_one : (n : ℕ) → suc n ≡ n + 1
@@ -166,7 +166,7 @@ turns_next law e ns l body done number old now after at grown made so adds p is 
           let parts = straight_parts a.deeds (joined_deeds b.deeds Nothing) is in
           b.straight (straight_parts b.deeds Nothing parts.1).0 ∙ a.straight parts.0;
       fits = λ le. b.fits (a.fits le);
-      few = turns_few_next law e ns l p done number (length old.list) (length now.list) a.deeds a.many at a.longer a.fits a.are b.few a.few;
+      few = turns_few_next law e ns l p done number old.read now.read a.deeds a.many at a.longer a.fits a.are b.few a.few;
     }
 
 loop_to_number : (e : Entries) (ns : List Counted) (l : WrittenLoop) (p : Passage) (n : ℕ) (d : Deeds Past) (m : ℕ) → 0 < l.by → l.bound ≡ ToNumber n
@@ -328,7 +328,7 @@ none_in_loop law e ns l p ws is bounded b same counter none m first =
 -- ---- the turns of a loop to a number
 
 -- what is made, meant otherwise
-made_as : (e : Entries) (meant other : Deeds Past → ℕ → Type 0) (first later : ℕ → Type 0) (old new : MadeLists) (a : AddsMade e meant first old new) → other a.deeds a.many → FewWith later (length old.list)
+made_as : (e : Entries) (meant other : Deeds Past → ℕ → Type 0) (first later : ℕ → Type 0) (old new : MadeLists) (a : AddsMade e meant first old new) → other a.deeds a.many → FewWith later old.read
     → AddsMade e other later old new
 made_as e meant other first later old new a is few =
     record { deeds = a.deeds; many = a.many; are = is; added = a.added; longer = a.longer; whole = a.whole; straight = a.straight; fits = a.fits; few = few }
@@ -341,7 +341,7 @@ turns_end law e ns l body turns n old now some one bounds bound (inl all) so p i
     (λ many. FirstInTurns e ns l p turns many) (λ many. FirstInLoop e ns l p many) old now a
     (loop_to_number e ns l p n a.deeds a.many some bound
     (subst (λ (k : ℕ). AreTurnsMeant (λ i t c. TurnComesTo e ns l p i t c) l.by k l.from a.deeds a.many) (all ∙ turns_are l n bound) a.are))
-    (turns_few_end e ns l p n turns (length old.list) bound (all ∙ turns_are l n bound) a.few)
+    (turns_few_end e ns l p n turns old.read bound (all ∙ turns_are l n bound) a.few)
 turns_end law e ns l body turns n old now some one (q, are, bounded) bound (inr (zero_is, none)) so p is =
     let a = so p is in
     let nothing : (a.deeds ≡ Nothing) × (a.many ≡ 0) = subst (λ (k : ℕ). AreTurnsMeant (λ i t c. TurnComesTo e ns l p i t c) l.by k l.from a.deeds a.many) zero_is a.are in
@@ -371,8 +371,8 @@ turn_refused law unbroken (why.Broken f) e ns l body turns done number bound old
       subst (λ (b : WrittenBound). IsLoopRefused f (nameable e) ns l b (λ i. IsRefusedIn f e (in_its_turn ns l i) p) (λ i. (d : Deeds Past) × (c : ℕ) × PassageComesTo e (in_its_turn ns l i) p d c)) (sym same)
           (done, few, subst (λ (i : ℕ). IsRefusedIn f e (in_its_turn ns l i) p) at (refused p is).1),
       let a = adds p is in
-          turns_few_end e ns l p bound (turns_between l.from l.by bound) (length old.list) same refl
-          (turns_few_refused law unbroken f e ns l p bound done number (length old.list) (length now.list) a.deeds a.many named (refused p is).0 at a.longer a.fits a.are (refused p is).1 (refused p is).2 a.few),
+          turns_few_end e ns l p bound (turns_between l.from l.by bound) old.read same refl
+          (turns_few_refused law unbroken f e ns l p bound done number old.read now.read a.deeds a.many named (refused p is).0 at a.longer a.fits a.are (refused p is).1 (refused p is).2 a.few),
     )
 turn_refused law unbroken why.TooMany e ns l body turns done number bound old now named some same all less at adds refused p is =
     let few : done < turns_between l.from l.by bound =

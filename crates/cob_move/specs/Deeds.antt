@@ -1,5 +1,5 @@
 -- What a passage comes to between two records: moves, and tests of loops to items between them.
-use Rattle.std.specs.Prelude.{◌≡◌, ◌⊎◌, ℕ, zero, suc, ◌+◌, ◌*◌, ◌<◌, ◌≤◌, false, List, [], ◌∷◌, ◌++◌, length}
+use Rattle.std.specs.Prelude.{◌≡◌, ◌⊎◌, ℕ, zero, suc, ◌+◌, ◌-◌, ◌*◌, ◌<◌, ◌≤◌, false, List, [], ◌∷◌, ◌++◌, length}
 use Rattle.cob_limits.specs.Limits.{longest_record, most_written_out}
 use Rattle.cob_source.specs.Tokens.{Lexeme}
 use Rattle.cob_copybook_tree.specs.declared.node.Item.{Item}
@@ -50,7 +50,7 @@ pub record IsBoundOf (all : List Candidate) (ws : List Lexeme) (t : Past) : Type
 
 -- What a loop comes to, where a turn with this number comes to deeds and to so many statements: up to a number, its turns, one behind another. To an item, its
 -- turns up to the greatest number whose turn still has the elements that it names, each behind its test; the first one has them, and so many numbers as
--- no table has elements none has (M11).
+-- no table has elements none has (M11). The statements of each number up to the greatest count, also where BY passes over it: each such turn is looked at.
 abbrev pub IsLoopOf : List Candidate → List Counted → WrittenLoop → WrittenBound → (ℕ → Deeds Past → ℕ → Type 0) → (ℕ → Deeds Past) → (ℕ → ℕ) → Deeds Past → ℕ → Type 0
 IsLoopOf all ns l (ToNumber n) meant f count own many =
     ((k : ℕ) → k < turns_between l.from l.by n → meant (l.from + k * l.by) (f (l.from + k * l.by)) (count (l.from + k * l.by)))
@@ -59,7 +59,7 @@ IsLoopOf all ns l (ToItem ws) meant f count own many = (t : Past)
     × IsBoundOf all (in_turn ns false 0 ws) t × (l.from ≤ t.most) × (t.most < l.from + longest_record)
     × ((i : ℕ) → l.from ≤ i → i ≤ t.most → meant i (f i) (count i))
     × ((d : Deeds Past) (c : ℕ) → meant (t.most + 1) d c → ⊥)
-    × (own ≡ turns_from (with_number t) f l.by (turns_between l.from l.by t.most) l.from) × (many ≡ count_of_turns count l.by (turns_between l.from l.by t.most) l.from)
+    × (own ≡ turns_from (with_number t) f l.by (turns_between l.from l.by t.most) l.from) × (many ≡ count_of_turns count 1 (t.most + 1 - l.from) l.from)
 
 -- What a passage comes to where the counters round it have these numbers, and to how many statements within loops and outside of them.
 abbrev pub AreDeeds : List Candidate → Forest Resolved → Forest Resolved → List Counted → Passage → Deeds Past → ℕ → Type 0
@@ -73,15 +73,15 @@ AreDeeds all input output ns (ALoop l body more) d many = (f : ℕ → Deeds Pas
 
 -- ---- how much is read
 
--- So many statements come first in a loop: those of the turns in front of one, and of that one so many. Of a loop to an item, whose bound is one, each number up
--- to that of a turn is looked at, so far as a table may have elements, and those are the turns in front that the counter takes.
+-- So many statements come first in a loop: those of the turns in front of one, and of that one so many. Of a loop to an item, whose bound is one, each number is
+-- looked at, so far as a table may have elements: the turns in front of one are those of all numbers below its own, also those that BY passes over.
 abbrev pub ComeFirstInLoop : List Candidate → List Counted → WrittenLoop → WrittenBound → (whole part : ℕ → ℕ → Type 0) → ℕ → Type 0
 ComeFirstInLoop all ns l (ToNumber n) whole part many = (k own : ℕ) × (count : ℕ → ℕ)
     × (k < turns_between l.from l.by n) × ((j : ℕ) → j < k → whole (l.from + j * l.by) (count (l.from + j * l.by)))
     × part (l.from + k * l.by) own × (many ≡ count_of_turns count l.by k l.from + own)
-ComeFirstInLoop all ns l (ToItem ws) whole part many = (t : Past) × (i own kept : ℕ) × (count : ℕ → ℕ)
+ComeFirstInLoop all ns l (ToItem ws) whole part many = (t : Past) × (i own : ℕ) × (count : ℕ → ℕ)
     × IsBoundOf all (in_turn ns false 0 ws) t × (l.from ≤ i) × (i ≤ l.from + longest_record) × ((j : ℕ) → l.from ≤ j → j < i → whole j (count j))
-    × (i ≤ l.from + kept * l.by) × ((k : ℕ) → k < kept → l.from + k * l.by < i) × part i own × (many ≡ count_of_turns count l.by kept l.from + own)
+    × part i own × (many ≡ count_of_turns count 1 (i - l.from) l.from + own)
 
 -- So many statements come first in what a passage comes to, where the counters round it have these numbers: before the first thing that has no meaning, if
 -- there is one.

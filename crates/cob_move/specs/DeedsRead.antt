@@ -45,19 +45,20 @@ use Rattle.cob_move.specs.Pieces.{IsRefusedMemory}
 
 -- ---- what is made so far
 
--- what is made so far, wherever it lies in memory
+-- what is made so far, wherever it lies in memory, and how many statements were read for it
 pub record MadeLists : Type 0 where
   pub list : List StatementMoves
   pub ends : List ℕ
   pub bounds : List Bound
   pub flows : List Flow
+  pub read : ℕ
 
 abbrev pub made_lists : Made → MadeLists
-made_lists m = record { list = m.list.items; ends = m.ends.items; bounds = m.bounds.items; flows = m.flows.items }
+made_lists m = record { list = m.list.items; ends = m.ends.items; bounds = m.bounds.items; flows = m.flows.items; read = m.read }
 
 -- nothing yet
 abbrev pub nothing_made : MadeLists
-nothing_made = record { list = []; ends = []; bounds = []; flows = [] }
+nothing_made = record { list = []; ends = []; bounds = []; flows = []; read = 0 }
 
 -- the last of some numbers, or this one where there is none
 abbrev pub last_marked : ℕ → List ℕ → ℕ
@@ -97,7 +98,7 @@ AreParted (Moving ms (Choice t holding lacking more)) = AreParted more
 AreParted (Choice t holding lacking more) = AreParted more
 
 -- What is made so far may be carried out: the moves are such between the records, marks rise, bounds are such, and flows name what is there and end in a
--- test.
+-- test. Few statements were read for it.
 pub record IsMade (r : Records) (m : MadeLists) : Type 0 where
   pub moves : AreMoves r (moves r m.list)
   pub ends : RiseUpTo 0 (last_marked 0 m.ends) m.ends
@@ -105,6 +106,7 @@ pub record IsMade (r : Records) (m : MadeLists) : Type 0 where
   pub bounds : AllByRecursion (IsBound r) m.bounds
   pub flows : (on : FlowSupport) → IsFrontOf m on → AreFlows on m.flows
   pub parted : (on : FlowSupport) → IsFrontOf m on → AreParted (all_deeds r on m.flows)
+  pub few : m.read ≤ most_written_out
 
 -- More was made: what was there stands in front.
 pub record HasGrown (old new : MadeLists) : Type 0 where
@@ -115,7 +117,7 @@ pub record HasGrown (old new : MadeLists) : Type 0 where
 
 -- the moves behind the last mark are a flow, and a mark stands behind them
 abbrev pub marked_behind : MadeLists → MadeLists
-marked_behind m = record { list = m.list; ends = m.ends ++ length m.list ∷ []; bounds = m.bounds; flows = m.flows ++ flow.Moves (length m.ends) ∷ [] }
+marked_behind m = record { list = m.list; ends = m.ends ++ length m.list ∷ []; bounds = m.bounds; flows = m.flows ++ flow.Moves (length m.ends) ∷ []; read = m.read }
 
 -- so it is where there are some
 abbrev pub closed_where : Bool → MadeLists → MadeLists
@@ -127,7 +129,7 @@ closed m = closed_where (nat_eq (length m.list) (last_marked 0 m.ends)) m
 
 -- the same without its flows
 abbrev pub without_flows : MadeLists → MadeLists
-without_flows m = record { list = m.list; ends = m.ends; bounds = m.bounds; flows = [] }
+without_flows m = record { list = m.list; ends = m.ends; bounds = m.bounds; flows = []; read = m.read }
 
 -- how much of each there is
 pub record IsSizeOf (m : MadeLists) (s : Sizes) : Type 0 where
@@ -135,10 +137,15 @@ pub record IsSizeOf (m : MadeLists) (s : Sizes) : Type 0 where
   pub ends : s.ends ≡ length m.ends
   pub bounds : s.bounds ≡ length m.bounds
   pub flows : s.flows ≡ length m.flows
+  pub read : s.read ≡ m.read
 
--- so much of each
+-- so much of each, and as many statements were read
 abbrev pub taken_back : Sizes → MadeLists → MadeLists
-taken_back s m = record { list = take s.list m.list; ends = take s.ends m.ends; bounds = take s.bounds m.bounds; flows = take s.flows m.flows }
+taken_back s m = record { list = take s.list m.list; ends = take s.ends m.ends; bounds = take s.bounds m.bounds; flows = take s.flows m.flows; read = m.read }
+
+-- so much of each, as if no more had been read
+abbrev pub forgotten : Sizes → MadeLists → MadeLists
+forgotten s m = record { list = take s.list m.list; ends = take s.ends m.ends; bounds = take s.bounds m.bounds; flows = take s.flows m.flows; read = s.read }
 
 -- what stands in front, if it is no loop, is words of MOVE statements
 abbrev pub IsFrontRead : PassageFront → Type 0
@@ -160,25 +167,25 @@ FrontHasBounds f = (p : Passage) × Within f p × BoundedFront f p
 abbrev pub FewWith : (ℕ → Type 0) → ℕ → Type 0
 FewWith first before = before ≤ most_written_out → (many : ℕ) → first many → before + many ≤ most_written_out
 
--- Deeds that are meant so, with so many statements, stand behind what was made before, with as many statements. The statements' moves are those that may be
--- carried out, in their order, and a mark came where there is a test. They are few, and so are those that come first.
+-- Deeds that are meant so, with so many statements, stand behind what was made before, and as many statements were read. The statements' moves are those that may
+-- be carried out, in their order, and a mark came where there is a test. They are few, and so are those that come first.
 pub record AddsMade (e : Entries) (meant : Deeds Past → ℕ → Type 0) (first : ℕ → Type 0) (old new : MadeLists) : Type 0 where
   pub deeds : Deeds Past
   pub many : ℕ
   pub are : meant deeds many
   pub added : (on : FlowSupport) → IsFrontOf new on → made_deeds (records_of e) on new ≡ joined_deeds (made_deeds (records_of e) on old) deeds
-  pub longer : length new.list ≡ length old.list + many
+  pub longer : new.read ≡ old.read + many
   pub whole : moves (records_of e) new.list ≡ moves (records_of e) old.list ++ moves_of_deeds deeds
   pub straight : IsStraight deeds → new.ends ≡ old.ends
-  pub fits : length old.list ≤ most_written_out → length new.list ≤ most_written_out
-  pub few : FewWith first (length old.list)
+  pub fits : old.read ≤ most_written_out → new.read ≤ most_written_out
+  pub few : FewWith first old.read
 
 -- Why it is not read: memory was refused; or more statements come first than may be, with those so far (M12); or it breaks a rule so, and those that come first
 -- are few.
 abbrev pub RefusedMade : NotRead → (MoveFault → Type 0) → (ℕ → Type 0) → MadeLists → Type 0
 RefusedMade why.Memory refused first old = Unit {0}
-RefusedMade why.TooMany refused first old = (many : ℕ) × first many × (most_written_out < length old.list + many)
-RefusedMade (why.Broken f) refused first old = ((f.rule ≡ rule.Memory) → ⊥) × refused f × FewWith first (length old.list)
+RefusedMade why.TooMany refused first old = (many : ℕ) × first many × (most_written_out < old.read + many)
+RefusedMade (why.Broken f) refused first old = ((f.rule ≡ rule.Memory) → ⊥) × refused f × FewWith first old.read
 
 -- it breaks no rule
 abbrev pub IsNotBroken : NotRead → Type 0
@@ -262,9 +269,9 @@ FirstInTurns e ns l p done many = (k own : ℕ) × (count : ℕ → ℕ)
 
 -- in the turns of a loop to an item whose numbers stand below one
 abbrev pub FirstBelow : Entries → List Counted → WrittenLoop → Passage → ℕ → ℕ → Type 0
-FirstBelow e ns l p behind many = (i own kept : ℕ) × (count : ℕ → ℕ)
+FirstBelow e ns l p behind many = (i own : ℕ) × (count : ℕ → ℕ)
     × (l.from ≤ i) × (i < behind) × ((j : ℕ) → l.from ≤ j → j < i → (d : Deeds Past) × PassageComesTo e (ns ++ counter_at l j ∷ []) p d (count j))
-    × (i ≤ l.from + kept * l.by) × ((k : ℕ) → k < kept → l.from + k * l.by < i) × FirstIn e (ns ++ counter_at l i ∷ []) p own × (many ≡ count_of_turns count l.by kept l.from + own)
+    × FirstIn e (ns ++ counter_at l i ∷ []) p own × (many ≡ count_of_turns count 1 (i - l.from) l.from + own)
 
 -- in what stands in front
 abbrev pub FirstInFront : Entries → List Counted → PassageFront → Passage → ℕ → Type 0
@@ -335,17 +342,17 @@ abbrev pub AreTurns : Records → FlowSupport → (ℕ → Deeds Past) → ℕ �
 AreTurns r on f by i [] = Unit {0}
 AreTurns r on f by i (fs ∷ turns) = AreFlows on fs × (all_deeds r on fs ≡ f i) × AreTurns r on f by (i + by) turns
 
--- The turns of a loop whose numbers stand below one are read, behind what was made before: each comes to something, and those that the counter takes are kept,
--- each with its flows.
+-- The turns of a loop whose numbers stand below one are read, behind what was made before: each comes to something and counts, and those that the counter takes
+-- are kept, each with its flows.
 pub record ReadsTurns (e : Entries) (ns : List Counted) (l : WrittenLoop) (p : Passage) (behind : ℕ) (turns : List (List Flow)) (old new : MadeLists) : Type 0 where
   pub comes : ℕ → Deeds Past
   pub count : ℕ → ℕ
   pub are : (i : ℕ) → l.from ≤ i → i < behind → PassageComesTo e (in_its_turn ns l i) p (comes i) (count i)
   pub flows : (on : FlowSupport) → IsFrontOf new on → AreTurns (records_of e) on comes l.by l.from turns
-  pub longer : length new.list ≡ length old.list + count_of_turns count l.by (length turns) l.from
+  pub longer : new.read ≡ old.read + count_of_turns count 1 (behind - l.from) l.from
   pub whole : moves (records_of e) new.list ≡ moves (records_of e) old.list ++ loop_turns (λ i. moves_of_deeds (comes i)) l.by (length turns) l.from
-  pub fits : length old.list ≤ most_written_out → length new.list ≤ most_written_out
-  pub few : FewWith (λ many. FirstBelow e ns l p behind many) (length old.list)
+  pub fits : old.read ≤ most_written_out → new.read ≤ most_written_out
+  pub few : FewWith (λ many. FirstBelow e ns l p behind many) old.read
 
 -- So many turns are kept of those whose numbers stand below one: the counter takes the next number then.
 pub record AreKept (from by kept behind next : ℕ) : Type 0 where

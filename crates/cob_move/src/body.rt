@@ -40,6 +40,7 @@ impl Made {
             ends: Vec::new(alloc),
             bounds: Vec::new(alloc),
             flows: Vec::new(alloc),
+            read: 0,
         }
     }
 }
@@ -92,6 +93,7 @@ fn ready_deeds(
         ends,
         bounds,
         flows,
+        ..
     } = made;
     let moves = MarkedMoves::new(alloc, list, ends.as_slice(), input, output)?;
     let loops = Vec::new(alloc);

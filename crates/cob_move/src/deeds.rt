@@ -118,12 +118,16 @@ fn add_moves(
     meant_break_no_rule();
     let _ = entries.input.root();
     let _ = entries.output.root();
+    let before = made.list.len();
     if let Err(fault) = add_words_in(alloc, entries, pairs, words, turn, &mut made.list) {
         return Err(not_read(fault));
     }
-    if made.list.len() as u64 > MAX_WRITTEN_OUT {
+    let more = (made.list.len() - before) as u64;
+    let left = MAX_WRITTEN_OUT - made.read;
+    if more > left {
         return Err(NotRead::TooMany);
     }
+    made.read += more;
     Ok(())
 }
 
@@ -234,7 +238,7 @@ fn add_turn<'a>(
     add_passage(alloc, entries, pairs, body, inner.as_slice(), made)
 }
 
-/// Reads a turn of a loop to an item, and says whether it has the elements that it names: of one that hasn't nothing is kept, but its fault.
+/// Reads a turn of a loop to an item, and says whether it has the elements that it names: of one that hasn't nothing is kept or counted, but its fault.
 ///
 /// # Errors
 ///
@@ -259,7 +263,7 @@ fn try_turn<'a>(
         (made_lists made.old) (made_lists made.new))) }
     ensures refused { IfOk result (λ o. IfSome o (λ f. BreaksInTurn f entries.now
         (in_its_turn (counters turn.now) (written_loop head.now) number) (lexemes body.now)
-        (length (made_lists made.old).list))) }
+        (made_lists made.old).read)) }
     ensures same { IfOk result (λ o. IfSome o
         (λ f. made_lists made.new ≡ made_lists made.old)) }
     ensures fault { IfErr result (λ n. TurnRefused n entries.now
@@ -274,7 +278,7 @@ fn try_turn<'a>(
     match add_turn(alloc, entries, pairs, head, number, body, turn, made) {
         Ok(()) => Ok(None),
         Err(NotRead::Broken(fault)) => {
-            made.take_back(before);
+            made.forget(before);
             Ok(Some(fault))
         }
         Err(NotRead::Memory) => Err(NotRead::Memory),
@@ -327,8 +331,8 @@ fn add_turns<'a>(
     Ok(())
 }
 
-/// Reads the turns of a loop to an item: those whose numbers its counter takes are kept, those between are looked at alone. It answers the first number whose
-/// turn has not the elements that it names.
+/// Reads the turns of a loop to an item: those whose numbers its counter takes are kept, those between are looked at and counted. It answers the first number
+/// whose turn has not the elements that it names.
 ///
 /// # Errors
 ///
@@ -362,7 +366,7 @@ fn try_turns<'a>(
         × (behind ≤ head.now.from + longest_record)) }
     ensures past { IfOk result (λ behind. HasNoTurn entries.now
         (in_its_turn (counters turn.now) (written_loop head.now) behind) (lexemes body.now)
-        (length (made_lists made.new).list)) }
+        (made_lists made.new).read) }
     ensures flows { OnOk result (made.new.flows.items ≡ []) }
     ensures marked { OnOk result (open_statements (made_lists made.new) ≡ []) }
     ensures fault { IfErr result (λ n. LoopRefused n entries.now (counters turn.now)

@@ -1,7 +1,7 @@
 //! What a paragraph comes to, while it is read.
 
 ghost use Rattle.std.specs.Prelude.{◌≡◌, ◌≢◌, ◌+◌, ◌∷◌, ◌++◌, [], IfOk, OnOk};
-ghost use Rattle.cob_move.specs.DeedsRead.{IsSizeOf, closed, flow_lists, last_marked, made_lists, taken_back, without_flows};
+ghost use Rattle.cob_move.specs.DeedsRead.{IsSizeOf, closed, flow_lists, forgotten, last_marked, made_lists, taken_back, without_flows};
 ghost use Rattle.cob_move.specs.declared.made.NotRead.TheVariants as unread;
 
 use crate::linking::next_number;
@@ -19,6 +19,8 @@ pub(crate) struct Made {
     pub(crate) ends: Vec<usize>,
     pub(crate) bounds: Vec<Bound>,
     pub(crate) flows: Vec<Flow>,
+    /// How many statements were read, those of turns that were taken back among them.
+    pub(crate) read: u64,
 }
 
 /// Why words are not read.
@@ -55,6 +57,7 @@ pub(crate) struct Sizes {
     ends: usize,
     bounds: usize,
     flows: usize,
+    read: u64,
 }
 
 impl Made {
@@ -95,17 +98,26 @@ impl Made {
             ends: self.ends.len(),
             bounds: self.bounds.len(),
             flows: self.flows.len(),
+            read: self.read,
         }
     }
 
-    /// Takes back what came behind.
-    pub(crate) fn take_back(&mut self, to: Sizes)
+    /// Takes back what came behind: its statements were read all the same.
+    fn take_back(&mut self, to: Sizes)
         ensures { made_lists self.new ≡ taken_back to (made_lists self.old) }
     {
         self.list.truncate(to.list);
         self.ends.truncate(to.ends);
         self.bounds.truncate(to.bounds);
         self.flows.truncate(to.flows);
+    }
+
+    /// Takes back what came behind, as if it had not been read.
+    pub(crate) fn forget(&mut self, to: Sizes)
+        ensures { made_lists self.new ≡ forgotten to (made_lists self.old) }
+    {
+        self.take_back(to);
+        self.read = to.read;
     }
 }
 
@@ -123,7 +135,7 @@ fn taken_flows(alloc: Global, made: &mut Made) -> Result<Vec<Flow>, AllocError>
     Ok(replace(&mut made.flows, Vec::new(alloc)))
 }
 
-/// Keeps a turn that was read, if its counter takes its number, and answers the number that it takes next; else takes the turn back.
+/// Keeps a turn that was read, if its counter takes its number, and answers the number that it takes next; else takes the turn back, whose statements were read.
 ///
 /// # Errors
 ///

@@ -26,7 +26,7 @@ pub(crate) enum Basis {
 pub(crate) struct PlacedOperand<'a> {
     pub(crate) entry: &'a Ref,
     pub(crate) kind: &'a Kind,
-    pub(crate) basis: Basis,
+    pub(crate) basis: &'a Basis,
 }
 
 /// An entry of the record of a side that is sent, with what its place rests on.
@@ -59,12 +59,12 @@ pub fn entry_kind<'a>(layout: &'a Layout, entry: &Ref) -> &'a Kind
 pub(crate) fn placed_operand<'a>(
     layout: &'a Layout,
     entry: &'a Ref,
-    basis: Basis,
+    basis: &'a Basis,
 ) -> PlacedOperand<'a>
     requires sound { IsSound layout.now }
     requires operand { IsOperand layout.now (operand_in layout.now entry.now) }
     ensures operand { operand_of result ≡ operand_in layout.now entry.now }
-    ensures basis { result.basis ≡ basis }
+    ensures basis { result.basis.now ≡ basis.now }
 {
     PlacedOperand {
         entry,

@@ -104,7 +104,7 @@ pub(crate) fn run_located_constant(
         layout: layouts.output,
         bytes: &*output,
     };
-    let receiver = placed_operand(layouts.output, &one.receiver, one.to);
+    let receiver = placed_operand(layouts.output, &one.receiver, &one.to);
     let Some(to) = locate_if_there(&receiving, &receiver, true, &mut space.output) else {
         return false;
     };
@@ -143,7 +143,7 @@ pub(crate) fn make_located_constant(
         layout: layouts.output,
         bytes: &*output,
     };
-    let receiver = placed_operand(layouts.output, &one.receiver, one.to);
+    let receiver = placed_operand(layouts.output, &one.receiver, &one.to);
     match locate(&receiving, &receiver, true, &mut space.output) {
         Ok(to) => {
             make_there(plan, one, to, layouts, input, output, space);

@@ -74,7 +74,7 @@ fn both_places(
         layout: layouts.input,
         bytes: input,
     };
-    let sender = placed_operand(layouts.input, &one.sent, one.from);
+    let sender = placed_operand(layouts.input, &one.sent, &one.from);
     let Some(from) = locate_if_there(&sending, &sender, false, &mut space.input) else {
         return None;
     };
@@ -83,7 +83,7 @@ fn both_places(
         layout: layouts.output,
         bytes: output,
     };
-    let receiver = placed_operand(layouts.output, &one.receiver, one.to);
+    let receiver = placed_operand(layouts.output, &one.receiver, &one.to);
     let Some(to) = locate_if_there(&receiving, &receiver, true, &mut space.output) else {
         return None;
     };

@@ -55,11 +55,11 @@ fn both_within(
         layout: layouts.output,
         bytes: output,
     };
-    let sender = placed_operand(layouts.output, &one.sent, one.from);
+    let sender = placed_operand(layouts.output, &one.sent, &one.from);
     let Some(from) = locate_if_there(&stored, &sender, false, &mut space.output) else {
         return None;
     };
-    let receiver = placed_operand(layouts.output, &one.receiver, one.to);
+    let receiver = placed_operand(layouts.output, &one.receiver, &one.to);
     let Some(to) = locate_if_there(&stored, &receiver, true, &mut space.output) else {
         return None;
     };

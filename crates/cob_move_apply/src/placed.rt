@@ -101,7 +101,7 @@ impl PlacedEntry {
             layout,
             bytes,
         };
-        let operand = placed_operand(layout, &self.entry, self.basis);
+        let operand = placed_operand(layout, &self.entry, &self.basis);
         locate(&stored, &operand, false, survey)
     }
 

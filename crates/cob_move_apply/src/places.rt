@@ -91,19 +91,22 @@ fn noted_place(
     survey: &Survey,
 ) -> Option<Place>
     requires placed { IsPlaced stored.now.layout.now receiving
-        (operand_of placed.now) placed.now.basis }
+        (operand_of placed.now) placed.now.basis.now }
     requires survey { IsSurvey stored.now.layout.now stored.now.bytes.now survey.now }
     ensures { IfSome result (StandsAsNoted stored.now.layout.now receiving (operand_of placed.now)
-        stored.now.bytes.now survey.now.counts.kept placed.now.basis) }
+        stored.now.bytes.now survey.now.counts.kept placed.now.basis.now) }
 {
     let counts = &survey.counts;
     match placed.basis {
-        Basis::Fixed(place) => Some(place),
-        Basis::Element(element) => counts.place_of(element),
+        Basis::Fixed(place) => Some(Place {
+            offset: place.offset,
+            length: place.length,
+        }),
+        Basis::Element(element) => counts.place_of(*element),
         Basis::Summed(summed) => {
             let entry = placed.entry;
             let layout = stored.layout;
-            layout.place_by_sums(entry, receiving, stored.bytes, summed, counts)
+            layout.place_by_sums(entry, receiving, stored.bytes, *summed, counts)
         }
         Basis::Counted => None,
     }
@@ -123,7 +126,7 @@ pub(crate) fn locate(
 ) -> Result<Place, Stop>
     requires sound { IsSound stored.now.layout.now }
     requires placed { IsPlaced stored.now.layout.now receiving
-        (operand_of placed.now) placed.now.basis }
+        (operand_of placed.now) placed.now.basis.now }
     requires survey { IsSurvey stored.now.layout.now stored.now.bytes.now survey.old }
     ensures located { Located stored.now.side stored.now.layout.now receiving
         (operand_of placed.now) stored.now.bytes.now result }
@@ -194,7 +197,7 @@ pub(crate) fn locate_if_there(
 ) -> Option<Place>
     requires sound { IsSound stored.now.layout.now }
     requires placed { IsPlaced stored.now.layout.now receiving
-        (operand_of placed.now) placed.now.basis }
+        (operand_of placed.now) placed.now.basis.now }
     requires survey { IsSurvey stored.now.layout.now stored.now.bytes.now survey.old }
     ensures located { IfSome result (λ p. Located stored.now.side stored.now.layout.now receiving
         (operand_of placed.now) stored.now.bytes.now (Ok p)) }

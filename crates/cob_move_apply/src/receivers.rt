@@ -41,7 +41,7 @@ fn receive_one(
 ) -> Result<(), Stop>
     requires sound { IsSound layout.now }
     requires given { HasAllBytes (sent given.now.sent) }
-    requires receiver { IsPlaced layout.now true (operand_of receiver.now) receiver.now.basis }
+    requires receiver { IsPlaced layout.now true (operand_of receiver.now) receiver.now.basis.now }
     requires output { length output.old ≡ greatest_length layout.now }
     requires survey { IsSurvey layout.now output.old survey.old }
     ensures gets { Gets layout.now (content_of given.now) (operand_of receiver.now) output.old
@@ -96,7 +96,7 @@ pub(crate) fn receive_all(
         (receivers_in layout.now receivers.now) output.old result output.new survey.old survey.new }
 {
     for (index, entry) in receivers.entries.iter().enumerate() {
-        let receiver = placed_operand(layout, entry, receivers.bases[index]);
+        let receiver = placed_operand(layout, entry, &receivers.bases[index]);
         receive_one(layout, given, &receiver, output, survey)?;
     }
     Ok(())

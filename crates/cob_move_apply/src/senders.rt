@@ -48,7 +48,7 @@ fn move_from_input(
     requires in_sound { IsSound layouts.now.input.now }
     requires out_sound { IsSound layouts.now.output.now }
     requires sender { IsPlaced layouts.now.input.now false
-        (operand_of sender.now) sender.now.basis }
+        (operand_of sender.now) sender.now.basis.now }
     requires receivers { ArePlacedReceivers layouts.now.output.now
         (receivers_in layouts.now.output.now receivers.now) receivers.now.bases.now }
     requires input { IsStorage layouts.now.input.now input.now }
@@ -95,7 +95,7 @@ fn move_within_output(
 ) -> Result<(), Stop>
     requires sound { IsSound layouts.now.output.now }
     requires sender { IsPlaced layouts.now.output.now false
-        (operand_of sender.now) sender.now.basis }
+        (operand_of sender.now) sender.now.basis.now }
     requires receivers { ArePlacedReceivers layouts.now.output.now
         (receivers_in layouts.now.output.now receivers.now) receivers.now.bases.now }
     requires output { length output.old ≡ greatest_length layouts.now.output.now }
@@ -155,11 +155,11 @@ pub(crate) fn move_entry(
 {
     match sent.side {
         Side::In => {
-            let sender = placed_operand(layouts.input, sent.entry, sent.basis);
+            let sender = placed_operand(layouts.input, sent.entry, &sent.basis);
             move_from_input(&sender, receivers, layouts, input, output, space)
         }
         Side::Out => {
-            let sender = placed_operand(layouts.output, sent.entry, sent.basis);
+            let sender = placed_operand(layouts.output, sent.entry, &sent.basis);
             move_within_output(&sender, receivers, layouts, input, output, space)
         }
     }

@@ -78,12 +78,12 @@ none_reads r d input before result old new spent = (0, none_done r d input befor
 
 -- ---- a flow
 
-meet_moves : (r : Records) (on : FlowSupport) (number : ℕ) (more : List Flow) (input before after : List ℕ) (met : ℕ) → Applied r (moves_between_marks r on.moves number (number + 1)) input before (done after)
+pub meet_moves : (r : Records) (on : FlowSupport) (number : ℕ) (more : List Flow) (input before after : List ℕ) (met : ℕ) → Applied r (moves_between_marks r on.moves number (number + 1)) input before (done after)
     → HaveMet r (moves_between_marks r on.moves number (number + 1)) input before met → MeetFlows r on (flow.Moves number ∷ more) more input before after met
 meet_moves r on number more input before after met made own zero le = absurd (omega (arith, le))
 meet_moves r on number more input before after met made own (suc n) le = (n, omega (arith, le), λ k h. inr (after, met, k, refl, made, own, h))
 
-met_moves : (r : Records) (on : FlowSupport) (number : ℕ) (more : List Flow) (input before : List ℕ) (met : ℕ) → HaveMet r (moves_between_marks r on.moves number (number + 1)) input before met
+pub met_moves : (r : Records) (on : FlowSupport) (number : ℕ) (more : List Flow) (input before : List ℕ) (met : ℕ) → HaveMet r (moves_between_marks r on.moves number (number + 1)) input before met
     → MetFlows r on (flow.Moves number ∷ more) input before met
 met_moves r on number more input before met own zero le = absurd (omega (arith, le))
 met_moves r on number more input before met own (suc n) le = inl own
@@ -108,7 +108,7 @@ met_turns r on number more l input before met at own (suc n) le =
 judged_so : (r : Records) (t : Past) (input before : List ℕ) (v j : ℕ) (b : Bool) → BoundGives r t input before v → nat_lt v j ≡ b → Judged r (with_number t j) input before (Ok b)
 judged_so r t input before v j b (p, i, located, kind, says) is = inr (p, i, located, kind, (v, says, sym is))
 
-meet_past : (r : Records) (on : FlowSupport) (bound number skip : ℕ) (more left : List Flow) (b : Bound) (input before : List ℕ) (v : ℕ) → slice_get on.bounds bound ≡ Some b → BoundGives r (past_bound r b 0) input before v
+pub meet_past : (r : Records) (on : FlowSupport) (bound number skip : ℕ) (more left : List Flow) (b : Bound) (input before : List ℕ) (v : ℕ) → slice_get on.bounds bound ≡ Some b → BoundGives r (past_bound r b 0) input before v
     → nat_lt v number ≡ true → left ≡ drop skip more → MeetFlows r on (flow.Until bound number skip ∷ more) left input before before 0
 meet_past r on bound number skip more left b input before v at gives past same zero le = absurd (omega (arith, le))
 meet_past r on bound number skip more left b input before v at gives past same (suc n) le = (
@@ -121,7 +121,7 @@ meet_past r on bound number skip more left b input before v at gives past same (
       ))),
 )
 
-meet_within : (r : Records) (on : FlowSupport) (bound number skip : ℕ) (more : List Flow) (b : Bound) (input before : List ℕ) (v : ℕ) → slice_get on.bounds bound ≡ Some b → BoundGives r (past_bound r b 0) input before v
+pub meet_within : (r : Records) (on : FlowSupport) (bound number skip : ℕ) (more : List Flow) (b : Bound) (input before : List ℕ) (v : ℕ) → slice_get on.bounds bound ≡ Some b → BoundGives r (past_bound r b 0) input before v
     → nat_lt v number ≡ false → MeetFlows r on (flow.Until bound number skip ∷ more) more input before before 0
 meet_within r on bound number skip more b input before v at gives past zero le = absurd (omega (arith, le))
 meet_within r on bound number skip more b input before v at gives past (suc n) le = (
@@ -134,7 +134,7 @@ meet_within r on bound number skip more b input before v at gives past (suc n) l
       ))),
 )
 
-none_met_flows : (r : Records) (on : FlowSupport) (fs : List Flow) (input before : List ℕ) → MetFlows r on fs input before 0
+pub none_met_flows : (r : Records) (on : FlowSupport) (fs : List Flow) (input before : List ℕ) → MetFlows r on fs input before 0
 none_met_flows r on fs input before n le = none_done r (carried_from r on n fs) input before
 
 -- ---- what is read at a flow
@@ -168,7 +168,7 @@ test_stop_reads r on fs input before stop old new spent = (0, none_met_flows r o
 
 -- ---- flows one behind another
 
-meet_on : (r : Records) (on : FlowSupport) (all left next : List Flow) (input before now after : List ℕ) (met own : ℕ) → MeetFlows r on all left input before now met → MeetFlows r on left next input now after own
+pub meet_on : (r : Records) (on : FlowSupport) (all left next : List Flow) (input before now after : List ℕ) (met own : ℕ) → MeetFlows r on all left input before now met → MeetFlows r on left next input now after own
     → MeetFlows r on all next input before after (met + own)
 meet_on r on all left next input before now after met own so one n le =
     let (m, few, back) = so n le in
@@ -178,8 +178,11 @@ meet_on r on all left next input before now after met own so one n le =
     sum : (a b c : ℕ) → a + (b + c) ≡ a + b + c
     sum a b c = omega arith
 
+pub meet_first : (r : Records) (on : FlowSupport) (all : List Flow) (input before : List ℕ) → MeetFlows r on all all input before before 0
+meet_first r on all input before n le = (n, le, λ k h. subst (λ (c : ℕ). DeedsHaveMet r (carried_from r on n all) input before c) (plain k) h)
+
 pub spends_first : (r : Records) (on : FlowSupport) (all : List Flow) (input before : List ℕ) (s : Scratching) → FlowSpends r on all all input before before s s
-spends_first r on all input before s = (0, λ n le. (n, le, λ k h. subst (λ (c : ℕ). DeedsHaveMet r (carried_from r on n all) input before c) (plain k) h), omega (arith, allowed_none r.output))
+spends_first r on all input before s = (0, meet_first r on all input before, omega (arith, allowed_none r.output))
 
 pub spends_on : (r : Records) (on : FlowSupport) (all left next : List Flow) (input before now after : List ℕ) (old mid new : Scratching) → FlowSpends r on all left input before now old mid
     → FlowSpends r on left next input now after mid new → FlowSpends r on all next input before after old new

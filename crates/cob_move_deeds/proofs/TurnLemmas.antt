@@ -58,7 +58,7 @@ loop_back judged r until body by most (suc n) i input before end past far (loop_
 pub past_not : (bound i : ℕ) → i ≤ bound → nat_lt bound i ≡ false
 past_not bound i le = grind (arith, le)
 
-past_is : (bound i : ℕ) → bound < i → nat_lt bound i ≡ true
+pub past_is : (bound i : ℕ) → bound < i → nat_lt bound i ≡ true
 past_is bound i lt = grind (arith, lt)
 
 goes_on : (bound i : ℕ) → bound < i → ◌≡◌ {A = Result Bool Stop} (Ok false) (Ok (nat_lt bound i)) → ⊥

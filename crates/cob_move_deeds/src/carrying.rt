@@ -1,35 +1,31 @@
 //! Flows carried out, one behind another.
 
-ghost use Rattle.std.specs.Prelude.{◌≡◌, ◌<◌, ◌≤◌, ◌∷◌, ℕ, drop, length, IfErr, IfOk, OnErr, Some};
-ghost use Rattle.std.specs.List.{slice_get};
+ghost use Rattle.std.specs.Prelude.{◌≡◌, ◌<◌, ◌≤◌, ◌∷◌, length, IfErr, IfOk, IsTrue, OnErr, Some};
+ghost use Rattle.std.specs.List.{AllByRecursion, slice_get};
 ghost use Rattle.cob_layout.specs.Storage.{greatest_length, IsStorage};
 ghost use Rattle.cob_move_apply.specs.Applied.{Applied, ending};
 ghost use Rattle.cob_move_apply.specs.Marked.{moves_between_marks};
 ghost use Rattle.cob_move_apply.specs.Reads.{ReadsFor, ReadsOfMoves};
+ghost use Rattle.cob_move_data.specs.declared.operands.Side.TheVariants.{In};
 ghost use Rattle.cob_move_loops.specs.Turns.{turns_between};
 ghost use Rattle.cob_move_deeds.specs.Carrying.{FlowSpends, FlowSpendsAtStop, HasKept, LeavesFlows, StopsFlows, carried_from, records_of_sides};
 ghost use Rattle.cob_move_deeds.specs.Deeds.{Carried};
 ghost use Rattle.cob_move_deeds.specs.Flows.{IsFlow, IsLoop, loop_done};
+ghost use Rattle.cob_move_deeds.specs.Known.{AreKnown};
 ghost use Rattle.cob_move_deeds.specs.Met.{ReadsOfDeeds};
 ghost use Rattle.cob_move_deeds.specs.Prepared.{AreDeedsPrepared, flow_support};
 ghost use Rattle.cob_move_deeds.specs.declared.flow.Bound.{Bound};
-ghost use Rattle.cob_move_deeds.specs.Tests.{Judged, BoundSays, past_bound};
+ghost use Rattle.cob_move_deeds.specs.Tests.{BoundGives, BoundSays, Judged, past_bound};
 
 use crate::bound::number_of;
 use crate::flow::{CountedLoop, Flow};
+use crate::known::KnownBounds;
 use crate::ready::ReadyDeeds;
+use crate::row::{behind, first_moves};
 use crate::sides::Sides;
 use cob_layout::one_outcome_of_counts;
 use cob_move_apply::{Scratch, Stop, one_ending};
-
-/// Those behind so many.
-fn behind(flows: &[Flow], count: usize) -> &[Flow]
-    ensures value { result.now ≡ drop count flows.now }
-    ensures fewer { length result.now ≤ length flows.now }
-{
-    let count = count.min(flows.len());
-    &flows[count..]
-}
+use cob_move_data::Side;
 
 /// How many turns a loop has up to a number.
 fn turns_up_to(one: &CountedLoop, number: u32) -> usize
@@ -109,6 +105,54 @@ fn read_bound(
     number_of(bound, sides, output, scratch)
 }
 
+/// Whether a bound stands in the input record.
+fn is_of_input(deeds: &ReadyDeeds, number: usize) -> bool
+    requires within { number < length deeds.now.bounds.items }
+    ensures { IsTrue result → (b : Bound) → slice_get deeds.now.bounds.items number ≡ Some b
+        → b.item.side ≡ In }
+{
+    let bound = &deeds.bounds[number];
+    matches!(bound.item.side(), Side::In)
+}
+
+/// What the bound with this number gives: what is known of it, and else what is read.
+///
+/// # Errors
+///
+/// What is missing for it.
+fn bound_now(
+    deeds: &ReadyDeeds,
+    number: usize,
+    sides: &Sides<'_>,
+    output: &[u8],
+    scratch: &mut Scratch,
+    known: &mut KnownBounds,
+) -> Result<u32, Stop>
+    requires prepared { AreDeedsPrepared (records_of_sides sides.now) deeds.now }
+    requires bound { (b : Bound) × (slice_get deeds.now.bounds.items number ≡ Some b) }
+    requires kept { HasKept (records_of_sides sides.now) sides.now.input.now output.now
+        scratch.old }
+    requires known { AreKnown (records_of_sides sides.now) (flow_support deeds.now)
+        sides.now.input.now known.old }
+    ensures says { (b : Bound) → slice_get deeds.now.bounds.items number ≡ Some b
+        → BoundSays (records_of_sides sides.now) (past_bound (records_of_sides sides.now) b 0)
+        sides.now.input.now output.now result }
+    ensures kept { HasKept (records_of_sides sides.now) sides.now.input.now output.now
+        scratch.new }
+    ensures reads { ReadsFor sides.now.output_layout.now 0 result scratch.old scratch.new }
+    ensures known { AreKnown (records_of_sides sides.now) (flow_support deeds.now)
+        sides.now.input.now known.new }
+{
+    if let Some(gave) = known.number_of(number) {
+        return Ok(gave);
+    }
+    let gave = read_bound(deeds, number, sides, output, scratch)?;
+    if is_of_input(deeds, number) {
+        known.keep(number, gave);
+    }
+    Ok(gave)
+}
+
 /// Carries out a loop whose bound stands in the input record: the moves of as many turns as that says.
 ///
 /// # Errors
@@ -142,6 +186,57 @@ fn make_turns(
     make_moves(deeds, one.first, one.first + turns, sides, output, scratch)
 }
 
+/// Carries out the turns in a row that stand in front, behind a test whose bound gave this number, and answers the flows that are left then. Where the bound
+/// stands in the output record there are none: each turn may change it.
+///
+/// # Errors
+///
+/// The first thing missing. The storage is as the moves before left it then.
+fn make_row<'a>(
+    deeds: &ReadyDeeds,
+    bound: usize,
+    last: u32,
+    flows: &'a [Flow],
+    sides: &Sides<'_>,
+    output: &mut [u8],
+    scratch: &mut Scratch,
+) -> Result<&'a [Flow], Stop>
+    requires prepared { AreDeedsPrepared (records_of_sides sides.now) deeds.now }
+    requires gives { (b : Bound) × (slice_get deeds.now.bounds.items bound ≡ Some b)
+        × BoundGives (records_of_sides sides.now) (past_bound (records_of_sides sides.now) b 0)
+        sides.now.input.now output.old last }
+    requires each { AllByRecursion (IsFlow (flow_support deeds.now)) flows.now }
+    requires input { IsStorage sides.now.input_layout.now sides.now.input.now }
+    requires output { length output.old ≡ greatest_length sides.now.output_layout.now }
+    requires kept { HasKept (records_of_sides sides.now) sides.now.input.now output.old
+        scratch.old }
+    ensures leaves { IfOk result (λ left. LeavesFlows (records_of_sides sides.now)
+        (flow_support deeds.now) flows.now left.now sides.now.input.now output.old output.new) }
+    ensures stops { IfErr result (λ stop. StopsFlows (records_of_sides sides.now)
+        (flow_support deeds.now) flows.now sides.now.input.now output.old stop output.new) }
+    ensures each { IfOk result (λ left. AllByRecursion (IsFlow (flow_support deeds.now)) left.now) }
+    ensures fewer { IfOk result (λ left. length left.now ≤ length flows.now) }
+    ensures kept { HasKept (records_of_sides sides.now) sides.now.input.now output.new
+        scratch.new }
+    ensures spends { IfOk result (λ left. FlowSpends (records_of_sides sides.now)
+        (flow_support deeds.now) flows.now left.now sides.now.input.now output.old output.new
+        scratch.old scratch.new) }
+    ensures spent { OnErr result (FlowSpendsAtStop (records_of_sides sides.now)
+        (flow_support deeds.now) flows.now sides.now.input.now output.old scratch.old scratch.new) }
+{
+    // For `spends`: moves end in one way.
+    one_ending();
+    if !is_of_input(deeds, bound) {
+        return Ok(flows);
+    }
+    let Some(first) = first_moves(flows) else {
+        return Ok(flows);
+    };
+    let row = deeds.row_from(first, bound, last, flows);
+    make_moves(deeds, first, row.to, sides, output, scratch)?;
+    Ok(row.left)
+}
+
 /// Carries out the flow in front of these, and answers those that are left then.
 ///
 /// # Errors
@@ -154,20 +249,24 @@ fn next<'a>(
     sides: &Sides<'_>,
     output: &mut [u8],
     scratch: &mut Scratch,
+    known: &mut KnownBounds,
 ) -> Result<&'a [Flow], Stop>
     requires prepared { AreDeedsPrepared (records_of_sides sides.now) deeds.now }
-    requires flow { IsFlow (flow_support deeds.now) flow.now }
+    requires each { AllByRecursion (IsFlow (flow_support deeds.now)) (flow.now ∷ more.now) }
     requires input { IsStorage sides.now.input_layout.now sides.now.input.now }
     requires output { length output.old ≡ greatest_length sides.now.output_layout.now }
     requires kept { HasKept (records_of_sides sides.now) sides.now.input.now output.old
         scratch.old }
+    requires known { AreKnown (records_of_sides sides.now) (flow_support deeds.now)
+        sides.now.input.now known.old }
     ensures leaves { IfOk result (λ left. LeavesFlows (records_of_sides sides.now)
         (flow_support deeds.now) (flow.now ∷ more.now) left.now sides.now.input.now output.old
         output.new) }
     ensures stops { IfErr result (λ stop. StopsFlows (records_of_sides sides.now)
         (flow_support deeds.now) (flow.now ∷ more.now) sides.now.input.now output.old stop
         output.new) }
-    ensures rest { IfOk result (λ left. (count : ℕ) × (left.now ≡ drop count more.now)) }
+    ensures each { IfOk result (λ left. AllByRecursion (IsFlow (flow_support deeds.now)) left.now) }
+    ensures fewer { IfOk result (λ left. length left.now ≤ length more.now) }
     ensures kept { HasKept (records_of_sides sides.now) sides.now.input.now output.new
         scratch.new }
     ensures spends { IfOk result (λ left. FlowSpends (records_of_sides sides.now)
@@ -176,6 +275,8 @@ fn next<'a>(
     ensures spent { OnErr result (FlowSpendsAtStop (records_of_sides sides.now)
         (flow_support deeds.now) (flow.now ∷ more.now) sides.now.input.now output.old scratch.old
         scratch.new) }
+    ensures known { AreKnown (records_of_sides sides.now) (flow_support deeds.now)
+        sides.now.input.now known.new }
 {
     // For `spends`: what is done ends in one way.
     one_outcome_of_counts();
@@ -194,12 +295,12 @@ fn next<'a>(
             number,
             skip,
         } => {
-            let last = read_bound(deeds, bound, sides, output, scratch)?;
+            let last = bound_now(deeds, bound, sides, output, scratch, known)?;
             if last < number {
-                Ok(behind(more, skip))
-            } else {
-                Ok(more)
+                return Ok(behind(more, skip));
             }
+            let left = make_row(deeds, bound, last, more, sides, output, scratch)?;
+            Ok(left)
         }
     }
 }
@@ -231,9 +332,10 @@ pub(crate) fn carry_out(
         (length deeds.now.flows.items) deeds.now.flows.items) sides.now.input.now output.old result
         scratch.old scratch.new }
 {
+    let mut known = KnownBounds::new();
     let mut rest = deeds.flows.as_slice();
     while let Some((flow, more)) = rest.split_first() {
-        rest = next(deeds, flow, more, sides, output, scratch)?;
+        rest = next(deeds, flow, more, sides, output, scratch, &mut known)?;
     }
     Ok(())
 }

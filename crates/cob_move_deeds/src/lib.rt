@@ -28,8 +28,10 @@
 mod bound;
 mod carrying;
 mod flow;
+mod known;
 mod laws;
 mod ready;
+mod row;
 mod sides;
 mod told;
 

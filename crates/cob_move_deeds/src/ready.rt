@@ -18,6 +18,7 @@ ghost use Rattle.cob_move_deeds.specs.Tests.{IsBound, Judged};
 
 use crate::carrying::carry_out;
 use crate::flow::{Bound, CountedLoop, Flow};
+use crate::row::lone_moves;
 use crate::sides::Sides;
 use cob_layout::{Layout, one_outcome_of_counts};
 use cob_move_apply::{MarkedMoves, Reading, Scratch, Stop, one_ending};
@@ -115,6 +116,7 @@ impl ReadyDeeds {
     /// # Errors
     ///
     /// The first thing missing: for a move, or for the test of a loop. The storage is as the moves and receivers before left it then.
+    #[inline(always)]
     pub fn apply_kept(
         &self,
         input_layout: &Layout,
@@ -148,6 +150,17 @@ impl ReadyDeeds {
         one_outcome_of_counts();
         one_ending();
         scratch.forget_output();
+        if let Some(number) = lone_moves(self.flows.as_slice()) {
+            return self.moves.apply_between(
+                number,
+                number + 1,
+                input_layout,
+                output_layout,
+                input,
+                output,
+                scratch,
+            );
+        }
         let sides = Sides {
             input_layout,
             output_layout,

@@ -15,7 +15,7 @@ use Rattle.cob_move_loops.proofs.PassageLemmas.{shorter}
 use Rattle.cob_move_loops.proofs.WritingLemmas.{counters_more}
 use Rattle.cob_move.specs.DeedsRead.{AddsDeeds, AddsFront, AddsMoved, AddsTurns, FrontHasBounds, FrontRefused, HasGrown, IsMade, LeavesFront, LoopRefused, MadeLists, MovedRefused, ReadsTurns, TurnRefused, closed, flow_lists, in_its_turn, linked_turns, made_lists, open_statements, without_flows}
 use Rattle.cob_move.specs.Entries.{records_of}
-use Rattle.cob_move.proofs.MadeLemmas.{back_again, grown_both, grown_none, leaves_more, leaves_same, leaves_unbroken}
+use Rattle.cob_move.proofs.MadeLemmas.{forgotten_again, grown_both, grown_none, leaves_more, leaves_same, leaves_unbroken}
 use Rattle.cob_move.proofs.ReadingLemmas.{bounds_parted, deeds_end, deeds_first, deeds_more, deeds_refused, front_read, loop_bounds, pause_added}
 use Rattle.cob_move.proofs.TestedLemmas.{HasReadLoop, bound_for, bound_not_read, breaks_first, breaks_same, broken_left, closed_refused, emptied, first_refused, later_refused, loop_left, loop_same, never_refused, no_turn_comes, past_of, tested_added, tested_grown, tested_made, tried_first, tried_now, tried_step}
 use Rattle.cob_move.proofs.CloseLemmas.{closed_made, closed_open}
@@ -92,13 +92,13 @@ pub add_item-returns-in-Pause-clause-grown : goal.add_item-returns-in-Pause-clau
 add_item-returns-in-Pause-clause-grown t c = grown_none (made_lists c.args.made.now)
 
 pub try_turn-returns-in-Err-Broken-clause-same : goal.try_turn-returns-in-Err-Broken-clause-same
-try_turn-returns-in-Err-Broken-clause-same t c = c.take_back.ensures ∙ back_again c.sizes-before.result (made_lists c.args.made.now) (made_lists c.add_turn.new.made) c.sizes-before.ensures (subst (λ (n : NotRead). LeavesFront n (made_lists c.args.made.now) (made_lists c.add_turn.new.made)) c.in-Err-Broken.field-0-is c.in-Err-Broken.ensures.kept)
+try_turn-returns-in-Err-Broken-clause-same t c = c.forget.ensures ∙ forgotten_again c.sizes-before.result (made_lists c.args.made.now) (made_lists c.add_turn.new.made) c.sizes-before.ensures (subst (λ (n : NotRead). LeavesFront n (made_lists c.args.made.now) (made_lists c.add_turn.new.made)) c.in-Err-Broken.field-0-is c.in-Err-Broken.ensures.kept)
 
 pub try_turn-returns-in-Err-Broken-clause-made : goal.try_turn-returns-in-Err-Broken-clause-made
-try_turn-returns-in-Err-Broken-clause-made t c = subst (λ (m : MadeLists). IsMade (records_of c.args.entries.now) m) (sym (c.take_back.ensures ∙ back_again c.sizes-before.result (made_lists c.args.made.now) (made_lists c.add_turn.new.made) c.sizes-before.ensures (subst (λ (n : NotRead). LeavesFront n (made_lists c.args.made.now) (made_lists c.add_turn.new.made)) c.in-Err-Broken.field-0-is c.in-Err-Broken.ensures.kept))) c.requires.made
+try_turn-returns-in-Err-Broken-clause-made t c = subst (λ (m : MadeLists). IsMade (records_of c.args.entries.now) m) (sym (c.forget.ensures ∙ forgotten_again c.sizes-before.result (made_lists c.args.made.now) (made_lists c.add_turn.new.made) c.sizes-before.ensures (subst (λ (n : NotRead). LeavesFront n (made_lists c.args.made.now) (made_lists c.add_turn.new.made)) c.in-Err-Broken.field-0-is c.in-Err-Broken.ensures.kept))) c.requires.made
 
 pub try_turn-returns-in-Err-Broken-clause-grown : goal.try_turn-returns-in-Err-Broken-clause-grown
-try_turn-returns-in-Err-Broken-clause-grown t c = subst (λ (m : MadeLists). HasGrown (made_lists c.args.made.now) m) (sym (c.take_back.ensures ∙ back_again c.sizes-before.result (made_lists c.args.made.now) (made_lists c.add_turn.new.made) c.sizes-before.ensures (subst (λ (n : NotRead). LeavesFront n (made_lists c.args.made.now) (made_lists c.add_turn.new.made)) c.in-Err-Broken.field-0-is c.in-Err-Broken.ensures.kept))) (grown_none (made_lists c.args.made.now))
+try_turn-returns-in-Err-Broken-clause-grown t c = subst (λ (m : MadeLists). HasGrown (made_lists c.args.made.now) m) (sym (c.forget.ensures ∙ forgotten_again c.sizes-before.result (made_lists c.args.made.now) (made_lists c.add_turn.new.made) c.sizes-before.ensures (subst (λ (n : NotRead). LeavesFront n (made_lists c.args.made.now) (made_lists c.add_turn.new.made)) c.in-Err-Broken.field-0-is c.in-Err-Broken.ensures.kept))) (grown_none (made_lists c.args.made.now))
 
 pub add_turns-loop-done-init : goal.add_turns-loop-done-init
 add_turns-loop-done-init t c = record {
@@ -288,9 +288,9 @@ add_tested-returns-clause-added t c =
     let same = loop_same (made_lists c.args.made.now) now bound c.push.new.self.items c.link_turns.new.flows.items c.replace-outside.result.items linked c.in_ok-push.ensures.items
     (c.in_ok-link_turns.ensures ∙ ap (λ (k : ℕ). c.replace-outside.result.items ++ linked_turns k c.args.head.now.by c.args.head.now.from (flow_lists c.as_slice.result.now)) (c.len-bound.ensures ∙ c.try_turns-read.new.made.bounds.ok.0)
     ∙ ap (λ (ts : List (Vec Flow)). c.replace-outside.result.items ++ linked_turns (length now.bounds) c.args.head.now.by c.args.head.now.from (flow_lists ts)) c.as_slice.ensures.value) outside in
-    tested_added c.args.entries.now (counters c.args.turn.now) (written_loop c.args.head.now) (lexemes c.args.words.now) (lexemes c.args.body.now) c.in_ok-found.found c.in_ok-behind.behind c.in_ok-behind.ensures.read.0 turns bound (made_lists c.args.made.now) now (made_lists (record { list = c.try_turns-read.new.made.list; ends = c.try_turns-read.new.made.ends; bounds = c.push.new.self; flows = c.link_turns.new.flows })) c.requires.item c.in_ok-found.ensures.found c.in_ok-behind.ensures.read.1
+    tested_added c.args.entries.now (counters c.args.turn.now) (written_loop c.args.head.now) (lexemes c.args.words.now) (lexemes c.args.body.now) c.in_ok-found.found c.in_ok-behind.behind c.in_ok-behind.ensures.read.0 turns bound (made_lists c.args.made.now) now (made_lists (record { list = c.try_turns-read.new.made.list; ends = c.try_turns-read.new.made.ends; bounds = c.push.new.self; flows = c.link_turns.new.flows; read = c.try_turns-read.new.made.read })) c.requires.item c.in_ok-found.ensures.found c.in_ok-behind.ensures.read.1
     c.in_ok-behind.ensures.some.0 c.in_ok-behind.ensures.some.1
-    (λ p is. no_turn_comes c.deeds_break_no_rule.ensures c.args.entries.now (in_its_turn (counters c.args.turn.now) (written_loop c.args.head.now) c.in_ok-behind.behind) p (lexemes c.args.body.now) c.requires.named (length now.list) c.in_ok-behind.ensures.past is) so c.in_ok-behind.ensures.past c.one_deeds.ensures same
+    (λ p is. no_turn_comes c.deeds_break_no_rule.ensures c.args.entries.now (in_its_turn (counters c.args.turn.now) (written_loop c.args.head.now) c.in_ok-behind.behind) p (lexemes c.args.body.now) c.requires.named now.read c.in_ok-behind.ensures.past is) so c.in_ok-behind.ensures.past c.one_deeds.ensures same
 
 pub add_tested-returns-clause-made : goal.add_tested-returns-clause-made
 add_tested-returns-clause-made t c =
@@ -313,7 +313,7 @@ add_tested-returns-clause-made t c =
     let same = loop_same (made_lists c.args.made.now) now bound c.push.new.self.items c.link_turns.new.flows.items c.replace-outside.result.items linked c.in_ok-push.ensures.items
     (c.in_ok-link_turns.ensures ∙ ap (λ (k : ℕ). c.replace-outside.result.items ++ linked_turns k c.args.head.now.by c.args.head.now.from (flow_lists c.as_slice.result.now)) (c.len-bound.ensures ∙ c.try_turns-read.new.made.bounds.ok.0)
     ∙ ap (λ (ts : List (Vec Flow)). c.replace-outside.result.items ++ linked_turns (length now.bounds) c.args.head.now.by c.args.head.now.from (flow_lists ts)) c.as_slice.ensures.value) outside in
-    tested_made c.args.entries.now (counters c.args.turn.now) (written_loop c.args.head.now) (lexemes c.args.body.now) c.in_ok-found.found c.in_ok-behind.behind turns bound (made_lists c.args.made.now) now (made_lists (record { list = c.try_turns-read.new.made.list; ends = c.try_turns-read.new.made.ends; bounds = c.push.new.self; flows = c.link_turns.new.flows })) c.requires.bounds so same
+    tested_made c.args.entries.now (counters c.args.turn.now) (written_loop c.args.head.now) (lexemes c.args.body.now) c.in_ok-found.found c.in_ok-behind.behind turns bound (made_lists c.args.made.now) now (made_lists (record { list = c.try_turns-read.new.made.list; ends = c.try_turns-read.new.made.ends; bounds = c.push.new.self; flows = c.link_turns.new.flows; read = c.try_turns-read.new.made.read })) c.requires.bounds so same
 
 pub add_tested-returns-clause-grown : goal.add_tested-returns-clause-grown
 add_tested-returns-clause-grown t c =
@@ -336,7 +336,7 @@ add_tested-returns-clause-grown t c =
     let same = loop_same (made_lists c.args.made.now) now bound c.push.new.self.items c.link_turns.new.flows.items c.replace-outside.result.items linked c.in_ok-push.ensures.items
     (c.in_ok-link_turns.ensures ∙ ap (λ (k : ℕ). c.replace-outside.result.items ++ linked_turns k c.args.head.now.by c.args.head.now.from (flow_lists c.as_slice.result.now)) (c.len-bound.ensures ∙ c.try_turns-read.new.made.bounds.ok.0)
     ∙ ap (λ (ts : List (Vec Flow)). c.replace-outside.result.items ++ linked_turns (length now.bounds) c.args.head.now.by c.args.head.now.from (flow_lists ts)) c.as_slice.ensures.value) outside in
-    tested_grown (made_lists c.args.made.now) now (made_lists (record { list = c.try_turns-read.new.made.list; ends = c.try_turns-read.new.made.ends; bounds = c.push.new.self; flows = c.link_turns.new.flows })) bound linked so.grown same
+    tested_grown (made_lists c.args.made.now) now (made_lists (record { list = c.try_turns-read.new.made.list; ends = c.try_turns-read.new.made.ends; bounds = c.push.new.self; flows = c.link_turns.new.flows; read = c.try_turns-read.new.made.read })) bound linked so.grown same
 
 pub add_passage-add_item-requires : goal.add_passage-add_item-requires
 add_passage-add_item-requires t c =
@@ -495,3 +495,7 @@ add_item-returns-in-Number-clause-fault t c =
 pub add_item-returns-in-Item-clause-fault : goal.add_item-returns-in-Item-clause-fault
 add_item-returns-in-Item-clause-fault t c =
     subst (λ (f : PassageFront). IfErr c.add_tested.result (λ n. FrontRefused n c.args.entries.now (counters c.args.turn.now) f (made_lists c.args.made.now))) (sym (ap item_front c.in-Loop.is)) c.add_tested.ensures.fault
+
+pub add_item-returns-in-Item-clause-added : goal.add_item-returns-in-Item-clause-added
+add_item-returns-in-Item-clause-added t c =
+    subst (λ (f : PassageFront). OnOk c.add_tested.result (AddsFront c.args.entries.now (counters c.args.turn.now) f (made_lists c.args.made.now) (made_lists c.add_tested.new.made))) (sym (ap item_front c.in-Loop.is)) c.add_tested.ensures.added

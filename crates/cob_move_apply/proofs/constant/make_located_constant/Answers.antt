@@ -24,7 +24,7 @@ locate-requires-clause-placed c =
     let (constant, ready, same) = the_located_constant (records c.args.layouts.now) c.args.plan.now.constants.items c.args.plan.now.located_constants.items c.args.number own c.index-one.result.now is c.index-one.ensures in
     let tree = c.args.layouts.now.output.now in
     let placed = c.placed_operand-receiver in
-    subst (λ (o : Operand). IsPlaced tree true o placed.result.basis) (sym placed.ensures.operand)
+    subst (λ (o : Operand). IsPlaced tree true o placed.result.basis.now) (sym placed.ensures.operand)
     (subst (λ (b : Basis). IsPlaced tree true (operand_in tree c.index-one.result.now.receiver) b) (sym placed.ensures.basis) ready.receives)
 
 pub make_there-requires-clause-writes : goal.make_there-requires-clause-writes

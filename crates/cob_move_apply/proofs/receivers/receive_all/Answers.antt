@@ -37,7 +37,7 @@ receive_one-requires-clause-receiver c =
     let os : List Operand = receivers_in tree c.args.receivers.now in
     let lt = below (operand_in tree) c.args.receivers.now.entries.now c.loop-index.index c.loop-index-test.true in
     let is = at (operand_in tree) c.args.receivers.now.entries.now c.loop-index.index c.entry-item.result c.loop-index-test.true c.entry-item.is in
-    subst (λ (o : Operand). IsPlaced tree true o c.placed_operand-receiver.result.basis) (sym c.placed_operand-receiver.ensures.operand)
+    subst (λ (o : Operand). IsPlaced tree true o c.placed_operand-receiver.result.basis.now) (sym c.placed_operand-receiver.ensures.operand)
     (subst (λ (b : Basis). IsPlaced tree true (operand_in tree c.entry-item.result) b) (sym c.placed_operand-receiver.ensures.basis)
     (left_receiver tree os c.args.receivers.now.bases.now c.loop-index.index (operand_in tree c.entry-item.result) _ lt is
     (in_both tree os c.args.receivers.now.bases.now c.loop-index.index c.requires.receivers lt) c.loop-index.invariant.left))

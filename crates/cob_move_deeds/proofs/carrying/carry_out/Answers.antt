@@ -6,7 +6,7 @@ use Rattle.cob_move_deeds.specs.Carrying.{FlowSpends, LeavesFlows, records_of_si
 use Rattle.cob_move_deeds.specs.Flows.{FlowSupport, IsFlow}
 use Rattle.cob_move_deeds.specs.Prepared.{flow_support}
 use Rattle.cob_move_deeds.specs.declared.flow.Flow.{Flow}
-use Rattle.cob_move_deeds.proofs.FlowLemmas.{all_behind, flows_none, leaves_first, leaves_none, leaves_on, stops_on}
+use Rattle.cob_move_deeds.proofs.FlowLemmas.{flows_none, leaves_first, leaves_none, leaves_on, stops_on}
 use Rattle.cob_move_deeds.proofs.ReadLemmas.{all_reads, spends_first, spends_on, stop_reads}
 use Rattle.cob_move_deeds.proofs.carrying.carry_out.Goals as goal
 
@@ -20,10 +20,10 @@ returns-clause-reads c =
     all_reads (records_of_sides c.args.sides.now) (flow_support c.args.deeds.now) c.args.deeds.now.flows.items c.loop-flow.rest.now c.args.sides.now.input.now c.args.output.now c.loop-flow.output c.args.scratch.now c.loop-flow.scratch
     (flows_none c.loop-flow.rest.now (omega (arith, c.in_default.ensures.cases))) c.loop-flow.invariant.reads
 
-pub next-requires-clause-flow : goal.next-requires-clause-flow
-next-requires-clause-flow c =
+pub next-requires-clause-each : goal.next-requires-clause-each
+next-requires-clause-each c =
     let on : FlowSupport = flow_support c.args.deeds.now in
-    (subst (λ (fs : List Flow). AllByRecursion (IsFlow on) fs) c.in-Some.ensures.cases.0 c.loop-flow.invariant.each).0
+    subst (λ (fs : List Flow). AllByRecursion (IsFlow on) fs) c.in-Some.ensures.cases.0 c.loop-flow.invariant.each
 
 pub returns-in_err-rest-clause-carried : goal.returns-in_err-rest-clause-carried
 returns-in_err-rest-clause-carried c =
@@ -56,6 +56,7 @@ loop-flow-init c =
       output = refl;
       reads = subst (λ (gs : List Flow). FlowSpends r on all gs c.args.sides.now.input.now c.args.output.now c.args.output.now c.args.scratch.now c.args.scratch.now) (sym same) (spends_first r on all c.args.sides.now.input.now c.args.output.now c.args.scratch.now);
       kept = c.requires.kept;
+      known = c.new-known.ensures r on c.args.sides.now.input.now;
     }
 
 pub loop-flow-preserved : goal.loop-flow-preserved
@@ -64,13 +65,12 @@ loop-flow-preserved c =
     let on : FlowSupport = flow_support c.args.deeds.now in
     let all : List Flow = c.args.deeds.now.flows.items in
     let fs : List Flow = c.in-Some.flow.now ∷ c.in-Some.more.now in
-    let (count, behind) = c.in_ok-rest.ensures.rest in
     let left = subst (λ (gs : List Flow). LeavesFlows r on all gs c.args.sides.now.input.now c.args.output.now c.loop-flow.output) c.in-Some.ensures.cases.0 c.loop-flow.invariant.left in
-    let spent = subst (λ (gs : List Flow). FlowSpends r on all gs c.args.sides.now.input.now c.args.output.now c.loop-flow.output c.args.scratch.now c.loop-flow.scratch) c.in-Some.ensures.cases.0 c.loop-flow.invariant.reads in
-    let each = subst (λ (gs : List Flow). AllByRecursion (IsFlow on) gs) c.in-Some.ensures.cases.0 c.loop-flow.invariant.each in record {
+    let spent = subst (λ (gs : List Flow). FlowSpends r on all gs c.args.sides.now.input.now c.args.output.now c.loop-flow.output c.args.scratch.now c.loop-flow.scratch) c.in-Some.ensures.cases.0 c.loop-flow.invariant.reads in record {
       left = leaves_on r on all fs c.in_ok-rest.rest.now c.args.sides.now.input.now c.args.output.now c.loop-flow.output c.next.new.output left c.in_ok-rest.ensures.leaves;
-      each = subst (λ (gs : List Flow). AllByRecursion (IsFlow on) gs) (sym behind) (all_behind (IsFlow on) count c.in-Some.more.now each.1);
+      each = c.in_ok-rest.ensures.each;
       output = c.next.auto.output ∙ c.loop-flow.invariant.output;
       reads = spends_on r on all fs c.in_ok-rest.rest.now c.args.sides.now.input.now c.args.output.now c.loop-flow.output c.next.new.output c.args.scratch.now c.loop-flow.scratch c.next.new.scratch spent c.in_ok-rest.ensures.spends;
       kept = c.in_ok-rest.ensures.kept;
+      known = c.in_ok-rest.ensures.known;
     }

@@ -2,6 +2,7 @@ use Rattle.std.proofs.Common.{◌≡◌, length}
 use Rattle.std.specs.List.{AllByRecursion}
 use Rattle.cob_move_deeds.specs.Carrying.{FlowSpends, HasKept, LeavesFlows, records_of_sides}
 use Rattle.cob_move_deeds.specs.Flows.{IsFlow}
+use Rattle.cob_move_deeds.specs.Known.{AreKnown}
 use Rattle.cob_move_deeds.specs.Prepared.{flow_support}
 use Rattle.cob_move_deeds.proofs.carrying.carry_out.Given as goal
 
@@ -12,6 +13,7 @@ invariant-loop-flow l = record {
   output : length l.output ≡ length l.fn.output;
   reads : FlowSpends (records_of_sides l.sides) (flow_support l.deeds) l.deeds.flows.items l.rest l.sides.input.now l.fn.output l.output l.fn.scratch l.scratch;
   kept : HasKept (records_of_sides l.sides) l.sides.input.now l.output l.scratch;
+  known : AreKnown (records_of_sides l.sides) (flow_support l.deeds) l.sides.input.now l.known;
 }
 
 abbrev pub decreases-loop-flow : goal.decreases-loop-flow

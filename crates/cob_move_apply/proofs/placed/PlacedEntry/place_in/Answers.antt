@@ -16,7 +16,7 @@ pub locate-requires-clause-placed : goal.locate-requires-clause-placed
 locate-requires-clause-placed c =
     let tree = c.args.layout.now in
     let placed = c.placed_operand-operand in
-    subst (λ (o : Operand). IsPlaced tree false o placed.result.basis) (sym placed.ensures.operand)
+    subst (λ (o : Operand). IsPlaced tree false o placed.result.basis.now) (sym placed.ensures.operand)
     (subst (λ (b : Basis). IsPlaced tree false (operand_in tree c.args.self.now.entry) b) (sym placed.ensures.basis) c.requires.placed)
 
 pub returns-clause-located : goal.returns-clause-located

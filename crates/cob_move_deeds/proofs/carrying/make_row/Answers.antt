@@ -1,0 +1,60 @@
+use Rattle.std.proofs.Common.{refl}
+use Rattle.std.proofs.lemmas.Result.{err_from_is_err_and}
+use Rattle.cob_move_data.specs.Moves.{Records}
+use Rattle.cob_move_deeds.specs.Carrying.{records_of_sides}
+use Rattle.cob_move_deeds.specs.Flows.{FlowSupport}
+use Rattle.cob_move_deeds.specs.Known.{Gives}
+use Rattle.cob_move_deeds.specs.Prepared.{flow_support}
+use Rattle.cob_move_deeds.proofs.ReadLemmas.{spends_first}
+use Rattle.cob_move_deeds.proofs.RowLemmas.{row_leaves, row_rises, row_spends, row_stop_reads, row_stops}
+use Rattle.cob_move_deeds.proofs.carrying.make_row.Goals as goal
+
+pub returns-then-not-is_of_input-clause-spends : goal.returns-then-not-is_of_input-clause-spends
+returns-then-not-is_of_input-clause-spends c =
+    spends_first (records_of_sides c.args.sides.now) (flow_support c.args.deeds.now) c.args.flows.now c.args.sides.now.input.now c.args.output.now c.args.scratch.now
+
+pub returns-in_default-clause-spends : goal.returns-in_default-clause-spends
+returns-in_default-clause-spends c =
+    spends_first (records_of_sides c.args.sides.now) (flow_support c.args.deeds.now) c.args.flows.now c.args.sides.now.input.now c.args.output.now c.args.scratch.now
+
+pub make_moves-requires-clause-rises : goal.make_moves-requires-clause-rises
+make_moves-requires-clause-rises c =
+    row_rises c.args.bound c.args.last c.in-Some.first c.args.flows.now c.row_from-row.result.to c.row_from-row.result.left.now c.row_from-row.ensures.row
+
+pub returns-in_err-make_moves-clause-stops : goal.returns-in_err-make_moves-clause-stops
+returns-in_err-make_moves-clause-stops c =
+    let r : Records = records_of_sides c.args.sides.now in
+    let on : FlowSupport = flow_support c.args.deeds.now in
+    let (b, at, gives) = c.requires.gives in
+    let known : Gives r on c.args.bound c.args.last c.args.sides.now.input.now c.args.output.now = record { given = b; at = at; of_input = c.if-not-is_of_input.ensures refl b at; gives = gives } in
+    let p = err_from_is_err_and c.from_residual.result c.from_residual.ensures.1 in
+    rw (p.1, p.2) (row_stops r on c.args.bound c.args.last c.in-Some.first c.args.flows.now c.row_from-row.result.to c.row_from-row.result.left.now c.args.sides.now.input.now c.args.output.now c.make_moves.new.output
+    c.in_err-make_moves.field-0.0 c.requires.prepared.moves known c.row_from-row.ensures.row c.row_from-row.ensures.within c.in_err-make_moves.ensures.applied)
+
+pub returns-in_err-make_moves-clause-spent : goal.returns-in_err-make_moves-clause-spent
+returns-in_err-make_moves-clause-spent c =
+    let r : Records = records_of_sides c.args.sides.now in
+    let on : FlowSupport = flow_support c.args.deeds.now in
+    let (b, at, gives) = c.requires.gives in
+    let known : Gives r on c.args.bound c.args.last c.args.sides.now.input.now c.args.output.now = record { given = b; at = at; of_input = c.if-not-is_of_input.ensures refl b at; gives = gives } in
+    let p = err_from_is_err_and c.from_residual.result c.from_residual.ensures.1 in
+    rw p.1 (row_stop_reads c.one_ending.ensures r on c.args.bound c.args.last c.in-Some.first c.args.flows.now c.row_from-row.result.to c.row_from-row.result.left.now c.args.sides.now.input.now c.args.output.now
+    c.in_err-make_moves.field-0.0 c.args.scratch.now c.make_moves.new.scratch c.requires.prepared.moves known c.row_from-row.ensures.row c.row_from-row.ensures.within c.in_err-make_moves.ensures.reads)
+
+pub returns-clause-leaves : goal.returns-clause-leaves
+returns-clause-leaves c =
+    let r : Records = records_of_sides c.args.sides.now in
+    let on : FlowSupport = flow_support c.args.deeds.now in
+    let (b, at, gives) = c.requires.gives in
+    let known : Gives r on c.args.bound c.args.last c.args.sides.now.input.now c.args.output.now = record { given = b; at = at; of_input = c.if-not-is_of_input.ensures refl b at; gives = gives } in
+    row_leaves r on c.args.bound c.args.last c.in-Some.first c.args.flows.now c.row_from-row.result.to c.row_from-row.result.left.now c.args.sides.now.input.now c.args.output.now c.make_moves.new.output
+    c.requires.prepared.moves known c.row_from-row.ensures.row c.row_from-row.ensures.within c.in_ok-make_moves.ensures.applied
+
+pub returns-clause-spends : goal.returns-clause-spends
+returns-clause-spends c =
+    let r : Records = records_of_sides c.args.sides.now in
+    let on : FlowSupport = flow_support c.args.deeds.now in
+    let (b, at, gives) = c.requires.gives in
+    let known : Gives r on c.args.bound c.args.last c.args.sides.now.input.now c.args.output.now = record { given = b; at = at; of_input = c.if-not-is_of_input.ensures refl b at; gives = gives } in
+    row_spends c.one_ending.ensures r on c.args.bound c.args.last c.in-Some.first c.args.flows.now c.row_from-row.result.to c.row_from-row.result.left.now c.args.sides.now.input.now c.args.output.now c.make_moves.new.output
+    c.args.scratch.now c.make_moves.new.scratch c.requires.prepared.moves known c.row_from-row.ensures.row c.row_from-row.ensures.within c.in_ok-make_moves.ensures.applied c.in_ok-make_moves.ensures.reads

@@ -1,0 +1,106 @@
+//! Turns in a row.
+
+ghost use Rattle.std.specs.Prelude.{◌≡◌, ◌<◌, ◌≤◌, ◌∷◌, ℕ, List, [], drop, length, IfSome};
+ghost use Rattle.std.specs.List.{AllByRecursion};
+ghost use Rattle.cob_move_deeds.specs.Flows.{IsFlow};
+ghost use Rattle.cob_move_deeds.specs.Prepared.{flow_support};
+ghost use Rattle.cob_move_deeds.specs.Rows.{IsRow};
+ghost use Rattle.cob_move_deeds.specs.declared.flow.Flow.{Flow as Flows};
+ghost use Rattle.cob_move_deeds.specs.declared.flow.Flow.TheVariants as flow;
+
+use crate::flow::Flow;
+use crate::ready::ReadyDeeds;
+
+/// Turns in a row: the mark behind the moves of the last, and the flows that are left then.
+#[derive(Clone, Copy)]
+pub(crate) struct Row<'a> {
+    pub(crate) to: usize,
+    pub(crate) left: &'a [Flow],
+}
+
+/// Those behind so many.
+pub(crate) fn behind(flows: &[Flow], count: usize) -> &[Flow]
+    ensures value { result.now ≡ drop count flows.now }
+    ensures fewer { length result.now ≤ length flows.now }
+{
+    let count = count.min(flows.len());
+    &flows[count..]
+}
+
+/// The first mark of moves that are all that there is.
+pub(crate) fn lone_moves(flows: &[Flow]) -> Option<usize>
+    ensures { IfSome result (λ number. flows.now ≡ flow.Moves number ∷ []) }
+{
+    let Some((Flow::Moves(number), more)) = flows.split_first() else {
+        return None;
+    };
+    if more.is_empty() { Some(*number) } else { None }
+}
+
+/// The first mark of moves that stand in front.
+pub(crate) fn first_moves(flows: &[Flow]) -> Option<usize>
+    ensures { IfSome result
+        (λ number. (more : List Flows) × (flows.now ≡ flow.Moves number ∷ more)) }
+{
+    match flows.split_first() {
+        Some((Flow::Moves(number), _)) => Some(*number),
+        _ => None,
+    }
+}
+
+/// What is left behind a test whose bound gives this number.
+fn behind_test(more: &[Flow], last: u32, number: u32, skip: usize) -> &[Flow]
+    ensures within { number ≤ last → result.now ≡ more.now }
+    ensures past { last < number → result.now ≡ drop skip more.now }
+    ensures rest { (count : ℕ) × (result.now ≡ drop count more.now) }
+    ensures fewer { length result.now ≤ length more.now }
+{
+    if last < number {
+        return behind(more, skip);
+    }
+    more
+}
+
+impl ReadyDeeds {
+    /// The turns in a row that these flows begin with, behind the first mark, where the bound with this number gives this.
+    pub(crate) fn row_from<'a>(
+        &self,
+        first: usize,
+        bound: usize,
+        last: u32,
+        flows: &'a [Flow],
+    ) -> Row<'a>
+        requires first { first < length self.now.moves.marks.items }
+        requires each { AllByRecursion (IsFlow (flow_support self.now)) flows.now }
+        ensures row { IsRow bound last first flows.now result.to result.left.now }
+        ensures within { result.to < length self.now.moves.marks.items }
+        ensures each { AllByRecursion (IsFlow (flow_support self.now)) result.left.now }
+        ensures fewer { length result.left.now ≤ length flows.now }
+    {
+        let mut to = first;
+        let mut left = flows;
+        while let Some((flow, more)) = left.split_first() {
+            match *flow {
+                Flow::Moves(number) => {
+                    if number != to {
+                        return Row { to, left };
+                    }
+                    to = number + 1;
+                    left = more;
+                }
+                Flow::Until {
+                    bound: own,
+                    number,
+                    skip,
+                } => {
+                    if own != bound {
+                        return Row { to, left };
+                    }
+                    left = behind_test(more, last, number, skip);
+                }
+                Flow::Turns(_) => return Row { to, left },
+            }
+        }
+        Row { to, left }
+    }
+}
