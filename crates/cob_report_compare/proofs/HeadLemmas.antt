@@ -92,8 +92,7 @@ pub head_ended : (form : Form) (tree : Forest Resolved) (keys : List NamedItem) 
     → Told r1 r2 (ReadsNext form tree reached.opened slot (Ok None) after) → room.key.items ≡ held.key.items
     → ReadsNextHead form tree keys reached room r1 r2 held (record { opened = after; number = reached.number; head = head.Ended })
 head_ended form tree keys reached room held after slot r1 r2 is read key = λ told next r0 so_far holds.
-    let at = at_unread form tree keys told next reached room r0 r1 is so_far holds in
-    (
+    let at = at_unread form tree keys told next reached room r0 r1 is so_far holds in (
       Ended,
       subst (λ (n : Next). IsReadNext n Ended) (sym at.unread) (λ (e : Ended ≡ Unread). absurd (cc)),
       record {
@@ -127,8 +126,7 @@ pub head_waits : (form : Form) (tree : Forest Resolved) (keys : List NamedItem) 
 head_waits form tree keys reached room held slot places count after r1 r2 is same stands read whole legible most hold (bytes, (key, parts, order)) = λ told next r0 so_far holds.
     let at = at_unread form tree keys told next reached room r0 r1 is so_far holds in
     let x : KeyedRecord = record { body = take count slot; places = places; key_bytes = held.key.items; key = key } in
-    let keyed : IsKeyedRecord form tree keys x = record { whole = whole; legible = legible; bytes = bytes; key = parts } in
-    (
+    let keyed : IsKeyedRecord form tree keys x = record { whole = whole; legible = legible; bytes = bytes; key = parts } in (
       Waits x,
       subst (λ (n : Next). IsReadNext n (Waits x)) (sym at.unread) (λ (e : Waits x ≡ Unread). absurd (cc)),
       record {
@@ -192,8 +190,7 @@ head_refused form tree keys reached room side slot places count after why r1 r2 
         let nothing : reached.number ≡ 0 = count ∙ ap (λ (rs : List KeyedRecord). length rs) none in
         absurd (true≢false (sym (ap (λ n. n == 0) nothing) ∙ first))
     by (Order offset) told r0 (first, (bytes, key, are, parts, above, begins)) count keyed (inr (front, last, same, held)) come =
-        let keyed_last = last_of (IsKeyedRecord form tree keys) front last (subst (AllByRecursion (IsKeyedRecord form tree keys)) same keyed) in
-        (
+        let keyed_last = last_of (IsKeyedRecord form tree keys) front last (subst (AllByRecursion (IsKeyedRecord form tree keys)) same keyed) in (
           front,
           last,
           record { body = body; places = places; key_bytes = bytes; key = key },

@@ -175,8 +175,7 @@ keys_stand x xs left right o r item rest (p ∷ ps) (q ∷ qs) one two = by o (i
 pub parts_first : (x : NamedItem) (xs : List NamedItem) (front behind slot : List ℕ) (part : KeyPart) (key : List KeyPart) → length front ≡ item_size x.item → IsKeyPart x.item front part
     → AreKeyParts xs behind key → slot ≡ front ++ behind → AreKeyParts (x ∷ xs) slot (part ∷ key)
 parts_first x xs front behind slot part key long is rest e =
-    let n = item_size x.item in
-    (
+    let n = item_size x.item in (
       subst (λ (bs : List ℕ). IsKeyPart x.item bs part) (sym (ap (λ (bs : List ℕ). take n bs) e ∙ take_at front behind n long)) is,
       subst (λ (bs : List ℕ). AreKeyParts xs bs key) (sym (ap (λ (bs : List ℕ). drop n bs) e ∙ drop_at front behind n long)) rest,
     )

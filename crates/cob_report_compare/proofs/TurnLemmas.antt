@@ -40,8 +40,7 @@ has_key form tree keys told (Waits x) keyed = (last_of (IsKeyedRecord form tree 
 whole_here : (form : Form) (tree : Forest Resolved) (keys : List NamedItem) (room : FileRoom) (count : ℕ) (x : KeyedRecord) → HoldsHead tree room count x → IsKeyedRecord form tree keys x
     → IsWhole tree room (head.Waits count)
 whole_here form tree keys room count x holds keyed =
-    let long : length (take count room.bytes.items) ≡ count = length-take-le count room.bytes.items holds.most in
-    (
+    let long : length (take count room.bytes.items) ≡ count = length-take-le count room.bytes.items holds.most in (
       holds.most,
       record {
         counts = subst (λ (s : Standing). CountsOf tree (take count room.bytes.items) (Ok s.counts)) holds.places
@@ -188,8 +187,7 @@ left_tells files left_room right_room left right counts now w0 w1 told = λ l r 
     by : (l r : Next) → HoldsNext files.tree left_room left.head l → IsTurn l r turn.Left
         → (e : Entry) × IsTold files l r turn.Left e × Took w0 w1 (IfTold files.most (told_counted counts) (IsEntryText files left.number right.number e)) × (now ≡ with_entry counts e)
     by l r left_holds (x, left_is, below) =
-        let one = subst (λ (n : Next). HoldsNext files.tree left_room left.head n) left_is left_holds in
-        (
+        let one = subst (λ (n : Next). HoldsNext files.tree left_room left.head n) left_is left_holds in (
           Alone Left x,
           (x, left_is, below, refl),
           subst (λ (key : List ℕ). Took w0 w1 (IfTold files.most (told_counted counts) (IsAloneLine Left (IsHeading (number_text Left left.number) files.keys key))))
@@ -204,8 +202,7 @@ right_tells files left_room right_room left right counts now w0 w1 told = λ l r
     by : (l r : Next) → HoldsNext files.tree right_room right.head r → IsTurn l r turn.Right
         → (e : Entry) × IsTold files l r turn.Right e × Took w0 w1 (IfTold files.most (told_counted counts) (IsEntryText files left.number right.number e)) × (now ≡ with_entry counts e)
     by l r right_holds (x, right_is, below) =
-        let one = subst (λ (n : Next). HoldsNext files.tree right_room right.head n) right_is right_holds in
-        (
+        let one = subst (λ (n : Next). HoldsNext files.tree right_room right.head n) right_is right_holds in (
           Alone Right x,
           (x, right_is, below, refl),
           subst (λ (key : List ℕ). Took w0 w1 (IfTold files.most (told_counted counts) (IsAloneLine Right (IsHeading (number_text Right right.number) files.keys key))))

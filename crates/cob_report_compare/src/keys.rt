@@ -212,7 +212,11 @@ pub(crate) fn key_offset(compared: ComparedRecord, keys: &[ListedItem]) -> u32
 /// # Errors
 ///
 /// The offset of the first item that is no number.
-pub(crate) fn take_key(compared: ComparedRecord, keys: &[ListedItem], slot: &mut [u8]) -> Result<(), u32>
+pub(crate) fn take_key(
+    compared: ComparedRecord,
+    keys: &[ListedItem],
+    slot: &mut [u8],
+) -> Result<(), u32>
     requires holds { HoldsRecord compared.layout.now compared.places.now (length compared.bytes.now) }
     requires keys { AreKeyItems compared.layout.now (map named_item keys.now) }
     requires room { length slot.old ≡ key_size (map named_item keys.now) }

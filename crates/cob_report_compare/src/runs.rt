@@ -149,13 +149,6 @@ pub fn compare_files<L: Source, R: Source, W: Sink>(
         left_form: options.left_form,
         right_form: options.right_form,
     };
-    let answer = compare_merged(
-        files,
-        sink,
-        left,
-        &mut room.left,
-        right,
-        &mut room.right,
-    );
+    let answer = compare_merged(files, sink, left, &mut room.left, right, &mut room.right);
     count_up(sink, answer)
 }

@@ -233,11 +233,7 @@ fn tell_single<W: Sink>(
     };
     match tell_alone(sink, files.most, counts.told(), &heading, side) {
         Ok(()) => Ok(counts.with_alone(side)),
-        Err(fault) => Err(stop_on(
-            side,
-            number,
-            StopReason::Record(Reason::of_write(fault)),
-        )),
+        Err(fault) => Err(stop_on(side, number, StopReason::Record(Reason::of_write(fault)))),
     }
 }
 
@@ -274,6 +270,13 @@ pub(crate) fn tell_turn<W: Sink>(
         Turn::Done => Ok(counts),
         Turn::Both => tell_pair(files, sink, left_room, left, right_room, right, counts),
         Turn::Left => tell_single(files, sink, FileSide::Left, left_room, left.number, counts),
-        Turn::Right => tell_single(files, sink, FileSide::Right, right_room, right.number, counts),
+        Turn::Right => tell_single(
+            files,
+            sink,
+            FileSide::Right,
+            right_room,
+            right.number,
+            counts,
+        ),
     }
 }

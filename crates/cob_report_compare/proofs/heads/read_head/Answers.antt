@@ -25,11 +25,11 @@ returns-in-Ok-clause-next g c =
     let room = c.args.room.now in
     let written : take room.bytes.len (slot ++ drop (length slot) room.bytes.items) ≡ slot = take_at slot _ room.bytes.len (c.read_record.auto.bytes ∙ c.deref_mut.ensures.len) in
     let takes =
-        subst
-        (λ (bytes : List ℕ). TakesKey (map named_item c.args.files.keys.now) (came_in c.args.files.layout.now c.read_record.new.places c.in-Ok-Some.count bytes) (c.args.reached.number == 0) room.key.items
-        c.hold_head.new.room.key.items)
-        written c.in-Ok.ensures.takes
-        in
+    subst
+    (λ (bytes : List ℕ). TakesKey (map named_item c.args.files.keys.now) (came_in c.args.files.layout.now c.read_record.new.places c.in-Ok-Some.count bytes) (c.args.reached.number == 0) room.key.items
+    c.hold_head.new.room.key.items)
+    written c.in-Ok.ensures.takes
+    in
     head_waits (form_on c.args.files c.args.side) c.args.files.layout.now (map named_item c.args.files.keys.now) c.args.reached c.args.room.now c.hold_head.new.room c.read_record.new.bytes
     c.read_record.new.places c.in-Ok-Some.count c.read_record.new.left _ _ c.requires.unread (c.hold_head.ensures.bytes ∙ written) c.hold_head.ensures.places
     (rw (c.in-Ok-Some.field-0-is, c.form_on.ensures) at c.in-Ok-Some.ensures.next) (rw (c.in-Ok-Some.field-0-is, c.form_on.ensures) at c.in-Ok-Some.ensures.whole)
@@ -41,11 +41,11 @@ returns-in-Err-hold_head-clause-stops g c =
     let room = c.args.room.now in
     let written : take room.bytes.len (slot ++ drop (length slot) room.bytes.items) ≡ slot = take_at slot _ room.bytes.len (c.read_record.auto.bytes ∙ c.deref_mut.ensures.len) in
     let refuses =
-        subst
-        (λ (bytes : List ℕ). RefusesKey (map named_item c.args.files.keys.now) (came_in c.args.files.layout.now c.read_record.new.places c.in-Ok-Some.count bytes) (c.args.reached.number == 0) room.key.items
-        c.in-Err-hold_head.reason)
-        written c.in-Err-hold_head.ensures.refuses
-        in
+    subst
+    (λ (bytes : List ℕ). RefusesKey (map named_item c.args.files.keys.now) (came_in c.args.files.layout.now c.read_record.new.places c.in-Ok-Some.count bytes) (c.args.reached.number == 0) room.key.items
+    c.in-Err-hold_head.reason)
+    written c.in-Err-hold_head.ensures.refuses
+    in
     rw c.stop_on-in-Err-hold_head.ensures (head_refused (form_on c.args.files c.args.side) c.args.files.layout.now (map named_item c.args.files.keys.now) c.args.reached c.args.room.now c.args.side
     c.read_record.new.bytes c.read_record.new.places c.in-Ok-Some.count c.read_record.new.left c.in-Err-hold_head.reason _ _ c.requires.unread
     (rw (c.in-Ok-Some.field-0-is, c.form_on.ensures) at c.in-Ok-Some.ensures.next) (rw (c.in-Ok-Some.field-0-is, c.form_on.ensures) at c.in-Ok-Some.ensures.whole)

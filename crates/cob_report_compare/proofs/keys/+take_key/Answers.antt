@@ -20,8 +20,7 @@ take_key-requires n c =
     ap (λ (ks : List ListedItem). key_size (map named_item ks)) first in
     let long : length c.field-bytes.result.now ≡ item_size c.in-Some.key.now.item =
     ap (λ (bytes : List ℕ). length bytes) c.field-bytes.ensures
-    ∙ key_long (printed_of c.args.compared) (named_item c.in-Some.key.now) c.key_place-place.result c.key_place-place.ensures.at c.key_place-place.ensures.sized in
-    (
+    ∙ key_long (printed_of c.args.compared) (named_item c.in-Some.key.now) c.key_place-place.result c.key_place-place.ensures.at c.key_place-place.ensures.sized in (
       omega (arith, c.decreases, ap (λ (ks : List ListedItem). length ks) first),
       (
         c.requires.holds,
@@ -55,9 +54,9 @@ pub returns-clause-key : goal.returns-clause-key
 returns-clause-key n c =
     let part = subst (λ (bytes : List ℕ). (p : KeyPart) × IsKeyPart c.in-Some.key.now.item bytes p) (sym c.copy_from_slice.ensures.after) (c.is_key_part.ensures.yes c.if-not-is_key_part.false) in
     let long =
-        ap (λ (bytes : List ℕ). length bytes) (c.copy_from_slice.ensures.after ∙ c.field-bytes.ensures)
-        ∙ key_long (printed_of c.args.compared) (named_item c.in-Some.key.now) c.key_place-place.result c.key_place-place.ensures.at c.key_place-place.ensures.sized
-        in
+    ap (λ (bytes : List ℕ). length bytes) (c.copy_from_slice.ensures.after ∙ c.field-bytes.ensures)
+    ∙ key_long (printed_of c.args.compared) (named_item c.in-Some.key.now) c.key_place-place.result c.key_place-place.ensures.at c.key_place-place.ensures.sized
+    in
     on_ok_weaker c.take_key.result
     (λ rest. key_taken c.args.keys.now c.in-Some.key.now c.in-Some.further.now c.copy_from_slice.new.self c.take_key.new.slot _ c.in-Some.ensures.cases.0 long part rest refl)
     c.take_key.ensures.key
