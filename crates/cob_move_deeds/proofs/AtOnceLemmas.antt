@@ -8,10 +8,9 @@ use Rattle.cob_move_apply.specs.Marked.{AreMarkedPrepared, last_mark, mark_at, m
 use Rattle.cob_move_apply.specs.Prepared.{moves_of}
 use Rattle.cob_move_apply.specs.Reads.{ReadsOfMoves}
 use Rattle.cob_move_apply.specs.Room.{Scratching}
-use Rattle.cob_move_apply.specs.Steps.{support_of}
 use Rattle.cob_move_apply.specs.declared.marked.MarkedMoves.{MarkedMoves}
 use Rattle.cob_move_apply.specs.declared.stop.Stop.{Stop}
-use Rattle.cob_move_apply.proofs.MarkLemmas.{whole_between}
+use Rattle.cob_move_apply.proofs.MarkLemmas.{between_all}
 use Rattle.cob_move_deeds.specs.declared.flow.Flow.{Flow}
 use Rattle.cob_move_deeds.specs.declared.flow.Flow.TheVariants as flow
 use Rattle.cob_move_deeds.specs.AtOnce.{are_all_moves, are_lone_moves}
@@ -46,7 +45,7 @@ two_marks : (r : Records) (m : MarkedMoves) → AreMarkedPrepared r m → length
 two_marks r m prepared two =
     let last : length m.marks.items - 1 ≡ 1 = omega (arith, two) in
     subst (λ (n : ℕ). moves_between_marks r m 0 n ≡ moves_of r m.moves) last
-    (whole_between m.moves.reading r m.moves.statements.items (support_of m.moves.plan) m.moves.plan.steps.items m.marks.items prepared.parted prepared.whole)
+    (between_all m.moves.reading r m.moves.statements.items m.marks.items prepared.parted.first prepared.whole)
 
 -- an ending of one thing, with nothing behind it
 then_nothing : (first : Ending → Type 0) (end : Ending) → first end → Then first (λ after last. last ≡ done after) end

@@ -25,6 +25,21 @@ use cob_layout::{Layout, one_outcome_of_counts};
 use cob_move_apply::{MarkedMoves, Reading, Scratch, Stop, one_ending};
 use cob_move_data::StatementMoves;
 
+/// The same answer, with the parts of its stop named again: so the compiler keeps them apart, and no function that hands it on copies it through memory.
+#[inline(always)]
+fn parts_again(answer: Result<(), Stop>) -> Result<(), Stop>
+    ensures { result ≡ answer }
+{
+    match answer {
+        Ok(()) => Ok(()),
+        Err(stop) => Err(Stop {
+            side: stop.side,
+            offset: stop.offset,
+            cause: stop.cause,
+        }),
+    }
+}
+
 /// What is done to a record, ready to be carried out: moves parted by marks, and flows that say what lies between which marks, and when.
 #[derive(Drop)]
 pub struct ReadyDeeds {
@@ -167,6 +182,6 @@ impl ReadyDeeds {
             output_layout,
             input,
         };
-        carry_out(self, &sides, output, scratch)
+        parts_again(carry_out(self, &sides, output, scratch))
     }
 }
