@@ -489,6 +489,21 @@ fn apply_steps(
     Ok(())
 }
 
+/// The same answer, with the parts of its stop named again: so the compiler keeps them apart, and no function that hands it on copies it through memory.
+#[inline(always)]
+fn parts_again(answer: Result<(), Stop>) -> Result<(), Stop>
+    ensures { result ≡ answer }
+{
+    match answer {
+        Ok(()) => Ok(()),
+        Err(stop) => Err(Stop {
+            side: stop.side,
+            offset: stop.offset,
+            cause: stop.cause,
+        }),
+    }
+}
+
 /// Carries out some steps of the plan of moves, in order. What is kept of the counts of either record is that of its storage.
 ///
 /// # Errors
@@ -521,7 +536,7 @@ pub(crate) fn apply_some(
     let rest = run_ready(plan, steps, layouts, input, output, space);
     match rest {
         [] => Ok(()),
-        _ => apply_steps(given, plan, rest, layouts, input, output, space),
+        _ => parts_again(apply_steps(given, plan, rest, layouts, input, output, space)),
     }
 }
 
