@@ -1,10 +1,10 @@
 -- Flows that carry out all moves at once.
-use Rattle.std.proofs.Common.{◌≡◌, ℕ, ◌+◌, ◌-◌, ◌==◌, Bool, true, false, List, [], ◌∷◌, length, refl, sym, ap, subst, ◌∙◌, arith, eqb-true, inl, inr, Result, Option, Some, None}
+use Rattle.std.proofs.Common.{◌≡◌, ℕ, ◌+◌, ◌-◌, ◌==◌, Bool, true, false, List, [], ◌∷◌, ◌++◌, append-nil, length, refl, sym, ap, subst, ◌∙◌, arith, eqb-true, Result}
 use Rattle.std.specs.List.{AllByRecursion}
 use Rattle.std.proofs.lemmas.Bool.{and_parts}
 use Rattle.cob_move_data.specs.Moves.{Move, Records}
-use Rattle.cob_move_apply.specs.Applied.{Applied, Ending, done}
-use Rattle.cob_move_apply.specs.Marked.{AreMarkedPrepared, last_mark, mark_at, moves_between_marks}
+use Rattle.cob_move_apply.specs.Applied.{Applied, Ending}
+use Rattle.cob_move_apply.specs.Marked.{AreMarkedPrepared, moves_between_marks}
 use Rattle.cob_move_apply.specs.Prepared.{moves_of}
 use Rattle.cob_move_apply.specs.Reads.{ReadsOfMoves}
 use Rattle.cob_move_apply.specs.Room.{Scratching}
@@ -15,10 +15,11 @@ use Rattle.cob_move_deeds.specs.declared.flow.Flow.{Flow}
 use Rattle.cob_move_deeds.specs.declared.flow.Flow.TheVariants as flow
 use Rattle.cob_move_deeds.specs.AtOnce.{are_all_moves, are_lone_moves}
 use Rattle.cob_move_deeds.specs.Carrying.{carried_from}
-use Rattle.cob_move_deeds.specs.Deeds.{Carried, Then}
+use Rattle.cob_move_deeds.specs.Deeds.{Carried, Moving, Nothing}
 use Rattle.cob_move_deeds.specs.Flows.{FlowSupport, IsFlow, deeds_from}
 use Rattle.cob_move_deeds.specs.Met.{ReadsOfDeeds}
 use Rattle.cob_move_deeds.specs.Tests.{Judged}
+use Rattle.cob_move_deeds.proofs.DeedLemmas.{straight_back}
 use Rattle.cob_move_deeds.proofs.RowLemmas.{lone_reads}
 
 -- one flow, which carries out moves
@@ -47,19 +48,15 @@ two_marks r m prepared two =
     subst (λ (n : ℕ). moves_between_marks r m 0 n ≡ moves_of r m.moves) last
     (between_all m.moves.reading r m.moves.statements.items m.marks.items prepared.parted.first prepared.whole)
 
--- an ending of one thing, with nothing behind it
-then_nothing : (first : Ending → Type 0) (end : Ending) → first end → Then first (λ after last. last ≡ done after) end
-then_nothing first (record { stop = None; storage = s }) x = inl (s, x, refl)
-then_nothing first (record { stop = Some stop; storage = s }) x = inr (stop, s, x, refl)
-
 -- all moves, carried out at once, are what is done
 pub all_carried : (r : Records) (on : FlowSupport) (fs : List Flow) (input before : List ℕ) (end : Ending) → are_all_moves (length on.moves.marks.items) fs ≡ true → AreMarkedPrepared r on.moves → AllByRecursion (IsFlow on) fs
     → Applied r (moves_of r on.moves.moves) input before end → Carried (Judged r) r (deeds_from r on (length fs) fs) input before end
 all_carried r on fs input before end is prepared each x =
     let (two, lone) = all_are on fs is each in
+    let ms : List Move = moves_between_marks r on.moves 0 1 in
     subst (λ (gs : List Flow). Carried (Judged r) r (deeds_from r on (length gs) gs) input before end) (sym lone)
-    (then_nothing (λ e. Applied r (moves_between_marks r on.moves 0 1) input before e) end
-    (subst (λ (ms : List Move). Applied r ms input before end) (sym (two_marks r on.moves prepared two)) x))
+    (straight_back (Judged r) r (Moving ms Nothing) input before end tt
+    (subst (λ (ns : List Move). Applied r ns input before end) (sym (append-nil ms ∙ two_marks r on.moves prepared two)) x))
 
 -- and what they read is what is read at it
 pub all_reads : {A : Type 0} (r : Records) (on : FlowSupport) (fs : List Flow) (input before : List ℕ) (result : Result A Stop) (old new : Scratching) → are_all_moves (length on.moves.marks.items) fs ≡ true → AreMarkedPrepared r on.moves

@@ -1,4 +1,4 @@
-use Rattle.std.proofs.Common.{◌∙◌, List, Result, Unit, subst, sym}
+use Rattle.std.proofs.Common.{◌∙◌, List, Result, subst, sym}
 use Rattle.cob_move_data.specs.Moves.{Records}
 use Rattle.cob_move_apply.specs.Applied.{ending}
 use Rattle.cob_move_apply.specs.declared.stop.Stop.{Stop}
@@ -12,22 +12,22 @@ use Rattle.cob_move_deeds.proofs.FlowLemmas.{flows_carried}
 use Rattle.cob_move_deeds.proofs.ReadLemmas.{deeds_reads}
 use Rattle.cob_move_deeds.proofs.ready.ReadyDeeds.apply_kept.Goals as goal
 
-pub returns-then-at_once-clause-carried : goal.returns-then-at_once-clause-carried
-returns-then-at_once-clause-carried c =
+pub returns-then-self-clause-carried : goal.returns-then-self-clause-carried
+returns-then-self-clause-carried c =
     let r : Records = record { input = c.args.input_layout.now; output = c.args.output_layout.now } in
     let d = c.args.self.now in
-    all_carried r (flow_support d) d.flows.items c.args.input.now c.args.output.now (ending c.apply_all.result c.apply_all.new.output) (sym d.told ∙ c.if-at_once.true) c.requires.prepared.moves c.requires.prepared.flows.each
+    all_carried r (flow_support d) d.flows.items c.args.input.now c.args.output.now (ending c.apply_all.result c.apply_all.new.output) (sym d.told ∙ c.if-self.true) c.requires.prepared.moves c.requires.prepared.flows.each
     c.apply_all.ensures.applied
 
-pub returns-then-at_once-clause-reads : goal.returns-then-at_once-clause-reads
-returns-then-at_once-clause-reads c =
+pub returns-then-self-clause-reads : goal.returns-then-self-clause-reads
+returns-then-self-clause-reads c =
     let r : Records = record { input = c.args.input_layout.now; output = c.args.output_layout.now } in
     let d = c.args.self.now in
     let on : FlowSupport = flow_support d in
     let all : List Flow = d.flows.items in
     deeds_reads r on all c.args.input.now c.args.output.now c.apply_all.result c.forget_output.new.self c.apply_all.new.scratch c.one_outcome_of_counts.ensures.needed c.one_ending.ensures c.requires.prepared.flows.each
     c.requires.prepared.flows.nested c.forget_output.ensures.none (c.forget_output.ensures.unkept r.output)
-    (all_reads r on all c.args.input.now c.args.output.now c.apply_all.result c.forget_output.new.self c.apply_all.new.scratch (sym d.told ∙ c.if-at_once.true) c.requires.prepared.moves c.requires.prepared.flows.each
+    (all_reads r on all c.args.input.now c.args.output.now c.apply_all.result c.forget_output.new.self c.apply_all.new.scratch (sym d.told ∙ c.if-self.true) c.requires.prepared.moves c.requires.prepared.flows.each
     c.apply_all.ensures.reads)
 
 pub returns-clause-carried : goal.returns-clause-carried
