@@ -18,6 +18,7 @@
 
 mod commands;
 mod handed;
+mod refusals;
 mod release;
 
 pub use commands::{answer, perform, refuse};

@@ -6,6 +6,7 @@
 //!   input or a pipe, which can't be read again.
 //! - [`files_of`] are the files that are opened for those that the options of a command line name, in their order, for a runtime that keeps the last error of
 //!   one (`cob_program_runtime`), and [`tell_file_error`] prints that error: the option, its path and the system's words.
+//! - [`can_be_read_again`] says whether a file has its bytes still when they were read.
 //!
 //! What is promised: that conversions end as those without the flag do, with the status of what they came to (`EndsAmong` and `EndsAside` of `cob_program_faults`, with
 //! the faults `MayEndConvert` and `MayEndAside`), or as where a device failed if the last line was not printed. Which words are printed is shown by the
@@ -22,3 +23,4 @@ mod stops;
 
 pub use conversions::{do_convert_aside_explained, do_convert_explained};
 pub use files::{files_of, tell_file_error};
+pub use stops::can_be_read_again;

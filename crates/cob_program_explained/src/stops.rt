@@ -86,7 +86,7 @@ fn words_of<R: AllocGlobal + Files + Input>(
 
 /// Whether the file of this name has its bytes still when they were read: it is a regular file or a block device. A pipe gives them once, and its next
 /// reader waits for a writer; standard input, `-`, goes on behind them.
-fn can_be_read_again<R: Files>(rt: &R, name: &str) -> bool {
+pub fn can_be_read_again<R: Files>(rt: &R, name: &str) -> bool {
     if name == "-" {
         return false;
     }

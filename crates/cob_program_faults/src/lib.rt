@@ -30,7 +30,8 @@
 //!   have that shows a record of a conversion, and how it ends, say `StopsAtRecord` and `EndsAtRecord`, for the commands that do so.
 //! - [`judge_lrecl`] asks of a copybook that its records fit the record length that their file is said to have (`FitsLrecl` of specs/Lengths.antt), and
 //!   [`fitting`] does so of a converter; [`tell_uneven`] tells that the size of a file is no multiple of the length that each of its records has.
-//! - [`telling`] says how a run tells how far it is, and [`asks_a_person`] whether a person may be waiting at standard input.
+//! - [`telling`] says how a run tells how far it is, [`asks_a_person`] whether a person may be waiting at standard input, and [`tells_a_person`] whether one reads
+//!   standard error.
 //!
 //! Which words tell a fault, and what a terminal is, is shown by `cob_test_jobs` and `tools/try_files`.
 //!
@@ -61,6 +62,6 @@ pub use identity::{FileIdentity, lead_to_one_file, loses};
 pub use lengths::{fitting, judge_lrecl, tell_uneven};
 pub use opening::opened;
 pub use outputs::{OutputFault, create_part, folder_of, part_name, put_in_place};
-pub use terminals::{asks_a_person, telling};
+pub use terminals::{asks_a_person, telling, tells_a_person};
 pub use texts::{Texts, text_of};
 pub use whole_text::{TextFault, read_text, read_whole};

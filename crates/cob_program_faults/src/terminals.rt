@@ -18,6 +18,11 @@ pub fn asks_a_person<R: Files>(rt: &R) -> bool {
     is_terminal(rt, "/dev/stdin")
 }
 
+/// Whether standard error is a terminal, so that a person reads what is told.
+pub fn tells_a_person<R: Files>(rt: &R) -> bool {
+    is_terminal(rt, "/dev/stderr")
+}
+
 /// How a run over the file of this name tells on standard error how far it is, where that is asked for.
 pub fn telling<R: Files>(rt: &R, name: &str, asked: bool) -> Option<Telling> {
     if asked {
