@@ -1,6 +1,6 @@
 //! The entries of both records that bear a name.
 
-use crate::entry::{WrittenEntry, entry_in_front, name_word, picture_word};
+use crate::entry::{WrittenEntry, entry_at, entry_in_front, name_word, picture_word};
 use crate::levels::open_before;
 use crate::near::is_near;
 use crate::words::{BytesText, WordText};
@@ -17,14 +17,11 @@ pub(crate) struct BothWords<'a> {
 
 /// An entry of one of the records.
 #[derive(Clone, Copy)]
-pub(crate) struct Bearer<'a> {
+pub(crate) struct Bearer {
     /// Whether it is of the input record.
     pub(crate) is_input: bool,
-    /// All words of its copybook.
-    pub(crate) words: &'a [Token],
-    /// How many of them stand before it.
+    /// How many words of its copybook stand before it.
     pub(crate) before: usize,
-    pub(crate) entry: WrittenEntry<'a>,
 }
 
 /// Which names are looked for.
@@ -34,6 +31,22 @@ pub(crate) enum Wanted {
     Same,
     /// Names that are near to it.
     Near,
+}
+
+impl<'a> BothWords<'a> {
+    /// The words of a bearer's copybook.
+    pub(crate) fn words_of(self, bearer: Bearer) -> &'a [Token] {
+        if bearer.is_input {
+            self.input
+        } else {
+            self.output
+        }
+    }
+
+    /// A bearer as it is written.
+    pub(crate) fn entry_of(self, bearer: Bearer) -> WrittenEntry<'a> {
+        entry_at(self.words_of(bearer), bearer.before)
+    }
 }
 
 /// Whether an entry has such a name.
@@ -48,9 +61,9 @@ fn is_wanted(entry: WrittenEntry<'_>, name: &[u8], wanted: Wanted) -> bool {
 }
 
 /// Adds the entries of one record with such a name.
-fn push_bearers<'a>(
-    out: &mut Vec<Bearer<'a>>,
-    words: &'a [Token],
+fn push_bearers(
+    out: &mut Vec<Bearer>,
+    words: &[Token],
     is_input: bool,
     name: &[u8],
     wanted: Wanted,
@@ -60,13 +73,10 @@ fn push_bearers<'a>(
         let Some((sentence, others)) = sentence_at(rest) else {
             break;
         };
-        let entry = entry_in_front(rest);
-        if !is_condition(sentence) && is_wanted(entry, name, wanted) {
+        if !is_condition(sentence) && is_wanted(entry_in_front(rest), name, wanted) {
             out.push(Bearer {
                 is_input,
-                words,
                 before: words.len().saturating_sub(rest.len()),
-                entry,
             })?;
         }
         rest = others;
@@ -75,26 +85,35 @@ fn push_bearers<'a>(
 }
 
 /// The entries of both records with such a name, those of the input record first.
-pub(crate) fn bearers<'a>(
+pub(crate) fn bearers(
     alloc: Global,
-    both: BothWords<'a>,
+    both: BothWords<'_>,
     name: &[u8],
     wanted: Wanted,
-) -> Result<Vec<Bearer<'a>>, AllocError> {
-    let mut out: Vec<Bearer<'a>> = Vec::new(alloc);
+) -> Result<Vec<Bearer>, AllocError> {
+    let mut out: Vec<Bearer> = Vec::new(alloc);
     push_bearers(&mut out, both.input, true, name, wanted)?;
     push_bearers(&mut out, both.output, false, name, wanted)?;
     Ok(out)
 }
 
+/// The word that names a bearer's record, if its copybook names one.
+fn record_word<'a>(
+    alloc: Global,
+    both: BothWords<'a>,
+    bearer: Bearer,
+) -> Result<Option<&'a Token>, AllocError> {
+    let words = both.words_of(bearer);
+    let holders = open_before(alloc, words, bearer.before)?;
+    match holders.first() {
+        Some(holder) if holder.level == 1 => Ok(name_word(entry_at(words, holder.before))),
+        _ => Ok(None),
+    }
+}
+
 /// The name of a bearer's record.
-fn record_of(alloc: Global, bearer: Bearer<'_>) -> Result<String, AllocError> {
-    let holders = open_before(alloc, bearer.words, bearer.before)?;
-    let top = match holders.first() {
-        Some(holder) if holder.level == 1 => name_word(holder.entry),
-        _ => None,
-    };
-    match top {
+fn record_of(alloc: Global, both: BothWords<'_>, bearer: Bearer) -> Result<String, AllocError> {
+    match record_word(alloc, both, bearer)? {
         Some(word) => format!(in alloc; "{}", WordText { word }),
         None if bearer.is_input => String::from_str(alloc, "IN-RECORD"),
         None => String::from_str(alloc, "OUT-RECORD"),
@@ -102,21 +121,42 @@ fn record_of(alloc: Global, bearer: Bearer<'_>) -> Result<String, AllocError> {
 }
 
 /// Whether a group with this name holds a bearer, its record too.
-fn is_held_by(alloc: Global, bearer: Bearer<'_>, group: &[u8]) -> Result<bool, AllocError> {
-    for holder in &open_before(alloc, bearer.words, bearer.before)? {
-        if is_wanted(holder.entry, group, Wanted::Same) {
+fn is_held_by(
+    alloc: Global,
+    both: BothWords<'_>,
+    bearer: Bearer,
+    group: &[u8],
+) -> Result<bool, AllocError> {
+    let words = both.words_of(bearer);
+    let holders = open_before(alloc, words, bearer.before)?;
+    for holder in &holders {
+        if is_wanted(entry_at(words, holder.before), group, Wanted::Same) {
             return Ok(true);
         }
     }
-    Ok(record_of(alloc, bearer)?.as_bytes() == group)
+    let record = record_of(alloc, both, bearer)?;
+    Ok(record.as_bytes() == group)
+}
+
+/// Whether a bearer is meant by a name with this qualifier.
+fn is_meant(
+    alloc: Global,
+    both: BothWords<'_>,
+    bearer: Bearer,
+    group: Option<&Token>,
+) -> Result<bool, AllocError> {
+    match group {
+        Some(word) => is_held_by(alloc, both, bearer, word.text.as_slice()),
+        None => Ok(true),
+    }
 }
 
 /// The entry that the name in front means with its first qualifier, where one alone has both.
-pub(crate) fn meant<'a>(
+pub(crate) fn meant(
     alloc: Global,
-    both: BothWords<'a>,
+    both: BothWords<'_>,
     words: &[Token],
-) -> Result<Option<Bearer<'a>>, AllocError> {
+) -> Result<Option<Bearer>, AllocError> {
     let Some((name, more)) = words.split_first() else {
         return Ok(None);
     };
@@ -124,16 +164,13 @@ pub(crate) fn meant<'a>(
         Some(named) => named.first(),
         None => None,
     };
-    let mut found: Option<Bearer<'a>> = None;
-    for bearer in &bearers(alloc, both, name.text.as_slice(), Wanted::Same)? {
-        let is_meant = match group {
-            Some(word) => is_held_by(alloc, *bearer, word.text.as_slice())?,
-            None => true,
-        };
-        if is_meant && found.is_some() {
-            return Ok(None);
-        }
-        if is_meant {
+    let all = bearers(alloc, both, name.text.as_slice(), Wanted::Same)?;
+    let mut found: Option<Bearer> = None;
+    for bearer in &all {
+        if is_meant(alloc, both, *bearer, group)? {
+            if found.is_some() {
+                return Ok(None);
+            }
             found = Some(*bearer);
         }
     }
@@ -141,29 +178,49 @@ pub(crate) fn meant<'a>(
 }
 
 /// A bearer with its record.
-pub(crate) fn qualified(alloc: Global, bearer: Bearer<'_>) -> Result<String, AllocError> {
-    let Some(word) = name_word(bearer.entry) else {
+pub(crate) fn qualified(
+    alloc: Global,
+    both: BothWords<'_>,
+    bearer: Bearer,
+) -> Result<String, AllocError> {
+    let Some(word) = name_word(both.entry_of(bearer)) else {
         return String::from_str(alloc, "FILLER");
     };
     let name = WordText { word };
-    let record = record_of(alloc, bearer)?;
+    let record = record_of(alloc, both, bearer)?;
     format!(in alloc; "{name} OF {record}")
 }
 
 /// Where a bearer stands.
-pub(crate) fn place_of(alloc: Global, bearer: Bearer<'_>) -> Result<String, AllocError> {
+pub(crate) fn place_of(
+    alloc: Global,
+    both: BothWords<'_>,
+    bearer: Bearer,
+) -> Result<String, AllocError> {
     let option = if bearer.is_input {
         "in-book"
     } else {
         "out-book"
     };
-    let line = bearer.entry.words.first().map_or(0, |word| word.line);
+    let line = match both.entry_of(bearer).words.first() {
+        Some(word) => word.line,
+        None => 0,
+    };
     format!(in alloc; "{option} line {line}")
 }
 
+/// Whether a bearer has a picture.
+pub(crate) fn is_item(both: BothWords<'_>, bearer: Bearer) -> bool {
+    picture_word(both.entry_of(bearer)).is_some()
+}
+
 /// What an entry is: its picture, or a group.
-pub(crate) fn described(alloc: Global, bearer: Bearer<'_>) -> Result<String, AllocError> {
-    match picture_word(bearer.entry) {
+pub(crate) fn described(
+    alloc: Global,
+    both: BothWords<'_>,
+    bearer: Bearer,
+) -> Result<String, AllocError> {
+    match picture_word(both.entry_of(bearer)) {
         Some(word) => {
             let shown = BytesText {
                 bytes: word.text.as_slice(),

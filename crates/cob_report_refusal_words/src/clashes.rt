@@ -1,6 +1,6 @@
 //! Clauses that do not go with each other, or with those of a group.
 
-use crate::entry::{WrittenEntry, picture_word, told_entry, word_behind, words_from};
+use crate::entry::{WrittenEntry, entry_at, picture_word, told_entry, word_behind, words_from};
 use crate::levels::open_before;
 use crate::told::{Caret, Told};
 use crate::words::{BytesText, WordText};
@@ -35,9 +35,10 @@ fn group_words(
     let found = WordText { word: own };
     let holders = open_before(alloc, words, before)?;
     for holder in &holders {
-        if let Some(above) = usage_in(holder.entry) {
+        let group = entry_at(words, holder.before);
+        if let Some(above) = usage_in(group) {
             if usage_of(above) != usage_of(own) {
-                let group = told_entry(alloc, holder.entry)?;
+                let group = told_entry(alloc, group)?;
                 let line = above.line;
                 let other = WordText { word: above };
                 return Ok(Some(format!(in alloc;
@@ -110,10 +111,10 @@ fn sign_word(entry: WrittenEntry<'_>) -> Option<&Token> {
 /// What is told of an entry whose SIGN does not fit.
 pub(crate) fn told_sign(alloc: Global, entry: WrittenEntry<'_>) -> Result<Told, AllocError> {
     let named = told_entry(alloc, entry)?;
-    let at = sign_word(entry).map_or(
-        Caret::under_first(entry.words),
-        |word| Some(Caret::under(word)),
-    );
+    let at = match sign_word(entry) {
+        Some(word) => Some(Caret::under(word)),
+        None => Caret::under_first(entry.words),
+    };
     let Some(picture) = picture_word(entry) else {
         let what = format!(in alloc; "{named} has a SIGN that it can't have")?;
         return Ok(Told::of(alloc, at, what));

@@ -28,6 +28,15 @@ fn goes_on(line: &[u8], caret: Caret) -> bool {
     end > LAST_COLUMN && behind != b' '
 }
 
+/// What is told of a word that goes on where nothing is read.
+fn cut_off(alloc: Global, told: Told) -> Result<Told, AllocError> {
+    let Told { at, what, .. } = told;
+    Told::of(alloc, at, what).with(String::from_str(
+        alloc,
+        "the word goes on behind column 72, where nothing is read: put it on a further line",
+    )?)
+}
+
 /// What is told, with what the line of its word shows: that the word goes on where nothing is read, or that words stand in columns that are not read.
 pub(crate) fn with_columns(
     alloc: Global,
@@ -40,11 +49,7 @@ pub(crate) fn with_columns(
     };
     let line = line_in(text, caret.line);
     if goes_on(line, caret) {
-        let own = Told::of(alloc, told.at, told.what);
-        return own.with(String::from_str(
-            alloc,
-            "the word goes on behind column 72, where nothing is read: put it on a further line",
-        )?);
+        return cut_off(alloc, told);
     }
     let columns = first_columns(line);
     if !told.hints.is_empty() || !hold_words(columns) {

@@ -31,6 +31,12 @@ pub(crate) fn entry_in_front(words: &[Token]) -> WrittenEntry<'_> {
     WrittenEntry { words, behind }
 }
 
+/// The entry with so many words before it.
+pub(crate) fn entry_at(words: &[Token], before: usize) -> WrittenEntry<'_> {
+    let (_, rest) = words.split_at(before.min(words.len()));
+    entry_in_front(rest)
+}
+
 /// The first of these words, or the period behind them.
 pub(crate) fn word_or_stop<'a>(entry: WrittenEntry<'a>, rest: &'a [Token]) -> Option<&'a Token> {
     match rest.first() {

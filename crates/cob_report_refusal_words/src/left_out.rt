@@ -43,7 +43,7 @@ fn native_hint(alloc: Global, entry: WrittenEntry<'_>) -> Result<String, AllocEr
 }
 
 /// What to do with the words that are left out: the entry's storage without them.
-const WAYS_ROUND: [(&str, &str); 18] = [
+static WAYS_ROUND: [(&str, &str); 18] = [
     ("SYNC", SLACK),
     ("SYNCHRONIZED", SLACK),
     (
@@ -101,9 +101,9 @@ const WIDE: &str = "PIC X(n) with two bytes a character has its bytes";
 
 /// What to do with a word that is left out.
 fn way_round(text: &[u8]) -> &'static str {
-    for (word, way) in WAYS_ROUND {
+    for (word, way) in &WAYS_ROUND {
         if word.as_bytes() == text {
-            return way;
+            return *way;
         }
     }
     if is_constant(text) {

@@ -1,6 +1,6 @@
 //! Levels, and the groups that hold an entry.
 
-use crate::entry::{WrittenEntry, entry_in_front, picture_word, told_entry};
+use crate::entry::{WrittenEntry, entry_at, entry_in_front, picture_word, told_entry};
 use crate::told::{Caret, Told};
 use cob_copybook_clauses::{is_condition, sentence_at};
 use cob_copybook_entries::whole;
@@ -9,9 +9,11 @@ use std::alloc::{AllocError, Global};
 
 /// An entry that holds others, or may.
 #[derive(Clone, Copy)]
-pub(crate) struct Holder<'a> {
+pub(crate) struct Holder {
+    /// Its level.
     pub(crate) level: u32,
-    pub(crate) entry: WrittenEntry<'a>,
+    /// How many words stand before it.
+    pub(crate) before: usize,
 }
 
 /// The level of an entry, 0 where none is written.
@@ -22,65 +24,75 @@ pub(crate) fn level_of(entry: WrittenEntry<'_>) -> u32 {
     }
 }
 
-/// Takes the entries away that hold nothing of this level.
-fn close<'a>(open: &mut Vec<Holder<'a>>, level: u32) {
+/// The level of the last of these entries, 0 where there is none.
+fn last_level(open: &[Holder]) -> u32 {
+    match open.last() {
+        Some(last) => last.level,
+        None => 0,
+    }
+}
+
+/// Takes the entries away that hold nothing of this level: those of a greater level, and then one of the same.
+fn close(open: &mut Vec<Holder>, level: u32) {
     for _ in 0..100 {
-        match open.last() {
-            Some(last) if last.level > level => {
-                open.pop();
-            }
-            _ => return,
+        if last_level(open.as_slice()) <= level {
+            break;
         }
+        open.pop();
+    }
+    if last_level(open.as_slice()) == level {
+        open.pop();
     }
 }
 
 /// The entries that are open before the entry with so many words before it: each holds the next.
-pub(crate) fn open_before<'a>(
+pub(crate) fn open_before(
     alloc: Global,
-    words: &'a [Token],
+    words: &[Token],
     before: usize,
-) -> Result<Vec<Holder<'a>>, AllocError> {
-    let mut open: Vec<Holder<'a>> = Vec::new(alloc);
+) -> Result<Vec<Holder>, AllocError> {
+    let mut open: Vec<Holder> = Vec::new(alloc);
     let (front, _) = words.split_at(before.min(words.len()));
     let mut rest = front;
-    for _ in 0..words.len() {
+    for _ in 0..front.len() {
         let Some((sentence, behind)) = sentence_at(rest) else {
             break;
         };
         if !is_condition(sentence) {
-            let entry = entry_in_front(rest);
-            let level = level_of(entry);
-            close(&mut open, level);
-            close_same(&mut open, level);
-            open.push(Holder { level, entry })?;
+            push_holder(
+                &mut open,
+                entry_in_front(rest),
+                front.len().saturating_sub(rest.len()),
+            )?;
         }
         rest = behind;
     }
     Ok(open)
 }
 
-/// Takes the last entry away, where it has this level.
-fn close_same<'a>(open: &mut Vec<Holder<'a>>, level: u32) {
-    let is_same = match open.last() {
-        Some(last) => last.level == level,
-        None => false,
-    };
-    if is_same {
-        open.pop();
-    }
+/// Puts an entry behind those that may hold it.
+fn push_holder(
+    open: &mut Vec<Holder>,
+    entry: WrittenEntry<'_>,
+    before: usize,
+) -> Result<(), AllocError> {
+    let level = level_of(entry);
+    close(open, level);
+    open.push(Holder { level, before })?;
+    Ok(())
 }
 
 /// What is told of an entry beneath one with a picture.
 fn told_beneath(
     alloc: Global,
     entry: WrittenEntry<'_>,
-    holder: Holder<'_>,
+    holder: WrittenEntry<'_>,
 ) -> Result<Told, AllocError> {
     let at = Caret::under_first(entry.words);
     let named = told_entry(alloc, entry)?;
-    let above = told_entry(alloc, holder.entry)?;
+    let above = told_entry(alloc, holder)?;
     let level = level_of(entry);
-    let upper = holder.level;
+    let upper = level_of(holder);
     let what = format!(in alloc;
         "{named}, level {level:02}, stands beneath {above}, level {upper:02}, which has a picture"
     )?;
@@ -108,6 +120,25 @@ fn told_second_record(alloc: Global, entry: WrittenEntry<'_>) -> Result<Told, Al
     )?)
 }
 
+/// The entry that holds one of this level with so many words before it, if it has a picture.
+fn pictured_holder(
+    alloc: Global,
+    words: &[Token],
+    before: usize,
+    level: u32,
+) -> Result<Option<usize>, AllocError> {
+    let mut open = open_before(alloc, words, before)?;
+    close(&mut open, level);
+    let last = match open.last() {
+        Some(last) => last.before,
+        None => return Ok(None),
+    };
+    if picture_word(entry_at(words, last)).is_some() {
+        return Ok(Some(last));
+    }
+    Ok(None)
+}
+
 /// What is told of an entry with a level that does not fit, before which so many words stand.
 pub(crate) fn told_level_rule(
     alloc: Global,
@@ -123,11 +154,8 @@ pub(crate) fn told_level_rule(
     if level == 1 && before > 0 {
         return told_second_record(alloc, entry);
     }
-    let mut open = open_before(alloc, words, before)?;
-    close(&mut open, level);
-    close_same(&mut open, level);
-    match open.last() {
-        Some(last) if picture_word(last.entry).is_some() => told_beneath(alloc, entry, *last),
-        _ => told_empty(alloc, entry),
+    match pictured_holder(alloc, words, before, level)? {
+        Some(holder) => told_beneath(alloc, entry, entry_at(words, holder)),
+        None => told_empty(alloc, entry),
     }
 }

@@ -1,10 +1,12 @@
 //! The block of a paragraph that is refused.
 
-use crate::bearers::{Bearer, BothWords, Wanted, bearers, described, meant, place_of, qualified};
+use crate::bearers::{
+    Bearer, BothWords, Wanted, bearers, described, is_item, meant, place_of, qualified,
+};
 use crate::blocks::push_block;
 use crate::books::Blocks;
 use crate::clauses::Lack;
-use crate::entry::{last_words, told_words, words_before};
+use crate::entry::{last_words, told_entry, told_words, words_before};
 use crate::source::told_source;
 use crate::statements::{behind_statement, is_constant, receivers_of, statement_in_front};
 use crate::subscripts::told_subscripts;
@@ -212,17 +214,12 @@ fn told_unknown(
     let near = bearers(alloc, both, word.text.as_slice(), Wanted::Near)?;
     match near.first() {
         Some(bearer) => {
-            let place = place_of(alloc, *bearer)?;
-            let own = told_name(alloc, *bearer)?;
+            let place = place_of(alloc, both, *bearer)?;
+            let own = told_entry(alloc, both.entry_of(*bearer))?;
             told.with(format!(in alloc; "{own} ({place}) is near to it")?)
         }
         None => Ok(told),
     }
-}
-
-/// The name of an entry.
-fn told_name(alloc: Global, bearer: Bearer<'_>) -> Result<String, AllocError> {
-    crate::entry::told_entry(alloc, bearer.entry)
 }
 
 /// What is told of a name that several entries have.
@@ -244,14 +241,14 @@ fn told_ambiguous(
     let mut list = String::new(alloc);
     for bearer in found.iter().take(3) {
         let behind = if list.is_empty() { "" } else { ", " };
-        let own = qualified(alloc, *bearer)?;
-        let place = place_of(alloc, *bearer)?;
+        let own = qualified(alloc, both, *bearer)?;
+        let place = place_of(alloc, both, *bearer)?;
         list.push_str(&format!(in alloc; "{behind}{own} ({place})")?)?;
     }
     let what = format!(in alloc; "{name} is {count} entries: {list}")?;
     let told = Told::of(alloc, Some(Caret::under(word)), what);
     match found.first() {
-        Some(first) => told.with(format!(in alloc; "write {}", qualified(alloc, *first)?)?),
+        Some(first) => told.with(format!(in alloc; "write {}", qualified(alloc, both, *first)?)?),
         None => Ok(told),
     }
 }
@@ -273,7 +270,7 @@ fn told_receiver(
         let found = bearers(alloc, both, word.text.as_slice(), Wanted::Same)?;
         if let Some(bearer) = found.first() {
             if bearer.is_input {
-                return told_input(alloc, word, *bearer, found.len() > 1);
+                return told_input(alloc, both, word, *bearer, found.len() > 1);
             }
         }
     }
@@ -284,12 +281,13 @@ fn told_receiver(
 /// What is told of a receiver that is of the input record.
 fn told_input(
     alloc: Global,
+    both: BothWords<'_>,
     word: &Token,
-    bearer: Bearer<'_>,
+    bearer: Bearer,
     several: bool,
 ) -> Result<Told, AllocError> {
     let name = WordText { word };
-    let place = place_of(alloc, bearer)?;
+    let place = place_of(alloc, both, bearer)?;
     let what = format!(in alloc;
         "{name} is an entry of the input record ({place}), and what receives is of the output record"
     )?;
@@ -324,7 +322,7 @@ fn told_operand(alloc: Global, both: BothWords<'_>, words: &[Token]) -> Result<S
     let name = WordText { word };
     match meant(alloc, both, words)? {
         Some(bearer) => {
-            let own = described(alloc, bearer)?;
+            let own = described(alloc, both, bearer)?;
             format!(in alloc; "{name}, {own}")
         }
         None => format!(in alloc; "{name}"),
@@ -347,6 +345,24 @@ fn told_literal(alloc: Global, statement: &[Token]) -> Result<Told, AllocError> 
     Ok(Told::of(alloc, Caret::under_first(statement), what))
 }
 
+/// What is told of an item beside CORRESPONDING.
+fn told_item(
+    alloc: Global,
+    both: BothWords<'_>,
+    word: &Token,
+    bearer: Bearer,
+) -> Result<Told, AllocError> {
+    let name = WordText { word };
+    let own = described(alloc, both, bearer)?;
+    let what = format!(in alloc;
+        "{name}, {own}, is an item, and CORRESPONDING is between two groups"
+    )?;
+    Told::of(alloc, Some(Caret::under(word)), what).with(String::from_str(
+        alloc,
+        "leave CORRESPONDING out, or name a group",
+    )?)
+}
+
 /// What is told of CORRESPONDING with an item.
 fn told_groups(
     alloc: Global,
@@ -360,17 +376,10 @@ fn told_groups(
         if !is_own {
             continue;
         }
-        for bearer in &bearers(alloc, both, word.text.as_slice(), Wanted::Same)? {
-            let own = described(alloc, *bearer)?;
-            if own.as_str() != "a group" {
-                let name = WordText { word };
-                let what = format!(in alloc;
-                    "{name}, {own}, is an item, and CORRESPONDING is between two groups"
-                )?;
-                return Told::of(alloc, Some(Caret::under(word)), what).with(String::from_str(
-                    alloc,
-                    "leave CORRESPONDING out, or name a group",
-                )?);
+        let found = bearers(alloc, both, word.text.as_slice(), Wanted::Same)?;
+        for bearer in &found {
+            if is_item(both, *bearer) {
+                return told_item(alloc, both, word, *bearer);
             }
         }
     }

@@ -7,21 +7,25 @@ use cob_copybook_clauses::{WordClass, behind, is_name};
 use cob_source::Token;
 use std::alloc::{AllocError, Global};
 
+/// The word, if it is there and is no name.
+fn if_none(word: Option<&Token>) -> Option<&Token> {
+    let word = word?;
+    if is_name(word.text.as_slice()) {
+        return None;
+    }
+    Some(word)
+}
+
 /// The first text of an entry that stands in a name's place and is none.
 fn no_name(entry: WrittenEntry<'_>) -> Option<&Token> {
-    let named = [
-        name_word(entry),
-        word_behind(entry.words, WordClass::Redefines, WordClass::Stop),
-        count_word(entry.words),
-    ];
-    for found in named {
-        if let Some(word) = found {
-            if !is_name(word.text.as_slice()) {
-                return Some(word);
-            }
-        }
+    if let Some(word) = if_none(name_word(entry)) {
+        return Some(word);
     }
-    None
+    let redefined = word_behind(entry.words, WordClass::Redefines, WordClass::Stop);
+    if let Some(word) = if_none(redefined) {
+        return Some(word);
+    }
+    if_none(count_word(entry.words))
 }
 
 /// The word that names the count of a table.

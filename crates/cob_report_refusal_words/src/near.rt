@@ -79,7 +79,7 @@ fn are_one_but_for_hyphens(a: &[u8], b: &[u8]) -> bool {
 }
 
 /// The words that begin a clause.
-const CLAUSE_WORDS: [&str; 16] = [
+static CLAUSE_WORDS: [&str; 16] = [
     "PICTURE",
     "PIC",
     "REDEFINES",
@@ -100,9 +100,9 @@ const CLAUSE_WORDS: [&str; 16] = [
 
 /// The word of a clause that a text is near to, if there is one.
 pub(crate) fn near_clause(text: &[u8]) -> Option<&'static str> {
-    for word in CLAUSE_WORDS {
+    for word in &CLAUSE_WORDS {
         if is_near(text, word.as_bytes()) {
-            return Some(word);
+            return Some(*word);
         }
     }
     None

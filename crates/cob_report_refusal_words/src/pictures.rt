@@ -43,10 +43,8 @@ fn repeat_in_front(text: &[u8]) -> (u32, usize) {
 /// The first symbol of a picture with its repeat.
 fn piece_in_front(text: &[u8]) -> Option<Piece> {
     let (symbol, more) = text.split_first()?;
-    let is_mark = matches!(
-        (*symbol, more.first()),
-        (b'C', Some(b'R')) | (b'D', Some(b'B'))
-    );
+    let next = more.first().copied().unwrap_or(b' ');
+    let is_mark = (*symbol == b'C' && next == b'R') || (*symbol == b'D' && next == b'B');
     let own: usize = if is_mark { 2 } else { 1 };
     let (_, behind) = text.split_at(own.min(text.len()));
     let (count, repeat) = repeat_in_front(behind);

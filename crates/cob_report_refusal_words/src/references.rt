@@ -1,6 +1,8 @@
 //! Names of other entries: of an area that is redefined, and of the count of a table.
 
-use crate::entry::{WrittenEntry, entry_in_front, name_word, told_entry, word_behind, words_from};
+use crate::entry::{
+    WrittenEntry, entry_at, entry_in_front, name_word, told_entry, word_behind, words_from,
+};
 use crate::levels::level_of;
 use crate::near::is_near;
 use crate::told::{Caret, Told};
@@ -10,19 +12,42 @@ use cob_picture::{Category, Picture};
 use cob_source::Token;
 use std::alloc::{AllocError, Global};
 
-/// Entries of a text that are looked at.
+/// Entries of a text with a name.
 #[derive(Clone, Copy)]
-struct Found<'a> {
-    /// How many have the name.
+struct Found {
+    /// How many have it.
     count: u32,
-    /// The last of them.
-    last: Option<WrittenEntry<'a>>,
-    /// One with a name that is near to it.
-    near: Option<&'a Token>,
+    /// How many words stand before the last of them.
+    last: Option<usize>,
+    /// How many words stand before the last one whose name is near to it.
+    near: Option<usize>,
+}
+
+/// What is found, with one more entry behind so many words.
+fn with_entry(found: Found, entry: WrittenEntry<'_>, before: usize, name: &[u8]) -> Found {
+    let Some(word) = name_word(entry) else {
+        return found;
+    };
+    let own = word.text.as_slice();
+    if own == name {
+        return Found {
+            count: found.count.saturating_add(1),
+            last: Some(before),
+            near: found.near,
+        };
+    }
+    if is_near(own, name) {
+        return Found {
+            count: found.count,
+            last: found.last,
+            near: Some(before),
+        };
+    }
+    found
 }
 
 /// The entries among these words that have a name.
-fn entries_named<'a>(words: &'a [Token], name: &[u8]) -> Found<'a> {
+fn entries_named(words: &[Token], name: &[u8]) -> Found {
     let mut found = Found {
         count: 0,
         last: None,
@@ -33,57 +58,60 @@ fn entries_named<'a>(words: &'a [Token], name: &[u8]) -> Found<'a> {
         let Some((sentence, others)) = sentence_at(rest) else {
             break;
         };
-        let entry = entry_in_front(rest);
+        if !is_condition(sentence) {
+            let before = words.len().saturating_sub(rest.len());
+            found = with_entry(found, entry_in_front(rest), before, name);
+        }
         rest = others;
-        if is_condition(sentence) {
-            continue;
-        }
-        if let Some(word) = name_word(entry) {
-            if word.text.as_slice() == name {
-                found.count = found.count.saturating_add(1);
-                found.last = Some(entry);
-            } else if is_near(word.text.as_slice(), name) {
-                found.near = Some(word);
-            }
-        }
     }
     found
 }
 
-/// The entry that began the last area among these words on this level.
-fn area_before(words: &[Token], level: u32) -> Option<WrittenEntry<'_>> {
-    let mut area: Option<WrittenEntry<'_>> = None;
+/// Whether an entry begins an area on this level.
+fn begins_area(entry: WrittenEntry<'_>, level: u32) -> bool {
+    level_of(entry) == level && words_from(entry.words, WordClass::Redefines).is_none()
+}
+
+/// How many words stand before the entry that began the last area among these words on this level.
+fn area_before(words: &[Token], level: u32) -> Option<usize> {
+    let mut area: Option<usize> = None;
     let mut rest = words;
     for _ in 0..words.len() {
         let Some((sentence, others)) = sentence_at(rest) else {
             break;
         };
-        let entry = entry_in_front(rest);
-        rest = others;
-        let redefines = words_from(entry.words, WordClass::Redefines).is_some();
-        if !is_condition(sentence) && level_of(entry) == level && !redefines {
-            area = Some(entry);
+        if !is_condition(sentence) && begins_area(entry_in_front(rest), level) {
+            area = Some(words.len().saturating_sub(rest.len()));
         }
+        rest = others;
     }
     area
+}
+
+/// The name of an entry that is near to another, with its line.
+fn near_words(alloc: Global, words: &[Token], found: Found) -> Result<Option<String>, AllocError> {
+    let Some(before) = found.near else {
+        return Ok(None);
+    };
+    let entry = entry_at(words, before);
+    let named = told_entry(alloc, entry)?;
+    let line = line_of(entry);
+    Ok(Some(format!(in alloc; "{named} (line {line}) is near to it")?))
 }
 
 /// What is told where no entry has a name.
 fn told_none(
     alloc: Global,
+    words: &[Token],
     word: &Token,
-    found: Found<'_>,
+    found: Found,
     named: &str,
 ) -> Result<Told, AllocError> {
     let name = WordText { word };
     let what = format!(in alloc; "no entry before {named} is named {name}")?;
     let told = Told::of(alloc, Some(Caret::under(word)), what);
-    match found.near {
-        Some(near) => {
-            let line = near.line;
-            let near = WordText { word: near };
-            told.with(format!(in alloc; "{near} (line {line}) is near to it")?)
-        }
+    match near_words(alloc, words, found)? {
+        Some(near) => told.with(near),
         None => Ok(told),
     }
 }
@@ -105,8 +133,8 @@ fn area_words(
     if words_from(area.words, WordClass::Occurs).is_some() {
         return format!(in alloc; "{other} is a table, and a table is not redefined");
     }
-    let begins = area_before(front, level);
-    if let Some(first) = begins {
+    if let Some(before) = area_before(front, level) {
+        let first = entry_at(front, before);
         let is_other = first.words.len() != area.words.len() || line_of(first) != line_of(area);
         let redefines = words_from(area.words, WordClass::Redefines).is_some();
         if is_other && !redefines {
@@ -142,9 +170,9 @@ pub(crate) fn told_redefinition(
     };
     let found = entries_named(front, word.text.as_slice());
     let Some(area) = found.last else {
-        return told_none(alloc, word, found, &named);
+        return told_none(alloc, front, word, found, &named);
     };
-    let what = area_words(alloc, front, entry, area)?;
+    let what = area_words(alloc, front, entry, entry_at(front, area))?;
     let other = WordText { word };
     Told::of(alloc, Some(Caret::under(word)), what).with(format!(in alloc;
         "move the entry of {named} behind that of {other}, with the same level and no more bytes"
@@ -165,22 +193,23 @@ fn is_whole_number(entry: WrittenEntry<'_>) -> bool {
 /// Why an entry can't be the count of a table.
 fn count_words(
     alloc: Global,
+    words: &[Token],
     word: &Token,
-    found: Found<'_>,
-    front: Found<'_>,
+    found: Found,
+    before: u32,
 ) -> Result<String, AllocError> {
     let name = WordText { word };
-    let Some(entry) = found.last else {
+    let Some(last) = found.last else {
         return format!(in alloc; "no entry is named {name}");
     };
     if found.count > 1 {
         let count = found.count;
         return format!(in alloc; "{name} is {count} entries, and its qualifiers do not tell one");
     }
-    if front.count == 0 {
+    if before == 0 {
         return format!(in alloc; "{name} stands behind its table");
     }
-    if is_whole_number(entry) {
+    if is_whole_number(entry_at(words, last)) {
         return format!(in alloc;
             "{name} stands in a table, or in another group than its qualifiers say"
         );
@@ -202,19 +231,14 @@ pub(crate) fn told_count(
         return Ok(Told::of(alloc, Caret::under_first(entry.words), what));
     };
     let found = entries_named(words, word.text.as_slice());
-    let what = count_words(
-        alloc,
-        word,
-        found,
-        entries_named(front, word.text.as_slice()),
-    )?;
+    let before = entries_named(front, word.text.as_slice()).count;
+    let what = count_words(alloc, words, word, found, before)?;
     let told = Told::of(alloc, Some(Caret::under(word)), what);
-    if let Some(near) = found.near {
-        if found.count == 0 {
-            let line = near.line;
-            let near = WordText { word: near };
-            return told.with(format!(in alloc; "{near} (line {line}) is near to it")?);
-        }
+    if found.count == 0 {
+        return match near_words(alloc, words, found)? {
+            Some(near) => told.with(near),
+            None => Ok(told),
+        };
     }
     told.with(String::from_str(
         alloc,

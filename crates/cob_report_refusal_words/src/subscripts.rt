@@ -1,6 +1,7 @@
 //! Subscripts that do not fit.
 
 use crate::bearers::{Bearer, BothWords, meant};
+use crate::entry::entry_at;
 use crate::levels::open_before;
 use crate::tables::greatest_number;
 use crate::told::{Caret, Told};
@@ -11,14 +12,16 @@ use cob_source::Token;
 use std::alloc::{AllocError, Global};
 
 /// How many elements each table has that holds an entry, or that it is itself, the outermost first.
-fn tables_of(alloc: Global, bearer: Bearer<'_>) -> Result<Vec<u32>, AllocError> {
+fn tables_of(alloc: Global, both: BothWords<'_>, bearer: Bearer) -> Result<Vec<u32>, AllocError> {
     let mut tables: Vec<u32> = Vec::new(alloc);
-    for holder in &open_before(alloc, bearer.words, bearer.before)? {
-        if let Some(number) = greatest_number(holder.entry) {
+    let words = both.words_of(bearer);
+    let holders = open_before(alloc, words, bearer.before)?;
+    for holder in &holders {
+        if let Some(number) = greatest_number(entry_at(words, holder.before)) {
             tables.push(number)?;
         }
     }
-    if let Some(number) = greatest_number(bearer.entry) {
+    if let Some(number) = greatest_number(both.entry_of(bearer)) {
         tables.push(number)?;
     }
     Ok(tables)
@@ -72,7 +75,7 @@ fn told_number(
         format!(in alloc; "{shown} stands in no table, and a subscript is written")?
     } else {
         format!(in alloc;
-            "{shown} stands in {tables} tables, one in another, and subscripts are written for {written}"
+            "{shown} has {tables} OCCURS at it or above, and {written} subscripts are written"
         )?
     };
     Told::of(alloc, Some(Caret::under(name)), what).with(String::from_str(
@@ -116,7 +119,7 @@ fn told_name(
     let Some(bearer) = meant(alloc, both, words)? else {
         return Ok(None);
     };
-    let tables = tables_of(alloc, bearer)?;
+    let tables = tables_of(alloc, both, bearer)?;
     let written = subscripts_of(words);
     let has_counter = written
         .iter()

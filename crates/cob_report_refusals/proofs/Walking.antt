@@ -1,6 +1,6 @@
 -- What is read so far of the sentences, and what is told of them.
 use Rattle.std.proofs.Common.{◌≡◌, ℕ, ◌+◌, List, [], ◌∷◌, ◌++◌, Option, Some, None, refl, sym, ap, ◌∙◌, subst, inl, inr}
-use Rattle.std.specs.Prelude.{◌≢◌}
+use Rattle.std.specs.Prelude.{◌≢◌, IfSome}
 use Rattle.std.specs.List.{AllByRecursion}
 use Rattle.cob_source.specs.Tokens.{Lexeme}
 use Rattle.cob_source.specs.Words.{AreWordsOf}
@@ -62,6 +62,10 @@ all_behind text (x ∷ a) b ha hb = (ha.0, all_behind text a b ha.1 hb)
 pub found_told : (text : List ℕ) (a : List Refusal) (o : Option Refusal) → AllByRecursion (IsRefusedText text) a → ((r : Refusal) → o ≡ Some r → IsRefusedText text r) → AllByRecursion (IsRefusedText text) (a ++ listed o)
 found_told text a None ha h = all_behind text a [] ha tt
 found_told text a (Some r) ha h = all_behind text a (r ∷ []) ha (h r refl, tt)
+
+-- what is there is so
+pub some_is : (P : Refusal → Type 0) (o : Option Refusal) (r : Refusal) → IfSome o P → o ≡ Some r → P r
+some_is P o r h e = subst (λ (x : Option Refusal). IfSome x P) e h
 
 -- words behind the last period
 pub open_told : (text : List ℕ) (words rest : List Lexeme) (r : Refusal) → Walked words rest → HasNoStop rest → AreWordsOf text words

@@ -5,7 +5,7 @@ ghost use Rattle.cob_source.specs.Tokens.{Lexeme, lexemes};
 ghost use Rattle.cob_copybook_clauses.specs.Entries.{FirstSentence, IsCondition, sentences};
 ghost use Rattle.cob_copybook_entry.specs.declared.fault.BookRule.TheVariants.{Grammar};
 ghost use Rattle.cob_copybook_entries.specs.Books.{BreaksEntryRule, BreaksSentence, HasNoLeftOut, OneBreaks};
-ghost use Rattle.cob_report_refusals.specs.Refused.{AreToldOf, BreaksByItself, IsOfTexts, listed};
+ghost use Rattle.cob_report_refusals.specs.Refused.{AreToldOf, BreaksByItself, listed};
 
 use crate::refusal::Refusal;
 use cob_copybook_clauses::{
@@ -61,28 +61,11 @@ fn has_own_grammar(sentence: &[Token]) -> bool
     !is_condition(sentence) || names_no_value(sentence)
 }
 
-/// Whether a text of an entry breaks the rule, or a word that is left out.
-fn is_of_texts(rule: BookRule) -> bool
-    ensures { IsTrue result → IsOfTexts rule }
-{
-    matches!(
-        rule,
-        BookRule::Picture(_)
-            | BookRule::LeftOut(_)
-            | BookRule::Name
-            | BookRule::Table
-            | BookRule::Value
-    )
-}
-
 /// The rule, where a sentence breaks it by itself that is all there is of a text which breaks it.
 fn own_rule(sentence: &[Token], rule: BookRule) -> Option<BookRule>
     ensures { (words : List Lexeme) → FirstSentence (lexemes sentence.now) words []
         → BreaksEntryRule rule words → IfSome result (λ r. BreaksByItself r (lexemes sentence.now)) }
 {
-    if is_of_texts(rule) {
-        return Some(rule);
-    }
     match rule {
         BookRule::Grammar => {
             if has_own_grammar(sentence) {
@@ -91,6 +74,11 @@ fn own_rule(sentence: &[Token], rule: BookRule) -> Option<BookRule>
                 None
             }
         }
+        BookRule::Picture(_) => Some(rule),
+        BookRule::LeftOut(_) => Some(rule),
+        BookRule::Name => Some(rule),
+        BookRule::Table => Some(rule),
+        BookRule::Value => Some(rule),
         _ => None,
     }
 }
