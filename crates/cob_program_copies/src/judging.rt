@@ -49,8 +49,9 @@ fn push_refusal(
 ) -> Result<(), AllocError> {
     let place = place_of(alloc, telling.path, how, own_line(refusal.line, lines))?;
     let words = refusal.words.as_str();
-    let told = format!(in alloc; "\n{place}: {words}")?;
-    out.push_str(told.trim_end())
+    let told_lines = words.strip_suffix("\n").unwrap_or(words);
+    let told = format!(in alloc; "\n{place}: {told_lines}")?;
+    out.push_str(&told)
 }
 
 /// The refusals of a text that was made, in words behind the line that tells the first.
@@ -124,7 +125,10 @@ pub(crate) fn judged(
     made: RecordText,
 ) -> Result<Vec<u8>, BookRefusal> {
     let Some(fault) = fault_of(alloc, role, made.text.as_slice()) else {
-        let RecordText { text, .. } = made;
+        let RecordText {
+            text,
+            lines: _lines,
+        } = made;
         return Ok(text);
     };
     if let BookRule::Memory = fault.rule {

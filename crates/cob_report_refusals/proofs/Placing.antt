@@ -1,5 +1,5 @@
 -- Where lines stand that break a rule, and words.
-use Rattle.std.proofs.Common.{◌≡◌, ℕ, ◌+◌, ◌<◌, List, [], ◌∷◌, ◌++◌, length, refl, sym, ap, ◌∙◌, arith, append_assoc, length-append}
+use Rattle.std.proofs.Common.{◌≡◌, ℕ, ◌+◌, ◌<◌, List, [], ◌∷◌, ◌++◌, length, refl, sym, ap, subst, ◌∙◌, arith, append_assoc, length-append}
 use Rattle.std.specs.Prelude.{◌≢◌}
 use Rattle.cob_source.specs.Lines.{lines}
 use Rattle.cob_source.specs.Words.{BreaksAt, IsSourceRefusal}
@@ -22,6 +22,9 @@ further count more text rest left some stands behind = λ some_left.
     let k = behind some_left in
     let number : length (h.0 ++ k.0) ≡ length h.0 + length k.0 = length-append h.0 k.0 in
     (h.0 ++ k.0, h.1 ∙ ap (λ (ls : List (List ℕ)). h.0 ++ ls) k.1 ∙ sym (append_assoc h.0 k.0 (lines left)), omega (arith, number, h.2, k.2))
+
+pub further_to : (count more now : ℕ) (text rest left : List ℕ) → 0 < length rest → now ≡ count + more → StandsBehind count text rest → StandsBehind more rest left → StandsBehind now text left
+further_to count more now text rest left some e stands behind = subst (λ (n : ℕ). StandsBehind n text left) (sym e) (further count more text rest left some stands behind)
 
 pub starts_there : (text : List ℕ) → StandsBehind 0 text text
 starts_there text = λ some. ([], refl, refl)

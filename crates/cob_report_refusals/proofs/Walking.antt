@@ -1,19 +1,20 @@
 -- What is read so far of the sentences, and what is told of them.
-use Rattle.std.proofs.Common.{◌≡◌, ℕ, ◌+◌, List, [], ◌∷◌, ◌++◌, Option, Some, None, refl, sym, ap, ◌∙◌, subst, inl, inr}
-use Rattle.std.specs.Prelude.{◌≢◌, IfSome}
+use Rattle.std.proofs.Common.{◌≡◌, ℕ, List, [], ◌∷◌, ◌++◌, refl, sym, ap, ◌∙◌, subst, inl, inr}
+use Rattle.std.specs.Prelude.{◌≢◌, IfOk, Result, Ok, Err}
 use Rattle.std.specs.List.{AllByRecursion}
 use Rattle.cob_source.specs.Tokens.{Lexeme}
 use Rattle.cob_source.specs.Words.{AreWordsOf}
 use Rattle.cob_copybook_clauses.specs.Entries.{Sentences, sentences, HasNoStop}
 use Rattle.cob_copybook_clauses.proofs.CutLemmas.{ends}
+use Rattle.cob_copybook_entry.specs.declared.fault.BookFault.{BookFault}
 use Rattle.cob_copybook_entry.specs.declared.fault.BookRule.{BookRule}
 use Rattle.cob_copybook_entry.specs.declared.fault.BookRule.TheVariants as rule
-use Rattle.cob_copybook_entries.specs.Books.{BreaksEntryRule, BreaksSentence, OneBreaks}
+use Rattle.cob_copybook_entries.specs.Books.{OneBreaks}
 use Rattle.cob_copybook_entries.proofs.Reading.{IsFirst}
-use Rattle.cob_copybook.specs.Books.{IsBookRefusal, IsTextRefusal}
+use Rattle.cob_copybook.specs.Books.{IsBookRefusal, IsMemory, IsTextRefusal}
 use Rattle.cob_copybook.specs.declared.role.Role.{Role}
 use Rattle.cob_report_refusals.specs.declared.refusal.Refusal.{Refusal}
-use Rattle.cob_report_refusals.specs.Refused.{AreRefusals, AreToldOf, BreaksByItself, IsOfSentences, IsRefusedText, listed}
+use Rattle.cob_report_refusals.specs.Refused.{AreRefusals, BeginWith, BreaksByItself, IsOfSentences, IsRefusedText}
 
 -- these words are left: what the rest breaks, all break
 pub record Walked (words rest : List Lexeme) : Type 0 where
@@ -58,14 +59,14 @@ all_behind : (text : List ℕ) (a b : List Refusal) → AllByRecursion (IsRefuse
 all_behind text [] b ha hb = hb
 all_behind text (x ∷ a) b ha hb = (ha.0, all_behind text a b ha.1 hb)
 
--- one more is told, or none
-pub found_told : (text : List ℕ) (a : List Refusal) (o : Option Refusal) → AllByRecursion (IsRefusedText text) a → ((r : Refusal) → o ≡ Some r → IsRefusedText text r) → AllByRecursion (IsRefusedText text) (a ++ listed o)
-found_told text a None ha h = all_behind text a [] ha tt
-found_told text a (Some r) ha h = all_behind text a (r ∷ []) ha (h r refl, tt)
+-- a refusal with this rule on this line
+pub as_told : (r : Refusal) (k : BookRule) (n : ℕ) (text : List ℕ) → r.fault.rule ≡ k → r.fault.line ≡ n → IsTextRefusal k n text → IsRefusedText text r
+as_told r k n text same on h =
+    subst (λ (x : ℕ). IsTextRefusal r.fault.rule x text) (sym on) (subst (λ (x : BookRule). IsTextRefusal x n text) (sym same) h)
 
--- what is there is so
-pub some_is : (P : Refusal → Type 0) (o : Option Refusal) (r : Refusal) → IfSome o P → o ≡ Some r → P r
-some_is P o r h e = subst (λ (x : Option Refusal). IfSome x P) e h
+-- one more is told
+pub all_pushed : (text : List ℕ) (a : List Refusal) (r : Refusal) (items : List Refusal) → items ≡ a ++ r ∷ [] → AllByRecursion (IsRefusedText text) a → IsRefusedText text r → AllByRecursion (IsRefusedText text) items
+all_pushed text a r items e all told = subst (AllByRecursion (IsRefusedText text)) (sym e) (all_behind text a (r ∷ []) all (told, tt))
 
 -- words behind the last period
 pub open_told : (text : List ℕ) (words rest : List Lexeme) (r : Refusal) → Walked words rest → HasNoStop rest → AreWordsOf text words
@@ -82,3 +83,34 @@ all_wider role text (r ∷ rs) h = (inl h.0, all_wider role text rs h.1)
 pub begin_all : (role : Role) (text : List ℕ) (r : Refusal) (others items : List Refusal) → items ≡ r ∷ others
     → IsBookRefusal role r.fault.rule r.fault.line text → AllByRecursion (IsRefusedText text) others → AreRefusals role text items
 begin_all role text r others items e h all = subst (AreRefusals role text) (sym e) (h, all_wider role text others all)
+
+-- what holds of an answer holds of it in wider words
+pub ok_wider : {A E : Type 0} {P Q : A → Type 0} (r : Result A E) → ((a : A) → P a → Q a) → IfOk r P → IfOk r Q
+ok_wider (Ok a) wider h = wider a h
+ok_wider (Err e) wider h = tt
+
+pub begin_is : (fault : BookFault) (r : Refusal) (others items : List Refusal) → items ≡ r ∷ others → r.fault ≡ fault → BeginWith fault items
+begin_is fault r others items e same = subst (BeginWith fault) (sym e) same
+
+pub begin_some : (fault : BookFault) (items : List Refusal) → BeginWith fault items → items ≡ [] → ⊥
+begin_some fault items h e = subst (BeginWith fault) e h
+
+-- want of memory is told as that rule alone
+pub only_memory : (r : BookRule) → IsMemory r → r ≡ rule.Memory
+only_memory (rule.Source f) h = absurd h
+only_memory rule.NoEntry h = absurd h
+only_memory rule.Grammar h = absurd h
+only_memory rule.Level h = absurd h
+only_memory (rule.Picture f) h = absurd h
+only_memory rule.Usage h = absurd h
+only_memory rule.Sign h = absurd h
+only_memory rule.Redefinition h = absurd h
+only_memory rule.Table h = absurd h
+only_memory rule.Count h = absurd h
+only_memory rule.Value h = absurd h
+only_memory rule.Placement h = absurd h
+only_memory (rule.LeftOut word) h = absurd h
+only_memory rule.Name h = absurd h
+only_memory rule.TooLong h = absurd h
+only_memory rule.TooMany h = absurd h
+only_memory rule.Memory h = refl

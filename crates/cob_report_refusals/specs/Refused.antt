@@ -1,5 +1,5 @@
 -- What is told of a text that is refused.
-use Rattle.std.specs.Prelude.{◌≡◌, ◌⊎◌, ℕ, List, [], ◌∷◌, Option, Some, None, ⊤}
+use Rattle.std.specs.Prelude.{◌≡◌, ◌⊎◌, ℕ, List, [], ◌∷◌, ⊤}
 use Rattle.std.specs.List.{AllByRecursion}
 use Rattle.cob_source.specs.Tokens.{Lexeme}
 use Rattle.cob_source.specs.Words.{AreWordsOf}
@@ -64,11 +64,6 @@ BreaksByItself r s = IsOfSentences r × BreaksSentence r s
 abbrev pub BeginWith : BookFault → List Refusal → Type 0
 BeginWith fault [] = ⊥
 BeginWith fault (r ∷ rs) = r.fault ≡ fault
-
--- what there is, in a list
-abbrev pub listed : Option Refusal → List Refusal
-listed None = []
-listed (Some r) = r ∷ []
 
 -- The place is that of one of the words.
 abbrev pub StandsIn : Spot → List Lexeme → Type 0

@@ -78,7 +78,6 @@ fn followed(alloc: Global, first: Refusal, others: &[Refusal]) -> Result<Vec<Ref
 /// # Errors
 ///
 /// Where no memory is left.
-#[tactic(auto, using(crate::proofs::Walking::begin_all))]
 fn behind_first(
     alloc: Global,
     first: BookFault,
@@ -94,8 +93,7 @@ fn behind_first(
         fault: first,
         from: place,
     };
-    let out = followed(alloc, refusal, others)?;
-    Ok(out)
+    followed(alloc, refusal, others)
 }
 
 /// The refusals of words that make no copybook, this fault of which is told first.

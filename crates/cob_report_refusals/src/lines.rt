@@ -1,14 +1,15 @@
 //! The refusals of lines, each by itself.
 
-ghost use Rattle.std.specs.Prelude.{◌≡◌, ◌≢◌, ◌<◌, ◌≤◌, ◌++◌, ◌∷◌, ℕ, List, length, take, drop, true, IfOk, IfSome};
+ghost use Rattle.std.specs.Prelude.{◌≡◌, ◌≢◌, ◌<◌, ◌≤◌, ◌++◌, ◌∷◌, ℕ, List, length, take, drop, true, IfOk};
 ghost use Rattle.std.specs.List.{AllByRecursion};
 ghost use Rattle.cob_source.specs.Lines.{FeedFirst, lines};
 ghost use Rattle.cob_source.specs.Words.{IsSourceRefusal};
+ghost use Rattle.cob_copybook_entry.specs.declared.fault.BookRule.TheVariants.{Source};
 ghost use Rattle.cob_report_refusals.specs.Refused.{IsOfLines, IsRefusedText};
 ghost use Rattle.cob_report_refusals.specs.Behind.{IsBehind, StandsBehind};
 
 use crate::refusal::Refusal;
-use crate::sentences::push_found;
+use crate::sentences::pushed;
 use cob_copybook_entry::{BookFault, BookRule};
 use cob_source::{SourceFault, SourceRule, tokens};
 use std::alloc::{AllocError, Global};
@@ -64,22 +65,42 @@ fn is_of_lines(rule: SourceRule) -> bool
     )
 }
 
-/// What is told of the fault of a text before which so many lines stand, where a line breaks its rule by itself.
-fn line_refusal(fault: SourceFault, before: u32) -> Option<Refusal>
-    ensures { (text rest : List ℕ) → IsBehind before text rest
-        → IsSourceRefusal fault.rule fault.line rest → IfSome result (IsRefusedText text) }
+/// What is refused of a line.
+fn line_refusal(rule: SourceRule, line: u32) -> Refusal
+    ensures rule { result.fault.rule ≡ Source rule }
+    ensures line { result.fault.line ≡ line }
 {
-    if !is_of_lines(fault.rule) {
-        return None;
-    }
-    let line = before.checked_add(fault.line)?;
-    Some(Refusal {
+    Refusal {
         fault: BookFault {
-            rule: BookRule::Source(fault.rule),
+            rule: BookRule::Source(rule),
             line,
         },
         from: None,
-    })
+    }
+}
+
+/// Refusals, and behind them the fault of what is left of a text behind so many lines, where a line breaks its rule by itself.
+///
+/// # Errors
+///
+/// Where no memory is left.
+fn with_line(
+    refusals: Vec<Refusal>,
+    fault: SourceFault,
+    before: u32,
+) -> Result<Vec<Refusal>, AllocError>
+    ensures { (text rest : List ℕ) → IsBehind before text rest
+        → IsSourceRefusal fault.rule fault.line rest
+        → AllByRecursion (IsRefusedText text) refusals.items
+        → IfOk result (λ v. AllByRecursion (IsRefusedText text) v.items) }
+{
+    if !is_of_lines(fault.rule) {
+        return Ok(refusals);
+    }
+    match before.checked_add(fault.line) {
+        Some(line) => pushed(refusals, line_refusal(fault.rule, line)),
+        None => Ok(refusals),
+    }
 }
 
 /// What is told of the lines of a text behind so many of them, each of which breaks a rule by itself.
@@ -107,11 +128,12 @@ pub(crate) fn line_refusals(
         if let SourceRule::Memory = fault.rule {
             return Err(AllocError);
         }
-        push_found(&mut out, line_refusal(fault, number))?;
         let passed = fault.line.max(1);
         let Some(now) = number.checked_add(passed) else {
             return Ok(out);
         };
+        let more = with_line(out, fault, number)?;
+        out = more;
         number = now;
         rest = behind_lines(rest, passed);
     }

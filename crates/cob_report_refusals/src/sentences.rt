@@ -1,20 +1,20 @@
 //! The refusals of sentences, each by itself.
 
-ghost use Rattle.std.specs.Prelude.{◌≡◌, ◌≢◌, ◌++◌, ℕ, List, [], IfOk, IfSome, IsTrue, OnOk};
+ghost use Rattle.std.specs.Prelude.{◌≡◌, ◌++◌, ◌∷◌, ℕ, List, [], IfOk, IfSome, IsTrue};
+ghost use Rattle.std.specs.List.{AllByRecursion};
 ghost use Rattle.cob_source.specs.Tokens.{Lexeme, lexemes};
 ghost use Rattle.cob_copybook_clauses.specs.Entries.{FirstSentence, IsCondition, sentences};
 ghost use Rattle.cob_copybook_entry.specs.declared.fault.BookRule.TheVariants.{Grammar};
 ghost use Rattle.cob_copybook_entries.specs.Books.{BreaksEntryRule, BreaksSentence, HasNoLeftOut, OneBreaks};
-ghost use Rattle.cob_report_refusals.specs.Refused.{AreToldOf, BreaksByItself, listed};
+ghost use Rattle.cob_report_refusals.specs.Refused.{AreToldOf, BreaksByItself, IsRefusedText};
 
 use crate::refusal::Refusal;
-use cob_copybook_clauses::{
-    is_condition, left_out, read_condition_name, sentence_at, sentences_cut, sentences_end,
-};
+use cob_copybook_clauses::{is_condition, left_out, read_condition_name, sentence_at};
 use cob_copybook_entries::entries;
 use cob_copybook_entry::{BookFault, BookRule};
 use cob_source::Token;
 use std::alloc::{AllocError, Global};
+use std::slice;
 
 /// The first sentence of these words, with its Stop.
 fn with_stop<'a>(words: &'a [Token], sentence: &[Token]) -> &'a [Token]
@@ -113,61 +113,54 @@ fn line_of(words: &[Token]) -> u32 {
     }
 }
 
-/// What is refused of the first sentence of these words, before which so many others stand.
-///
-/// # Errors
-///
-/// Where no memory is left.
-fn first_refusal(
-    alloc: Global,
-    words: &[Token],
-    sentence: &[Token],
-    from: usize,
-) -> Result<Option<Refusal>, AllocError>
-    requires { (more : List Lexeme) × FirstSentence (lexemes sentence.now) (lexemes words.now) more }
-    ensures { IfOk result (λ o. IfSome o (λ r. BreaksByItself r.fault.rule (lexemes sentence.now))) }
+/// What is refused of the entry that these words begin with, before which so many others stand.
+fn refusal_of(rule: BookRule, words: &[Token], from: usize) -> Refusal
+    ensures { result.fault.rule ≡ rule }
 {
-    match broken_rule(alloc, sentence, with_stop(words, sentence))? {
-        Some(rule) => Ok(Some(Refusal {
-            fault: BookFault {
-                rule,
-                line: line_of(words),
-            },
-            from: Some(from),
-        })),
-        None => Ok(None),
-    }
-}
-
-/// What is refused of words behind the last period, before which so many others stand.
-fn open_refusal(words: &[Token], from: usize) -> Option<Refusal>
-    ensures rule { IfSome result (λ r. r.fault.rule ≡ Grammar) }
-    ensures some { IfSome result (λ r. lexemes words.now ≢ []) }
-{
-    if words.is_empty() {
-        return None;
-    }
-    Some(Refusal {
+    Refusal {
         fault: BookFault {
-            rule: BookRule::Grammar,
+            rule,
             line: line_of(words),
         },
         from: Some(from),
-    })
+    }
 }
 
-/// Puts what is refused behind the refusals so far, where something is.
+/// Refusals, and one more behind them.
 ///
 /// # Errors
 ///
 /// Where no memory is left.
-pub(crate) fn push_found(out: &mut Vec<Refusal>, found: Option<Refusal>) -> Result<(), AllocError>
-    ensures { OnOk result (out.new.items ≡ out.old.items ++ listed found) }
+pub(crate) fn pushed(refusals: Vec<Refusal>, refusal: Refusal) -> Result<Vec<Refusal>, AllocError>
+    ensures { IfOk result (λ v. v.items ≡ refusals.items ++ refusal ∷ []) }
 {
-    if let Some(refusal) = found {
-        out.push(refusal)?;
+    let mut out = refusals;
+    out.extend_from_slice(slice::from_ref(&refusal))?;
+    Ok(out)
+}
+
+/// Refusals, and behind them what is refused of the first sentence of these words, before which so many others stand.
+///
+/// # Errors
+///
+/// Where no memory is left.
+fn with_first(
+    alloc: Global,
+    refusals: Vec<Refusal>,
+    words: &[Token],
+    sentence: &[Token],
+    from: usize,
+) -> Result<Vec<Refusal>, AllocError>
+    requires { (more : List Lexeme) × FirstSentence (lexemes sentence.now) (lexemes words.now) more }
+    ensures { (text : List ℕ)
+        → ((r : Refusal) → BreaksByItself r.fault.rule (lexemes sentence.now) → IsRefusedText text r)
+        → AllByRecursion (IsRefusedText text) refusals.items
+        → IfOk result (λ v. AllByRecursion (IsRefusedText text) v.items) }
+{
+    match broken_rule(alloc, sentence, with_stop(words, sentence))? {
+        Some(rule) => pushed(refusals, refusal_of(rule, words, from)),
+        None => Ok(refusals),
     }
-    Ok(())
 }
 
 /// What is refused of the sentences of these words, each by itself, and of words behind the last period.
@@ -178,20 +171,19 @@ pub(crate) fn push_found(out: &mut Vec<Refusal>, found: Option<Refusal>) -> Resu
 pub(crate) fn sentence_refusals(alloc: Global, words: &[Token]) -> Result<Vec<Refusal>, AllocError>
     ensures { IfOk result (λ v. AreToldOf (lexemes words.now) v.items) }
 {
-    // For the clause: the sentences of words are cut at each Stop.
-    sentences_cut();
-    sentences_end();
     let mut out: Vec<Refusal> = Vec::new(alloc);
     let mut rest = words;
     let mut from: usize = 0;
     while let Some((sentence, behind)) = sentence_at(rest) {
-        let found = first_refusal(alloc, rest, sentence, from)?;
-        push_found(&mut out, found)?;
+        let more = with_first(alloc, out, rest, sentence, from)?;
+        out = more;
         from = words.len().saturating_sub(behind.len());
         rest = behind;
     }
-    push_found(&mut out, open_refusal(rest, from))?;
-    Ok(out)
+    if rest.is_empty() {
+        return Ok(out);
+    }
+    pushed(out, refusal_of(BookRule::Grammar, rest, from))
 }
 
 /// How many words stand before the first entry that begins on this line.

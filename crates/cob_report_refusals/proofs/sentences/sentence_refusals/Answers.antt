@@ -1,8 +1,8 @@
-use Rattle.std.proofs.Common.{sym, subst, rules}
-use Rattle.std.specs.List.{AllByRecursion}
-use Rattle.cob_copybook_entries.proofs.Endings.{front_cut, shorter}
-use Rattle.cob_report_refusals.specs.Refused.{IsRefusedText}
-use Rattle.cob_report_refusals.proofs.Walking.{found_told, goes_on, open_told, sentence_told, some_is}
+use Rattle.std.proofs.Common.{arith}
+use Rattle.std.proofs.lemmas.Grind.{common_steps}
+use Rattle.cob_source.specs.Tokens.{lexemes}
+use Rattle.cob_copybook_entries.proofs.Endings.{front_cut, not_empty, shorter}
+use Rattle.cob_report_refusals.proofs.Walking.{all_pushed, goes_on, ok_wider, open_told, sentence_told}
 use Rattle.cob_report_refusals.proofs.sentences.sentence_refusals.Goals as goal
 
 pub loop-sentence-smaller : goal.loop-sentence-smaller
@@ -10,9 +10,19 @@ loop-sentence-smaller c = shorter _ _ _ c.in-Some.ensures.found
 
 pub loop-sentence-preserved : goal.loop-sentence-preserved
 loop-sentence-preserved c =
-    let is = front_cut _ _ _ c.in-Some.ensures.found in
+    let words = lexemes c.args.words.now in
+    let rest = lexemes c.loop-sentence.rest.now in
+    let sentence = lexemes c.in-Some.sentence.now in
+    let behind = lexemes c.in-Some.behind.now in
+    let is = front_cut rest sentence behind c.in-Some.ensures.found in
     let far = c.loop-sentence.invariant.0 in (
-      goes_on _ _ _ _ far is,
-      λ text are. subst (AllByRecursion (IsRefusedText text)) (sym c.in_ok-push_found.ensures)
-          (found_told text _ c.in_ok-found.found (c.loop-sentence.invariant.1 text are) (λ r e. sentence_told text _ _ _ _ r far is are (some_is _ _ r c.in_ok-found.ensures e))),
+      goes_on words rest sentence behind far is,
+      λ text are. c.in_ok-more.ensures text (λ r h. sentence_told text words rest sentence behind r far is are h) (c.loop-sentence.invariant.1 text are),
     )
+
+pub returns : goal.returns
+returns c =
+    let r = c.refusal_of.result in
+    ok_wider c.pushed.result (λ v e text are.
+    all_pushed text c.loop-sentence.out.items r v.items e (c.loop-sentence.invariant.1 text are)
+    (open_told text (lexemes c.args.words.now) (lexemes c.loop-sentence.rest.now) r c.loop-sentence.invariant.0 c.in_default.ensures.none are c.refusal_of.ensures (not_empty c.loop-sentence.rest.now (λ e. grind (arith, common_steps))))) c.pushed.ensures
