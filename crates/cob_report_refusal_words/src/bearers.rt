@@ -1,12 +1,13 @@
 //! The entries of both records that bear a name.
 
 use crate::entry::{WrittenEntry, entry_at, entry_in_front, name_word, picture_word};
-use crate::levels::open_before;
+use crate::levels::{level_of, open_before};
 use crate::near::is_near;
-use crate::words::{BytesText, WordText};
+use crate::words::WordText;
 use cob_copybook_clauses::{WordClass, behind, is_condition, sentence_at};
 use cob_source::Token;
 use std::alloc::{AllocError, Global};
+use std::fmt;
 
 /// The words of both copybooks.
 #[derive(Clone, Copy)]
@@ -97,26 +98,38 @@ pub(crate) fn bearers(
     Ok(out)
 }
 
-/// The word that names a bearer's record, if its copybook names one.
-fn record_word<'a>(
-    alloc: Global,
+/// The name of a bearer's record, which prints.
+#[derive(Clone, Copy)]
+struct RecordText<'a> {
     both: BothWords<'a>,
     bearer: Bearer,
-) -> Result<Option<&'a Token>, AllocError> {
-    let words = both.words_of(bearer);
-    let holders = open_before(alloc, words, bearer.before)?;
-    match holders.first() {
-        Some(holder) if holder.level == 1 => Ok(name_word(entry_at(words, holder.before))),
-        _ => Ok(None),
+}
+
+/// The word that names the record of these words, if they name one.
+fn record_word(words: &[Token]) -> Option<&Token> {
+    let first = entry_in_front(words);
+    if level_of(first) == 1 {
+        return name_word(first);
+    }
+    None
+}
+
+/// Whether a bearer's record has this name.
+fn has_record(both: BothWords<'_>, bearer: Bearer, name: &[u8]) -> bool {
+    match record_word(both.words_of(bearer)) {
+        Some(word) => word.text.as_slice() == name,
+        None if bearer.is_input => name == b"IN-RECORD".as_slice(),
+        None => name == b"OUT-RECORD".as_slice(),
     }
 }
 
-/// The name of a bearer's record.
-fn record_of(alloc: Global, both: BothWords<'_>, bearer: Bearer) -> Result<String, AllocError> {
-    match record_word(alloc, both, bearer)? {
-        Some(word) => format!(in alloc; "{}", WordText { word }),
-        None if bearer.is_input => String::from_str(alloc, "IN-RECORD"),
-        None => String::from_str(alloc, "OUT-RECORD"),
+impl fmt::Display for RecordText<'_> {
+    fn fmt<W: fmt::Write>(&self, f: &mut fmt::Formatter<W>) -> fmt::Result {
+        match record_word(self.both.words_of(self.bearer)) {
+            Some(word) => write!(f, "{}", WordText { word }),
+            None if self.bearer.is_input => write!(f, "IN-RECORD"),
+            None => write!(f, "OUT-RECORD"),
+        }
     }
 }
 
@@ -134,8 +147,7 @@ fn is_held_by(
             return Ok(true);
         }
     }
-    let record = record_of(alloc, both, bearer)?;
-    Ok(record.as_bytes() == group)
+    Ok(has_record(both, bearer, group))
 }
 
 /// Whether a bearer is meant by a name with this qualifier.
@@ -177,56 +189,49 @@ pub(crate) fn meant(
     Ok(found)
 }
 
-/// A bearer with its record.
-pub(crate) fn qualified(
-    alloc: Global,
-    both: BothWords<'_>,
-    bearer: Bearer,
-) -> Result<String, AllocError> {
-    let Some(word) = name_word(both.entry_of(bearer)) else {
-        return String::from_str(alloc, "FILLER");
-    };
-    let name = WordText { word };
-    let record = record_of(alloc, both, bearer)?;
-    format!(in alloc; "{name} OF {record}")
+/// A bearer with its record, which prints.
+#[derive(Clone, Copy)]
+pub(crate) struct QualifiedText<'a> {
+    pub(crate) both: BothWords<'a>,
+    pub(crate) bearer: Bearer,
 }
 
-/// Where a bearer stands.
-pub(crate) fn place_of(
-    alloc: Global,
-    both: BothWords<'_>,
-    bearer: Bearer,
-) -> Result<String, AllocError> {
-    let option = if bearer.is_input {
-        "in-book"
-    } else {
-        "out-book"
-    };
-    let line = match both.entry_of(bearer).words.first() {
-        Some(word) => word.line,
-        None => 0,
-    };
-    format!(in alloc; "{option} line {line}")
+impl fmt::Display for QualifiedText<'_> {
+    fn fmt<W: fmt::Write>(&self, f: &mut fmt::Formatter<W>) -> fmt::Result {
+        let Some(word) = name_word(self.both.entry_of(self.bearer)) else {
+            return write!(f, "FILLER");
+        };
+        let record = RecordText {
+            both: self.both,
+            bearer: self.bearer,
+        };
+        write!(f, "{} OF {record}", WordText { word })
+    }
+}
+
+/// Where a bearer stands, which prints.
+#[derive(Clone, Copy)]
+pub(crate) struct PlaceText<'a> {
+    pub(crate) both: BothWords<'a>,
+    pub(crate) bearer: Bearer,
+}
+
+impl fmt::Display for PlaceText<'_> {
+    fn fmt<W: fmt::Write>(&self, f: &mut fmt::Formatter<W>) -> fmt::Result {
+        let option = if self.bearer.is_input {
+            "in-book"
+        } else {
+            "out-book"
+        };
+        let line = match self.both.entry_of(self.bearer).words.first() {
+            Some(word) => word.line,
+            None => 0,
+        };
+        write!(f, "{option} line {line}")
+    }
 }
 
 /// Whether a bearer has a picture.
 pub(crate) fn is_item(both: BothWords<'_>, bearer: Bearer) -> bool {
     picture_word(both.entry_of(bearer)).is_some()
-}
-
-/// What an entry is: its picture, or a group.
-pub(crate) fn described(
-    alloc: Global,
-    both: BothWords<'_>,
-    bearer: Bearer,
-) -> Result<String, AllocError> {
-    match picture_word(both.entry_of(bearer)) {
-        Some(word) => {
-            let shown = BytesText {
-                bytes: word.text.as_slice(),
-            };
-            format!(in alloc; "PIC {shown}")
-        }
-        None => String::from_str(alloc, "a group"),
-    }
 }

@@ -69,13 +69,12 @@ fn push_place<D: fmt::Display>(
     out.push_str(&first)
 }
 
-/// Adds what to do, a line each.
-fn push_hints(alloc: Global, out: &mut String, told: &Told) -> Result<(), AllocError> {
-    for hint in &told.hints {
-        let line = format!(in alloc; "     = {hint}\n")?;
-        out.push_str(&line)?;
+/// Adds what to do.
+fn push_hint(alloc: Global, out: &mut String, told: &Told) -> Result<(), AllocError> {
+    match &told.hint {
+        Some(hint) => out.push_str(&format!(in alloc; "     = {hint}\n")?),
+        None => Ok(()),
     }
-    Ok(())
 }
 
 /// Adds what is told of a refusal, without its place.
@@ -88,7 +87,7 @@ pub(crate) fn push_words<D: fmt::Display>(
     let what = told.what.as_str();
     let first = format!(in alloc; "{rule}: {what}\n")?;
     out.push_str(&first)?;
-    push_hints(alloc, out, told)
+    push_hint(alloc, out, told)
 }
 
 /// Adds what is told of a refusal, with the line of its text.
@@ -104,5 +103,5 @@ pub(crate) fn push_block<D: fmt::Display>(
     if let Some(caret) = told.at {
         push_source(alloc, out, text, caret)?;
     }
-    push_hints(alloc, out, told)
+    push_hint(alloc, out, told)
 }

@@ -12,7 +12,7 @@ use crate::pictures::told_picture;
 use crate::references::{told_count, told_redefinition};
 use crate::source::told_source;
 use crate::tables::told_table;
-use crate::told::{Caret, Told};
+use crate::told::{Caret, Told, advised};
 use crate::values::told_value;
 use cob_copybook::{BookRule, Role};
 use cob_report_refusals::{Refusal, book_refusals};
@@ -97,30 +97,27 @@ fn told_entry_rule(alloc: Global, place: Place<'_>, rule: BookRule) -> Result<To
 fn told_whole(alloc: Global, entry: WrittenEntry<'_>, rule: BookRule) -> Result<Told, AllocError> {
     let at = Caret::under_first(entry.words);
     match rule {
-        BookRule::TooLong => Told::of(
-            alloc,
+        BookRule::TooLong => advised(
             at,
             String::from_str(
                 alloc,
                 "the record is longer than 32,752 bytes, which are the most",
-            )?,
-        )
-        .with(String::from_str(alloc, "split the record, or make its longest table shorter")?),
-        BookRule::TooMany => Told::of(
-            alloc,
+            ),
+            String::from_str(alloc, "split the record, or make its longest table shorter"),
+        ),
+        BookRule::TooMany => advised(
             at,
-            String::from_str(alloc, "this is entry 2,001, and 2,000 are the most")?,
-        )
-        .with(String::from_str(alloc, "split the copybook")?),
-        _ => Told::of(
-            alloc,
+            String::from_str(alloc, "this is entry 2,001, and 2,000 are the most"),
+            String::from_str(alloc, "split the copybook"),
+        ),
+        _ => advised(
             None,
-            String::from_str(alloc, "no entry stands in it")?,
-        )
-        .with(String::from_str(
-            alloc,
-            "words stand in columns 8 to 72: --free reads a copybook without columns",
-        )?),
+            String::from_str(alloc, "no entry stands in it"),
+            String::from_str(
+                alloc,
+                "words stand in columns 8 to 72: --free reads a copybook without columns",
+            ),
+        ),
     }
 }
 

@@ -28,16 +28,45 @@ fn goes_on(line: &[u8], caret: Caret) -> bool {
     end > LAST_COLUMN && behind != b' '
 }
 
-/// What is told of a word that goes on where nothing is read.
-fn cut_off(alloc: Global, told: Told) -> Result<Told, AllocError> {
-    let Told { at, what, .. } = told;
-    Told::of(alloc, at, what).with(String::from_str(
-        alloc,
-        "the word goes on behind column 72, where nothing is read: put it on a further line",
-    )?)
+/// What the columns of a line say to do: where a word goes on behind them, or where nothing else is known and words stand in front of them.
+fn columns_hint(
+    alloc: Global,
+    file: &str,
+    line: &[u8],
+    caret: Caret,
+    is_known: bool,
+) -> Result<Option<String>, AllocError> {
+    if goes_on(line, caret) {
+        let words =
+            "the word goes on behind column 72, where nothing is read: put it on a further line";
+        return Ok(Some(String::from_str(alloc, words)?));
+    }
+    let columns = first_columns(line);
+    if is_known || !hold_words(columns) {
+        return Ok(None);
+    }
+    let shown = BytesText { bytes: columns };
+    let hint = format!(in alloc;
+        "columns 1 to 6 are not read, and \"{shown}\" stands there: the text looks like free format\n     = --free reads it so; sed 's/^/       /' {file} puts its words into columns 8 to 72"
+    )?;
+    Ok(Some(hint))
 }
 
-/// What is told, with what the line of its word shows: that the word goes on where nothing is read, or that words stand in columns that are not read.
+/// The same with another hint.
+fn with_hint(told: Told, hint: String) -> Told {
+    let Told {
+        at,
+        what,
+        hint: _before,
+    } = told;
+    Told {
+        at,
+        what,
+        hint: Some(hint),
+    }
+}
+
+/// What is told, with what the line of its word shows.
 pub(crate) fn with_columns(
     alloc: Global,
     file: &str,
@@ -48,18 +77,8 @@ pub(crate) fn with_columns(
         return Ok(told);
     };
     let line = line_in(text, caret.line);
-    if goes_on(line, caret) {
-        return cut_off(alloc, told);
+    match columns_hint(alloc, file, line, caret, told.hint.is_some())? {
+        Some(hint) => Ok(with_hint(told, hint)),
+        None => Ok(told),
     }
-    let columns = first_columns(line);
-    if !told.hints.is_empty() || !hold_words(columns) {
-        return Ok(told);
-    }
-    let shown = BytesText { bytes: columns };
-    let free = told.with(format!(in alloc;
-        "columns 1 to 6 are not read, and \"{shown}\" stands there: the text looks like free format"
-    )?)?;
-    free.with(format!(in alloc;
-        "--free reads it so; sed 's/^/       /' {file} puts its words into columns 8 to 72"
-    )?)
 }

@@ -1,10 +1,10 @@
 //! The words of an entry.
 
 use crate::clauses::clause_name;
-use crate::words::{WordText, WordsText};
+use crate::words::WordText;
 use cob_copybook_clauses::{WordClass, is_term, word_class};
 use cob_source::{Token, TokenKind};
-use std::alloc::{AllocError, Global};
+use std::fmt;
 
 /// An entry as it stands in a text: its words up to the period, and the period, if there is one.
 #[derive(Clone, Copy)]
@@ -62,17 +62,36 @@ pub(crate) fn name_word(entry: WrittenEntry<'_>) -> Option<&Token> {
     if names { Some(named) } else { None }
 }
 
-/// An entry as it is told: by its name, or by its line.
-pub(crate) fn told_entry(alloc: Global, entry: WrittenEntry<'_>) -> Result<String, AllocError> {
-    if let Some(word) = name_word(entry) {
-        return format!(in alloc; "{}", WordText { word });
-    }
-    match entry.words.first() {
-        Some(first) => {
-            let line = first.line;
-            format!(in alloc; "the entry in line {line}")
+/// An entry, which prints as it is told: by its name, or by its line.
+#[derive(Clone, Copy)]
+pub(crate) struct EntryText<'a> {
+    pub(crate) entry: WrittenEntry<'a>,
+}
+
+impl fmt::Display for EntryText<'_> {
+    fn fmt<W: fmt::Write>(&self, f: &mut fmt::Formatter<W>) -> fmt::Result {
+        if let Some(word) = name_word(self.entry) {
+            return write!(f, "{}", WordText { word });
         }
-        None => format!(in alloc; "the entry"),
+        match self.entry.words.first() {
+            Some(first) => write!(f, "the entry in line {}", first.line),
+            None => write!(f, "the entry"),
+        }
+    }
+}
+
+/// What an entry is, which prints as its picture, or as a group.
+#[derive(Clone, Copy)]
+pub(crate) struct PictureOf<'a> {
+    pub(crate) entry: WrittenEntry<'a>,
+}
+
+impl fmt::Display for PictureOf<'_> {
+    fn fmt<W: fmt::Write>(&self, f: &mut fmt::Formatter<W>) -> fmt::Result {
+        match picture_word(self.entry) {
+            Some(word) => write!(f, "PIC {}", WordText { word }),
+            None => write!(f, "a group"),
+        }
     }
 }
 
@@ -109,9 +128,4 @@ pub(crate) fn last_words(words: &[Token], most: usize) -> &[Token] {
     let before = words.len().saturating_sub(most);
     let (_, last) = words.split_at(before.min(words.len()));
     last
-}
-
-/// The words that something stands behind, as they are told.
-pub(crate) fn told_words(alloc: Global, words: &[Token]) -> Result<String, AllocError> {
-    format!(in alloc; "{}", WordsText { words })
 }

@@ -2,12 +2,12 @@
 
 use crate::clauses::{Lack, behind_clause, behind_word, clause_name};
 use crate::entry::{
-    WrittenEntry, last_words, name_word, told_entry, told_words, word_behind, word_or_stop,
-    words_before, words_from,
+    EntryText, WrittenEntry, last_words, name_word, word_behind, word_or_stop, words_before,
+    words_from,
 };
 use crate::near::near_clause;
-use crate::told::{Caret, Told};
-use crate::words::WordText;
+use crate::told::{Caret, Told, advised, advised_if, told};
+use crate::words::{WordText, WordsText};
 use cob_copybook_clauses::{WordClass, behind, is_condition, is_term, read_entry};
 use cob_copybook_entries::{is_numeric_literal, whole};
 use cob_source::{Token, TokenKind};
@@ -89,34 +89,52 @@ fn second_clause(entry: WrittenEntry<'_>) -> Option<&Token> {
     None
 }
 
+/// What is wrong with a word that can't go on.
+fn lack_words(alloc: Global, broken: Broken<'_>, word: &Token) -> Result<String, AllocError> {
+    let expected = broken.lack.expected;
+    let behind = WordsText {
+        words: broken.before,
+    };
+    let found = WordText { word };
+    let begins_none = expected == "a clause or a period"
+        && !is_level(word)
+        && word.kind == TokenKind::Word;
+    if begins_none {
+        return format!(in alloc; "{expected} is expected behind {behind}, and {found} begins none");
+    }
+    format!(in alloc; "{expected} is expected behind {behind}, and {found} stands there")
+}
+
+/// What is told of an entry that ends where it can't.
+fn told_end(
+    alloc: Global,
+    entry: WrittenEntry<'_>,
+    broken: Broken<'_>,
+) -> Result<Told, AllocError> {
+    let expected = broken.lack.expected;
+    let behind = WordsText {
+        words: broken.before,
+    };
+    told(
+        Caret::under_first(entry.words),
+        format!(in alloc; "{expected} is expected behind {behind}, and the text ends"),
+    )
+}
+
 /// What is told of a word that can't go on.
 fn told_lack(
     alloc: Global,
     entry: WrittenEntry<'_>,
     broken: Broken<'_>,
 ) -> Result<Told, AllocError> {
-    let expected = broken.lack.expected;
-    let behind = told_words(alloc, broken.before)?;
-    let Some(word) = word_or_stop(entry, broken.lack.rest) else {
-        let what = format!(in alloc; "{expected} is expected behind {behind}, and the text ends")?;
-        return Ok(Told::of(alloc, Caret::under_first(entry.words), what));
-    };
-    let found = WordText { word };
-    let begins_none = expected == "a clause or a period"
-        && !is_level(word)
-        && word.kind == TokenKind::Word;
-    let what = if begins_none {
-        format!(in alloc; "{expected} is expected behind {behind}, and {found} begins none")?
-    } else {
-        format!(in alloc; "{expected} is expected behind {behind}, and {found} stands there")?
-    };
-    hinted(
-        alloc,
-        entry,
-        broken,
-        word,
-        Told::of(alloc, Some(Caret::under(word)), what),
-    )
+    match word_or_stop(entry, broken.lack.rest) {
+        Some(word) => advised_if(
+            Some(Caret::under(word)),
+            lack_words(alloc, broken, word),
+            lack_hint(alloc, entry, broken, word),
+        ),
+        None => told_end(alloc, entry, broken),
+    }
 }
 
 /// The line of an entry's first word.
@@ -127,28 +145,27 @@ fn line_of(entry: WrittenEntry<'_>) -> u32 {
     }
 }
 
-/// What is told of a word that can't go on, with what to do.
-fn hinted(
+/// What to do where a word can't go on, if that is known.
+fn lack_hint(
     alloc: Global,
     entry: WrittenEntry<'_>,
     broken: Broken<'_>,
     word: &Token,
-    told: Told,
-) -> Result<Told, AllocError> {
+) -> Result<Option<String>, AllocError> {
     if let Some(near) = near_clause(word.text.as_slice()) {
         let found = WordText { word };
-        return told.with(format!(in alloc; "{near} is near to {found}")?);
+        return Ok(Some(format!(in alloc; "{near} is near to {found}")?));
     }
     if is_level(word) && broken.lack.expected == "a clause or a period" {
-        let named = told_entry(alloc, entry)?;
+        let named = EntryText { entry };
         let line = line_of(entry);
-        return told.with(format!(in alloc;
+        return Ok(Some(format!(in alloc;
             "the entry of {named} begins in line {line}: end it with a period"
-        )?);
+        )?));
     }
     match form_of(broken.lack.expected) {
-        Some(form) => told.with(String::from_str(alloc, form)?),
-        None => Ok(told),
+        Some(form) => Ok(Some(String::from_str(alloc, form)?)),
+        None => Ok(None),
     }
 }
 
@@ -168,34 +185,40 @@ fn form_of(expected: &str) -> Option<&'static str> {
 
 /// What is told of a clause that stands a second time.
 fn told_second(alloc: Global, entry: WrittenEntry<'_>, word: &Token) -> Result<Told, AllocError> {
-    let named = told_entry(alloc, entry)?;
+    let named = EntryText { entry };
     let clause = clause_name(word).unwrap_or("that clause");
-    let what = format!(in alloc; "{named} has {clause} already")?;
-    let told = Told::of(alloc, Some(Caret::under(word)), what);
-    told.with(String::from_str(alloc, "leave one of the two out")?)
+    advised(
+        Some(Caret::under(word)),
+        format!(in alloc; "{named} has {clause} already"),
+        String::from_str(alloc, "leave one of the two out"),
+    )
+}
+
+/// What lacks in an entry of level 88, if something does.
+fn condition_lack(entry: WrittenEntry<'_>) -> Option<Lack<'_>> {
+    let (_, more) = entry.words.split_at(entry.words.len().min(1));
+    match behind_word(more, "a name") {
+        Ok(rest) if behind(rest, WordClass::Value).is_some() => None,
+        Ok(rest) => Some(Lack {
+            expected: "VALUE",
+            rest,
+        }),
+        Err(lack) => Some(lack),
+    }
 }
 
 /// What is told of an entry of level 88 that names no value, or stands before all others.
 fn told_condition(alloc: Global, entry: WrittenEntry<'_>) -> Result<Told, AllocError> {
-    let (_, more) = entry.words.split_at(entry.words.len().min(1));
-    let lack = match behind_word(more, "a name") {
-        Ok(rest) if behind(rest, WordClass::Value).is_some() => {
-            let named = told_entry(alloc, entry)?;
-            let what = format!(in alloc; "{named}, level 88, stands before any entry")?;
-            let told = Told::of(alloc, Caret::under_first(entry.words), what);
-            return told.with(String::from_str(
-                alloc,
-                "put it behind the entry whose value it names",
-            )?);
-        }
-        Ok(rest) => Lack {
-            expected: "VALUE",
-            rest,
-        },
-        Err(lack) => lack,
-    };
-    let before = last_words(words_before(entry.words, lack.rest), 1);
-    told_lack(alloc, entry, Broken { before, lack })
+    if let Some(lack) = condition_lack(entry) {
+        let before = last_words(words_before(entry.words, lack.rest), 1);
+        return told_lack(alloc, entry, Broken { before, lack });
+    }
+    let named = EntryText { entry };
+    advised(
+        Caret::under_first(entry.words),
+        format!(in alloc; "{named}, level 88, stands before any entry"),
+        String::from_str(alloc, "put it behind the entry whose value it names"),
+    )
 }
 
 /// The number of an OCCURS clause that is none, if one is.
@@ -234,38 +257,36 @@ fn bad_literal(entry: WrittenEntry<'_>) -> Option<&Token> {
 fn told_text(alloc: Global, entry: WrittenEntry<'_>) -> Result<Told, AllocError> {
     if let Some(word) = bad_number(entry) {
         let found = WordText { word };
-        let what = format!(in alloc;
-            "a number is expected behind OCCURS, and {found} stands there"
-        )?;
-        let told = Told::of(alloc, Some(Caret::under(word)), what);
-        return told.with(String::from_str(
-            alloc,
-            "OCCURS 3, or OCCURS 1 TO 3 DEPENDING ON a count",
-        )?);
+        return advised(
+            Some(Caret::under(word)),
+            format!(in alloc; "a number is expected behind OCCURS, and {found} stands there"),
+            String::from_str(alloc, "OCCURS 3, or OCCURS 1 TO 3 DEPENDING ON a count"),
+        );
     }
     if let Some(word) = bad_literal(entry) {
         let found = WordText { word };
-        let what = format!(in alloc;
-            "a literal is expected behind VALUE, and {found} stands there"
-        )?;
-        let told = Told::of(alloc, Some(Caret::under(word)), what);
-        return told.with(format!(in alloc;
-            "VALUE \"{found}\" for characters, VALUE 0 for a number"
-        )?);
+        return advised(
+            Some(Caret::under(word)),
+            format!(in alloc; "a literal is expected behind VALUE, and {found} stands there"),
+            format!(in alloc; "VALUE \"{found}\" for characters, VALUE 0 for a number"),
+        );
     }
-    let what = String::from_str(alloc, "the words are no entry")?;
-    Ok(Told::of(alloc, Caret::under_first(entry.words), what))
+    told(
+        Caret::under_first(entry.words),
+        String::from_str(alloc, "the words are no entry"),
+    )
 }
 
 /// What is told of an entry that does not begin with a level.
 fn told_level(alloc: Global, entry: WrittenEntry<'_>) -> Result<Told, AllocError> {
     let Some(word) = word_or_stop(entry, entry.words) else {
-        let what = String::from_str(alloc, "a level number is expected")?;
-        return Ok(Told::of(alloc, None, what));
+        return told(None, String::from_str(alloc, "a level number is expected"));
     };
     let found = WordText { word };
-    let what = format!(in alloc; "a level number is expected, and {found} stands there")?;
-    Ok(Told::of(alloc, Some(Caret::under(word)), what))
+    told(
+        Some(Caret::under(word)),
+        format!(in alloc; "a level number is expected, and {found} stands there"),
+    )
 }
 
 /// What is told of an entry that the grammar of entries does not have.
@@ -284,9 +305,11 @@ pub(crate) fn told_grammar(alloc: Global, entry: WrittenEntry<'_>) -> Result<Tol
         return told_second(alloc, entry, word);
     }
     if entry.behind.is_empty() {
-        let what = String::from_str(alloc, "the last entry has no period")?;
-        let told = Told::of(alloc, Caret::under_first(last_words(entry.words, 1)), what);
-        return told.with(String::from_str(alloc, "put a period behind it")?);
+        return advised(
+            Caret::under_first(last_words(entry.words, 1)),
+            String::from_str(alloc, "the last entry has no period"),
+            String::from_str(alloc, "put a period behind it"),
+        );
     }
     told_text(alloc, entry)
 }

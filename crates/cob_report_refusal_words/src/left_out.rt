@@ -1,7 +1,7 @@
 //! Words and levels that are left out by name.
 
-use crate::entry::{WrittenEntry, picture_word, told_entry};
-use crate::told::{Caret, Told};
+use crate::entry::{EntryText, WrittenEntry, picture_word};
+use crate::told::{Caret, Told, advised};
 use crate::words::{BytesText, WordText};
 use cob_picture::Picture;
 use cob_source::Token;
@@ -28,7 +28,7 @@ fn binary_size(picture: &Picture) -> u8 {
 
 /// What to do with an item that is COMP-5.
 fn native_hint(alloc: Global, entry: WrittenEntry<'_>) -> Result<String, AllocError> {
-    let named = told_entry(alloc, entry)?;
+    let named = EntryText { entry };
     let Some(word) = picture_word(entry) else {
         return format!(in alloc; "write COMP where each value keeps to the digits of its picture");
     };
@@ -149,9 +149,13 @@ pub(crate) fn told_left_out(
         Some(word) => Some(Caret::under(word)),
         None => None,
     };
-    let told = Told::of(alloc, at, what_of(alloc, text)?);
+    advised(at, what_of(alloc, text), hint_of(alloc, entry, text))
+}
+
+/// What to do with a word that is left out.
+fn hint_of(alloc: Global, entry: WrittenEntry<'_>, text: &[u8]) -> Result<String, AllocError> {
     if is_native(text) {
-        return told.with(native_hint(alloc, entry)?);
+        return native_hint(alloc, entry);
     }
-    told.with(String::from_str(alloc, way_round(text))?)
+    String::from_str(alloc, way_round(text))
 }

@@ -1,7 +1,7 @@
 //! Levels, and the groups that hold an entry.
 
-use crate::entry::{WrittenEntry, entry_at, entry_in_front, picture_word, told_entry};
-use crate::told::{Caret, Told};
+use crate::entry::{EntryText, WrittenEntry, entry_at, entry_in_front, picture_word};
+use crate::told::{Caret, Told, advised, told};
 use cob_copybook_clauses::{is_condition, sentence_at};
 use cob_copybook_entries::whole;
 use cob_source::Token;
@@ -89,35 +89,44 @@ fn told_beneath(
     holder: WrittenEntry<'_>,
 ) -> Result<Told, AllocError> {
     let at = Caret::under_first(entry.words);
-    let named = told_entry(alloc, entry)?;
-    let above = told_entry(alloc, holder)?;
+    let named = EntryText { entry };
+    let above = EntryText { entry: holder };
     let level = level_of(entry);
     let upper = level_of(holder);
-    let what = format!(in alloc;
-        "{named}, level {level:02}, stands beneath {above}, level {upper:02}, which has a picture"
-    )?;
-    Told::of(alloc, at, what).with(format!(in alloc;
-        "give {above} no picture, so that it is a group, or {named} the level {upper:02}"
-    )?)
+    advised(
+        at,
+        format!(in alloc;
+            "{named}, level {level:02}, stands beneath {above}, level {upper:02}, which has a picture"
+        ),
+        format!(in alloc;
+            "give {above} no picture, so that it is a group, or {named} the level {upper:02}"
+        ),
+    )
 }
 
 /// What is told of an entry with neither a picture nor entries beneath it.
 fn told_empty(alloc: Global, entry: WrittenEntry<'_>) -> Result<Told, AllocError> {
-    let named = told_entry(alloc, entry)?;
-    let what = format!(in alloc; "{named} has no picture and nothing beneath it")?;
-    Told::of(alloc, Caret::under_first(entry.words), what).with(String::from_str(
-        alloc,
-        "give it a picture, or put entries with a higher level behind it",
-    )?)
+    let named = EntryText { entry };
+    advised(
+        Caret::under_first(entry.words),
+        format!(in alloc; "{named} has no picture and nothing beneath it"),
+        String::from_str(
+            alloc,
+            "give it a picture, or put entries with a higher level behind it",
+        ),
+    )
 }
 
 /// What is told of a record that begins behind another one.
 fn told_second_record(alloc: Global, entry: WrittenEntry<'_>) -> Result<Told, AllocError> {
-    let what = String::from_str(alloc, "a second record begins, and a copybook has one")?;
-    Told::of(alloc, Caret::under_first(entry.words), what).with(String::from_str(
-        alloc,
-        "--in-record NAME, --out-record NAME or --record-name NAME chooses one; or a copybook for each type of record",
-    )?)
+    advised(
+        Caret::under_first(entry.words),
+        String::from_str(alloc, "a second record begins, and a copybook has one"),
+        String::from_str(
+            alloc,
+            "--in-record NAME, --out-record NAME or --record-name NAME chooses one; or a copybook for each type of record",
+        ),
+    )
 }
 
 /// The entry that holds one of this level with so many words before it, if it has a picture.
@@ -148,8 +157,10 @@ pub(crate) fn told_level_rule(
 ) -> Result<Told, AllocError> {
     let level = level_of(entry);
     if level == 0 || level > 49 {
-        let what = format!(in alloc; "level {level:02} is none of 01 to 49")?;
-        return Ok(Told::of(alloc, Caret::under_first(entry.words), what));
+        return told(
+            Caret::under_first(entry.words),
+            format!(in alloc; "level {level:02} is none of 01 to 49"),
+        );
     }
     if level == 1 && before > 0 {
         return told_second_record(alloc, entry);

@@ -1,21 +1,22 @@
 //! The block of a paragraph that is refused.
 
 use crate::bearers::{
-    Bearer, BothWords, Wanted, bearers, described, is_item, meant, place_of, qualified,
+    Bearer, BothWords, PlaceText, QualifiedText, Wanted, bearers, is_item, meant,
 };
 use crate::blocks::push_block;
 use crate::books::Blocks;
 use crate::clauses::Lack;
-use crate::entry::{last_words, told_entry, told_words, words_before};
+use crate::entry::{EntryText, PictureOf, WrittenEntry, last_words, words_before};
 use crate::source::told_source;
 use crate::statements::{behind_statement, is_constant, receivers_of, statement_in_front};
 use crate::subscripts::told_subscripts;
-use crate::told::{Caret, Told};
-use crate::words::WordText;
+use crate::told::{Caret, Told, advised, advised_if, told};
+use crate::words::{WordText, WordsText};
 use cob_copybook_clauses::{WordClass, behind, is_name_word, is_term};
 use cob_move_statements::{MoveFault, MoveRule};
 use cob_source::{SourceRule, Token, TokenKind, paragraph_tokens, tokens};
 use std::alloc::{AllocError, Global};
+use std::fmt;
 
 /// A paragraph as its block tells it, between the records of two copybooks.
 #[derive(Clone, Copy)]
@@ -73,10 +74,13 @@ fn verb_hint(word: &Token) -> &'static str {
 /// What is told of a word where no statement begins.
 fn told_verb(alloc: Global, word: &Token) -> Result<Told, AllocError> {
     let found = WordText { word };
-    let what = format!(in alloc;
-        "MOVE is expected, and {found} stands there: a paragraph is MOVE statements and loops round them"
-    )?;
-    Told::of(alloc, Some(Caret::under(word)), what).with(String::from_str(alloc, verb_hint(word))?)
+    advised(
+        Some(Caret::under(word)),
+        format!(in alloc;
+            "MOVE is expected, and {found} stands there: a paragraph is MOVE statements and loops round them"
+        ),
+        String::from_str(alloc, verb_hint(word)),
+    )
 }
 
 /// What is expected behind the words before.
@@ -93,7 +97,9 @@ fn lack_words(
             "a subscript is a whole number without a sign, or a counter, and {found} stands there"
         );
     }
-    let behind = told_words(alloc, last_words(before, 1))?;
+    let behind = WordsText {
+        words: last_words(before, 1),
+    };
     if expected == "TO" {
         return format!(in alloc;
             "TO is expected behind the sender {behind}, and {found} stands there"
@@ -107,33 +113,46 @@ fn told_lack(alloc: Global, words: &[Token], lack: Lack<'_>) -> Result<Told, All
     let before = words_before(words, lack.rest);
     let Some(word) = lack.rest.first() else {
         let expected = lack.expected;
-        let behind = told_words(alloc, last_words(before, 1))?;
-        let what = format!(in alloc; "{expected} is expected behind {behind}, and the text ends")?;
-        return Ok(Told::of(alloc, Caret::under_first(last_words(before, 1)), what));
+        let behind = WordsText {
+            words: last_words(before, 1),
+        };
+        return told(
+            Caret::under_first(last_words(before, 1)),
+            format!(in alloc; "{expected} is expected behind {behind}, and the text ends"),
+        );
     };
-    let what = lack_words(alloc, before, lack, word)?;
-    let told = Told::of(alloc, Some(Caret::under(word)), what);
-    let has_part = word.text.contains(&b':');
-    if has_part {
-        return told.with(String::from_str(
-            alloc,
-            "parts of an item are left out: redefine the item in the copybook by smaller ones",
-        )?);
+    advised_if(
+        Some(Caret::under(word)),
+        lack_words(alloc, before, lack, word),
+        lack_hint(alloc, before, lack, word),
+    )
+}
+
+/// What to do where a word can't go on, if that is known.
+fn lack_hint(
+    alloc: Global,
+    before: &[Token],
+    lack: Lack<'_>,
+    word: &Token,
+) -> Result<Option<String>, AllocError> {
+    if word.text.contains(&b':') {
+        let words =
+            "parts of an item are left out: redefine the item in the copybook by smaller ones";
+        return Ok(Some(String::from_str(alloc, words)?));
     }
     if lack.expected == "TO" && is_name_word(word) {
-        let moved = told_words(alloc, before)?;
+        let moved = WordsText { words: before };
         let found = WordText { word };
-        return told.with(format!(in alloc; "{moved} TO {found}.")?);
+        return Ok(Some(format!(in alloc; "{moved} TO {found}.")?));
     }
-    Ok(told)
+    Ok(None)
 }
 
 /// What is told of words that are no statements.
 fn told_grammar(alloc: Global, words: &[Token], line: u32) -> Result<Told, AllocError> {
     let rest = broken_on(words, line);
     let Some(first) = rest.first() else {
-        let what = String::from_str(alloc, "no statement stands in it")?;
-        return Ok(Told::of(alloc, None, what));
+        return told(None, String::from_str(alloc, "no statement stands in it"));
     };
     if !is_term(first, WordClass::Move) {
         return told_verb(alloc, first);
@@ -141,8 +160,10 @@ fn told_grammar(alloc: Global, words: &[Token], line: u32) -> Result<Told, Alloc
     match behind_statement(rest) {
         Err(lack) => told_lack(alloc, rest, lack),
         Ok(_) => {
-            let what = String::from_str(alloc, "no statement stands there")?;
-            Ok(Told::of(alloc, Some(Caret::under(first)), what))
+            told(
+                Some(Caret::under(first)),
+                String::from_str(alloc, "no statement stands there"),
+            )
         }
     }
 }
@@ -202,24 +223,42 @@ fn told_unknown(
     statement: &[Token],
 ) -> Result<Told, AllocError> {
     let Some(word) = name_with(alloc, both, statement, 0, 0)? else {
-        let what = String::from_str(
-            alloc,
-            "no entry of the two records has a name of it with these qualifiers",
-        )?;
-        return Ok(Told::of(alloc, Caret::under_first(statement), what));
+        return told(
+            Caret::under_first(statement),
+            String::from_str(
+                alloc,
+                "no entry of the two records has a name of it with these qualifiers",
+            ),
+        );
     };
     let name = WordText { word };
-    let what = format!(in alloc; "no entry of the two records is named {name}")?;
-    let told = Told::of(alloc, Some(Caret::under(word)), what);
+    advised_if(
+        Some(Caret::under(word)),
+        format!(in alloc; "no entry of the two records is named {name}"),
+        near_hint(alloc, both, word),
+    )
+}
+
+/// An entry whose name is near to another, if there is one.
+fn near_hint(
+    alloc: Global,
+    both: BothWords<'_>,
+    word: &Token,
+) -> Result<Option<String>, AllocError> {
     let near = bearers(alloc, both, word.text.as_slice(), Wanted::Near)?;
     match near.first() {
-        Some(bearer) => {
-            let place = place_of(alloc, both, *bearer)?;
-            let own = told_entry(alloc, both.entry_of(*bearer))?;
-            told.with(format!(in alloc; "{own} ({place}) is near to it")?)
-        }
-        None => Ok(told),
+        Some(bearer) => Ok(Some(near_words(alloc, both, *bearer)?)),
+        None => Ok(None),
     }
+}
+
+/// An entry whose name is near to another, in words.
+fn near_words(alloc: Global, both: BothWords<'_>, bearer: Bearer) -> Result<String, AllocError> {
+    let own = EntryText {
+        entry: both.entry_of(bearer),
+    };
+    let place = PlaceText { both, bearer };
+    format!(in alloc; "{own} ({place}) is near to it")
 }
 
 /// What is told of a name that several entries have.
@@ -229,27 +268,81 @@ fn told_ambiguous(
     statement: &[Token],
 ) -> Result<Told, AllocError> {
     let Some(word) = name_with(alloc, both, statement, 2, 2000)? else {
-        let what = String::from_str(
-            alloc,
-            "several entries have a name of it with these qualifiers",
-        )?;
-        return Ok(Told::of(alloc, Caret::under_first(statement), what));
+        return told(
+            Caret::under_first(statement),
+            String::from_str(
+                alloc,
+                "several entries have a name of it with these qualifiers",
+            ),
+        );
     };
     let found = bearers(alloc, both, word.text.as_slice(), Wanted::Same)?;
-    let count = found.len();
-    let name = WordText { word };
-    let mut list = String::new(alloc);
-    for bearer in found.iter().take(3) {
-        let behind = if list.is_empty() { "" } else { ", " };
-        let own = qualified(alloc, both, *bearer)?;
-        let place = place_of(alloc, both, *bearer)?;
-        list.push_str(&format!(in alloc; "{behind}{own} ({place})")?)?;
+    advised_if(
+        Some(Caret::under(word)),
+        several_words(alloc, both, word, found.as_slice()),
+        first_hint(alloc, both, found.as_slice()),
+    )
+}
+
+/// Entries, which print with their places, three at most.
+#[derive(Clone, Copy)]
+struct BearersText<'a> {
+    both: BothWords<'a>,
+    bearers: &'a [Bearer],
+}
+
+impl fmt::Display for BearersText<'_> {
+    fn fmt<W: fmt::Write>(&self, f: &mut fmt::Formatter<W>) -> fmt::Result {
+        let both = self.both;
+        for (at, bearer) in self.bearers.iter().take(3).enumerate() {
+            if at > 0 {
+                write!(f, ", ")?;
+            }
+            let own = QualifiedText {
+                both,
+                bearer: *bearer,
+            };
+            let place = PlaceText {
+                both,
+                bearer: *bearer,
+            };
+            write!(f, "{own} ({place})")?;
+        }
+        Ok(())
     }
-    let what = format!(in alloc; "{name} is {count} entries: {list}")?;
-    let told = Told::of(alloc, Some(Caret::under(word)), what);
+}
+
+/// Which entries have a name.
+fn several_words(
+    alloc: Global,
+    both: BothWords<'_>,
+    word: &Token,
+    found: &[Bearer],
+) -> Result<String, AllocError> {
+    let name = WordText { word };
+    let count = found.len();
+    let all = BearersText {
+        both,
+        bearers: found,
+    };
+    format!(in alloc; "{name} is {count} entries: {all}")
+}
+
+/// How the first of several entries of a name is meant.
+fn first_hint(
+    alloc: Global,
+    both: BothWords<'_>,
+    found: &[Bearer],
+) -> Result<Option<String>, AllocError> {
     match found.first() {
-        Some(first) => told.with(format!(in alloc; "write {}", qualified(alloc, both, *first)?)?),
-        None => Ok(told),
+        Some(bearer) => {
+            let own = QualifiedText {
+                both,
+                bearer: *bearer,
+            };
+            Ok(Some(format!(in alloc; "write {own}")?))
+        }
+        None => Ok(None),
     }
 }
 
@@ -274,8 +367,10 @@ fn told_receiver(
             }
         }
     }
-    let what = String::from_str(alloc, "what receives is of the output record")?;
-    Ok(Told::of(alloc, Caret::under_first(receivers), what))
+    told(
+        Caret::under_first(receivers),
+        String::from_str(alloc, "what receives is of the output record"),
+    )
 }
 
 /// What is told of a receiver that is of the input record.
@@ -287,15 +382,57 @@ fn told_input(
     several: bool,
 ) -> Result<Told, AllocError> {
     let name = WordText { word };
-    let place = place_of(alloc, both, bearer)?;
-    let what = format!(in alloc;
-        "{name} is an entry of the input record ({place}), and what receives is of the output record"
-    )?;
-    let told = Told::of(alloc, Some(Caret::under(word)), what);
+    let place = PlaceText { both, bearer };
+    advised(
+        Some(Caret::under(word)),
+        format!(in alloc;
+            "{name} is an entry of the input record ({place}), and what receives is of the output record"
+        ),
+        input_hint(alloc, word, several),
+    )
+}
+
+/// What to do with such a receiver.
+fn input_hint(alloc: Global, word: &Token, several: bool) -> Result<String, AllocError> {
+    let name = WordText { word };
     if several {
-        return told.with(format!(in alloc; "qualify {name} by a group of the output record")?);
+        return format!(in alloc; "qualify {name} by a group of the output record");
     }
-    told.with(format!(in alloc; "no entry of the output record is named {name}")?)
+    format!(in alloc; "no entry of the output record is named {name}")
+}
+
+/// An operand of a statement, which prints with what it is, where one entry is meant.
+#[derive(Clone, Copy)]
+struct OperandText<'a> {
+    words: &'a [Token],
+    entry: Option<WrittenEntry<'a>>,
+}
+
+impl fmt::Display for OperandText<'_> {
+    fn fmt<W: fmt::Write>(&self, f: &mut fmt::Formatter<W>) -> fmt::Result {
+        let Some(word) = self.words.first() else {
+            return write!(f, "nothing");
+        };
+        match self.entry {
+            Some(entry) => write!(f, "{}, {}", WordText { word }, PictureOf { entry }),
+            None => write!(f, "{}", WordText { word }),
+        }
+    }
+}
+
+/// The first operand of these words.
+fn operand<'a>(
+    alloc: Global,
+    both: BothWords<'a>,
+    words: &'a [Token],
+) -> Result<OperandText<'a>, AllocError> {
+    match meant(alloc, both, words)? {
+        Some(bearer) => Ok(OperandText {
+            words,
+            entry: Some(both.entry_of(bearer)),
+        }),
+        None => Ok(OperandText { words, entry: None }),
+    }
 }
 
 /// What is told of a move between two items, as they are described.
@@ -308,25 +445,13 @@ fn told_pair(
 ) -> Result<Told, AllocError> {
     let receivers = receivers_of(statement);
     let (_, sent) = statement.split_at(statement.len().min(1));
-    let from = told_operand(alloc, both, sent)?;
-    let to = told_operand(alloc, both, receivers)?;
-    let what = format!(in alloc; "{from}, to {to}: {words}")?;
-    Told::of(alloc, Caret::under_first(receivers), what).with(String::from_str(alloc, hint)?)
-}
-
-/// The first operand of these words, with what it is.
-fn told_operand(alloc: Global, both: BothWords<'_>, words: &[Token]) -> Result<String, AllocError> {
-    let Some(word) = words.first() else {
-        return String::from_str(alloc, "nothing");
-    };
-    let name = WordText { word };
-    match meant(alloc, both, words)? {
-        Some(bearer) => {
-            let own = described(alloc, both, bearer)?;
-            format!(in alloc; "{name}, {own}")
-        }
-        None => format!(in alloc; "{name}"),
-    }
+    let from = operand(alloc, both, sent)?;
+    let to = operand(alloc, both, receivers)?;
+    advised(
+        Caret::under_first(receivers),
+        format!(in alloc; "{from}, to {to}: {words}"),
+        String::from_str(alloc, hint),
+    )
 }
 
 /// What is told of a literal that its receiver can't take.
@@ -334,15 +459,20 @@ fn told_literal(alloc: Global, statement: &[Token]) -> Result<Told, AllocError> 
     for word in statement {
         if is_constant(word) && word.kind != TokenKind::Stop {
             let found = WordText { word };
-            let what = format!(in alloc; "{found} does not fit what receives it")?;
-            return Told::of(alloc, Some(Caret::under(word)), what).with(String::from_str(
-                alloc,
-                "a number takes digits, a group characters or a whole number without a sign; 160 characters or 31 digits are the most",
-            )?);
+            return advised(
+                Some(Caret::under(word)),
+                format!(in alloc; "{found} does not fit what receives it"),
+                String::from_str(
+                    alloc,
+                    "a number takes digits, a group characters or a whole number without a sign; 160 characters or 31 digits are the most",
+                ),
+            );
         }
     }
-    let what = String::from_str(alloc, "the literal does not fit what receives it")?;
-    Ok(Told::of(alloc, Caret::under_first(statement), what))
+    told(
+        Caret::under_first(statement),
+        String::from_str(alloc, "the literal does not fit what receives it"),
+    )
 }
 
 /// What is told of an item beside CORRESPONDING.
@@ -353,14 +483,24 @@ fn told_item(
     bearer: Bearer,
 ) -> Result<Told, AllocError> {
     let name = WordText { word };
-    let own = described(alloc, both, bearer)?;
-    let what = format!(in alloc;
-        "{name}, {own}, is an item, and CORRESPONDING is between two groups"
-    )?;
-    Told::of(alloc, Some(Caret::under(word)), what).with(String::from_str(
-        alloc,
-        "leave CORRESPONDING out, or name a group",
-    )?)
+    let own = PictureOf {
+        entry: both.entry_of(bearer),
+    };
+    advised(
+        Some(Caret::under(word)),
+        format!(in alloc; "{name}, {own}, is an item, and CORRESPONDING is between two groups"),
+        String::from_str(alloc, "leave CORRESPONDING out, or name a group"),
+    )
+}
+
+/// The first of these entries that is an item, if one is.
+fn first_item(both: BothWords<'_>, found: &[Bearer]) -> Option<Bearer> {
+    for bearer in found {
+        if is_item(both, *bearer) {
+            return Some(*bearer);
+        }
+    }
+    None
 }
 
 /// What is told of CORRESPONDING with an item.
@@ -377,14 +517,14 @@ fn told_groups(
             continue;
         }
         let found = bearers(alloc, both, word.text.as_slice(), Wanted::Same)?;
-        for bearer in &found {
-            if is_item(both, *bearer) {
-                return told_item(alloc, both, word, *bearer);
-            }
+        if let Some(bearer) = first_item(both, found.as_slice()) {
+            return told_item(alloc, both, word, bearer);
         }
     }
-    let what = String::from_str(alloc, "CORRESPONDING is between two groups")?;
-    Ok(Told::of(alloc, Caret::under_first(statement), what))
+    told(
+        Caret::under_first(statement),
+        String::from_str(alloc, "CORRESPONDING is between two groups"),
+    )
 }
 
 /// What is told of a rule that no one word breaks.
@@ -404,8 +544,11 @@ fn told_other(alloc: Global, statement: &[Token], rule: MoveRule) -> Result<Told
         ),
         _ => ("the statement breaks this rule", "FAULTS.md, A paragraph"),
     };
-    let what = String::from_str(alloc, words)?;
-    Told::of(alloc, Caret::under_first(statement), what).with(String::from_str(alloc, hint)?)
+    advised(
+        Caret::under_first(statement),
+        String::from_str(alloc, words),
+        String::from_str(alloc, hint),
+    )
 }
 
 /// What is told of a statement.

@@ -1,7 +1,7 @@
 //! Names that are none.
 
 use crate::entry::{WrittenEntry, name_word, word_behind, words_from};
-use crate::told::{Caret, Told};
+use crate::told::{Caret, Told, advised, told};
 use crate::words::WordText;
 use cob_copybook_clauses::{WordClass, behind, is_name};
 use cob_source::Token;
@@ -90,12 +90,17 @@ fn hint(alloc: Global, text: &[u8]) -> Result<String, AllocError> {
 /// What is told of an entry with a name that is none.
 pub(crate) fn told_name(alloc: Global, entry: WrittenEntry<'_>) -> Result<Told, AllocError> {
     let Some(word) = no_name(entry) else {
-        let what = String::from_str(alloc, "a name in it is none")?;
-        return Ok(Told::of(alloc, Caret::under_first(entry.words), what));
+        return told(
+            Caret::under_first(entry.words),
+            String::from_str(alloc, "a name in it is none"),
+        );
     };
     let text = word.text.as_slice();
     let found = WordText { word };
     let why = reason(alloc, text)?;
-    let what = format!(in alloc; "{found} is no name: {why}")?;
-    Told::of(alloc, Some(Caret::under(word)), what).with(hint(alloc, text)?)
+    advised(
+        Some(Caret::under(word)),
+        format!(in alloc; "{found} is no name: {why}"),
+        hint(alloc, text),
+    )
 }

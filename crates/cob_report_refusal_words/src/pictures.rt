@@ -1,7 +1,7 @@
 //! Pictures that are refused.
 
 use crate::entry::{WrittenEntry, picture_word, words_from};
-use crate::told::{Caret, Told};
+use crate::told::{Caret, Told, advised_if, told};
 use crate::words::BytesText;
 use cob_copybook_clauses::WordClass;
 use cob_picture::{Picture, PictureFault};
@@ -259,24 +259,32 @@ pub(crate) fn told_picture(
     fault: PictureFault,
 ) -> Result<Told, AllocError> {
     let Some(word) = picture_word(entry) else {
-        let what = String::from_str(alloc, "the picture is none")?;
-        return Ok(Told::of(alloc, Caret::under_first(entry.words), what));
+        return told(
+            Caret::under_first(entry.words),
+            String::from_str(alloc, "the picture is none"),
+        );
     };
     let text = word.text.as_slice();
-    let told = Told::of(
-        alloc,
+    advised_if(
         Some(Caret::under(word)),
-        what_of(alloc, text, fault)?,
-    );
-    match fault {
-        PictureFault::Digits => match digits_hint(alloc, entry, text)? {
-            Some(hint) => told.with(hint),
-            None => Ok(told),
-        },
-        PictureFault::LeftOut => told.with(String::from_str(
-            alloc,
-            "PIC X with as many bytes has its storage",
-        )?),
-        _ => told.with(String::from_str(alloc, "PROFILE.md, Pictures")?),
+        what_of(alloc, text, fault),
+        hint_of(alloc, entry, text, fault),
+    )
+}
+
+/// What to do with a picture that is none, if that is known.
+fn hint_of(
+    alloc: Global,
+    entry: WrittenEntry<'_>,
+    text: &[u8],
+    fault: PictureFault,
+) -> Result<Option<String>, AllocError> {
+    if let PictureFault::Digits = fault {
+        return digits_hint(alloc, entry, text);
     }
+    let words = match fault {
+        PictureFault::LeftOut => "PIC X with as many bytes has its storage",
+        _ => "PROFILE.md, Pictures",
+    };
+    Ok(Some(String::from_str(alloc, words)?))
 }

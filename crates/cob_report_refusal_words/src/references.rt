@@ -1,11 +1,11 @@
 //! Names of other entries: of an area that is redefined, and of the count of a table.
 
 use crate::entry::{
-    WrittenEntry, entry_at, entry_in_front, name_word, told_entry, word_behind, words_from,
+    EntryText, WrittenEntry, entry_at, entry_in_front, name_word, word_behind, words_from,
 };
 use crate::levels::level_of;
 use crate::near::is_near;
-use crate::told::{Caret, Told};
+use crate::told::{Caret, Told, advised, advised_if, told};
 use crate::words::WordText;
 use cob_copybook_clauses::{WordClass, behind, is_condition, sentence_at};
 use cob_picture::{Category, Picture};
@@ -89,12 +89,12 @@ fn area_before(words: &[Token], level: u32) -> Option<usize> {
 }
 
 /// The name of an entry that is near to another, with its line.
-fn near_words(alloc: Global, words: &[Token], found: Found) -> Result<Option<String>, AllocError> {
+fn near_hint(alloc: Global, words: &[Token], found: Found) -> Result<Option<String>, AllocError> {
     let Some(before) = found.near else {
         return Ok(None);
     };
     let entry = entry_at(words, before);
-    let named = told_entry(alloc, entry)?;
+    let named = EntryText { entry };
     let line = line_of(entry);
     Ok(Some(format!(in alloc; "{named} (line {line}) is near to it")?))
 }
@@ -105,15 +105,15 @@ fn told_none(
     words: &[Token],
     word: &Token,
     found: Found,
-    named: &str,
+    entry: WrittenEntry<'_>,
 ) -> Result<Told, AllocError> {
     let name = WordText { word };
-    let what = format!(in alloc; "no entry before {named} is named {name}")?;
-    let told = Told::of(alloc, Some(Caret::under(word)), what);
-    match near_words(alloc, words, found)? {
-        Some(near) => told.with(near),
-        None => Ok(told),
-    }
+    let named = EntryText { entry };
+    advised_if(
+        Some(Caret::under(word)),
+        format!(in alloc; "no entry before {named} is named {name}"),
+        near_hint(alloc, words, found),
+    )
 }
 
 /// Why an entry can't redefine the area of another one that is there before it.
@@ -123,8 +123,8 @@ fn area_words(
     entry: WrittenEntry<'_>,
     area: WrittenEntry<'_>,
 ) -> Result<String, AllocError> {
-    let named = told_entry(alloc, entry)?;
-    let other = told_entry(alloc, area)?;
+    let named = EntryText { entry };
+    let other = EntryText { entry: area };
     let level = level_of(entry);
     let above = level_of(area);
     if level != above {
@@ -138,7 +138,7 @@ fn area_words(
         let is_other = first.words.len() != area.words.len() || line_of(first) != line_of(area);
         let redefines = words_from(area.words, WordClass::Redefines).is_some();
         if is_other && !redefines {
-            let between = told_entry(alloc, first)?;
+            let between = EntryText { entry: first };
             return format!(in alloc;
                 "{named} stands behind {between}, and an area is redefined right behind it: here that of {between}"
             );
@@ -163,20 +163,25 @@ pub(crate) fn told_redefinition(
     entry: WrittenEntry<'_>,
 ) -> Result<Told, AllocError> {
     let (front, _) = words.split_at(before.min(words.len()));
-    let named = told_entry(alloc, entry)?;
+    let named = EntryText { entry };
     let Some(word) = word_behind(entry.words, WordClass::Redefines, WordClass::Stop) else {
-        let what = format!(in alloc; "{named} can't redefine an area")?;
-        return Ok(Told::of(alloc, Caret::under_first(entry.words), what));
+        return told(
+            Caret::under_first(entry.words),
+            format!(in alloc; "{named} can't redefine an area"),
+        );
     };
     let found = entries_named(front, word.text.as_slice());
     let Some(area) = found.last else {
-        return told_none(alloc, front, word, found, &named);
+        return told_none(alloc, front, word, found, entry);
     };
-    let what = area_words(alloc, front, entry, entry_at(front, area))?;
     let other = WordText { word };
-    Told::of(alloc, Some(Caret::under(word)), what).with(format!(in alloc;
-        "move the entry of {named} behind that of {other}, with the same level and no more bytes"
-    )?)
+    advised(
+        Some(Caret::under(word)),
+        area_words(alloc, front, entry, entry_at(front, area)),
+        format!(in alloc;
+            "move the entry of {named} behind that of {other}, with the same level and no more bytes"
+        ),
+    )
 }
 
 /// Whether an entry is a whole number.
@@ -224,26 +229,32 @@ pub(crate) fn told_count(
     before: usize,
     entry: WrittenEntry<'_>,
 ) -> Result<Told, AllocError> {
-    let named = told_entry(alloc, entry)?;
+    let named = EntryText { entry };
     let (front, _) = words.split_at(before.min(words.len()));
     let Some(word) = count_word(entry) else {
-        let what = format!(in alloc; "the count of {named} is none")?;
-        return Ok(Told::of(alloc, Caret::under_first(entry.words), what));
+        return told(
+            Caret::under_first(entry.words),
+            format!(in alloc; "the count of {named} is none"),
+        );
     };
     let found = entries_named(words, word.text.as_slice());
     let before = entries_named(front, word.text.as_slice()).count;
-    let what = count_words(alloc, words, word, found, before)?;
-    let told = Told::of(alloc, Some(Caret::under(word)), what);
+    advised_if(
+        Some(Caret::under(word)),
+        count_words(alloc, words, word, found, before),
+        count_hint(alloc, words, found),
+    )
+}
+
+/// What to do with the count of a table that is none, if that is known.
+fn count_hint(alloc: Global, words: &[Token], found: Found) -> Result<Option<String>, AllocError> {
     if found.count == 0 {
-        return match near_words(alloc, words, found)? {
-            Some(near) => told.with(near),
-            None => Ok(told),
-        };
+        return near_hint(alloc, words, found);
     }
-    told.with(String::from_str(
+    Ok(Some(String::from_str(
         alloc,
         "a count is one whole number before its table, in no table itself",
-    )?)
+    )?))
 }
 
 /// The word that names the count of a table.

@@ -1,6 +1,6 @@
 //! Lines that break a rule of the reference format.
 
-use crate::told::{Caret, Told};
+use crate::told::{Caret, Told, advised, told};
 use cob_source::{SourceRule, without_return};
 use std::alloc::{AllocError, Global};
 
@@ -52,52 +52,59 @@ fn at_column(line: u32, column: u32) -> Option<Caret> {
     })
 }
 
+/// What to do with a byte that does not print.
+fn foreign_hint(byte: u8) -> &'static str {
+    if byte == 0xC2 || byte == 0xC3 {
+        "iconv -f UTF-8 -t ASCII//TRANSLIT writes the text without such characters"
+    } else {
+        "a comment line (* in column 7) may hold it"
+    }
+}
+
 /// What is told of a byte that does not print.
 fn told_foreign(alloc: Global, line: &[u8], number: u32) -> Result<Told, AllocError> {
     let Some((byte, column)) = first_in(line, Looked::Foreign, 7) else {
-        let what = format!(in alloc; "a byte stands in line {number} that no text has")?;
-        return Ok(Told::of(alloc, None, what));
+        return told(
+            None,
+            format!(in alloc; "a byte stands in line {number} that no text has"),
+        );
     };
-    let what = format!(in alloc;
-        "the byte {byte:02X} stands in column {column}, and a text has the characters 20 to 7E"
-    )?;
-    let told = Told::of(alloc, at_column(number, column), what);
-    let is_utf8 = byte == 0xC2 || byte == 0xC3;
-    if is_utf8 {
-        return told.with(String::from_str(
-            alloc,
-            "iconv -f UTF-8 -t ASCII//TRANSLIT writes the text without such characters",
-        )?);
-    }
-    told.with(String::from_str(alloc, "a comment line (* in column 7) may hold it")?)
+    advised(
+        at_column(number, column),
+        format!(in alloc;
+            "the byte {byte:02X} stands in column {column}, and a text has the characters 20 to 7E"
+        ),
+        String::from_str(alloc, foreign_hint(byte)),
+    )
 }
 
 /// What is told of a tab.
 fn told_tab(alloc: Global, file: &str, line: &[u8], number: u32) -> Result<Told, AllocError> {
     let Some((_, column)) = first_in(line, Looked::Tab, 1) else {
-        let what = format!(in alloc; "a tab stands in line {number}")?;
-        return Ok(Told::of(alloc, None, what));
+        return told(None, format!(in alloc; "a tab stands in line {number}"));
     };
-    let what = format!(in alloc;
-        "a tab stands in column {column}, and how many columns it is worth is not known"
-    )?;
-    let told = Told::of(alloc, at_column(number, column), what);
-    told.with(format!(in alloc;
-        "--tabs 8 reads it so that tabs stop at every eighth column; expand -t 8 {file} writes the spaces"
-    )?)
+    advised(
+        at_column(number, column),
+        format!(in alloc;
+            "a tab stands in column {column}, and how many columns it is worth is not known"
+        ),
+        format!(in alloc;
+            "--tabs 8 reads it so that tabs stop at every eighth column; expand -t 8 {file} writes the spaces"
+        ),
+    )
 }
 
 /// What is told of a character in column 7 that is none of its own.
 fn told_indicator(alloc: Global, line: &[u8], number: u32) -> Result<Told, AllocError> {
     let shown = char::from(line.get(6).copied().unwrap_or(b' '));
-    let what = format!(in alloc;
-        "{shown} stands in column 7, where a space, *, /, -, D or d stands"
-    )?;
-    let told = Told::of(alloc, at_column(number, 7), what);
-    told.with(String::from_str(
-        alloc,
-        "columns 1 to 6 are not read: --free reads a copybook without columns",
-    )?)
+    advised(
+        at_column(number, 7),
+        format!(in alloc; "{shown} stands in column 7, where a space, *, /, -, D or d stands"),
+        String::from_str(
+            alloc,
+            "columns 1 to 6 are not read: --free reads a copybook without columns",
+        ),
+    )
 }
 
 /// Where a literal opens that is not closed: the last quote of the line, from column 8 on.
@@ -114,30 +121,25 @@ fn last_quote(line: &[u8]) -> u32 {
     found
 }
 
+/// What to do with a literal that is left open.
+fn open_hint(line: &[u8]) -> &'static str {
+    if line.get(72).copied().unwrap_or(b' ') != b' ' {
+        "it goes on behind column 72, where nothing is read"
+    } else {
+        "close it, or go on in the next line with - in column 7 and a quote"
+    }
+}
+
 /// What is told of a literal that is left open.
 fn told_open(alloc: Global, line: &[u8], number: u32) -> Result<Told, AllocError> {
-    let column = last_quote(line);
-    let at = if column == 0 {
-        at_column(number, 8)
-    } else {
-        at_column(number, column)
-    };
-    let what = String::from_str(
-        alloc,
-        "this literal is not closed on its line, and no continuation follows",
-    )?;
-    let told = Told::of(alloc, at, what);
-    let goes_on = line.get(72).copied().unwrap_or(b' ') != b' ';
-    if goes_on {
-        return told.with(String::from_str(
+    advised(
+        at_column(number, last_quote(line).max(8)),
+        String::from_str(
             alloc,
-            "it goes on behind column 72, where nothing is read",
-        )?);
-    }
-    told.with(String::from_str(
-        alloc,
-        "close it, or go on in the next line with - in column 7 and a quote",
-    )?)
+            "this literal is not closed on its line, and no continuation follows",
+        ),
+        String::from_str(alloc, open_hint(line)),
+    )
 }
 
 /// The first column of a line from 8 on that is no space.
@@ -160,15 +162,14 @@ fn told_continuation(alloc: Global, line: &[u8], number: u32) -> Result<Told, Al
     } else {
         "this continuation does not fit the line before it"
     };
-    let told = Told::of(
-        alloc,
+    advised(
         at_column(number, column),
-        String::from_str(alloc, words)?,
-    );
-    told.with(String::from_str(
-        alloc,
-        "one of a literal begins with its quote, one of a word or behind a closed literal without, and a line stands before it",
-    )?)
+        String::from_str(alloc, words),
+        String::from_str(
+            alloc,
+            "one of a literal begins with its quote, one of a word or behind a closed literal without, and a line stands before it",
+        ),
+    )
 }
 
 /// What is told of a line that breaks a rule of the reference format.
@@ -188,8 +189,11 @@ pub(crate) fn told_source(
         SourceRule::UnknownIndicator => told_indicator(alloc, line, number),
         SourceRule::TooLong | SourceRule::Memory => {
             let size = text.len();
-            let what = format!(in alloc; "the text has {size} bytes, and 1,000,000 are the most")?;
-            Told::of(alloc, None, what).with(String::from_str(alloc, "give a part of it")?)
+            advised(
+                None,
+                format!(in alloc; "the text has {size} bytes, and 1,000,000 are the most"),
+                String::from_str(alloc, "give a part of it"),
+            )
         }
     }
 }

@@ -4,7 +4,7 @@ use crate::bearers::{Bearer, BothWords, meant};
 use crate::entry::entry_at;
 use crate::levels::open_before;
 use crate::tables::greatest_number;
-use crate::told::{Caret, Told};
+use crate::told::{Caret, Told, advised};
 use crate::words::WordText;
 use cob_copybook_clauses::{WordClass, is_name_word, is_term};
 use cob_copybook_entries::whole;
@@ -63,6 +63,22 @@ fn before_bracket(words: &[Token]) -> &[Token] {
     front
 }
 
+/// What is wrong with the number of subscripts.
+fn number_words(
+    alloc: Global,
+    name: &Token,
+    tables: usize,
+    written: usize,
+) -> Result<String, AllocError> {
+    let shown = WordText { word: name };
+    if tables == 0 {
+        return format!(in alloc; "{shown} stands in no table, and a subscript is written");
+    }
+    format!(in alloc;
+        "{shown} has {tables} OCCURS at it or above, and {written} subscripts are written"
+    )
+}
+
 /// What is told of the number of subscripts.
 fn told_number(
     alloc: Global,
@@ -70,41 +86,70 @@ fn told_number(
     tables: usize,
     written: usize,
 ) -> Result<Told, AllocError> {
-    let shown = WordText { word: name };
-    let what = if tables == 0 {
-        format!(in alloc; "{shown} stands in no table, and a subscript is written")?
-    } else {
-        format!(in alloc;
-            "{shown} has {tables} OCCURS at it or above, and {written} subscripts are written"
-        )?
-    };
-    Told::of(alloc, Some(Caret::under(name)), what).with(String::from_str(
-        alloc,
-        "write a subscript for each OCCURS, the outermost first",
-    )?)
+    advised(
+        Some(Caret::under(name)),
+        number_words(alloc, name, tables, written),
+        String::from_str(
+            alloc,
+            "write a subscript for each OCCURS, the outermost first",
+        ),
+    )
 }
 
-/// What is told of a subscript that is out of bounds, if one is.
-fn told_bounds(
+/// A subscript that is out of bounds.
+#[derive(Clone, Copy)]
+struct OutOfBounds<'a> {
+    word: &'a Token,
+    number: u32,
+    most: u32,
+}
+
+/// The first subscript that is out of bounds, if one is.
+fn out_of_bounds<'a>(tables: &[u32], written: &'a [Token]) -> Option<OutOfBounds<'a>> {
+    for (most, word) in tables.iter().zip(written.iter()) {
+        let number = whole(word.text.as_slice(), 9).unwrap_or(1);
+        if number == 0 || number > *most {
+            return Some(OutOfBounds {
+                word,
+                number,
+                most: *most,
+            });
+        }
+    }
+    None
+}
+
+/// What is told of a subscript that is out of bounds.
+fn told_bounds(alloc: Global, name: &Token, out: OutOfBounds<'_>) -> Result<Told, AllocError> {
+    let shown = WordText { word: name };
+    let OutOfBounds { word, number, most } = out;
+    advised(
+        Some(Caret::under(word)),
+        format!(in alloc; "{shown} occurs {most} times, and the element {number} is asked for"),
+        format!(in alloc; "1 to {most}"),
+    )
+}
+
+/// What is told of the subscripts that are written of a name, beneath tables of so many elements, if they do not fit.
+fn told_written(
     alloc: Global,
     name: &Token,
     tables: &[u32],
     written: &[Token],
 ) -> Result<Option<Told>, AllocError> {
-    let shown = WordText { word: name };
-    for (most, word) in tables.iter().zip(written.iter()) {
-        let Some(number) = whole(word.text.as_slice(), 9) else {
-            continue;
-        };
-        if number == 0 || number > *most {
-            let what = format!(in alloc;
-                "{shown} occurs {most} times, and the element {number} is asked for"
-            )?;
-            let told = Told::of(alloc, Some(Caret::under(word)), what);
-            return Ok(Some(told.with(format!(in alloc; "1 to {most}")?)?));
-        }
+    let has_counter = written
+        .iter()
+        .any(|word| whole(word.text.as_slice(), 9).is_none());
+    if has_counter {
+        return Ok(None);
     }
-    Ok(None)
+    if tables.len() != written.len() {
+        return Ok(Some(told_number(alloc, name, tables.len(), written.len())?));
+    }
+    match out_of_bounds(tables, written) {
+        Some(out) => Ok(Some(told_bounds(alloc, name, out)?)),
+        None => Ok(None),
+    }
 }
 
 /// What is told of the subscripts of the name in front, if they do not fit.
@@ -120,17 +165,7 @@ fn told_name(
         return Ok(None);
     };
     let tables = tables_of(alloc, both, bearer)?;
-    let written = subscripts_of(words);
-    let has_counter = written
-        .iter()
-        .any(|word| whole(word.text.as_slice(), 9).is_none());
-    if has_counter {
-        return Ok(None);
-    }
-    if tables.len() != written.len() {
-        return Ok(Some(told_number(alloc, name, tables.len(), written.len())?));
-    }
-    told_bounds(alloc, name, tables.as_slice(), written)
+    told_written(alloc, name, tables.as_slice(), subscripts_of(words))
 }
 
 /// What is told of a statement with subscripts that do not fit.
@@ -150,12 +185,15 @@ pub(crate) fn told_subscripts(
         qualifies = is_term(word, WordClass::Of);
         rest = more;
     }
-    let what = String::from_str(
-        alloc,
-        "the subscripts of a name are not one for each OCCURS round it, each from 1 to its greatest number",
-    )?;
-    Told::of(alloc, Caret::under_first(statement), what).with(String::from_str(
-        alloc,
-        "write the subscripts of all tables, the outermost first; end a loop before the table's end",
-    )?)
+    advised(
+        Caret::under_first(statement),
+        String::from_str(
+            alloc,
+            "the subscripts of a name are not one for each OCCURS round it, each from 1 to its greatest number",
+        ),
+        String::from_str(
+            alloc,
+            "write the subscripts of all tables, the outermost first; end a loop before the table's end",
+        ),
+    )
 }

@@ -1,7 +1,7 @@
 //! Tables that can't be.
 
-use crate::entry::{WrittenEntry, told_entry, word_behind, words_from};
-use crate::told::{Caret, Told};
+use crate::entry::{EntryText, WrittenEntry, word_behind, words_from};
+use crate::told::{Caret, Told, advised, told};
 use crate::words::WordText;
 use cob_copybook_clauses::{WordClass, behind};
 use cob_copybook_entries::whole;
@@ -29,32 +29,37 @@ pub(crate) fn greatest_number(entry: WrittenEntry<'_>) -> Option<u32> {
     whole(word.text.as_slice(), MOST_DIGITS)
 }
 
-/// What is wrong with the numbers of a table, if something is.
+/// Whether the numbers of a table can't be.
+fn is_bad_number(entry: WrittenEntry<'_>, word: &Token) -> bool {
+    if word.text.len() > MOST_DIGITS {
+        return true;
+    }
+    match bounds(entry.words) {
+        Some((least, most)) => {
+            let low = whole(least.text.as_slice(), MOST_DIGITS).unwrap_or(0);
+            let high = whole(most.text.as_slice(), MOST_DIGITS).unwrap_or(0);
+            low >= high
+        }
+        None => whole(word.text.as_slice(), MOST_DIGITS) == Some(0),
+    }
+}
+
+/// What is wrong with the numbers of a table.
 fn number_words(
     alloc: Global,
     entry: WrittenEntry<'_>,
     word: &Token,
-) -> Result<Option<String>, AllocError> {
+) -> Result<String, AllocError> {
     let found = WordText { word };
-    if word.text.len() > MOST_DIGITS {
-        let count = word.text.len();
-        return Ok(Some(format!(in alloc; "{found} has {count} digits, and 9 are the most")?));
+    let count = word.text.len();
+    if count > MOST_DIGITS {
+        return format!(in alloc; "{found} has {count} digits, and 9 are the most");
     }
-    if let Some((least, most)) = bounds(entry.words) {
-        let low = whole(least.text.as_slice(), MOST_DIGITS);
-        let high = whole(most.text.as_slice(), MOST_DIGITS);
-        if low >= high {
-            let greatest = WordText { word: most };
-            return Ok(Some(format!(in alloc;
-                "{found} TO {greatest}: the least number is below the greatest"
-            )?));
-        }
-        return Ok(None);
+    if let Some((_, most)) = bounds(entry.words) {
+        let greatest = WordText { word: most };
+        return format!(in alloc; "{found} TO {greatest}: the least number is below the greatest");
     }
-    match whole(word.text.as_slice(), MOST_DIGITS) {
-        Some(0) => Ok(Some(format!(in alloc; "OCCURS {found}: a table has one element at least")?)),
-        _ => Ok(None),
-    }
+    format!(in alloc; "OCCURS {found}: a table has one element at least")
 }
 
 /// Whether an entry is a record.
@@ -67,22 +72,26 @@ fn is_record(entry: WrittenEntry<'_>) -> bool {
 
 /// What is told of an entry whose table can't be.
 pub(crate) fn told_table(alloc: Global, entry: WrittenEntry<'_>) -> Result<Told, AllocError> {
-    let named = told_entry(alloc, entry)?;
+    let named = EntryText { entry };
     let Some(word) = word_behind(entry.words, WordClass::Occurs, WordClass::Stop) else {
-        let what = format!(in alloc; "{named} can't be a table")?;
-        return Ok(Told::of(alloc, Caret::under_first(entry.words), what));
+        return told(
+            Caret::under_first(entry.words),
+            format!(in alloc; "{named} can't be a table"),
+        );
     };
     let at = Some(Caret::under(word));
-    if let Some(what) = number_words(alloc, entry, word)? {
-        return Ok(Told::of(alloc, at, what));
+    if is_bad_number(entry, word) {
+        return told(at, number_words(alloc, entry, word));
     }
     if is_record(entry) {
-        let what = format!(in alloc; "OCCURS stands at level 01")?;
-        let told = Told::of(alloc, at, what);
-        return told.with(String::from_str(alloc, "put the table into a group beneath it")?);
+        return advised(
+            at,
+            format!(in alloc; "OCCURS stands at level 01"),
+            String::from_str(alloc, "put the table into a group beneath it"),
+        );
     }
-    let what = format!(in alloc;
-        "{named} is an eighth table in one another, and seven are the most"
-    )?;
-    Ok(Told::of(alloc, at, what))
+    told(
+        at,
+        format!(in alloc; "{named} is an eighth table in one another, and seven are the most"),
+    )
 }

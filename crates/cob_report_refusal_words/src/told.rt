@@ -1,7 +1,7 @@
 //! What is told of one refusal.
 
 use cob_source::{Token, TokenKind};
-use std::alloc::{AllocError, Global};
+use std::alloc::AllocError;
 
 /// The last column that is read.
 const LAST_COLUMN: u32 = 72;
@@ -24,8 +24,8 @@ pub(crate) struct Told {
     pub(crate) at: Option<Caret>,
     /// What is wrong.
     pub(crate) what: String,
-    /// What to do, a line each.
-    pub(crate) hints: Vec<String>,
+    /// What to do, if that is known.
+    pub(crate) hint: Option<String>,
 }
 
 /// How many columns a word takes on its own line.
@@ -58,20 +58,53 @@ impl Caret {
     }
 }
 
-impl Told {
-    /// What is wrong there; no hint stands behind it yet.
-    pub(crate) fn of(alloc: Global, at: Option<Caret>, what: String) -> Told {
-        Told {
-            at,
-            what,
-            hints: Vec::new(alloc),
-        }
-    }
+/// What is wrong there.
+///
+/// # Errors
+///
+/// Where no memory was left for it.
+pub(crate) fn told(
+    at: Option<Caret>,
+    what: Result<String, AllocError>,
+) -> Result<Told, AllocError> {
+    let what = what?;
+    Ok(Told {
+        at,
+        what,
+        hint: None,
+    })
+}
 
-    /// The same with one more hint.
-    pub(crate) fn with(self, hint: String) -> Result<Told, AllocError> {
-        let mut told = self;
-        told.hints.push(hint)?;
-        Ok(told)
-    }
+/// What is wrong there, and what to do.
+///
+/// # Errors
+///
+/// Where no memory was left for it.
+pub(crate) fn advised(
+    at: Option<Caret>,
+    what: Result<String, AllocError>,
+    hint: Result<String, AllocError>,
+) -> Result<Told, AllocError> {
+    let what = what?;
+    let hint = hint?;
+    Ok(Told {
+        at,
+        what,
+        hint: Some(hint),
+    })
+}
+
+/// What is wrong there, and what to do, if that is known.
+///
+/// # Errors
+///
+/// Where no memory was left for it.
+pub(crate) fn advised_if(
+    at: Option<Caret>,
+    what: Result<String, AllocError>,
+    hint: Result<Option<String>, AllocError>,
+) -> Result<Told, AllocError> {
+    let what = what?;
+    let hint = hint?;
+    Ok(Told { at, what, hint })
 }

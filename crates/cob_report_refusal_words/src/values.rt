@@ -1,7 +1,7 @@
 //! Values that an entry can't have.
 
-use crate::entry::{WrittenEntry, picture_word, told_entry, word_behind};
-use crate::told::{Caret, Told};
+use crate::entry::{EntryText, WrittenEntry, picture_word, word_behind};
+use crate::told::{Caret, Told, advised, told};
 use crate::words::{BytesText, WordText};
 use cob_copybook_clauses::WordClass;
 use cob_copybook_entries::is_numeric_literal;
@@ -130,7 +130,7 @@ fn what_of(alloc: Global, entry: WrittenEntry<'_>, word: &Token) -> Result<Strin
             }
         }
     }
-    let named = told_entry(alloc, entry)?;
+    let named = EntryText { entry };
     format!(in alloc;
         "{named} has a VALUE that it can't have: it is a group that is shorter or holds a VALUE, or stands in a redefinition or beneath a group with a VALUE"
     )
@@ -139,10 +139,14 @@ fn what_of(alloc: Global, entry: WrittenEntry<'_>, word: &Token) -> Result<Strin
 /// What is told of an entry whose VALUE is none that it can have.
 pub(crate) fn told_value(alloc: Global, entry: WrittenEntry<'_>) -> Result<Told, AllocError> {
     let Some(word) = constant_word(entry) else {
-        let what = String::from_str(alloc, "the VALUE is none that it can have")?;
-        return Ok(Told::of(alloc, Caret::under_first(entry.words), what));
+        return told(
+            Caret::under_first(entry.words),
+            String::from_str(alloc, "the VALUE is none that it can have"),
+        );
     };
-    let what = what_of(alloc, entry, word)?;
-    let told = Told::of(alloc, Some(Caret::under(word)), what);
-    told.with(String::from_str(alloc, "write a value that fits, or leave the clause out")?)
+    advised(
+        Some(Caret::under(word)),
+        what_of(alloc, entry, word),
+        String::from_str(alloc, "write a value that fits, or leave the clause out"),
+    )
 }
