@@ -2,7 +2,7 @@
 
 use crate::entry::{EntryText, PictureOf, WrittenEntry, entry_at, picture_word, words_from};
 use crate::levels::open_before;
-use crate::told::{Caret, Told, advised, told};
+use crate::told::{Caret, Told, advised, said};
 use crate::words::{BytesText, WordText};
 use cob_copybook_clauses::WordClass;
 use cob_copybook_entry::{Usage, UsageWord, usage_word};
@@ -165,7 +165,7 @@ pub(crate) fn told_sign(alloc: Global, entry: WrittenEntry<'_>) -> Result<Told, 
         None => Caret::under_first(entry.words),
     };
     let Some(picture) = picture_word(entry) else {
-        return told(
+        return said(
             at,
             format!(in alloc; "{named} has a SIGN that it can't have"),
         );

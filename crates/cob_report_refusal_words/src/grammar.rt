@@ -6,7 +6,7 @@ use crate::entry::{
     words_from,
 };
 use crate::near::near_clause;
-use crate::told::{Caret, Told, advised, advised_if, told};
+use crate::told::{Caret, Told, advised, advised_if, said};
 use crate::words::{WordText, WordsText};
 use cob_copybook_clauses::{WordClass, behind, is_condition, is_term, read_entry};
 use cob_copybook_entries::{is_numeric_literal, whole};
@@ -115,7 +115,7 @@ fn told_end(
     let behind = WordsText {
         words: broken.before,
     };
-    told(
+    said(
         Caret::under_first(entry.words),
         format!(in alloc; "{expected} is expected behind {behind}, and the text ends"),
     )
@@ -271,7 +271,7 @@ fn told_text(alloc: Global, entry: WrittenEntry<'_>) -> Result<Told, AllocError>
             format!(in alloc; "VALUE \"{found}\" for characters, VALUE 0 for a number"),
         );
     }
-    told(
+    said(
         Caret::under_first(entry.words),
         String::from_str(alloc, "the words are no entry"),
     )
@@ -280,10 +280,10 @@ fn told_text(alloc: Global, entry: WrittenEntry<'_>) -> Result<Told, AllocError>
 /// What is told of an entry that does not begin with a level.
 fn told_level(alloc: Global, entry: WrittenEntry<'_>) -> Result<Told, AllocError> {
     let Some(word) = word_or_stop(entry, entry.words) else {
-        return told(None, String::from_str(alloc, "a level number is expected"));
+        return said(None, String::from_str(alloc, "a level number is expected"));
     };
     let found = WordText { word };
-    told(
+    said(
         Some(Caret::under(word)),
         format!(in alloc; "a level number is expected, and {found} stands there"),
     )

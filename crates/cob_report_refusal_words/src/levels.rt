@@ -1,7 +1,7 @@
 //! Levels, and the groups that hold an entry.
 
 use crate::entry::{EntryText, WrittenEntry, entry_at, entry_in_front, picture_word};
-use crate::told::{Caret, Told, advised, told};
+use crate::told::{Caret, Told, advised, said};
 use cob_copybook_clauses::{is_condition, sentence_at};
 use cob_copybook_entries::whole;
 use cob_source::Token;
@@ -157,7 +157,7 @@ pub(crate) fn told_level_rule(
 ) -> Result<Told, AllocError> {
     let level = level_of(entry);
     if level == 0 || level > 49 {
-        return told(
+        return said(
             Caret::under_first(entry.words),
             format!(in alloc; "level {level:02} is none of 01 to 49"),
         );

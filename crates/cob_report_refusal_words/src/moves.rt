@@ -10,7 +10,7 @@ use crate::entry::{EntryText, PictureOf, WrittenEntry, last_words, words_before}
 use crate::source::told_source;
 use crate::statements::{behind_statement, is_constant, receivers_of, statement_in_front};
 use crate::subscripts::told_subscripts;
-use crate::told::{Caret, Told, advised, advised_if, told};
+use crate::told::{Caret, Told, advised, advised_if, said};
 use crate::words::{WordText, WordsText};
 use cob_copybook_clauses::{WordClass, behind, is_name_word, is_term};
 use cob_move_statements::{MoveFault, MoveRule};
@@ -116,7 +116,7 @@ fn told_lack(alloc: Global, words: &[Token], lack: Lack<'_>) -> Result<Told, All
         let behind = WordsText {
             words: last_words(before, 1),
         };
-        return told(
+        return said(
             Caret::under_first(last_words(before, 1)),
             format!(in alloc; "{expected} is expected behind {behind}, and the text ends"),
         );
@@ -152,7 +152,7 @@ fn lack_hint(
 fn told_grammar(alloc: Global, words: &[Token], line: u32) -> Result<Told, AllocError> {
     let rest = broken_on(words, line);
     let Some(first) = rest.first() else {
-        return told(None, String::from_str(alloc, "no statement stands in it"));
+        return said(None, String::from_str(alloc, "no statement stands in it"));
     };
     if !is_term(first, WordClass::Move) {
         return told_verb(alloc, first);
@@ -160,7 +160,7 @@ fn told_grammar(alloc: Global, words: &[Token], line: u32) -> Result<Told, Alloc
     match behind_statement(rest) {
         Err(lack) => told_lack(alloc, rest, lack),
         Ok(_) => {
-            told(
+            said(
                 Some(Caret::under(first)),
                 String::from_str(alloc, "no statement stands there"),
             )
@@ -223,7 +223,7 @@ fn told_unknown(
     statement: &[Token],
 ) -> Result<Told, AllocError> {
     let Some(word) = name_with(alloc, both, statement, 0, 0)? else {
-        return told(
+        return said(
             Caret::under_first(statement),
             String::from_str(
                 alloc,
@@ -268,7 +268,7 @@ fn told_ambiguous(
     statement: &[Token],
 ) -> Result<Told, AllocError> {
     let Some(word) = name_with(alloc, both, statement, 2, 2000)? else {
-        return told(
+        return said(
             Caret::under_first(statement),
             String::from_str(
                 alloc,
@@ -367,7 +367,7 @@ fn told_receiver(
             }
         }
     }
-    told(
+    said(
         Caret::under_first(receivers),
         String::from_str(alloc, "what receives is of the output record"),
     )
@@ -469,7 +469,7 @@ fn told_literal(alloc: Global, statement: &[Token]) -> Result<Told, AllocError> 
             );
         }
     }
-    told(
+    said(
         Caret::under_first(statement),
         String::from_str(alloc, "the literal does not fit what receives it"),
     )
@@ -521,7 +521,7 @@ fn told_groups(
             return told_item(alloc, both, word, bearer);
         }
     }
-    told(
+    said(
         Caret::under_first(statement),
         String::from_str(alloc, "CORRESPONDING is between two groups"),
     )

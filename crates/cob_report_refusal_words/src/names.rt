@@ -1,7 +1,7 @@
 //! Names that are none.
 
 use crate::entry::{WrittenEntry, name_word, word_behind, words_from};
-use crate::told::{Caret, Told, advised, told};
+use crate::told::{Caret, Told, advised, said};
 use crate::words::WordText;
 use cob_copybook_clauses::{WordClass, behind, is_name};
 use cob_source::Token;
@@ -90,7 +90,7 @@ fn hint(alloc: Global, text: &[u8]) -> Result<String, AllocError> {
 /// What is told of an entry with a name that is none.
 pub(crate) fn told_name(alloc: Global, entry: WrittenEntry<'_>) -> Result<Told, AllocError> {
     let Some(word) = no_name(entry) else {
-        return told(
+        return said(
             Caret::under_first(entry.words),
             String::from_str(alloc, "a name in it is none"),
         );

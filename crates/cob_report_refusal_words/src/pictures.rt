@@ -1,7 +1,7 @@
 //! Pictures that are refused.
 
 use crate::entry::{WrittenEntry, picture_word, words_from};
-use crate::told::{Caret, Told, advised_if, told};
+use crate::told::{Caret, Told, advised_if, said};
 use crate::words::BytesText;
 use cob_copybook_clauses::WordClass;
 use cob_picture::{Picture, PictureFault};
@@ -259,7 +259,7 @@ pub(crate) fn told_picture(
     fault: PictureFault,
 ) -> Result<Told, AllocError> {
     let Some(word) = picture_word(entry) else {
-        return told(
+        return said(
             Caret::under_first(entry.words),
             String::from_str(alloc, "the picture is none"),
         );

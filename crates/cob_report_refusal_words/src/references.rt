@@ -5,7 +5,7 @@ use crate::entry::{
 };
 use crate::levels::level_of;
 use crate::near::is_near;
-use crate::told::{Caret, Told, advised, advised_if, told};
+use crate::told::{Caret, Told, advised, advised_if, said};
 use crate::words::WordText;
 use cob_copybook_clauses::{WordClass, behind, is_condition, sentence_at};
 use cob_picture::{Category, Picture};
@@ -165,7 +165,7 @@ pub(crate) fn told_redefinition(
     let (front, _) = words.split_at(before.min(words.len()));
     let named = EntryText { entry };
     let Some(word) = word_behind(entry.words, WordClass::Redefines, WordClass::Stop) else {
-        return told(
+        return said(
             Caret::under_first(entry.words),
             format!(in alloc; "{named} can't redefine an area"),
         );
@@ -232,7 +232,7 @@ pub(crate) fn told_count(
     let named = EntryText { entry };
     let (front, _) = words.split_at(before.min(words.len()));
     let Some(word) = count_word(entry) else {
-        return told(
+        return said(
             Caret::under_first(entry.words),
             format!(in alloc; "the count of {named} is none"),
         );

@@ -1,6 +1,6 @@
 //! Lines that break a rule of the reference format.
 
-use crate::told::{Caret, Told, advised, told};
+use crate::told::{Caret, Told, advised, said};
 use cob_source::{SourceRule, without_return};
 use std::alloc::{AllocError, Global};
 
@@ -64,7 +64,7 @@ fn foreign_hint(byte: u8) -> &'static str {
 /// What is told of a byte that does not print.
 fn told_foreign(alloc: Global, line: &[u8], number: u32) -> Result<Told, AllocError> {
     let Some((byte, column)) = first_in(line, Looked::Foreign, 7) else {
-        return told(
+        return said(
             None,
             format!(in alloc; "a byte stands in line {number} that no text has"),
         );
@@ -81,7 +81,7 @@ fn told_foreign(alloc: Global, line: &[u8], number: u32) -> Result<Told, AllocEr
 /// What is told of a tab.
 fn told_tab(alloc: Global, file: &str, line: &[u8], number: u32) -> Result<Told, AllocError> {
     let Some((_, column)) = first_in(line, Looked::Tab, 1) else {
-        return told(None, format!(in alloc; "a tab stands in line {number}"));
+        return said(None, format!(in alloc; "a tab stands in line {number}"));
     };
     advised(
         at_column(number, column),

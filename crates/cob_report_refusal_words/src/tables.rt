@@ -1,7 +1,7 @@
 //! Tables that can't be.
 
 use crate::entry::{EntryText, WrittenEntry, word_behind, words_from};
-use crate::told::{Caret, Told, advised, told};
+use crate::told::{Caret, Told, advised, said};
 use crate::words::WordText;
 use cob_copybook_clauses::{WordClass, behind};
 use cob_copybook_entries::whole;
@@ -74,14 +74,14 @@ fn is_record(entry: WrittenEntry<'_>) -> bool {
 pub(crate) fn told_table(alloc: Global, entry: WrittenEntry<'_>) -> Result<Told, AllocError> {
     let named = EntryText { entry };
     let Some(word) = word_behind(entry.words, WordClass::Occurs, WordClass::Stop) else {
-        return told(
+        return said(
             Caret::under_first(entry.words),
             format!(in alloc; "{named} can't be a table"),
         );
     };
     let at = Some(Caret::under(word));
     if is_bad_number(entry, word) {
-        return told(at, number_words(alloc, entry, word));
+        return said(at, number_words(alloc, entry, word));
     }
     if is_record(entry) {
         return advised(
@@ -90,7 +90,7 @@ pub(crate) fn told_table(alloc: Global, entry: WrittenEntry<'_>) -> Result<Told,
             String::from_str(alloc, "put the table into a group beneath it"),
         );
     }
-    told(
+    said(
         at,
         format!(in alloc; "{named} is an eighth table in one another, and seven are the most"),
     )

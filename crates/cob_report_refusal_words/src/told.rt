@@ -63,7 +63,7 @@ impl Caret {
 /// # Errors
 ///
 /// Where no memory was left for it.
-pub(crate) fn told(
+pub(crate) fn said(
     at: Option<Caret>,
     what: Result<String, AllocError>,
 ) -> Result<Told, AllocError> {

@@ -1,7 +1,7 @@
 //! Values that an entry can't have.
 
 use crate::entry::{EntryText, WrittenEntry, picture_word, word_behind};
-use crate::told::{Caret, Told, advised, told};
+use crate::told::{Caret, Told, advised, said};
 use crate::words::{BytesText, WordText};
 use cob_copybook_clauses::WordClass;
 use cob_copybook_entries::is_numeric_literal;
@@ -139,7 +139,7 @@ fn what_of(alloc: Global, entry: WrittenEntry<'_>, word: &Token) -> Result<Strin
 /// What is told of an entry whose VALUE is none that it can have.
 pub(crate) fn told_value(alloc: Global, entry: WrittenEntry<'_>) -> Result<Told, AllocError> {
     let Some(word) = constant_word(entry) else {
-        return told(
+        return said(
             Caret::under_first(entry.words),
             String::from_str(alloc, "the VALUE is none that it can have"),
         );
