@@ -1,9 +1,12 @@
-use Rattle.std.proofs.Common.{◌∙◌, Bool, List, length, subst}
+use Rattle.std.proofs.Common.{◌∙◌, Bool, List, ap, false, length, subst}
 use Rattle.cob_move_data.specs.Moves.{Records}
 use Rattle.cob_move_deeds.specs.declared.flow.Flow.{Flow}
+use Rattle.cob_move_deeds.specs.Deeds.{Deeds}
 use Rattle.cob_move_deeds.specs.Flows.{FlowSupport}
 use Rattle.cob_move_deeds.specs.Prepared.{flow_support}
-use Rattle.cob_back_runs.proofs.TestedLemmas.{LeftOf, marks_behind, marks_from}
+use Rattle.cob_move_deeds.specs.Tests.{Past}
+use Rattle.cob_back_runs.specs.Tested.{tested_moves}
+use Rattle.cob_back_runs.proofs.TestedLemmas.{LeftOf, marks_behind, marks_from, marks_whole}
 use Rattle.cob_back_runs.proofs.tested.move_marks.Goals as goal
 
 pub loop-flow-preserved : goal.loop-flow-preserved
@@ -17,3 +20,11 @@ loop-flow-preserved c =
     (subst (λ (gs : List Flow). LeftOf Bool on (marks_from r on) gs so whole) c.in-Some.ensures.cases.0 c.loop-flow.invariant)
     (c.in_ok-push_for_flow.ensures r c.deeds-deeds.ensures.prepared) (c.in_ok-push_for_flows.ensures r c.deeds-deeds.ensures.prepared)
     (c.split_at.ensures.front ∙ c.passed_over.ensures.inside) (c.split_at.ensures.back ∙ c.passed_over.ensures.behind)
+
+pub returns : goal.returns
+returns c =
+    let r : Records = c.args.conversion.now.records in
+    let fs : List Flow = c.deeds-deeds.result.now.flows.items in
+    let on : FlowSupport = flow_support c.deeds-deeds.result.now in
+    marks_whole r on c.loop-flow.rest.now c.loop-flow.marks.items (marks_from r on (length fs) fs) c.loop-flow.invariant c.in_default.ensures.cases
+    ∙ ap (λ (d : Deeds Past). tested_moves false d) c.deeds-deeds.ensures.value

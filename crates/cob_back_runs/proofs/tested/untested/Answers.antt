@@ -1,10 +1,12 @@
-use Rattle.std.proofs.Common.{◌∙◌, List, length, map, subst}
+use Rattle.std.proofs.Common.{◌∙◌, List, ap, length, map, subst, sym}
 use Rattle.cob_move_data.specs.Moves.{Move, Records}
 use Rattle.cob_move_deeds.specs.declared.flow.Flow.{Flow}
+use Rattle.cob_move_deeds.specs.Deeds.{Deeds}
 use Rattle.cob_move_deeds.specs.Flows.{FlowSupport}
-use Rattle.cob_move_deeds.specs.Prepared.{flow_support}
-use Rattle.cob_back_runs.specs.Tested.{moves_told}
-use Rattle.cob_back_runs.proofs.TestedLemmas.{LeftOf, untested_behind, untested_from}
+use Rattle.cob_move_deeds.specs.Prepared.{deeds_of, flow_support}
+use Rattle.cob_move_deeds.specs.Tests.{Past}
+use Rattle.cob_back_runs.specs.Tested.{moves_told, untested_moves}
+use Rattle.cob_back_runs.proofs.TestedLemmas.{LeftOf, untested_behind, untested_from, untested_whole}
 use Rattle.cob_back_runs.proofs.tested.untested.Goals as goal
 
 pub loop-flow-preserved : goal.loop-flow-preserved
@@ -19,3 +21,12 @@ loop-flow-preserved c =
           c.in_ok-push_stretch.ensures.moves (c.split_at.ensures.back ∙ c.passed_over.ensures.behind);
       records = c.in_ok-push_stretch.ensures.records;
     }
+
+pub returns-clause-moves : goal.returns-clause-moves
+returns-clause-moves c =
+    let r : Records = record { input = c.layouts.result.0.now; output = c.layouts.result.1.now } in
+    let fs : List Flow = c.deeds-deeds.result.now.flows.items in
+    let on : FlowSupport = flow_support c.deeds-deeds.result.now in
+    untested_whole r on c.loop-flow.rest.now (map moves_told c.loop-flow.stretches.items) (untested_from r on (length fs) fs) c.loop-flow.invariant.left c.in_default.ensures.cases
+    ∙ ap (λ (q : Records). untested_moves (deeds_of q c.deeds-deeds.result.now)) (sym c.layouts.ensures)
+    ∙ ap (λ (d : Deeds Past). untested_moves d) c.deeds-deeds.ensures.value
