@@ -1,6 +1,6 @@
 //! Where entries begin at least.
 
-ghost use Rattle.std.specs.Prelude.{◌≡◌, ◌≤◌, List, ℕ, Some};
+ghost use Rattle.std.specs.Prelude.{◌≡◌, ◌≤◌, List, ℕ, [], Some};
 ghost use Rattle.cob_layout_places.specs.declared.places.Found.{Found as PlacedElement};
 ghost use Rattle.cob_layout_places.specs.Lengths.{times};
 ghost use Rattle.cob_layout_places.specs.Places.{place_of};

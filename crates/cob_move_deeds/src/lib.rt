@@ -33,6 +33,7 @@ mod laws;
 mod ready;
 mod row;
 mod sides;
+mod steady;
 mod told;
 
 pub use flow::{Bound, CountedLoop, Flow};

@@ -20,6 +20,7 @@ use crate::carrying::carry_out;
 use crate::flow::{Bound, CountedLoop, Flow};
 use crate::row::lone_moves;
 use crate::sides::Sides;
+use crate::steady::Stretch;
 use cob_layout::{Layout, one_outcome_of_counts};
 use cob_move_apply::{MarkedMoves, Reading, Scratch, Stop, one_ending};
 use cob_move_data::StatementMoves;
@@ -31,6 +32,8 @@ pub struct ReadyDeeds {
     pub(crate) bounds: Vec<Bound>,
     pub(crate) loops: Vec<CountedLoop>,
     pub(crate) flows: Vec<Flow>,
+    /// Between which marks moves leave each bound alone, by its number, where that is known.
+    pub(crate) steady: Option<Vec<Stretch>>,
 }
 
 impl ReadyDeeds {
@@ -57,6 +60,7 @@ impl ReadyDeeds {
             bounds,
             loops,
             flows,
+            steady: None,
         }
     }
 
@@ -72,6 +76,7 @@ impl ReadyDeeds {
             bounds: self.bounds,
             loops: self.loops,
             flows: self.flows,
+            steady: self.steady,
         }
     }
 
