@@ -1,5 +1,5 @@
 -- What a bound gives behind moves that leave it alone.
-use Rattle.std.proofs.Common.{◌≡◌, ◌⊎◌, ℕ, ◌+◌, ◌<◌, ◌≤◌, false, List, [], ◌∷◌, length, map, refl, sym, ap, subst, ◌∙◌, arith, inl, inr, Ok, Option, Some, None}
+use Rattle.std.proofs.Common.{◌≡◌, ◌⊎◌, ℕ, zero, suc, ◌+◌, ◌<◌, ◌≤◌, false, List, [], ◌∷◌, ◌++◌, length, map, replicate, set, refl, sym, ap, subst, ◌∙◌, arith, inl, inr, Ok, Option, Some, None}
 use Rattle.std.specs.Prelude.{IfSome}
 use Rattle.std.specs.List.{AllByRecursion, slice_get}
 use Rattle.std.proofs.lemmas.Option.{same_Some}
@@ -161,3 +161,33 @@ pub steady_noted_read : {V : Type 0} (items : V → List Stretch) (x : Reading) 
     → length new.marks.items ≡ length m.marks.items → IfSome noted (λ v. AreSteady r m bounds (items v)) → IfSome noted (λ v. AreSteady r new bounds (items v))
 steady_noted_read items x r m new bounds None between many steady = tt
 steady_noted_read items x r m new bounds (Some noted) between many steady = steady_read x r m new bounds (items noted) between many steady
+
+-- ---- as it is noted
+
+at_set : {A : Type 0} (xs : List A) (n k : ℕ) (a x : A) → slice_get (set xs n a) k ≡ Some x → ((k ≡ n) × (a ≡ x)) ⊎ (slice_get xs k ≡ Some x)
+at_set [] n k a x h = inr h
+at_set (y ∷ ys) zero zero a x h = inl (refl, same_Some a x h)
+at_set (y ∷ ys) zero (suc k) a x h = inr h
+at_set (y ∷ ys) (suc n) zero a x h = inr h
+at_set (y ∷ ys) (suc n) (suc k) a x h = elim (at_set ys n k a x h) [
+  | inl (same, is) ↦ inl (ap (λ (j : ℕ). suc j) same, is)
+  | inr there ↦ inr there
+]
+
+at_replicate : {A : Type 0} (n k : ℕ) (a x : A) → slice_get (replicate n a) k ≡ Some x → a ≡ x
+at_replicate zero k a x h = absurd (cc)
+at_replicate (suc n) zero a x h = same_Some a x h
+at_replicate (suc n) (suc k) a x h = at_replicate n k a x h
+
+-- where nothing is noted of any bound
+pub none_noted : (r : Records) (m : MarkedMoves) (bounds : List Bound) (n : ℕ) → AreSteady r m bounds (replicate n (record { first = 1; last = 0 }))
+none_noted r m bounds n number b s at is =
+    subst (λ (t : Stretch). IsSteady r m b t) (at_replicate n number (record { first = 1; last = 0 }) s is) (none_steady r m b)
+
+-- and where it is noted of one
+pub one_noted : (r : Records) (m : MarkedMoves) (bounds : List Bound) (noted : List Stretch) (bound : ℕ) (s : Stretch) → AreSteady r m bounds noted → ((b : Bound) → slice_get bounds bound ≡ Some b → IsSteady r m b s)
+    → AreSteady r m bounds (set noted bound s)
+one_noted r m bounds noted bound s steady own number b t at is = elim (at_set noted bound number s t is) [
+  | inl (same, here) ↦ subst (λ (u : Stretch). IsSteady r m b u) here (own b (ap (λ (n : ℕ). slice_get bounds n) (sym same) ∙ at))
+  | inr there ↦ steady number b t at there
+]
