@@ -6,16 +6,17 @@ ghost use Rattle.cob_layout.specs.Storage.{greatest_length};
 ghost use Rattle.cob_move_data.specs.Moves.{IsOperand};
 ghost use Rattle.cob_move_receive.specs.Sent.{Occupies};
 ghost use Rattle.cob_move_apply.specs.Located.{Located, stop_of};
-ghost use Rattle.cob_move_apply.specs.Placed.{StandsAsNoted, IsPlaced};
+ghost use Rattle.cob_layout.specs.Elements.{HaveSoMany};
+ghost use Rattle.cob_move_apply.specs.Placed.{StandsAsNoted, IsNotedIn, IsPlaced};
 ghost use Rattle.cob_move_apply.specs.Seen.{operand_of};
 ghost use Rattle.cob_move_apply.specs.Spent.{IsSpent, Spends};
 ghost use Rattle.cob_move_apply.specs.Surveyed.{IsSurvey};
 
-use crate::basis::{Basis, PlacedOperand};
+use crate::basis::{Basis, NotedPlace, PlacedOperand};
 use crate::stop::{Stop, StopCause};
 use crate::survey::Survey;
 use cob_layout::{
-    FindFault, Layout, Place, kept_give_needed, kept_place_elements, one_outcome_of_counts,
+    Counts, FindFault, Layout, Place, kept_give_needed, kept_place_elements, one_outcome_of_counts,
 };
 use cob_layout_places::needs_are_read;
 use cob_move_data::Side;
@@ -82,6 +83,33 @@ fn place_by_counts(
     }
 }
 
+/// A place that is noted, where the count that is kept says that the operand is there.
+#[inline(always)]
+fn place_if_kept(noted: &NotedPlace, counts: &Counts) -> Option<Place>
+    ensures { IfSome result
+        (λ p. (p ≡ noted.now.place) × HaveSoMany counts.now.kept noted.now.least) }
+{
+    if counts.have(noted.least) {
+        Some(Place {
+            offset: noted.place.offset,
+            length: noted.place.length,
+        })
+    } else {
+        None
+    }
+}
+
+/// Where an operand stands whose place is noted, where the count that is kept says that it is there. None for all others.
+#[inline(always)]
+pub(crate) fn place_at_once(basis: &Basis, survey: &Survey) -> Option<Place>
+    ensures { IfSome result (IsNotedIn basis.now survey.now.counts.kept) }
+{
+    match basis {
+        Basis::Noted(noted) => place_if_kept(noted, &survey.counts),
+        _ => None,
+    }
+}
+
 /// Where an operand stands, where what is noted of its place and the counts that are kept say it.
 #[inline(always)]
 fn noted_place(
@@ -98,11 +126,7 @@ fn noted_place(
 {
     let counts = &survey.counts;
     match placed.basis {
-        Basis::Fixed(place) => Some(Place {
-            offset: place.offset,
-            length: place.length,
-        }),
-        Basis::Element(element) => counts.place_of(*element),
+        Basis::Noted(noted) => place_if_kept(noted, counts),
         Basis::Summed(summed) => {
             let entry = placed.entry;
             let layout = stored.layout;

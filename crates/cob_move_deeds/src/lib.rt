@@ -9,7 +9,8 @@
 //! - [`ReadyDeeds::apply_kept`] makes of the output record's storage what the deeds that its flows come to say (`carried`, by `deeds_of` of
 //!   specs/Prepared.antt), a stop included. A [`Flow`] is one thing that is carried out, with skips forward alone (`deeds_from` of specs/Flows.antt), so that
 //!   a run ends by the length of the list. A loop whose bound stands in the input record and whose statements move alone reads its bound once: then the
-//!   moves of as many turns as it says are carried out one behind another ([`CountedLoop`]).
+//!   moves of as many turns as it says are carried out one behind another ([`CountedLoop`]). Where one flow is all that there is, and it carries out all moves,
+//!   that is noted beforehand.
 //! - [`ReadyDeeds::new`] puts them together (`deeds`), and they may be carried out where the moves were made ready, the bounds are whole numbers, and the
 //!   flows name what is there (`prepared`); [`ReadyDeeds::with_reading`] are the same with their binary senders read otherwise.
 //!   [`ReadyDeeds::with_steady_bounds`] are the same too (`deeds`, `moves`), and where the moves of a loop leave its bound alone in the output record, it is
@@ -23,10 +24,11 @@
 //!
 //! # Where it is proved
 //!
-//! The clause `carried` of `ReadyDeeds::apply_kept`, the clauses of `ReadyDeeds::with_reading` and `ReadyDeeds::with_steady_bounds`; the laws `straight_is_applied`, `one_carried`,
-//! `loop_is_its_turns`, `literal_loop_is_its_moves`, `bound_of_input_is_kept`.
+//! The clause `carried` of `ReadyDeeds::apply_kept`, the clauses of `ReadyDeeds::with_reading` and `ReadyDeeds::with_steady_bounds`; the laws
+//! `straight_is_applied`, `one_carried`, `loop_is_its_turns`, `literal_loop_is_its_moves`, `bound_of_input_is_kept`.
 #![tactic(auto)]
 
+mod at_once;
 mod bound;
 mod carrying;
 mod flow;

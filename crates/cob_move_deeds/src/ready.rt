@@ -11,19 +11,35 @@ ghost use Rattle.cob_move_apply.specs.Marked.{AreMarkedPrepared, ends_of_marks, 
 ghost use Rattle.cob_move_apply.specs.Prepared.{moves_of};
 ghost use Rattle.cob_move_apply.specs.Room.{room_of};
 ghost use Rattle.cob_move_apply.specs.Told.{most_moves_told, single_moves};
+ghost use Rattle.cob_move_deeds.specs.AtOnce.{are_all_moves};
 ghost use Rattle.cob_move_deeds.specs.Deeds.{Carried};
 ghost use Rattle.cob_move_deeds.specs.Flows.{AreFlows, deeds_by, deeds_from};
 ghost use Rattle.cob_move_deeds.specs.Met.{DeedsHaveMet};
 ghost use Rattle.cob_move_deeds.specs.Tests.{IsBound, Judged};
 
+use crate::at_once::carry_all;
 use crate::carrying::carry_out;
 use crate::flow::{Bound, CountedLoop, Flow};
-use crate::row::lone_moves;
 use crate::sides::Sides;
 use crate::steady::Stretch;
 use cob_layout::{Layout, one_outcome_of_counts};
 use cob_move_apply::{MarkedMoves, Reading, Scratch, Stop, one_ending};
 use cob_move_data::StatementMoves;
+
+/// The same answer, with the parts of its stop named again: so the compiler keeps them apart, and no function that hands it on copies it through memory.
+#[inline(always)]
+fn parts_again(answer: Result<(), Stop>) -> Result<(), Stop>
+    ensures { result ≡ answer }
+{
+    match answer {
+        Ok(()) => Ok(()),
+        Err(stop) => Err(Stop {
+            side: stop.side,
+            offset: stop.offset,
+            cause: stop.cause,
+        }),
+    }
+}
 
 /// What is done to a record, ready to be carried out: moves parted by marks, and flows that say what lies between which marks, and when.
 #[derive(Drop)]
@@ -34,6 +50,9 @@ pub struct ReadyDeeds {
     pub(crate) flows: Vec<Flow>,
     /// Between which marks moves leave each bound alone, by its number, where that is known.
     pub(crate) steady: Option<Vec<Stretch>>,
+    /// Whether the flows carry out all of the moves at once, which is found out before the first record comes.
+    pub(crate) at_once: bool,
+    pub(crate) ghost told: { at_once ≡ are_all_moves (length moves.marks.items) flows.items },
 }
 
 impl ReadyDeeds {
@@ -55,12 +74,14 @@ impl ReadyDeeds {
             → AreFlows (record { moves = moves; bounds = bounds.items; loops = loops.items })
             flows.items → AreDeedsPrepared r result }
     {
+        let at_once = carry_all(flows.as_slice(), moves.marks());
         ReadyDeeds {
             moves,
             bounds,
             loops,
             flows,
             steady: None,
+            at_once,
         }
     }
 
@@ -77,6 +98,7 @@ impl ReadyDeeds {
             loops: self.loops,
             flows: self.flows,
             steady: self.steady,
+            at_once: self.at_once,
         }
     }
 
@@ -155,22 +177,16 @@ impl ReadyDeeds {
         one_outcome_of_counts();
         one_ending();
         scratch.forget_output();
-        if let Some(number) = lone_moves(self.flows.as_slice()) {
-            return self.moves.apply_between(
-                number,
-                number + 1,
-                input_layout,
-                output_layout,
-                input,
-                output,
-                scratch,
-            );
+        if self.at_once {
+            return self
+                .moves
+                .apply_all(input_layout, output_layout, input, output, scratch);
         }
         let sides = Sides {
             input_layout,
             output_layout,
             input,
         };
-        carry_out(self, &sides, output, scratch)
+        parts_again(carry_out(self, &sides, output, scratch))
     }
 }

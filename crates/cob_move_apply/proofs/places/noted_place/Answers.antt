@@ -15,11 +15,8 @@ place_by_sums-requires-clause-kept c = c.requires.survey.kept
 pub place_by_sums-requires-clause-summed : goal.place_by_sums-requires-clause-summed
 place_by_sums-requires-clause-summed c = rw c.in-Summed.is at c.requires.placed.basis
 
-pub returns-in-Fixed : goal.returns-in-Fixed
-returns-in-Fixed c = rw c.in-Fixed.is refl
-
-pub returns-in-Element : goal.returns-in-Element
-returns-in-Element c = rw c.in-Element.is c.place_of.ensures.there
+pub returns-in-Noted : goal.returns-in-Noted
+returns-in-Noted c = rw c.in-Noted.is c.place_if_kept.ensures
 
 pub returns-in-Summed : goal.returns-in-Summed
 returns-in-Summed c =
