@@ -14,7 +14,7 @@ use Rattle.cob_layout_places.specs.Lengths.{times}
 use Rattle.cob_layout_places.specs.Places.{place_of, or_else, choose}
 use Rattle.cob_layout_places.specs.Counts.{kind_in, tables_of}
 use Rattle.cob_layout.proofs.CountLemmas.{found_size, pairs_in}
-use Rattle.cob_layout.specs.declared.summed.SummedPlace.{SummedPlace}
+use Rattle.cob_layout_places.specs.declared.reference.Ref.{Ref}
 use Rattle.cob_layout.specs.declared.finding.FindFault.{FindFault}
 use Rattle.cob_layout.specs.declared.finding.FindFault.TheVariants as finding
 use Rattle.cob_layout.specs.Finding.{IsFound}
@@ -143,17 +143,16 @@ noted_element t receiving o e least same some is =
     )
 
 -- where the sums say
-pub noted_by_sums : (t : Forest Resolved) (receiving : Bool) (o : Operand) (bytes : List ℕ) (ks : List (Option StoredCount)) (s : SummedPlace) (r : Option Place) → IfSome r (λ p. IsFound t o.entry receiving bytes (Ok p))
-    → IfSome r (λ p. p.offset + p.length ≤ greatest_length t) → IfSome r (StandsAsNoted t receiving o bytes ks (basis.Summed s))
-noted_by_sums t receiving o bytes ks s None found within = tt
-noted_by_sums t receiving o bytes ks s (Some p) found within = (found, within)
+pub by_sums : (t : Forest Resolved) (receiving : Bool) (r : Ref) (bytes : List ℕ) (found : Option Place) → IfSome found (λ p. IsFound t r receiving bytes (Ok p)) → IfSome found (λ p. p.offset + p.length ≤ greatest_length t)
+    → IfSome found (λ p. IsFound t r receiving bytes (Ok p) × (p.offset + p.length ≤ greatest_length t))
+by_sums t receiving r bytes None found within = tt
+by_sums t receiving r bytes (Some p) found within = (found, within)
 
 -- an operand stands where what is noted says
 pub noted_at : KeptPlaceElements → (side : Side) (t : Forest Resolved) (receiving : Bool) (o : Operand) (bytes : List ℕ) (s : Survey) (b : Basis) (p : Place) → IsSound t → IsPlaced t receiving o b → IsSurvey t bytes s
     → StandsAsNoted t receiving o bytes s.counts.kept b p → Located side t receiving o bytes (Ok p)
 noted_at law side t receiving o bytes s (basis.Noted n) p sound is survey (same, many) = noted_there law side t receiving o bytes s n p sound is.operand survey same many is.basis
-noted_at law side t receiving o bytes s (basis.Summed q) p sound is survey (found, within) = found
-noted_at law side t receiving o bytes s basis.Counted p sound is survey none = absurd none
+noted_at law side t receiving o bytes s (basis.Counted q) p sound is survey (found, within) = found
 
 -- and where what is noted is asked first
 pub noted_first : (t : Forest Resolved) (receiving : Bool) (o : Operand) (bytes : List ℕ) (ks : List (Option StoredCount)) (b : Basis) (p : Place) → IsNotedIn b ks p → StandsAsNoted t receiving o bytes ks b p
@@ -163,5 +162,4 @@ noted_first t receiving o bytes ks b p (n, same, at, many) = subst (λ (x : Basi
 pub noted_within : (t : Forest Resolved) (receiving : Bool) (o : Operand) (bytes : List ℕ) (ks : List (Option StoredCount)) (b : Basis) (p : Place) → IsPlaced t receiving o b → StandsAsNoted t receiving o bytes ks b p
     → p.offset + p.length ≤ greatest_length t
 noted_within t receiving o bytes ks (basis.Noted n) p is (same, many) = noted_ends t receiving o n p same is.basis
-noted_within t receiving o bytes ks (basis.Summed q) p is (found, within) = within
-noted_within t receiving o bytes ks basis.Counted p is none = absurd none
+noted_within t receiving o bytes ks (basis.Counted q) p is (found, within) = within

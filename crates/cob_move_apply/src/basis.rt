@@ -22,10 +22,8 @@ pub(crate) struct NotedPlace {
 pub(crate) enum Basis {
     /// On no count, or on the count of one table and on that only whether the element is there.
     Noted(NotedPlace),
-    /// On the counts of the storage that the operand needs, by which it stands where the sums of the tables say.
-    Summed(SummedPlace),
-    /// On the counts of the storage that the operand needs.
-    Counted,
+    /// On the counts of the storage that the operand needs; where a sum is noted, it stands by them where the sums of the tables say.
+    Counted(Option<SummedPlace>),
 }
 
 /// An operand, with what its place rests on.

@@ -136,10 +136,15 @@ fn both_places(
     ensures space { IsWorkspace (records layouts.now) input.now output.now space.new }
     ensures spends { IsSpent layouts.now.output.now 0 space.old.output space.new.output }
 {
-    let _ = layouts.input.greatest();
     places_lie_in_storage();
-    let from = sender_place(one, layouts, input, &mut space.input)?;
-    let to = receiver_place(one, layouts, output, &mut space.output)?;
+    let Some(from) = sender_place(one, layouts, input, &mut space.input) else {
+        return None;
+    };
+    let Some(to) = receiver_place(one, layouts, output, &mut space.output) else {
+        return None;
+    };
+    // Behind both: so nothing of the layout is looked at before a place that is noted.
+    let _ = layouts.input.greatest();
     Some(MovePlaces { from, to })
 }
 
@@ -241,7 +246,8 @@ fn run_rarer(
 }
 
 /// Does what [`run_rarer`] does. Plain copies, characters, numbers of up to sixteen digits and those that are read as their pictures say have ways of their own
-/// here.
+/// here. Whether a table of the output record varies is known from the type; only what is inlined is handed that, since the compiler looks up anew what a call
+/// has seen.
 #[inline(always)]
 fn run_between<const VARIES: bool>(
     plan: &Plan,
@@ -268,23 +274,28 @@ fn run_between<const VARIES: bool>(
         space.new }
     ensures same { result ≡ false → (output.new ≡ output.old) × (space.new ≡ space.old) }
 {
-    // Only what is inlined is handed this: the compiler looks up anew what a call has seen.
-    let told = Layouts {
-        input: layouts.input,
-        output: layouts.output,
-        reading: layouts.reading,
-        varies: VARIES,
-    };
     let prepared = &plan.prepared;
     match one.step {
         LocatedStep::Characters(right) => {
             let sent = places.from.length as usize;
             let step = CharactersStep { sent, right };
+            let told = Layouts {
+                input: layouts.input,
+                output: layouts.output,
+                reading: layouts.reading,
+                varies: VARIES,
+            };
             make_text(prepared, places, step, &told, input, output, space);
             true
         }
         LocatedStep::Always(step) => match step {
             MoveStep::Number(_) => {
+                let told = Layouts {
+                    input: layouts.input,
+                    output: layouts.output,
+                    reading: layouts.reading,
+                    varies: VARIES,
+                };
                 match make_prepared(prepared, places, step, &told, input, output, space) {
                     Ok(()) => true,
                     Err(_) => false,
@@ -295,9 +306,13 @@ fn run_between<const VARIES: bool>(
         LocatedStep::Pictured(step) => match step {
             PicturedStep::Number(_) => match layouts.reading {
                 Reading::Pictured => {
-                    let ready = PicturedMove {
-                        places: *places,
-                        step,
+                    let places = *places;
+                    let ready = PicturedMove { places, step };
+                    let told = Layouts {
+                        input: layouts.input,
+                        output: layouts.output,
+                        reading: layouts.reading,
+                        varies: VARIES,
                     };
                     match run_pictured(&plan.pictured, ready, &told, input, output, space) {
                         Ok(()) => true,

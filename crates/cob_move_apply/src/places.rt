@@ -7,6 +7,10 @@ ghost use Rattle.cob_move_data.specs.Moves.{IsOperand};
 ghost use Rattle.cob_move_receive.specs.Sent.{Occupies};
 ghost use Rattle.cob_move_apply.specs.Located.{Located, stop_of};
 ghost use Rattle.cob_layout.specs.Elements.{HaveSoMany};
+ghost use Rattle.cob_layout.specs.Finding.{IsFound};
+ghost use Rattle.cob_layout.specs.Standing.{IsRoomFor, KeepsOf};
+ghost use Rattle.cob_layout.specs.Summed.{IsSummedPlace};
+ghost use Rattle.cob_layout_places.specs.References.{Refers};
 ghost use Rattle.cob_move_apply.specs.Placed.{StandsAsNoted, IsNotedIn, IsPlaced};
 ghost use Rattle.cob_move_apply.specs.Seen.{operand_of};
 ghost use Rattle.cob_move_apply.specs.Spent.{IsSpent, Spends};
@@ -16,7 +20,8 @@ use crate::basis::{Basis, NotedPlace, PlacedOperand};
 use crate::stop::{Stop, StopCause};
 use crate::survey::Survey;
 use cob_layout::{
-    Counts, FindFault, Layout, Place, kept_give_needed, kept_place_elements, one_outcome_of_counts,
+    Counts, FindFault, Layout, Place, Ref, SummedPlace, kept_give_needed, kept_place_elements,
+    one_outcome_of_counts,
 };
 use cob_layout_places::needs_are_read;
 use cob_move_data::Side;
@@ -106,7 +111,32 @@ pub(crate) fn place_at_once(basis: &Basis, survey: &Survey) -> Option<Place>
 {
     match basis {
         Basis::Noted(noted) => place_if_kept(noted, &survey.counts),
-        _ => None,
+        Basis::Counted(_) => None,
+    }
+}
+
+/// Where an operand stands, where a sum is noted and the counts that it needs are kept.
+#[inline(always)]
+fn place_by_sums(
+    stored: &Stored<'_>,
+    entry: &Ref,
+    receiving: bool,
+    summed: Option<SummedPlace>,
+    counts: &Counts,
+) -> Option<Place>
+    requires refers { Refers entry.now.node entry.now.subscripts.items stored.now.layout.now }
+    requires room { IsRoomFor stored.now.layout.now counts.now }
+    requires kept { KeepsOf stored.now.layout.now stored.now.bytes.now counts.now }
+    requires summed { IfSome summed (IsSummedPlace stored.now.layout.now entry.now receiving) }
+    ensures { IfSome result (λ p. IsFound stored.now.layout.now entry.now receiving
+        stored.now.bytes.now (Ok p) × (p.offset + p.length ≤ greatest_length stored.now.layout.now)) }
+{
+    match summed {
+        Some(summed) => {
+            let layout = stored.layout;
+            layout.place_by_sums(entry, receiving, stored.bytes, summed, counts)
+        }
+        None => None,
     }
 }
 
@@ -127,12 +157,7 @@ fn noted_place(
     let counts = &survey.counts;
     match placed.basis {
         Basis::Noted(noted) => place_if_kept(noted, counts),
-        Basis::Summed(summed) => {
-            let entry = placed.entry;
-            let layout = stored.layout;
-            layout.place_by_sums(entry, receiving, stored.bytes, *summed, counts)
-        }
-        Basis::Counted => None,
+        Basis::Counted(summed) => place_by_sums(stored, placed.entry, receiving, *summed, counts),
     }
 }
 

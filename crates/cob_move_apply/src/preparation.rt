@@ -47,10 +47,7 @@ pub(crate) fn basis_of(layout: &Layout, entry: &Ref, receiving: bool) -> Basis
             return basis;
         }
     }
-    match layout.summed_place(entry, receiving) {
-        Some(summed) => Basis::Summed(summed),
-        None => Basis::Counted,
-    }
+    Basis::Counted(layout.summed_place(entry, receiving))
 }
 
 /// What a sender's place rests on. A constant has no place, and its basis is never asked for.
@@ -61,7 +58,7 @@ fn sender_basis(given: &Sender, input: &Layout, output: &Layout) -> Basis
         (sender (record { input = input.now; output = output.now }) given.now) result }
 {
     match given {
-        Sender::Constant(_) => Basis::Counted,
+        Sender::Constant(_) => Basis::Counted(None),
         Sender::Entry { side, entry } => match *side {
             Side::In => basis_of(input, entry, false),
             Side::Out => basis_of(output, entry, false),

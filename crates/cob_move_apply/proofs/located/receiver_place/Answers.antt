@@ -1,6 +1,5 @@
-use Rattle.std.proofs.Common.{false, subst, true}
+use Rattle.std.proofs.Common.{true}
 use Rattle.cob_move_data.specs.Moves.{operand_in}
-use Rattle.cob_move_data.specs.declared.operands.Operand.{Operand}
 use Rattle.cob_move_data.specs.declared.operands.Side.TheVariants.{Out}
 use Rattle.cob_move_apply.proofs.PlaceLemmas.{filled_at, noted_at, noted_first, noted_within}
 use Rattle.cob_move_apply.proofs.SpentLemmas.{spent_none}

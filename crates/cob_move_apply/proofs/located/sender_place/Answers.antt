@@ -1,9 +1,7 @@
-use Rattle.std.proofs.Common.{false, subst, true}
+use Rattle.std.proofs.Common.{false}
 use Rattle.cob_move_data.specs.Moves.{operand_in}
-use Rattle.cob_move_data.specs.declared.operands.Operand.{Operand}
 use Rattle.cob_move_data.specs.declared.operands.Side.TheVariants.{In}
-use Rattle.cob_move_apply.proofs.PlaceLemmas.{filled_at, noted_at, noted_first, noted_within}
-use Rattle.cob_move_apply.proofs.SpentLemmas.{spent_none}
+use Rattle.cob_move_apply.proofs.PlaceLemmas.{filled_at, noted_at, noted_first}
 use Rattle.cob_move_apply.proofs.located.sender_place.Goals as goal
 
 pub returns-in-Some-clause-located : goal.returns-in-Some-clause-located
