@@ -24,10 +24,11 @@ use Rattle.cob_move_apply.specs.declared.marked.MarkedMoves.{MarkedMoves}
 use Rattle.cob_move_apply.specs.Applied.{AllGet, Applied, Content, Ending, Gets, IsMoved, done, stopped}
 use Rattle.cob_move_apply.specs.Marked.{AreMarkedPrepared, items_between, moves_between_marks}
 use Rattle.cob_move_apply.specs.Entries.{IsPlacedEntry}
-use Rattle.cob_move_apply.specs.Placed.{IsBasis, IsFixed}
+use Rattle.cob_move_apply.specs.Placed.{IsBasis, IsFixed, IsNoted}
 use Rattle.cob_move_apply.specs.Spared.{AllBeginFrom, BeginsFrom, NoneBefore, SpareEntry}
 use Rattle.cob_move_apply.specs.declared.basis.Basis.{Basis}
 use Rattle.cob_move_apply.specs.declared.basis.Basis.TheVariants as basis
+use Rattle.cob_move_apply.specs.declared.basis.NotedPlace.{NotedPlace}
 use Rattle.cob_move_apply.specs.declared.placed.PlacedEntry.{PlacedEntry}
 use Rattle.cob_move_apply.proofs.PlanLemmas.{moves_append}
 
@@ -154,14 +155,22 @@ place_kept p before after (same, long) = sym (drop-take p.offset p.length after)
 
 -- ---- what is said of an entry
 
+-- a place that is noted for every storage is the entry's in each
+fixed_so : (tree : Forest Resolved) (receiving : Bool) (o : Operand) (n : NotedPlace) → n.least ≡ 0 → IsNoted tree receiving o n → IsFixed tree receiving o n.place
+fixed_so tree receiving o n none (inl fixed) = fixed
+fixed_so tree receiving o n none (inr (some, element)) = absurd (some none)
+
 -- an entry of the output record at a place that no count decides, where all receivers begin behind it
-pub spared_out : (r : Records) (e : PlacedEntry) (p : Place) (end : ℕ) (ms : List Move) → e.side ≡ Out → e.basis ≡ basis.Fixed p → end ≡ p.offset + p.length → IsPlacedEntry r e → AllBeginFrom r.output end ms → SpareEntry r ms e
-spared_out r e p end ms side noted is placed begin =
-    let there : IsFixed (record_of r e.side) false (operand_in (record_of r e.side) e.entry) p =
+pub spared_out : (r : Records) (e : PlacedEntry) (n : NotedPlace) (end : ℕ) (ms : List Move) → e.side ≡ Out → e.basis ≡ basis.Noted n → n.least ≡ 0 → end ≡ n.place.offset + n.place.length → IsPlacedEntry r e
+    → AllBeginFrom r.output end ms → SpareEntry r ms e
+spared_out r e n end ms side noted none is placed begin =
+    let there : IsNoted (record_of r e.side) false (operand_in (record_of r e.side) e.entry) n =
     subst (λ (b : Basis). IsBasis (record_of r e.side) false (operand_in (record_of r e.side) e.entry) b) noted placed.basis in
+    let fixed : IsFixed (record_of r e.side) false (operand_in (record_of r e.side) e.entry) n.place =
+    fixed_so (record_of r e.side) false (operand_in (record_of r e.side) e.entry) n none there in
     inr (
       side,
-      p,
-      subst (λ (s : Side). IsFixed (record_of r s) false (operand_in (record_of r s) e.entry) p) side there,
-      subst (λ (n : ℕ). AllBeginFrom r.output n ms) is begin,
+      n.place,
+      subst (λ (s : Side). IsFixed (record_of r s) false (operand_in (record_of r s) e.entry) n.place) side fixed,
+      subst (λ (m : ℕ). AllBeginFrom r.output m ms) is begin,
     )

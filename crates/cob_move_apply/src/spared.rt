@@ -2,8 +2,8 @@
 
 ghost use Rattle.std.specs.Prelude.{◌≡◌, ◌+◌, ◌<◌, ◌≤◌, length, IfSome, IsTrue, Some};
 ghost use Rattle.cob_codec.specs.declared.reading.Reading.{Reading as Read};
-ghost use Rattle.cob_layout.specs.declared.fields.Place.{Place as Stand};
 ghost use Rattle.cob_move_apply.specs.declared.basis.Basis.TheVariants as basis;
+ghost use Rattle.cob_move_apply.specs.declared.basis.NotedPlace.{NotedPlace as Stand};
 ghost use Rattle.cob_move_apply.specs.Spared.{AllBeginFrom, NoneBefore, SpareEntry};
 ghost use Rattle.cob_move_data.specs.Moves.{AreMoves, Records, moves_by};
 
@@ -36,12 +36,14 @@ fn all_begin_from(output: &Layout, byte: u32, statements: &[StatementMoves]) -> 
 
 /// The byte behind a place that no count decides.
 fn end_of(basis: Basis) -> Option<u32>
-    ensures { IfSome result (λ end. (p : Stand) × (basis ≡ basis.Fixed p)
-        × (end ≡ p.offset + p.length)) }
+    ensures { IfSome result (λ end. (n : Stand) × (basis ≡ basis.Noted n) × (n.least ≡ 0)
+        × (end ≡ n.place.offset + n.place.length)) }
 {
     match basis {
-        Basis::Fixed(place) => place.offset.checked_add(place.length),
-        Basis::Element(_) | Basis::Summed(_) | Basis::Counted => None,
+        Basis::Noted(noted) if noted.least == 0 => {
+            noted.place.offset.checked_add(noted.place.length)
+        }
+        _ => None,
     }
 }
 

@@ -13,8 +13,8 @@ pub returns-in-Some : goal.returns-in-Some
 returns-in-Some c = λ yes r same prepared placed.
     let m = c.args.self.now in
     let x = m.moves.reading in
-    let (p, noted, is) = c.in-Some.ensures in
+    let (n, noted, none, is) = c.in-Some.ensures in
     let are = subst (λ (ss : List StatementMoves). AreMoves r (moves_by x r ss)) (sym c.statements_between.ensures.value)
     (are_between x r (mark_at m.marks.items c.args.from).statement (mark_at m.marks.items c.args.to).statement m.moves.statements.items (prepared.moves x)) in
-    spared_out r c.args.entry.now p c.in-Some.end _ c.in-Out.is noted is placed
+    spared_out r c.args.entry.now n c.in-Some.end _ c.in-Out.is noted none is placed
     (subst (λ (ms : List Move). AllBeginFrom r.output c.in-Some.end ms) (sym (c.statements_between.ensures.moves r)) (c.all_begin_from.ensures yes r x same are))
