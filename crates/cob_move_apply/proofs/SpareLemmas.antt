@@ -163,14 +163,13 @@ fixed_so tree receiving o n none (inr (some, element)) = absurd (some none)
 -- an entry of the output record at a place that no count decides, where all receivers begin behind it
 pub spared_out : (r : Records) (e : PlacedEntry) (n : NotedPlace) (end : ℕ) (ms : List Move) → e.side ≡ Out → e.basis ≡ basis.Noted n → n.least ≡ 0 → end ≡ n.place.offset + n.place.length → IsPlacedEntry r e
     → AllBeginFrom r.output end ms → SpareEntry r ms e
-spared_out r e n end ms side noted none is placed begin =
+spared_out r e n end ms side noted none is entry begin =
     let there : IsNoted (record_of r e.side) false (operand_in (record_of r e.side) e.entry) n =
-    subst (λ (b : Basis). IsBasis (record_of r e.side) false (operand_in (record_of r e.side) e.entry) b) noted placed.basis in
+    subst (λ (b : Basis). IsBasis (record_of r e.side) false (operand_in (record_of r e.side) e.entry) b) noted entry.basis in
     let fixed : IsFixed (record_of r e.side) false (operand_in (record_of r e.side) e.entry) n.place =
     fixed_so (record_of r e.side) false (operand_in (record_of r e.side) e.entry) n none there in
-    inr (
-      side,
+    inr (side, (
       n.place,
       subst (λ (s : Side). IsFixed (record_of r s) false (operand_in (record_of r s) e.entry) n.place) side fixed,
       subst (λ (m : ℕ). AllBeginFrom r.output m ms) is begin,
-    )
+    ))

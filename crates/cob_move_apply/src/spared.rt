@@ -2,7 +2,7 @@
 
 ghost use Rattle.std.specs.Prelude.{◌≡◌, ◌+◌, ◌<◌, ◌≤◌, length, IfSome, IsTrue, Some};
 ghost use Rattle.cob_codec.specs.declared.reading.Reading.{Reading as Read};
-ghost use Rattle.cob_move_apply.specs.declared.basis.Basis.TheVariants as basis;
+ghost use Rattle.cob_move_apply.specs.declared.basis.Basis.TheVariants.{Noted};
 ghost use Rattle.cob_move_apply.specs.declared.basis.NotedPlace.{NotedPlace as Stand};
 ghost use Rattle.cob_move_apply.specs.Spared.{AllBeginFrom, NoneBefore, SpareEntry};
 ghost use Rattle.cob_move_data.specs.Moves.{AreMoves, Records, moves_by};
@@ -36,7 +36,7 @@ fn all_begin_from(output: &Layout, byte: u32, statements: &[StatementMoves]) -> 
 
 /// The byte behind a place that no count decides.
 fn end_of(basis: Basis) -> Option<u32>
-    ensures { IfSome result (λ end. (n : Stand) × (basis ≡ basis.Noted n) × (n.least ≡ 0)
+    ensures { IfSome result (λ end. (n : Stand) × (basis ≡ Noted n) × (n.least ≡ 0)
         × (end ≡ n.place.offset + n.place.length)) }
 {
     match basis {

@@ -82,7 +82,7 @@ gives_of_side law r Out entry most p ms input before after v is fixed begin long
 pub gives_spared : OneOfNeeded → (r : Records) (b : Bound) (ms : List Move) (input before after : List ℕ) (v : ℕ) → SpareEntry r ms b.item → length before ≡ greatest_length r.output → Applied r ms input before (done after)
     → BoundGives r (past_bound r b 0) input before v → BoundGives r (past_bound r b 0) input after v
 gives_spared law r b ms input before after v (inl of_input) long applied gives = gives_still r (past_bound r b 0) input before after v of_input gives
-gives_spared law r b ms input before after v (inr (side, p, fixed, begin)) long applied gives =
+gives_spared law r b ms input before after v (inr (side, (p, fixed, begin))) long applied gives =
     gives_of_side law r b.item.side b.item.entry b.most p ms input before after v side fixed begin long applied gives
 
 -- so it does up to any mark of its stretch
@@ -134,7 +134,7 @@ begin_between r byte xs ys zs ms is h =
 
 spare_between : (r : Records) (e : PlacedEntry) (xs ys zs ms : List Move) → xs ++ (ys ++ zs) ≡ ms → SpareEntry r ms e → SpareEntry r ys e
 spare_between r e xs ys zs ms is (inl of_input) = inl of_input
-spare_between r e xs ys zs ms is (inr (side, p, fixed, begin)) = inr (side, p, fixed, begin_between r (p.offset + p.length) xs ys zs ms is begin)
+spare_between r e xs ys zs ms is (inr (side, (p, fixed, begin))) = inr (side, (p, fixed, begin_between r (p.offset + p.length) xs ys zs ms is begin))
 
 -- what all moves between two marks spare, those between any marks among them do
 pub spared_steady : (r : Records) (m : MarkedMoves) (b : Bound) (s : Stretch) → AreMarkedPrepared r m → s.first ≤ s.last → s.last < length m.marks.items → SpareEntry r (moves_between_marks r m s.first s.last) b.item → IsSteady r m b s
@@ -147,8 +147,8 @@ spared_steady r m b s prepared rises within spare from to low le high lt =
 
 spare_read : (x : Reading) (r : Records) (ms : List Move) (e : PlacedEntry) → SpareEntry r ms e → SpareEntry r (map (read_by x) ms) e
 spare_read x r ms e (inl of_input) = inl of_input
-spare_read x r ms e (inr (side, p, fixed, begin)) =
-    inr (side, p, fixed, all_mapped (λ (m : Move). AllByRecursion (BeginsFrom r.output (p.offset + p.length)) m.receivers) (read_by x) ms begin)
+spare_read x r ms e (inr (side, (p, fixed, begin))) =
+    inr (side, (p, fixed, all_mapped (λ (m : Move). AllByRecursion (BeginsFrom r.output (p.offset + p.length)) m.receivers) (read_by x) ms begin))
 
 -- what is noted of bounds stays so
 pub steady_read : (x : Reading) (r : Records) (m new : MarkedMoves) (bounds : List Bound) (noted : List Stretch) → ((from to : ℕ) → moves_between_marks r new from to ≡ map (read_by x) (moves_between_marks r m from to))

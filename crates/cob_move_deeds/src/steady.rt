@@ -165,6 +165,7 @@ impl ReadyDeeds {
             loops: self.loops,
             flows: self.flows,
             steady: Some(noted),
+            at_once: self.at_once,
         })
     }
 
