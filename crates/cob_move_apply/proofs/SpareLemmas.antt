@@ -168,8 +168,11 @@ spared_out r e n end ms side noted none is entry begin =
     subst (λ (b : Basis). IsBasis (record_of r e.side) false (operand_in (record_of r e.side) e.entry) b) noted entry.basis in
     let fixed : IsFixed (record_of r e.side) false (operand_in (record_of r e.side) e.entry) n.place =
     fixed_so (record_of r e.side) false (operand_in (record_of r e.side) e.entry) n none there in
-    inr (side, (
-      n.place,
-      subst (λ (s : Side). IsFixed (record_of r s) false (operand_in (record_of r s) e.entry) n.place) side fixed,
-      subst (λ (m : ℕ). AllBeginFrom r.output m ms) is begin,
-    ))
+    inr (
+      side,
+      (
+        n.place,
+        subst (λ (s : Side). IsFixed (record_of r s) false (operand_in (record_of r s) e.entry) n.place) side fixed,
+        subst (λ (m : ℕ). AllBeginFrom r.output m ms) is begin,
+      ),
+    )
