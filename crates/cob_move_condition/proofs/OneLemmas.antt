@@ -30,7 +30,7 @@ use Rattle.cob_move_condition.specs.Classes.{IsInClass}
 use Rattle.cob_move_condition.specs.Comparable.{compares_numbers, kind_of_sent}
 use Rattle.cob_move_condition.specs.Compared.{GiveCharacters, GivesBeside, GivesNumerals, IsCompared, IsWithoutValue, NumbersCompared, TextsCompared, amount_order, text_order}
 use Rattle.cob_move_condition.specs.Conditions.{Condition, Always, Compares, HasClass, Not, Both, Either}
-use Rattle.cob_move_condition.specs.Laws.{ComparesTo, GivesOne, LacksOne, OneComparison, OneSaying}
+use Rattle.cob_move_condition.specs.Laws.{GivesOne, LacksOne, OneComparison, OneSaying}
 use Rattle.cob_move_condition.specs.Says.{Says, SaysClass, SaysRelation, is_relation, negated, one_of_two}
 
 -- the laws below
