@@ -53,3 +53,4 @@ pub use Rattle.cob_copybook.proofs as copybook_lemmas
 pub mod ElementLemmas
 pub mod SummedLemmas
 pub mod LoneSumLemmas
+pub mod LeastLemmas

@@ -1,6 +1,7 @@
 -- Records with just one table that varies, whose count stands before it.
 use Rattle.std.proofs.Common.{◌≡◌, ℕ, ◌+◌, ◌<◌, ◌≤◌, ◌==◌, ◌&&◌, nat_le, Bool, true, false, List, [], ◌∷◌, length, map, get_or, Option, Some, None, refl, sym, ap, subst, ◌∙◌, arith, inl, inr, Ok, Err, Result}
-use Rattle.std.specs.Prelude.{slice_index, slice_set}
+use Rattle.std.specs.Option.{is_some}
+use Rattle.std.specs.Prelude.{slice_index, slice_index_or, slice_set}
 use Rattle.cob_copybook_tree.specs.Forests.{Forest, entries_in}
 use Rattle.cob_copybook_tree.specs.Nodes.{Resolved}
 use Rattle.cob_layout_places.specs.declared.counts.CountFault.{CountFault}
@@ -101,6 +102,16 @@ pub set_one : (ks : List (Option StoredCount)) (k : Option StoredCount) → leng
 set_one [] k e = absurd (omega (arith, e))
 set_one (j ∷ []) k e = refl
 set_one (j ∷ i ∷ ks) k e = absurd (omega (arith, e))
+
+-- where it isn't kept, nothing is
+pub unread_one : (t : Forest Resolved) (x : Table) (ks : List (Option StoredCount)) → length ks ≡ length (tables_of t) → tables_of t ≡ x ∷ [] → is_some (slice_index_or ks 0 None) ≡ false → ks ≡ None ∷ []
+unread_one t x ks long lone none = by ks (long ∙ ap length lone) none
+  where
+    by : (js : List (Option StoredCount)) → length js ≡ 1 → is_some (slice_index_or js 0 None) ≡ false → js ≡ None ∷ []
+    by [] e h = absurd (omega (arith, e))
+    by (None ∷ []) e h = refl
+    by (Some k ∷ []) e h = absurd (cc)
+    by (j ∷ i ∷ js) e h = absurd (omega (arith, e))
 
 -- it lies within its own range
 pub lone_within : (r : KeptRange) (k : StoredCount) (ks : List (Option StoredCount)) → ks ≡ Some k ∷ [] → r.from ≡ k.place.offset → r.end ≡ k.place.offset + k.place.length → LieWithin r ks

@@ -102,7 +102,7 @@ impl Layout {
     /// # Errors
     ///
     /// Those of [`Layout::find`].
-    #[inline(always)]
+    #[inline(never)]
     fn find_past(
         &self,
         reference: &Ref,
@@ -139,17 +139,52 @@ impl Layout {
         }
     }
 
+    /// Where a reference stands, as [`Layout::find`] says it, whichever counts it needs: at once, where these are kept and within reach. Neither it nor what
+    /// finds past the reach is inlined, so that each keeps only what it needs itself.
+    ///
+    /// # Errors
+    ///
+    /// Those of [`Layout::find`].
+    #[inline(never)]
+    fn find_by_all_counts(
+        &self,
+        reference: &Ref,
+        receiving: bool,
+        bytes: &[u8],
+        counts: &mut Counts,
+        reads: &mut u64,
+    ) -> Result<Place, FindFault>
+        requires refers { Refers reference.now.node reference.now.subscripts.items self.now }
+        requires room { IsRoomFor self.now counts.old }
+        requires kept { KeepsOf self.now bytes.now counts.old }
+        ensures found { IsFound self.now reference.now receiving bytes.now result }
+        ensures current { IfOk result (EndsInLength self.now reference.now receiving bytes.now) }
+        ensures fits { IfOk result (λ p. p.offset + p.length ≤ sum_of greatest_number self.now) }
+        ensures same { OnCountFault result (counts.new ≡ counts.old) }
+        ensures keeps { KeepsOf self.now bytes.now counts.new }
+        ensures kept { OnCounts result (KeepsNeeded self.now reference.now receiving bytes.now
+            counts.old.kept counts.new.kept) }
+        ensures reads { ReadsAnew self.now reference.now receiving bytes.now counts.old.kept
+            reads.old reads.new }
+        ensures room { IsRoomFor self.now counts.new }
+    {
+        if let Some(place) = self.place_at_once(reference, receiving, bytes, counts, *reads) {
+            return Ok(place);
+        }
+        self.find_past(reference, receiving, bytes, counts, reads)
+    }
+
     /// Where a reference stands by the counts of these bytes that it needs. It reads only those of them that are not kept, and keeps those that it reads.
     /// Each count that is read adds one to `reads`, one that is refused too; `reads` stays at the greatest `u64`. The counts that are kept are those of
     /// these bytes. Its time doesn't grow with the number of the record's entries while all that it needs are kept, nor with that of the tables that vary
-    /// where an earlier call needed as many of them and what is kept and taken stayed since. It takes no memory. It isn't inlined: what is noted of most places
-    /// says where they are ([`Layout::place_by_sums`]).
+    /// where an earlier call needed as many of them and what is kept and taken stayed since. It takes no memory. Only the choice of its way is inlined: what is
+    /// noted of most places says where they are ([`Layout::place_by_sums`]).
     ///
     /// # Errors
     ///
     /// The first count that is read and that gives no number within its table's bounds, or that ends past the bytes: the counts are as they were then. And
     /// a subscript that is past the number of elements that its table has under the counts.
-    #[inline(never)]
+    #[inline(always)]
     pub fn find(
         &self,
         reference: &Ref,
@@ -182,9 +217,10 @@ impl Layout {
             × (reads.new ≡ min (reads.old + n) most_reads) }
         ensures room { IsRoomFor self.now counts.new }
     {
-        if let Some(place) = self.place_at_once(reference, receiving, bytes, counts, *reads) {
-            return Ok(place);
+        // In most records with a table that varies no other count is needed.
+        if let Some(lone) = self.lone_unread(reference, receiving, &counts.kept) {
+            return self.find_by_lone_count(reference, receiving, lone, bytes, counts, reads);
         }
-        self.find_past(reference, receiving, bytes, counts, reads)
+        self.find_by_all_counts(reference, receiving, bytes, counts, reads)
     }
 }

@@ -33,7 +33,7 @@
 //! - [`Layout::place_in`] finds a reference by its number, its subscripts and the spots of the counts alone, with the answer of [`Layout::place`]
 //!   (`value`, `current`, `fits`), and [`Layout::length_in`] is that of [`Layout::length`]; [`Counts::spots`] are where the first elements of all entries
 //!   stand, and [`Layout::greatest_spots`] those under the greatest counts. [`Layout::fixed_place`] does so for a reference that reads no count
-//!   (`fixed`, `value`, `none`).
+//!   (`fixed`, `value`, `none`). [`Layout::least_offset`] is where an entry begins at least, whatever the counts (`value`, `least`).
 //! - [`Layout::current_length`] is [`Layout::length_in`] after [`Layout::counts_of`] (`ok`, `least`, `most`, `err`), but places no entry and leaves the
 //!   counts as they were (`same`).
 //! - [`Layout::refresh`] answers and sets as [`Layout::needed`] does (`ok`, `err`, `same`, `stands`), but reads only those counts that are not kept, and
@@ -86,6 +86,7 @@ mod keeping;
 mod kinds;
 mod laws;
 mod layout;
+mod least;
 mod legal;
 mod lone;
 mod measuring;

@@ -4,25 +4,29 @@
 //! counts, and a reference that needs it needs no other. What such a reference needs is had in a straight line then: no counts are copied, no table is
 //! looked for, and the sums are 0 and the bytes of the table's elements.
 
-ghost use Rattle.std.specs.Prelude.{◌≡◌, ◌&&◌, ◌+◌, ◌*◌, ◌<◌, ◌≤◌, [], ◌∷◌, true, false, length, take, Err, Some, OnOk, OnErr, IfErr, IfOk, IfSome, IsTrue};
+ghost use Rattle.std.specs.Prelude.{◌≡◌, ◌&&◌, ◌+◌, ◌*◌, ◌<◌, ◌≤◌, [], ◌∷◌, true, false, length, take, Err, None, Some, OnOk, OnErr, IfErr, IfOk, IfSome, IsTrue};
 ghost use Rattle.cob_copybook_tree.specs.Forests.{entries_in};
+ghost use Rattle.cob_copybook_tree.specs.Lengths.{greatest_number, sum_of};
 ghost use Rattle.cob_limits.specs.Limits.{longest_record};
 ghost use Rattle.cob_layout_places.specs.Counts.{tables_of};
 ghost use Rattle.cob_layout_places.specs.Needs.{is_read};
 ghost use Rattle.cob_layout_places.specs.References.{Refers};
 ghost use Rattle.cob_layout.specs.Counting.{NeededOf};
-ghost use Rattle.cob_layout.specs.Finding.{HasNeeded, ReachIn};
+ghost use Rattle.cob_layout.specs.Finding.{EndsInLength, FindsNeeded, HasNeeded, IsFound, KeepsNeeded, OnCountFault, OnCounts, ReachIn};
 ghost use Rattle.cob_layout.specs.Kept.{AreKeptOf, ReadsAnew, ReadsLone, kept_numbers};
 ghost use Rattle.cob_layout.specs.Lone.{GrowsAlone, IsLoneIn, IsLoneTable};
 ghost use Rattle.cob_layout.specs.Shifts.{grow_in, sums_of};
 ghost use Rattle.cob_layout.specs.Sound.{IsSound};
-ghost use Rattle.cob_layout.specs.Standing.{LieWithin};
+ghost use Rattle.cob_layout.specs.Standing.{IsRoomFor, KeepsOf, LieWithin};
 
-use crate::counts::{KeptRange, StoredCount};
+use crate::counts::{Counts, KeptRange, StoredCount};
 use crate::fields::Place;
+use crate::finding::FindFault;
 use crate::footings::{Footing, footing_at};
-use crate::layout::Layout;
+use crate::laws::places_end_in_length;
+use crate::layout::{Layout, placed};
 use crate::shifts::Growth;
+use crate::sound::records_are_sound;
 use crate::spots::spot_at;
 use cob_layout_places::{CountFault, Found, Ref, Spot, Table, needs_are_read, one_place};
 
@@ -86,10 +90,10 @@ pub(crate) fn lone_of(tables: &[Table], growths: &[Growth], spots: &[Spot]) -> O
 
 /// Writes the sums of a record, whose lone table has so many elements.
 #[inline(always)]
-fn put_lone_sums(lone: LoneTable, number: u32, sums: &mut [u32])
+fn put_lone_sums(lone: &LoneTable, number: u32, sums: &mut [u32])
     requires room { 2 ≤ length sums.old }
-    requires small { number * lone.bytes ≤ longest_record }
-    ensures { take 2 sums.new ≡ 0 ∷ number * lone.bytes ∷ [] }
+    requires small { number * lone.now.bytes ≤ longest_record }
+    ensures { take 2 sums.new ≡ 0 ∷ number * lone.now.bytes ∷ [] }
 {
     sums[0] = 0;
     sums[1] = number * lone.bytes;
@@ -117,23 +121,35 @@ fn range_at(place: Place) -> KeptRange
 }
 
 impl Layout {
-    /// The record's lone table, where it has one and the reference reads its count.
+    /// The record's lone table, where it has one, whose count isn't kept, and the reference reads it.
     #[inline(always)]
-    pub(crate) fn lone_table(&self, reference: &Ref, receiving: bool) -> Option<LoneTable>
+    pub(crate) fn lone_unread(
+        &self,
+        reference: &Ref,
+        receiving: bool,
+        kept: &[Option<StoredCount>],
+    ) -> Option<&LoneTable>
         requires refers { Refers reference.now.node reference.now.subscripts.items self.now }
-        ensures lone { IfSome result (IsLoneIn self.now) }
+        requires as_many { length kept.now ≡ length (tables_of self.now) }
+        ensures lone { IfSome result (λ l. IsLoneIn self.now l.now) }
         ensures read { IfSome result
-            (λ l. is_read self.now reference.now.node receiving l.table ≡ true) }
-        ensures sound { IsSound self.now }
+            (λ l. is_read self.now reference.now.node receiving l.now.table ≡ true) }
+        ensures unread { IfSome result (λ _. kept.now ≡ None ∷ []) }
     {
-        let footing = footing_at(&self.footings, reference.node);
-        match self.lone {
-            Some(lone) if asks_for(footing, receiving, lone.table.number) => Some(lone),
+        match &self.lone {
+            Some(lone) if kept[0].is_none() => {
+                let footing = footing_at(&self.footings, reference.node);
+                if asks_for(footing, receiving, lone.table.number) {
+                    Some(lone)
+                } else {
+                    None
+                }
+            }
             _ => None,
         }
     }
 
-    /// The count of a lone table: the one that is kept, or else what the bytes say, which is one read more and is kept then.
+    /// The count of a lone table that isn't kept: what the bytes say, which is one read more and is kept then.
     ///
     /// # Errors
     ///
@@ -141,17 +157,17 @@ impl Layout {
     #[inline(always)]
     fn keep_lone(
         &self,
-        lone: LoneTable,
+        lone: &LoneTable,
         bytes: &[u8],
         kept: &mut [Option<StoredCount>],
         range: &mut KeptRange,
         reads: &mut u64,
     ) -> Result<u32, CountFault>
-        requires lone { IsLoneIn self.now lone }
-        requires kept { AreKeptOf self.now bytes.now kept.old }
-        requires as_many { length kept.old ≡ 1 }
+        requires lone { IsLoneIn self.now lone.now }
+        requires unread { kept.old ≡ None ∷ [] }
         requires within { LieWithin range.old kept.old }
-        ensures read { ReadsLone self.now lone.table bytes.now kept.old result reads.old reads.new }
+        ensures read { ReadsLone self.now lone.now.table bytes.now kept.old result reads.old
+            reads.new }
         ensures same { OnErr result (kept.new ≡ kept.old) }
         ensures kept { IfOk result (λ v. kept_numbers kept.new ≡ Some v ∷ []) }
         ensures within { LieWithin range.new kept.new }
@@ -159,9 +175,6 @@ impl Layout {
     {
         // For `read`: how many there were is a count of 64 bits.
         let _before = *reads;
-        if let Some(stored) = kept[0] {
-            return Ok(stored.number);
-        }
         *reads = reads.saturating_add(1);
         let place = lone.item;
         let found = Found {
@@ -178,18 +191,18 @@ impl Layout {
         Ok(number)
     }
 
-    /// Lets the counts be what a reference needs that reads the count of a lone table: this count, which is kept or else is read and kept then. The
-    /// sums are those of the counts then, and the reach goes past all tables.
+    /// Lets the counts be what a reference needs that reads the count of a lone table, which isn't kept: it is read and kept then. The sums are those of
+    /// the counts then, and the reach goes past all tables.
     ///
     /// # Errors
     ///
-    /// The count is read and gives no number within its table's bounds, or ends past the bytes. What is kept is as it was then.
+    /// The count gives no number within its table's bounds, or ends past the bytes. What is kept is as it was then.
     #[inline(always)]
-    pub(crate) fn read_lone(
+    fn read_lone(
         &self,
         reference: &Ref,
         receiving: bool,
-        lone: LoneTable,
+        lone: &LoneTable,
         bytes: &[u8],
         kept: &mut [Option<StoredCount>],
         range: &mut KeptRange,
@@ -199,11 +212,11 @@ impl Layout {
         reads: &mut u64,
     ) -> Result<(), CountFault>
         requires refers { Refers reference.now.node reference.now.subscripts.items self.now }
-        requires lone { IsLoneIn self.now lone }
-        requires read { is_read self.now reference.now.node receiving lone.table ≡ true }
+        requires lone { IsLoneIn self.now lone.now }
+        requires read { is_read self.now reference.now.node receiving lone.now.table ≡ true }
         requires sound { IsSound self.now }
         requires kept { AreKeptOf self.now bytes.now kept.old }
-        requires as_many { length kept.old ≡ length (tables_of self.now) }
+        requires unread { kept.old ≡ None ∷ [] }
         requires counts { length counts.old ≡ entries_in self.now }
         requires sums { length sums.old ≡ entries_in self.now + 1 }
         requires within { LieWithin range.old kept.old }
@@ -223,14 +236,111 @@ impl Layout {
         // For `err` and `came`: the counts that are read are those that the reference needs, and counts that agree on them give it one place.
         needs_are_read();
         one_place();
-        *reach = 0;
         let number = match self.keep_lone(lone, bytes, kept, range, reads) {
             Ok(number) => number,
-            Err(fault) => return Err(fault),
+            Err(fault) => {
+                *reach = 0;
+                return Err(fault);
+            }
         };
         counts[lone.table.number] = number;
         put_lone_sums(lone, number, sums);
         *reach = usize::MAX;
         Ok(())
+    }
+
+    /// The element of a reference that reads the count of this lone table, which isn't kept.
+    ///
+    /// # Errors
+    ///
+    /// The first count that is read and that gives no number within its table's bounds, or that ends past the bytes. The counts are as they were then.
+    #[inline(always)]
+    fn found_lone(
+        &self,
+        reference: &Ref,
+        receiving: bool,
+        lone: &LoneTable,
+        bytes: &[u8],
+        counts: &mut Counts,
+        reads: &mut u64,
+    ) -> Result<Found, CountFault>
+        requires refers { Refers reference.now.node reference.now.subscripts.items self.now }
+        requires room { IsRoomFor self.now counts.old }
+        requires kept { KeepsOf self.now bytes.now counts.old }
+        requires lone { IsLoneIn self.now lone.now }
+        requires read { is_read self.now reference.now.node receiving lone.now.table ≡ true }
+        requires unread { counts.old.kept ≡ None ∷ [] }
+        ensures err { IfErr result
+            (λ e. NeededOf self.now reference.now.node receiving bytes.now (Err e)) }
+        ensures same { OnErr result (counts.new ≡ counts.old) }
+        ensures came { IfOk result (FindsNeeded self.now reference.now receiving bytes.now
+            counts.old.kept counts.new.kept) }
+        ensures keeps { OnOk result (KeepsOf self.now bytes.now counts.new) }
+        ensures reads { ReadsAnew self.now reference.now receiving bytes.now counts.old.kept
+            reads.old reads.new }
+        ensures room { IsRoomFor self.now counts.new }
+    {
+        // For what `read_lone` asks: a record description is sound.
+        let _ = self.greatest();
+        records_are_sound();
+        self.read_lone(
+            reference,
+            receiving,
+            lone,
+            bytes,
+            &mut counts.kept,
+            &mut counts.range,
+            &mut counts.next,
+            &mut counts.sums,
+            &mut counts.reach,
+            reads,
+        )?;
+        Ok(self.element_or_apart(reference, &counts.sums, &counts.next))
+    }
+
+    /// Where a reference stands, as [`Layout::find`] says it, that reads the count of this lone table, which isn't kept.
+    ///
+    /// # Errors
+    ///
+    /// Those of [`Layout::find`].
+    #[inline(never)]
+    pub(crate) fn find_by_lone_count(
+        &self,
+        reference: &Ref,
+        receiving: bool,
+        lone: &LoneTable,
+        bytes: &[u8],
+        counts: &mut Counts,
+        reads: &mut u64,
+    ) -> Result<Place, FindFault>
+        requires refers { Refers reference.now.node reference.now.subscripts.items self.now }
+        requires room { IsRoomFor self.now counts.old }
+        requires kept { KeepsOf self.now bytes.now counts.old }
+        requires lone { IsLoneIn self.now lone.now }
+        requires read { is_read self.now reference.now.node receiving lone.now.table ≡ true }
+        requires unread { counts.old.kept ≡ None ∷ [] }
+        ensures found { IsFound self.now reference.now receiving bytes.now result }
+        ensures current { IfOk result (EndsInLength self.now reference.now receiving bytes.now) }
+        ensures fits { IfOk result (λ p. p.offset + p.length ≤ sum_of greatest_number self.now) }
+        ensures same { OnCountFault result (counts.new ≡ counts.old) }
+        ensures keeps { KeepsOf self.now bytes.now counts.new }
+        ensures kept { OnCounts result (KeepsNeeded self.now reference.now receiving bytes.now
+            counts.old.kept counts.new.kept) }
+        ensures reads { ReadsAnew self.now reference.now receiving bytes.now counts.old.kept
+            reads.old reads.new }
+        ensures room { IsRoomFor self.now counts.new }
+    {
+        // For `current`: an element that is there ends within the record's length,
+        places_end_in_length();
+        // and the layout is that of a record description.
+        let _ = self.greatest();
+        let found = match self.found_lone(reference, receiving, lone, bytes, counts, reads) {
+            Ok(found) => found,
+            Err(fault) => return Err(FindFault::Count(fault)),
+        };
+        match placed(found) {
+            Ok(place) => Ok(place),
+            Err(fault) => Err(FindFault::Subscript(fault)),
+        }
     }
 }

@@ -53,9 +53,23 @@ fn serve_spared(
 }
 
 impl Layout {
-    /// The element of a reference under these counts, whose sums these are.
+    /// The element of a reference without subscripts under these counts, whose sums these are.
     #[inline(always)]
-    fn element_in(&self, reference: &Ref, sums: &[u32], counts: &[u32]) -> Found
+    fn first_in(&self, reference: &Ref, sums: &[u32], counts: &[u32]) -> Found
+        requires none { length reference.now.subscripts.items ≡ 0 }
+        requires refers { Refers reference.now.node reference.now.subscripts.items self.now }
+        requires room { length sums.now ≡ entries_in self.now + 1 }
+        requires sums { take (grow_in self.now + 1) sums.now ≡ sums_of self.now counts.now }
+        ensures { element_under counts.now self.now reference.now ≡ Some result }
+    {
+        let sums = self.own_sums(sums);
+        let footing = footing_at(&self.footings, reference.node);
+        first_by(footing, sums)
+    }
+
+    /// The element of a reference under these counts, whose sums these are: the first one, moved by its subscripts.
+    #[inline(always)]
+    fn element_moved(&self, reference: &Ref, sums: &[u32], counts: &[u32]) -> Found
         requires refers { Refers reference.now.node reference.now.subscripts.items self.now }
         requires room { length sums.now ≡ entries_in self.now + 1 }
         requires sums { take (grow_in self.now + 1) sums.now ≡ sums_of self.now counts.now }
@@ -66,10 +80,6 @@ impl Layout {
         let sums = self.own_sums(sums);
         let footing = footing_at(&self.footings, reference.node);
         let first = first_by(footing, sums);
-        let subscripts = reference.subscripts.as_slice();
-        if subscripts.is_empty() {
-            return first;
-        }
         let tables = tables_at(&self.ways, reference.node);
         element_by(
             &self.shifts,
@@ -78,8 +88,47 @@ impl Layout {
             counts,
             first,
             tables,
-            subscripts,
+            reference.subscripts.as_slice(),
         )
+    }
+
+    /// The element of a reference, as [`Layout::element_moved`] says it, behind a call.
+    #[inline(never)]
+    fn element_apart(&self, reference: &Ref, sums: &[u32], counts: &[u32]) -> Found
+        requires refers { Refers reference.now.node reference.now.subscripts.items self.now }
+        requires room { length sums.now ≡ entries_in self.now + 1 }
+        requires sums { take (grow_in self.now + 1) sums.now ≡ sums_of self.now counts.now }
+        ensures { element_under counts.now self.now reference.now ≡ Some result }
+    {
+        self.element_moved(reference, sums, counts)
+    }
+
+    /// The element of a reference under these counts, whose sums these are.
+    #[inline(always)]
+    fn element_in(&self, reference: &Ref, sums: &[u32], counts: &[u32]) -> Found
+        requires refers { Refers reference.now.node reference.now.subscripts.items self.now }
+        requires room { length sums.now ≡ entries_in self.now + 1 }
+        requires sums { take (grow_in self.now + 1) sums.now ≡ sums_of self.now counts.now }
+        ensures { element_under counts.now self.now reference.now ≡ Some result }
+    {
+        if reference.subscripts.is_empty() {
+            return self.first_in(reference, sums, counts);
+        }
+        self.element_moved(reference, sums, counts)
+    }
+
+    /// The element of a reference, as [`Layout::element_in`] says it. Subscripts cost a call, and nothing where there are none.
+    #[inline(always)]
+    pub(crate) fn element_or_apart(&self, reference: &Ref, sums: &[u32], counts: &[u32]) -> Found
+        requires refers { Refers reference.now.node reference.now.subscripts.items self.now }
+        requires room { length sums.now ≡ entries_in self.now + 1 }
+        requires sums { take (grow_in self.now + 1) sums.now ≡ sums_of self.now counts.now }
+        ensures { element_under counts.now self.now reference.now ≡ Some result }
+    {
+        if reference.subscripts.as_slice().is_empty() {
+            return self.first_in(reference, sums, counts);
+        }
+        self.element_apart(reference, sums, counts)
     }
 
     /// The element of a reference under these counts, where those that it needs are among those that they reach; None where they may be others.
@@ -223,12 +272,6 @@ impl Layout {
         one_place();
         // For `reads`: how many there were is a count of 64 bits.
         let _before = *reads;
-        // In most records with a table that varies no other count is needed.
-        if let Some(lone) = self.lone_table(reference, receiving) {
-            return self.read_lone(
-                reference, receiving, lone, bytes, kept, range, counts, sums, reach, reads,
-            );
-        }
         let tables = self.tables.as_slice();
         let needed = self.needed_by(reference.node, receiving);
         if serve_spared(tables, needed, kept, counts) {
