@@ -115,6 +115,22 @@ pub(crate) fn meanings_of(
     Ok(list)
 }
 
+/// The moves of statements among the entries that may be named, and what refuses them.
+fn meant_among(
+    alloc: Global,
+    entries: &Entries<'_, '_>,
+    statements: &[Statement<'_>],
+) -> Result<Vec<StatementMoves>, MoveFault>
+    requires named { AllMayBeNamed entries.now }
+    ensures found { IfOk result (λ v. AreMeaningsAmong entries.now
+        (written_statements statements.now) v.items) }
+    ensures fault { IfErr result (λ f. SomeBrokenAmong f entries.now
+        (written_statements statements.now)) }
+{
+    let mut pairs = Correspondences::new(alloc, entries.input.root(), entries.output.root());
+    meanings_of(alloc, entries, &mut pairs, statements)
+}
+
 /// The moves of statements between two records, and what refuses them.
 fn meant_between<'a>(
     alloc: Global,
@@ -128,14 +144,12 @@ fn meant_between<'a>(
         (written_statements statements.now)) }
 {
     let names = Names::of(alloc, input, output)?;
-    let mut pairs = Correspondences::new(alloc, input.root(), output.root());
     let entries = Entries {
         names: &names,
         input,
         output,
     };
-    let list = meanings_of(alloc, &entries, &mut pairs, statements)?;
-    Ok(list)
+    meant_among(alloc, &entries, statements)
 }
 
 /// The moves that statements mean between two records, one statement's behind another's.

@@ -1,6 +1,6 @@
 //! Paragraphs.
 
-ghost use Rattle.std.specs.Prelude.{◌≡◌, ◌+◌, ◌*◌, ◌≤◌, ℕ, length, min, IfErr, IfOk};
+ghost use Rattle.std.specs.Prelude.{◌≡◌, ◌+◌, ◌*◌, ◌≤◌, List, ℕ, length, min, IfErr, IfOk};
 ghost use Rattle.cob_layout.specs.Storage.{IsStorage, greatest_length};
 ghost use Rattle.cob_layout_places.specs.Counts.{tables_of};
 ghost use Rattle.cob_move_apply.specs.Applied.{ending};
@@ -14,7 +14,11 @@ ghost use Rattle.cob_move_deeds.specs.Met.{DeedsHaveMet};
 ghost use Rattle.cob_move_deeds.specs.Prepared.{deeds_of};
 ghost use Rattle.cob_move_deeds.specs.Tests.{Judged, Past};
 ghost use Rattle.cob_move_statements.specs.Reading.{IsOrLacksMemory};
+ghost use Rattle.cob_source.specs.Tokens.{lexemes};
+ghost use Rattle.cob_source.specs.Words.{AreParagraphWordsOf};
 ghost use Rattle.cob_move.specs.Among.{both};
+ghost use Rattle.cob_move.specs.DeedsRead.{DeedsRefused, SaysDeeds};
+ghost use Rattle.cob_move.specs.Entries.{AllMayBeNamed, records_of};
 ghost use Rattle.cob_move.specs.Paragraphs.{AreReady, IsParagraphOf, IsReadyFor, IsRefusalOf, deeds_in, steps_told};
 
 use crate::body::{deeds_of_body, straight_deeds};
@@ -29,13 +33,63 @@ use cob_move_apply::{Scratch, Stop};
 use cob_move_deeds::ReadyDeeds;
 use cob_move_names::{Correspondences, Names};
 use cob_move_statements::MoveFault;
-use cob_source::paragraph_tokens;
+use cob_source::{Token, paragraph_tokens};
 use std::alloc::Global;
 
 /// What a paragraph does between two records, ready to be carried out.
 #[derive(Drop)]
 pub struct Paragraph {
     deeds: ReadyDeeds,
+}
+
+/// What words behind a heading come to among the entries that may be named, ready to be carried out.
+///
+/// # Errors
+///
+/// A rule that they break, with its line; `Memory`.
+fn deeds_among(
+    alloc: Global,
+    entries: &Entries<'_, '_>,
+    body: &[Token],
+) -> Result<ReadyDeeds, MoveFault>
+    requires named { AllMayBeNamed entries.now }
+    ensures found { IfOk result (λ d. SaysDeeds entries.now (lexemes body.now)
+        (deeds_of (records_of entries.now) d)) }
+    ensures ready { IfOk result (AreReady (records_of entries.now)) }
+    ensures fault { IfErr result (λ f. DeedsRefused f entries.now (lexemes body.now)) }
+{
+    let mut pairs = Correspondences::new(alloc, entries.input.root(), entries.output.root());
+    deeds_of_body(alloc, entries, &mut pairs, body)
+}
+
+/// What the words of a text do between two records.
+///
+/// # Errors
+///
+/// A rule that they break, with its line; `Memory`.
+fn deeds_of_words(
+    alloc: Global,
+    input: &Layout,
+    output: &Layout,
+    words: &[Token],
+) -> Result<ReadyDeeds, MoveFault>
+    ensures found { IfOk result (λ d. (text : List ℕ)
+        → AreParagraphWordsOf text (lexemes words.now)
+        → IsParagraphOf text input.now output.now (deeds_of (both input.now output.now) d)) }
+    ensures ready { IfOk result (AreReady (both input.now output.now)) }
+    ensures fault { IfErr result (λ f. (text : List ℕ)
+        → AreParagraphWordsOf text (lexemes words.now)
+        → IsRefusalOf f text input.now output.now) }
+{
+    let names = Names::of(alloc, input, output)?;
+    let entries = Entries {
+        names: &names,
+        input,
+        output,
+    };
+    let body = body_of(words);
+    let deeds = deeds_among(alloc, &entries, body)?;
+    Ok(deeds)
 }
 
 /// What a text does between two records, all its words read at once.
@@ -55,16 +109,7 @@ fn deeds_of_whole(
     ensures fault { IfErr result (λ f. IsRefusalOf f text.now input.now output.now) }
 {
     let words = paragraph_tokens(alloc, text)?;
-    let names = Names::of(alloc, input, output)?;
-    let mut pairs = Correspondences::new(alloc, input.root(), output.root());
-    let entries = Entries {
-        names: &names,
-        input,
-        output,
-    };
-    let body = body_of(words.as_slice());
-    let deeds = deeds_of_body(alloc, &entries, &mut pairs, body)?;
-    Ok(deeds)
+    deeds_of_words(alloc, input, output, words.as_slice())
 }
 
 /// What a text does between two records. It is read piece by piece, and where a piece isn't read alone, at once: so what is wrong is told of the whole.

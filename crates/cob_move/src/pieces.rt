@@ -298,6 +298,25 @@ fn all_pieces(
     Ok(None)
 }
 
+/// The moves that a text says among the entries that may be named, where its pieces are all read alone.
+///
+/// # Errors
+///
+/// `Memory`.
+fn pieces_among(
+    alloc: Global,
+    entries: &Entries<'_, '_>,
+    text: &[u8],
+) -> Result<Option<Vec<StatementMoves>>, MoveFault>
+    requires named { AllMayBeNamed entries.now }
+    ensures found { IfOk result (λ o. IfSome o (λ v. IsParagraphAmong text.now entries.now
+        v.items)) }
+    ensures fault { IfErr result IsRefusedMemory }
+{
+    let mut pairs = Correspondences::new(alloc, entries.input.root(), entries.output.root());
+    all_pieces(alloc, entries, &mut pairs, text)
+}
+
 /// The moves that a text says between two records, read piece by piece; None where it says none, or where a piece of it isn't read alone.
 ///
 /// # Errors
@@ -314,11 +333,10 @@ pub(crate) fn meant_in_pieces(
     ensures fault { IfErr result IsRefusedMemory }
 {
     let names = Names::of(alloc, input, output)?;
-    let mut pairs = Correspondences::new(alloc, input.root(), output.root());
     let entries = Entries {
         names: &names,
         input,
         output,
     };
-    all_pieces(alloc, &entries, &mut pairs, text)
+    pieces_among(alloc, &entries, text)
 }

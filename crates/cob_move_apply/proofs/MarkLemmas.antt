@@ -335,3 +335,15 @@ step_within r given on steps marks from to p q parted le lt here there =
     let rises = (parted.rise from to le lt).1 in
     let end = (parted.rise to (length marks - 1) (omega (arith, lt)) (omega (arith, lt))).1 in
     (omega (arith, ap (λ (m : Mark). m.step) first, ap (λ (m : Mark). m.step) last, rises), omega (arith, ap (λ (m : Mark). m.step) last, end, parted.last))
+
+-- all steps stand for the moves of all statements; of statements and steps that are slices
+pub stand_whole : (x : Reading) (r : Records) (given said : List StatementMoves) (on : Support) (steps taken : List Step) (marks : List Mark) → said ≡ given → taken ≡ steps → ArePartedBy r given on steps marks
+    → (last_mark marks).statement ≡ length given → StandFor x r said taken on (moves_by x r given)
+stand_whole x r given said on steps taken marks same as_steps parted whole =
+    let between : items_between (mark_at marks 0).step (last_mark marks).step steps ≡ steps =
+    ap (λ (m : Mark). items_between m.step (last_mark marks).step steps) parted.first ∙ ap (λ (n : ℕ). items_between 0 n steps) parted.last ∙ whole_between steps in
+    subst (λ (ts : List Step). StandFor x r said ts on (moves_by x r given)) (sym as_steps)
+    (subst (λ (ss : List StatementMoves). StandFor x r ss steps on (moves_by x r given)) (sym same)
+    (subst (λ (ts : List Step). StandFor x r given ts on (moves_by x r given)) between
+    (subst (λ (ms : List Move). StandFor x r given (items_between (mark_at marks 0).step (last_mark marks).step steps) on ms) (between_all x r given marks parted.first whole)
+    (parted.stand x 0 (length marks - 1) (omega arith) (omega (arith, parted.some))))))

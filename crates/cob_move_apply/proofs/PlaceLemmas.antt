@@ -1,5 +1,5 @@
 -- Where operands stand.
-use Rattle.std.proofs.Common.{◌≡◌, ℕ, ◌+◌, ◌≤◌, [], ◌==◌, Bool, true, false, List, refl, sym, ap, subst, ◌∙◌, length, arith, inl, inr, Option, Some, None, Ok, Err, Result}
+use Rattle.std.proofs.Common.{◌≡◌, ℕ, ◌+◌, ◌≤◌, ◌<◌, [], ◌==◌, Bool, true, false, List, refl, sym, ap, subst, ◌∙◌, length, arith, inl, inr, Option, Some, None, Ok, Err, Result}
 use Rattle.std.specs.Prelude.{option_map, IfSome}
 use Rattle.cob_copybook_tree.specs.declared.node.Item.{Item}
 use Rattle.cob_copybook_tree.specs.declared.node.Kind.{Kind}
@@ -14,14 +14,14 @@ use Rattle.cob_layout_places.specs.Lengths.{times}
 use Rattle.cob_layout_places.specs.Places.{place_of, or_else, choose}
 use Rattle.cob_layout_places.specs.Counts.{kind_in, tables_of}
 use Rattle.cob_layout.proofs.CountLemmas.{found_size, pairs_in}
-use Rattle.cob_layout.specs.declared.summed.SummedPlace.{SummedPlace}
+use Rattle.cob_layout_places.specs.declared.reference.Ref.{Ref}
 use Rattle.cob_layout.specs.declared.finding.FindFault.{FindFault}
 use Rattle.cob_layout.specs.declared.finding.FindFault.TheVariants as finding
 use Rattle.cob_layout.specs.Finding.{IsFound}
 use Rattle.cob_layout.specs.Placed.{placed}
 use Rattle.cob_layout.proofs.StorageLemmas.{found_by}
 use Rattle.cob_layout.specs.Counting.{greatest_counts, ReadsNone}
-use Rattle.cob_layout.specs.Elements.{IsElementPlace, IsThereBy, KeptPlaceElements}
+use Rattle.cob_layout.specs.Elements.{HaveSoMany, IsElementPlace, IsThereBy, KeptPlaceElements}
 use Rattle.cob_layout.specs.Standing.{RoomForCounts}
 use Rattle.cob_layout.specs.Storage.{greatest_length}
 use Rattle.cob_move_data.specs.declared.operands.Side.{Side}
@@ -31,7 +31,8 @@ use Rattle.cob_move_apply.specs.declared.basis.Basis.{Basis}
 use Rattle.cob_move_apply.specs.declared.basis.Basis.TheVariants as basis
 use Rattle.cob_move_apply.specs.Located.{Located, StandsUnder, stop_of}
 use Rattle.cob_move_apply.specs.declared.stop.Stop.{Stop}
-use Rattle.cob_move_apply.specs.Placed.{IsFixed, StandsAsNoted, IsPlaced}
+use Rattle.cob_move_apply.specs.declared.basis.NotedPlace.{NotedPlace}
+use Rattle.cob_move_apply.specs.Placed.{IsBasis, IsFixed, IsNoted, IsNotedIn, StandsAsNoted, IsPlaced, element_of}
 use Rattle.cob_move_apply.specs.Surveyed.{IsSurvey}
 use Rattle.cob_move_apply.specs.declared.survey.Survey.{Survey}
 use Rattle.cob_layout.specs.Sound.{IsSound, IsStorableKind, AreStorable}
@@ -112,24 +113,53 @@ element_at law side t receiving o bytes s e p sound operand survey is (same, the
 ends_as : (most : ℕ) (p q : Place) → p ≡ q → q.offset + q.length ≤ most → p.offset + p.length ≤ most
 ends_as most p q same within = omega (arith, within, ap (λ (x : Place). x.offset) same, ap (λ (x : Place). x.length) same)
 
+-- where what is noted says
+noted_there : KeptPlaceElements → (side : Side) (t : Forest Resolved) (receiving : Bool) (o : Operand) (bytes : List ℕ) (s : Survey) (n : NotedPlace) (p : Place) → IsSound t → IsOperand t o → IsSurvey t bytes s
+    → p ≡ n.place → HaveSoMany s.counts.kept n.least → IsNoted t receiving o n → Located side t receiving o bytes (Ok p)
+noted_there law side t receiving o bytes s n p sound operand survey same many (inl is) = subst (λ (x : Place). Located side t receiving o bytes (Ok x)) (sym same) (is.place side bytes)
+noted_there law side t receiving o bytes s n p sound operand survey same (inl none) (inr (some, is)) = absurd (some none)
+noted_there law side t receiving o bytes s n p sound operand survey same (inr there) (inr (some, is)) = element_at law side t receiving o bytes s (element_of n) p sound operand survey is (same, there)
+
+-- which is within the record
+noted_ends : (t : Forest Resolved) (receiving : Bool) (o : Operand) (n : NotedPlace) (p : Place) → p ≡ n.place → IsNoted t receiving o n → p.offset + p.length ≤ greatest_length t
+noted_ends t receiving o n p same (inl is) = ends_as (greatest_length t) p n.place same is.within
+noted_ends t receiving o n p same (inr (some, is)) = ends_as (greatest_length t) p n.place same is.within
+
+-- an element that is noted
+pub noted_element : (t : Forest Resolved) (receiving : Bool) (o : Operand) (e : ElementPlace) (least : ℕ) → least ≡ e.least → 0 < least → IsElementPlace t o.entry receiving e
+    → IsBasis t receiving o (basis.Noted (record { place = e.place; least = least }))
+noted_element t receiving o e least same some is =
+    inr (
+      λ none. omega (arith, none, some),
+      subst (λ (m : ℕ). IsElementPlace t o.entry receiving (record { place = e.place; least = m })) (sym same) (record {
+        table = is.table;
+        others = is.others;
+        first = is.first;
+        reads = is.reads;
+        alone = is.alone;
+        stands = is.stands;
+        within = is.within;
+      }),
+    )
+
 -- where the sums say
-pub noted_by_sums : (t : Forest Resolved) (receiving : Bool) (o : Operand) (bytes : List ℕ) (ks : List (Option StoredCount)) (s : SummedPlace) (r : Option Place) → IfSome r (λ p. IsFound t o.entry receiving bytes (Ok p))
-    → IfSome r (λ p. p.offset + p.length ≤ greatest_length t) → IfSome r (StandsAsNoted t receiving o bytes ks (basis.Summed s))
-noted_by_sums t receiving o bytes ks s None found within = tt
-noted_by_sums t receiving o bytes ks s (Some p) found within = (found, within)
+pub by_sums : (t : Forest Resolved) (receiving : Bool) (r : Ref) (bytes : List ℕ) (found : Option Place) → IfSome found (λ p. IsFound t r receiving bytes (Ok p)) → IfSome found (λ p. p.offset + p.length ≤ greatest_length t)
+    → IfSome found (λ p. IsFound t r receiving bytes (Ok p) × (p.offset + p.length ≤ greatest_length t))
+by_sums t receiving r bytes None found within = tt
+by_sums t receiving r bytes (Some p) found within = (found, within)
 
 -- an operand stands where what is noted says
 pub noted_at : KeptPlaceElements → (side : Side) (t : Forest Resolved) (receiving : Bool) (o : Operand) (bytes : List ℕ) (s : Survey) (b : Basis) (p : Place) → IsSound t → IsPlaced t receiving o b → IsSurvey t bytes s
     → StandsAsNoted t receiving o bytes s.counts.kept b p → Located side t receiving o bytes (Ok p)
-noted_at law side t receiving o bytes s (basis.Fixed q) p sound is survey same = subst (λ (x : Place). Located side t receiving o bytes (Ok x)) (sym same) (is.basis.place side bytes)
-noted_at law side t receiving o bytes s (basis.Element e) p sound is survey noted = element_at law side t receiving o bytes s e p sound is.operand survey is.basis noted
-noted_at law side t receiving o bytes s (basis.Summed q) p sound is survey (found, within) = found
-noted_at law side t receiving o bytes s basis.Counted p sound is survey none = absurd none
+noted_at law side t receiving o bytes s (basis.Noted n) p sound is survey (same, many) = noted_there law side t receiving o bytes s n p sound is.operand survey same many is.basis
+noted_at law side t receiving o bytes s (basis.Counted q) p sound is survey (found, within) = found
+
+-- and where what is noted is asked first
+pub noted_first : (t : Forest Resolved) (receiving : Bool) (o : Operand) (bytes : List ℕ) (ks : List (Option StoredCount)) (b : Basis) (p : Place) → IsNotedIn b ks p → StandsAsNoted t receiving o bytes ks b p
+noted_first t receiving o bytes ks b p (n, same, at, many) = subst (λ (x : Basis). StandsAsNoted t receiving o bytes ks x p) (sym same) (at, many)
 
 -- which is within the record
 pub noted_within : (t : Forest Resolved) (receiving : Bool) (o : Operand) (bytes : List ℕ) (ks : List (Option StoredCount)) (b : Basis) (p : Place) → IsPlaced t receiving o b → StandsAsNoted t receiving o bytes ks b p
     → p.offset + p.length ≤ greatest_length t
-noted_within t receiving o bytes ks (basis.Fixed q) p is same = ends_as (greatest_length t) p q same is.basis.within
-noted_within t receiving o bytes ks (basis.Element e) p is noted = ends_as (greatest_length t) p e.place noted.0 is.basis.within
-noted_within t receiving o bytes ks (basis.Summed q) p is (found, within) = within
-noted_within t receiving o bytes ks basis.Counted p is none = absurd none
+noted_within t receiving o bytes ks (basis.Noted n) p is (same, many) = noted_ends t receiving o n p same is.basis
+noted_within t receiving o bytes ks (basis.Counted q) p is (found, within) = within

@@ -1,10 +1,11 @@
 -- Moves, with what the places of their operands rest on.
-use Rattle.std.specs.Prelude.{◌≡◌, ℕ, ◌+◌, ◌≤◌, Bool, true, false, List, [], ◌∷◌, ◌++◌, map, Option, Ok}
+use Rattle.std.specs.Prelude.{◌≡◌, ◌⊎◌, ℕ, ◌+◌, ◌≤◌, Bool, true, false, List, [], ◌∷◌, ◌++◌, map, Option, IfSome, Ok}
 use Rattle.cob_copybook_tree.specs.Forests.{Forest}
 use Rattle.cob_copybook_tree.specs.Nodes.{Resolved}
 use Rattle.cob_layout.specs.declared.counts.StoredCount.{StoredCount}
 use Rattle.cob_layout.specs.declared.fields.Place.{Place}
-use Rattle.cob_layout.specs.Elements.{IsElementPlace, IsThereBy}
+use Rattle.cob_layout.specs.declared.elements.ElementPlace.{ElementPlace}
+use Rattle.cob_layout.specs.Elements.{HaveSoMany, IsElementPlace}
 use Rattle.cob_layout.specs.Finding.{IsFound}
 use Rattle.cob_layout.specs.Summed.{IsSummedPlace}
 use Rattle.cob_layout.specs.Storage.{greatest_length}
@@ -18,6 +19,7 @@ use Rattle.cob_move_apply.specs.Applied.{Content}
 use Rattle.cob_move_apply.specs.Located.{Located}
 use Rattle.cob_move_apply.specs.declared.receivers.Given.{Given}
 use Rattle.cob_move_apply.specs.declared.basis.Basis.{Basis}
+use Rattle.cob_move_apply.specs.declared.basis.NotedPlace.{NotedPlace}
 use Rattle.cob_move_apply.specs.declared.basis.Basis.TheVariants as basis
 
 -- what the code's value gives
@@ -29,20 +31,28 @@ pub record IsFixed (tree : Forest Resolved) (receiving : Bool) (o : Operand) (p 
   pub place : (side : Side) (bytes : List ℕ) → Located side tree receiving o bytes (Ok p)
   pub within : p.offset + p.length ≤ greatest_length tree
 
--- An operand's place, sending or receiving, may rest on this: on no count where it is noted and the same in every storage; on the count of one table, and on
--- that only whether the element is there; on the counts that it needs, by which it stands where the sums of the tables say; and on those that it needs.
+-- a noted place, as that of an element which is there by one count
+abbrev pub element_of : NotedPlace → ElementPlace
+element_of n = record { place = n.place; least = n.least }
+
+-- This is the operand's place, sending or receiving: in every storage, or wherever one count says that the element is there.
+abbrev pub IsNoted : Forest Resolved → Bool → Operand → NotedPlace → Type 0
+IsNoted tree receiving o n = IsFixed tree receiving o n.place ⊎ ((n.least ≡ 0 → ⊥) × IsElementPlace tree o.entry receiving (element_of n))
+
+-- An operand's place, sending or receiving, may rest on this: on what is noted, or on the counts that it needs, by which it stands where the sums of the
+-- tables say, if a sum is noted.
 abbrev pub IsBasis : Forest Resolved → Bool → Operand → Basis → Type 0
-IsBasis tree receiving o (basis.Fixed p) = IsFixed tree receiving o p
-IsBasis tree receiving o (basis.Element e) = IsElementPlace tree o.entry receiving e
-IsBasis tree receiving o (basis.Summed s) = IsSummedPlace tree o.entry receiving s
-IsBasis tree receiving o basis.Counted = Unit {0}
+IsBasis tree receiving o (basis.Noted n) = IsNoted tree receiving o n
+IsBasis tree receiving o (basis.Counted s) = IfSome s (IsSummedPlace tree o.entry receiving)
 
 -- what is noted of an operand's place, and the counts that are kept of a storage, say that it is this
 abbrev pub StandsAsNoted : Forest Resolved → Bool → Operand → (bytes : List ℕ) → List (Option StoredCount) → Basis → Place → Type 0
-StandsAsNoted tree receiving o bytes ks (basis.Fixed q) p = p ≡ q
-StandsAsNoted tree receiving o bytes ks (basis.Element e) p = (p ≡ e.place) × IsThereBy ks e
-StandsAsNoted tree receiving o bytes ks (basis.Summed s) p = IsFound tree o.entry receiving bytes (Ok p) × (p.offset + p.length ≤ greatest_length tree)
-StandsAsNoted tree receiving o bytes ks basis.Counted p = ⊥
+StandsAsNoted tree receiving o bytes ks (basis.Noted n) p = (p ≡ n.place) × HaveSoMany ks n.least
+StandsAsNoted tree receiving o bytes ks (basis.Counted s) p = IsFound tree o.entry receiving bytes (Ok p) × (p.offset + p.length ≤ greatest_length tree)
+
+-- this is a place that is noted, and the count that is kept says that the operand is there
+abbrev pub IsNotedIn : Basis → List (Option StoredCount) → Place → Type 0
+IsNotedIn b ks p = (n : NotedPlace) × (b ≡ basis.Noted n) × (p ≡ n.place) × HaveSoMany ks n.least
 
 -- an operand of the record, with what its place rests on
 pub record IsPlaced (tree : Forest Resolved) (receiving : Bool) (o : Operand) (b : Basis) : Type 0 where

@@ -269,9 +269,9 @@ fn make_step(
 }
 
 /// Carries out the moves in front whose places are found as they are carried out, one after another, as far as they go at once. The answer are the steps
-/// that are left: the first of them is another one, or something is missing. It isn't inlined, as [`run_placed_steps`] isn't.
+/// that are left: the first of them is another one, or something is missing. It isn't inlined and stands twice, as [`run_placed_steps`] does.
 #[inline(never)]
-fn run_located_steps<'a>(
+fn run_located_steps<'a, const VARIES: bool>(
     plan: &Plan,
     steps: &'a [Step],
     layouts: &Layouts<'_>,
@@ -279,6 +279,7 @@ fn run_located_steps<'a>(
     output: &mut [u8],
     space: &mut Workspace,
 ) -> &'a [Step]
+    requires varies { layouts.now.varies ≡ VARIES }
     requires in_sound { IsSound layouts.now.input.now }
     requires out_sound { IsSound layouts.now.output.now }
     requires steps { AreLeft plan.now steps.now layouts.now input.now output.old }
@@ -298,7 +299,7 @@ fn run_located_steps<'a>(
         let Step::Located(number) = step else {
             return left;
         };
-        if !run_located(plan, *number, layouts, input, output, space) {
+        if !run_located::<VARIES>(plan, *number, layouts, input, output, space) {
             return left;
         }
         left = next;
@@ -376,6 +377,36 @@ fn run_placed<'a>(
     }
 }
 
+/// Does what [`run_located_steps`] does, whether a table of the output record varies or not.
+#[inline(always)]
+fn run_all_located<'a>(
+    plan: &Plan,
+    steps: &'a [Step],
+    layouts: &Layouts<'_>,
+    input: &[u8],
+    output: &mut [u8],
+    space: &mut Workspace,
+) -> &'a [Step]
+    requires in_sound { IsSound layouts.now.input.now }
+    requires out_sound { IsSound layouts.now.output.now }
+    requires steps { AreLeft plan.now steps.now layouts.now input.now output.old }
+    requires input { IsStorage layouts.now.input.now input.now }
+    requires output { length output.old ≡ greatest_length layouts.now.output.now }
+    requires space { IsWorkspace (records layouts.now) input.now output.old space.old }
+    ensures left { LeavesRest plan.now steps.now result.now layouts.now input.now output.old
+        output.new }
+    ensures space { IsWorkspace (records layouts.now) input.now output.new space.new }
+    ensures spends { RestSpends plan.now steps.now result.now layouts.now input.now output.old
+        output.new space.old space.new }
+    ensures fewer { length result.now ≤ length steps.now }
+{
+    if layouts.varies {
+        run_located_steps::<true>(plan, steps, layouts, input, output, space)
+    } else {
+        run_located_steps::<false>(plan, steps, layouts, input, output, space)
+    }
+}
+
 /// Whether the first of these steps is a move whose places are found as it is carried out.
 #[inline(always)]
 fn first_is_located(steps: &[Step]) -> bool {
@@ -411,7 +442,7 @@ fn run_ready<'a>(
 {
     let mut rest = run_placed(plan, steps, layouts, input, output, space);
     while first_is_located(rest) {
-        let left = run_located_steps(plan, rest, layouts, input, output, space);
+        let left = run_all_located(plan, rest, layouts, input, output, space);
         if left.len() == rest.len() {
             return left;
         }
@@ -458,6 +489,21 @@ fn apply_steps(
     Ok(())
 }
 
+/// The same answer, with the parts of its stop named again: so the compiler keeps them apart, and no function that hands it on copies it through memory.
+#[inline(always)]
+fn parts_again(answer: Result<(), Stop>) -> Result<(), Stop>
+    ensures { result ≡ answer }
+{
+    match answer {
+        Ok(()) => Ok(()),
+        Err(stop) => Err(Stop {
+            side: stop.side,
+            offset: stop.offset,
+            cause: stop.cause,
+        }),
+    }
+}
+
 /// Carries out some steps of the plan of moves, in order. What is kept of the counts of either record is that of its storage.
 ///
 /// # Errors
@@ -490,7 +536,7 @@ pub(crate) fn apply_some(
     let rest = run_ready(plan, steps, layouts, input, output, space);
     match rest {
         [] => Ok(()),
-        _ => apply_steps(given, plan, rest, layouts, input, output, space),
+        _ => parts_again(apply_steps(given, plan, rest, layouts, input, output, space)),
     }
 }
 

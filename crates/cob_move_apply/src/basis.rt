@@ -5,20 +5,25 @@ ghost use Rattle.cob_layout.specs.Sound.{IsSound};
 ghost use Rattle.cob_move_data.specs.Moves.{IsOperand, operand_in};
 ghost use Rattle.cob_move_apply.specs.Seen.{operand_of};
 
-use cob_layout::{ElementPlace, Kind, Layout, Place, Ref, SummedPlace};
+use cob_layout::{Kind, Layout, Place, Ref, SummedPlace};
 use cob_move_data::Side;
+
+/// A place that is noted.
+#[derive(Clone, Copy)]
+pub(crate) struct NotedPlace {
+    /// Where the operand stands, wherever it is there.
+    pub(crate) place: Place,
+    /// So many elements the first table that varies has at least where it is there; 0 where it is there in every storage.
+    pub(crate) least: u16,
+}
 
 /// What the place of an operand rests on.
 #[derive(Clone, Copy)]
 pub(crate) enum Basis {
-    /// On no count: it is the same in every storage.
-    Fixed(Place),
-    /// On the count of one table, and on that only whether the element is there.
-    Element(ElementPlace),
-    /// On the counts of the storage that the operand needs, by which it stands where the sums of the tables say.
-    Summed(SummedPlace),
-    /// On the counts of the storage that the operand needs.
-    Counted,
+    /// On no count, or on the count of one table and on that only whether the element is there.
+    Noted(NotedPlace),
+    /// On the counts of the storage that the operand needs; where a sum is noted, it stands by them where the sums of the tables say.
+    Counted(Option<SummedPlace>),
 }
 
 /// An operand, with what its place rests on.

@@ -14,8 +14,8 @@
 //!   its table's count (`Subscript`), or a value where the receiver asks for one (`NoValue`). Moves end in one way ([`one_ending`]).
 //! - [`MarkedMoves::new`] makes moves ready that are parted by marks, one behind each of these numbers of statements (`ends`; `prepared`, by
 //!   `AreMarkedPrepared` of specs/Marked.antt), so that no copy is joined over a mark. [`MarkedMoves::apply_between`] carries out those from one mark to
-//!   another (`applied`), by counts that are kept before and behind (`kept_input`, `kept_output`), and says how many it read (`reads`, by `ReadsOfMoves` of
-//!   specs/Reads.antt).
+//!   another, and [`MarkedMoves::apply_all`] all of them (`applied`), by counts that are kept before and behind (`kept_input`, `kept_output`); both say how
+//!   many they read (`reads`, by `ReadsOfMoves` of specs/Reads.antt).
 //! - [`PlacedEntry::new`] keeps an entry that is read between moves, and [`PlacedEntry::place`] finds where it stands as the storages then are (`located`),
 //!   or the first thing missing.
 //!
@@ -47,8 +47,8 @@
 //! The clauses `applied` and `reads` of `Moves::apply` (the latter bounds how many counts of the output record are read, by `HaveMet`), those of
 //! `Moves::with_reading`, `Moves::statements` and `Moves::reading`; the clauses of `Moves::apply_kept`, `Scratch::input_length`, `Scratch::output_length`,
 //! `Scratch::forget_output` and `Scratch::forget_input`: the same by counts that are kept from the length of the input on to that of the output (`keeps`, by
-//! `AreKeptOf`); the clauses of `MarkedMoves::new`, `with_reading`, `statements`, `reading`, `single_moves`, `steps` and `apply_between`, and of
-//! `PlacedEntry::new`, `side`, `entry` and `place`; which stop the fault of a place is (`stop_of`); the law `one_ending`.
+//! `AreKeptOf`); the clauses of `MarkedMoves::new`, `with_reading`, `statements`, `reading`, `single_moves`, `steps`, `marks`, `apply_all` and
+//! `apply_between`, and of `PlacedEntry::new`, `side`, `entry` and `place`; which stop the fault of a place is (`stop_of`); the law `one_ending`.
 #![tactic(auto)]
 
 mod application;

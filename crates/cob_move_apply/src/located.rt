@@ -1,30 +1,33 @@
 //! Single moves that were made ready wherever their items stand, carried out.
 
-ghost use Rattle.std.specs.Prelude.{◌≡◌, false, length, true, IfSome, IsTrue, List};
+ghost use Rattle.std.specs.Prelude.{◌≡◌, ◌+◌, ◌≤◌, Ok, false, length, true, IfSome, IsTrue, List};
 ghost use Rattle.cob_layout.specs.Sound.{IsSound};
 ghost use Rattle.cob_layout.specs.Storage.{greatest_length, IsStorage};
-ghost use Rattle.cob_move_data.specs.declared.operands.Side.TheVariants.{In};
+ghost use Rattle.cob_move_data.specs.declared.operands.Side.TheVariants.{In, Out};
 ghost use Rattle.cob_move_data.specs.Moves.{IsOperand, Move as Meant, operand_in, record_of};
 ghost use Rattle.cob_move_apply.specs.Applied.{IsMoved, done, ending};
+ghost use Rattle.cob_move_apply.specs.Located.{Located};
 ghost use Rattle.cob_move_apply.specs.Made.{StandAt};
+ghost use Rattle.cob_move_receive.specs.Sent.{Occupies};
 ghost use Rattle.cob_move_apply.specs.Placed.{IsPlaced};
 ghost use Rattle.cob_move_apply.specs.Promised.{AnyEnd, AnyHaveSpent, AnySpend, LocatedMeans, MoveHasSpent, MoveSpends, located_move};
 ghost use Rattle.cob_move_apply.specs.Spent.{IsSpent};
 ghost use Rattle.cob_move_apply.specs.Steps.{IsReadyAnywhere, serves};
-ghost use Rattle.cob_move_apply.specs.Surveyed.{IsWorkspace, records};
+ghost use Rattle.cob_move_apply.specs.Surveyed.{IsSurvey, IsWorkspace, records};
 
 use crate::basis::{PlacedReceivers, SentEntry, entry_kind, placed_operand};
 use crate::layouts::Layouts;
 use crate::pictured::run_pictured;
-use crate::places::{Stored, locate_if_there};
+use crate::places::{Stored, locate_if_there, place_at_once};
 use crate::prepared::{make_characters, make_prepared, make_text};
 use crate::rule::{Kinds, receive_by_rule};
 use crate::senders::move_entry;
 use crate::step::{LocatedMove, LocatedStep, MovePlaces, PicturedMove, Plan};
 use crate::stop::Stop;
+use crate::survey::Survey;
 use crate::workspace::Workspace;
 use cob_codec::Reading;
-use cob_layout::{field, places_lie_in_storage};
+use cob_layout::{Place, field, kept_place_elements, places_lie_in_storage};
 use cob_move_data::Side;
 use cob_move_steps::{CharactersStep, MoveStep, PicturedStep};
 use std::slice;
@@ -43,6 +46,72 @@ pub(crate) fn serves(step: LocatedStep, reading: Reading) -> bool
         },
         LocatedStep::Rule => true,
     }
+}
+
+/// Where the sender of a move stands. None where it stands nowhere.
+#[inline(always)]
+fn sender_place(
+    one: &LocatedMove,
+    layouts: &Layouts<'_>,
+    input: &[u8],
+    survey: &mut Survey,
+) -> Option<Place>
+    requires sound { IsSound layouts.now.input.now }
+    requires placed { IsPlaced layouts.now.input.now false
+        (operand_in layouts.now.input.now one.now.sent) one.now.from }
+    requires survey { IsSurvey layouts.now.input.now input.now survey.old }
+    ensures located { IfSome result (λ p. Located In layouts.now.input.now false
+        (operand_in layouts.now.input.now one.now.sent) input.now (Ok p)) }
+    ensures filled { IfSome result
+        (λ p. Occupies (operand_in layouts.now.input.now one.now.sent).kind p.length) }
+    ensures survey { IsSurvey layouts.now.input.now input.now survey.new }
+{
+    // What is noted is asked first, before anything of the layout is looked at.
+    kept_place_elements();
+    if let Some(place) = place_at_once(&one.from, survey) {
+        return Some(place);
+    }
+    let sending = Stored {
+        side: Side::In,
+        layout: layouts.input,
+        bytes: input,
+    };
+    let sender = placed_operand(layouts.input, &one.sent, &one.from);
+    locate_if_there(&sending, &sender, false, survey)
+}
+
+/// Where the receiver of a move stands. None where it stands nowhere.
+#[inline(always)]
+fn receiver_place(
+    one: &LocatedMove,
+    layouts: &Layouts<'_>,
+    output: &[u8],
+    survey: &mut Survey,
+) -> Option<Place>
+    requires sound { IsSound layouts.now.output.now }
+    requires placed { IsPlaced layouts.now.output.now true
+        (operand_in layouts.now.output.now one.now.receiver) one.now.to }
+    requires survey { IsSurvey layouts.now.output.now output.now survey.old }
+    ensures located { IfSome result (λ p. Located Out layouts.now.output.now true
+        (operand_in layouts.now.output.now one.now.receiver) output.now (Ok p)) }
+    ensures fits { IfSome result
+        (λ p. p.offset + p.length ≤ greatest_length layouts.now.output.now) }
+    ensures filled { IfSome result
+        (λ p. Occupies (operand_in layouts.now.output.now one.now.receiver).kind p.length) }
+    ensures survey { IsSurvey layouts.now.output.now output.now survey.new }
+    ensures spends { IsSpent layouts.now.output.now 0 survey.old survey.new }
+{
+    kept_place_elements();
+    if let Some(place) = place_at_once(&one.to, survey) {
+        return Some(place);
+    }
+    let receiving = Stored {
+        side: Side::Out,
+        layout: layouts.output,
+        bytes: output,
+    };
+    let receiver = placed_operand(layouts.output, &one.receiver, &one.to);
+    locate_if_there(&receiving, &receiver, true, survey)
 }
 
 /// Where the sender and the receiver of a move stand, if both are there: the sender's place is found first.
@@ -67,26 +136,15 @@ fn both_places(
     ensures space { IsWorkspace (records layouts.now) input.now output.now space.new }
     ensures spends { IsSpent layouts.now.output.now 0 space.old.output space.new.output }
 {
-    let _ = layouts.input.greatest();
     places_lie_in_storage();
-    let sending = Stored {
-        side: Side::In,
-        layout: layouts.input,
-        bytes: input,
-    };
-    let sender = placed_operand(layouts.input, &one.sent, &one.from);
-    let Some(from) = locate_if_there(&sending, &sender, false, &mut space.input) else {
+    let Some(from) = sender_place(one, layouts, input, &mut space.input) else {
         return None;
     };
-    let receiving = Stored {
-        side: Side::Out,
-        layout: layouts.output,
-        bytes: output,
-    };
-    let receiver = placed_operand(layouts.output, &one.receiver, &one.to);
-    let Some(to) = locate_if_there(&receiving, &receiver, true, &mut space.output) else {
+    let Some(to) = receiver_place(one, layouts, output, &mut space.output) else {
         return None;
     };
+    // Behind both: so nothing of the layout is looked at before a place that is noted.
+    let _ = layouts.input.greatest();
     Some(MovePlaces { from, to })
 }
 
@@ -188,9 +246,10 @@ fn run_rarer(
 }
 
 /// Does what [`run_rarer`] does. Plain copies, characters, numbers of up to sixteen digits and those that are read as their pictures say have ways of their own
-/// here.
+/// here. Whether a table of the output record varies is known from the type; only what is inlined is handed that, since the compiler looks up anew what a call
+/// has seen.
 #[inline(always)]
-fn run_between(
+fn run_between<const VARIES: bool>(
     plan: &Plan,
     one: &LocatedMove,
     places: &MovePlaces,
@@ -199,6 +258,7 @@ fn run_between(
     output: &mut [u8],
     space: &mut Workspace,
 ) -> bool
+    requires varies { layouts.now.varies ≡ VARIES }
     requires in_sound { IsSound layouts.now.input.now }
     requires out_sound { IsSound layouts.now.output.now }
     requires ready { IsReadyAnywhere In (records layouts.now) plan.now.prepared plan.now.pictured
@@ -219,12 +279,24 @@ fn run_between(
         LocatedStep::Characters(right) => {
             let sent = places.from.length as usize;
             let step = CharactersStep { sent, right };
-            make_text(prepared, places, step, layouts, input, output, space);
+            let told = Layouts {
+                input: layouts.input,
+                output: layouts.output,
+                reading: layouts.reading,
+                varies: VARIES,
+            };
+            make_text(prepared, places, step, &told, input, output, space);
             true
         }
         LocatedStep::Always(step) => match step {
             MoveStep::Number(_) => {
-                match make_prepared(prepared, places, step, layouts, input, output, space) {
+                let told = Layouts {
+                    input: layouts.input,
+                    output: layouts.output,
+                    reading: layouts.reading,
+                    varies: VARIES,
+                };
+                match make_prepared(prepared, places, step, &told, input, output, space) {
                     Ok(()) => true,
                     Err(_) => false,
                 }
@@ -234,11 +306,15 @@ fn run_between(
         LocatedStep::Pictured(step) => match step {
             PicturedStep::Number(_) => match layouts.reading {
                 Reading::Pictured => {
-                    let ready = PicturedMove {
-                        places: *places,
-                        step,
+                    let places = *places;
+                    let ready = PicturedMove { places, step };
+                    let told = Layouts {
+                        input: layouts.input,
+                        output: layouts.output,
+                        reading: layouts.reading,
+                        varies: VARIES,
                     };
-                    match run_pictured(&plan.pictured, ready, layouts, input, output, space) {
+                    match run_pictured(&plan.pictured, ready, &told, input, output, space) {
                         Ok(()) => true,
                         Err(_) => false,
                     }
@@ -254,7 +330,7 @@ fn run_between(
 /// Carries out the single move with this number at once. False where senders are read otherwise than it was made ready for, where its sender or its
 /// receiver stands nowhere, or where a value of the sender is missing: the storage is as it was then.
 #[inline(always)]
-pub(crate) fn run_located(
+pub(crate) fn run_located<const VARIES: bool>(
     plan: &Plan,
     number: usize,
     layouts: &Layouts<'_>,
@@ -262,6 +338,7 @@ pub(crate) fn run_located(
     output: &mut [u8],
     space: &mut Workspace,
 ) -> bool
+    requires varies { layouts.now.varies ≡ VARIES }
     requires in_sound { IsSound layouts.now.input.now }
     requires out_sound { IsSound layouts.now.output.now }
     requires step { (own : List Meant) × LocatedMeans plan.now number layouts.now own }
@@ -280,7 +357,7 @@ pub(crate) fn run_located(
     let Some(places) = both_places(one, layouts, input, output, space) else {
         return false;
     };
-    run_between(plan, one, &places, layouts, input, output, space)
+    run_between::<VARIES>(plan, one, &places, layouts, input, output, space)
 }
 
 /// Carries out a move as one that was not made ready is.

@@ -128,6 +128,73 @@ impl MarkedMoves {
         counted(self.moves.plan.steps.as_slice())
     }
 
+    /// How many marks part the moves, the first and the last among them.
+    pub fn marks(&self) -> usize
+        ensures { result ≡ length self.now.marks.items }
+    {
+        self.marks.len()
+    }
+
+    /// Carries out all of the moves, in order, on the storage of an output record, as [`MarkedMoves::apply_between`] does from the first mark to the last. It
+    /// takes no memory.
+    ///
+    /// The input is all of a record's storage, or its current part; the output is all of a record's storage. The room is that of
+    /// `Scratch::new` for these layouts.
+    ///
+    /// # Errors
+    ///
+    /// The first thing missing. The storage is as the moves and receivers before left it then.
+    #[inline(always)]
+    pub fn apply_all(
+        &self,
+        input_layout: &Layout,
+        output_layout: &Layout,
+        input: &[u8],
+        output: &mut [u8],
+        scratch: &mut Scratch,
+    ) -> Result<(), Stop>
+        requires prepared { AreMarkedPrepared
+            (record { input = input_layout.now; output = output_layout.now }) self.now }
+        requires input { IsStorage input_layout.now input.now }
+        requires output { length output.old ≡ greatest_length output_layout.now }
+        requires room { scratch.old.room ≡ room_of
+            (record { input = input_layout.now; output = output_layout.now }) }
+        requires kept_input { AreKeptOf input_layout.now input.now scratch.old.kept_input }
+        requires kept_output { AreKeptOf output_layout.now output.old scratch.old.kept_output }
+        ensures applied { Applied (record { input = input_layout.now; output = output_layout.now })
+            (moves_of (record { input = input_layout.now; output = output_layout.now })
+            self.now.moves) input.now output.old (ending result output.new) }
+        ensures room { scratch.new.room ≡ scratch.old.room }
+        ensures kept_input { AreKeptOf input_layout.now input.now scratch.new.kept_input }
+        ensures kept_output { AreKeptOf output_layout.now output.new scratch.new.kept_output }
+        ensures reads { ReadsOfMoves
+            (record { input = input_layout.now; output = output_layout.now })
+            (moves_of (record { input = input_layout.now; output = output_layout.now })
+            self.now.moves) input.now output.old result scratch.old scratch.new }
+    {
+        records_are_sound();
+        let _ = input_layout.greatest();
+        let _ = output_layout.greatest();
+        let layouts = Layouts {
+            input: input_layout,
+            output: output_layout,
+            reading: self.moves.reading,
+            varies: output_layout.varies(),
+        };
+        let all = self.moves.plan.steps.as_slice();
+        let statements = self.moves.statements.as_slice();
+        let plan = &self.moves.plan;
+        apply_some(
+            statements,
+            plan,
+            all,
+            &layouts,
+            input,
+            output,
+            &mut scratch.space,
+        )
+    }
+
     /// Carries out the moves from one mark to another, in order, on the storage of an output record. What the room keeps of the counts of both storages is
     /// not read again, and of the output's it then keeps what the moves left. It takes no memory.
     ///

@@ -6,16 +6,22 @@ ghost use Rattle.cob_layout.specs.Storage.{greatest_length};
 ghost use Rattle.cob_move_data.specs.Moves.{IsOperand};
 ghost use Rattle.cob_move_receive.specs.Sent.{Occupies};
 ghost use Rattle.cob_move_apply.specs.Located.{Located, stop_of};
-ghost use Rattle.cob_move_apply.specs.Placed.{StandsAsNoted, IsPlaced};
+ghost use Rattle.cob_layout.specs.Elements.{HaveSoMany};
+ghost use Rattle.cob_layout.specs.Finding.{IsFound};
+ghost use Rattle.cob_layout.specs.Standing.{IsRoomFor, KeepsOf};
+ghost use Rattle.cob_layout.specs.Summed.{IsSummedPlace};
+ghost use Rattle.cob_layout_places.specs.References.{Refers};
+ghost use Rattle.cob_move_apply.specs.Placed.{StandsAsNoted, IsNotedIn, IsPlaced};
 ghost use Rattle.cob_move_apply.specs.Seen.{operand_of};
 ghost use Rattle.cob_move_apply.specs.Spent.{IsSpent, Spends};
 ghost use Rattle.cob_move_apply.specs.Surveyed.{IsSurvey};
 
-use crate::basis::{Basis, PlacedOperand};
+use crate::basis::{Basis, NotedPlace, PlacedOperand};
 use crate::stop::{Stop, StopCause};
 use crate::survey::Survey;
 use cob_layout::{
-    FindFault, Layout, Place, kept_give_needed, kept_place_elements, one_outcome_of_counts,
+    Counts, FindFault, Layout, Place, Ref, SummedPlace, kept_give_needed, kept_place_elements,
+    one_outcome_of_counts,
 };
 use cob_layout_places::needs_are_read;
 use cob_move_data::Side;
@@ -82,6 +88,58 @@ fn place_by_counts(
     }
 }
 
+/// A place that is noted, where the count that is kept says that the operand is there.
+#[inline(always)]
+fn place_if_kept(noted: &NotedPlace, counts: &Counts) -> Option<Place>
+    ensures { IfSome result
+        (λ p. (p ≡ noted.now.place) × HaveSoMany counts.now.kept noted.now.least) }
+{
+    if counts.have(noted.least) {
+        Some(Place {
+            offset: noted.place.offset,
+            length: noted.place.length,
+        })
+    } else {
+        None
+    }
+}
+
+/// Where an operand stands whose place is noted, where the count that is kept says that it is there. None for all others.
+#[inline(always)]
+pub(crate) fn place_at_once(basis: &Basis, survey: &Survey) -> Option<Place>
+    ensures { IfSome result (IsNotedIn basis.now survey.now.counts.kept) }
+{
+    match basis {
+        Basis::Noted(noted) => place_if_kept(noted, &survey.counts),
+        Basis::Counted(_) => None,
+    }
+}
+
+/// Where an operand stands, where a sum is noted and the counts that it needs are kept.
+#[inline(always)]
+fn place_by_sums(
+    stored: &Stored<'_>,
+    entry: &Ref,
+    receiving: bool,
+    summed: Option<SummedPlace>,
+    counts: &Counts,
+) -> Option<Place>
+    requires refers { Refers entry.now.node entry.now.subscripts.items stored.now.layout.now }
+    requires room { IsRoomFor stored.now.layout.now counts.now }
+    requires kept { KeepsOf stored.now.layout.now stored.now.bytes.now counts.now }
+    requires summed { IfSome summed (IsSummedPlace stored.now.layout.now entry.now receiving) }
+    ensures { IfSome result (λ p. IsFound stored.now.layout.now entry.now receiving
+        stored.now.bytes.now (Ok p) × (p.offset + p.length ≤ greatest_length stored.now.layout.now)) }
+{
+    match summed {
+        Some(summed) => {
+            let layout = stored.layout;
+            layout.place_by_sums(entry, receiving, stored.bytes, summed, counts)
+        }
+        None => None,
+    }
+}
+
 /// Where an operand stands, where what is noted of its place and the counts that are kept say it.
 #[inline(always)]
 fn noted_place(
@@ -98,17 +156,8 @@ fn noted_place(
 {
     let counts = &survey.counts;
     match placed.basis {
-        Basis::Fixed(place) => Some(Place {
-            offset: place.offset,
-            length: place.length,
-        }),
-        Basis::Element(element) => counts.place_of(*element),
-        Basis::Summed(summed) => {
-            let entry = placed.entry;
-            let layout = stored.layout;
-            layout.place_by_sums(entry, receiving, stored.bytes, *summed, counts)
-        }
-        Basis::Counted => None,
+        Basis::Noted(noted) => place_if_kept(noted, counts),
+        Basis::Counted(summed) => place_by_sums(stored, placed.entry, receiving, *summed, counts),
     }
 }
 

@@ -1,7 +1,11 @@
 //! What the places of operands rest on, found before a record comes.
 
-ghost use Rattle.std.specs.Prelude.{map, true, false, OnOk};
+ghost use Rattle.std.specs.Prelude.{Bool, map, true, false, IfSome, OnOk};
 ghost use Rattle.std.specs.List.{AllByRecursion};
+ghost use Rattle.cob_copybook_tree.specs.Forests.{Forest};
+ghost use Rattle.cob_copybook_tree.specs.Nodes.{Resolved};
+ghost use Rattle.cob_layout.specs.Elements.{IsElementPlace};
+ghost use Rattle.cob_move_data.specs.declared.operands.Operand.{Operand};
 ghost use Rattle.cob_move_data.specs.Moves.{
   IsOperand,
   IsSender,
@@ -10,10 +14,25 @@ ghost use Rattle.cob_move_data.specs.Moves.{
 };
 ghost use Rattle.cob_move_apply.specs.Placed.{AddsMove, AddsReceivers, IsBasis, IsPlacedSender};
 
-use crate::basis::Basis;
-use cob_layout::{Layout, Ref};
+use crate::basis::{Basis, NotedPlace};
+use cob_layout::{ElementPlace, Layout, Ref};
 use cob_move_data::{Sender, Side};
 use std::alloc::AllocError;
+
+/// What the place of an element rests on that is there by one count. None where that needs more elements than 16 bits tell: no table has as many.
+fn element_basis(element: ElementPlace) -> Option<Basis>
+    ensures { (layout : Forest Resolved) (receiving : Bool) (operand : Operand)
+        → IsElementPlace layout operand.entry receiving element
+        → IfSome result (IsBasis layout receiving operand) }
+{
+    match u16::try_from(element.least) {
+        Ok(least) if least > 0 => Some(Basis::Noted(NotedPlace {
+            place: element.place,
+            least,
+        })),
+        _ => None,
+    }
+}
 
 /// What an operand's place rests on.
 pub(crate) fn basis_of(layout: &Layout, entry: &Ref, receiving: bool) -> Basis
@@ -21,15 +40,14 @@ pub(crate) fn basis_of(layout: &Layout, entry: &Ref, receiving: bool) -> Basis
     ensures { IsBasis layout.now receiving (operand_in layout.now entry.now) result }
 {
     if let Some(place) = layout.fixed_place(entry, receiving) {
-        return Basis::Fixed(place);
+        return Basis::Noted(NotedPlace { place, least: 0 });
     }
     if let Some(element) = layout.element_place(entry, receiving) {
-        return Basis::Element(element);
+        if let Some(basis) = element_basis(element) {
+            return basis;
+        }
     }
-    match layout.summed_place(entry, receiving) {
-        Some(summed) => Basis::Summed(summed),
-        None => Basis::Counted,
-    }
+    Basis::Counted(layout.summed_place(entry, receiving))
 }
 
 /// What a sender's place rests on. A constant has no place, and its basis is never asked for.
@@ -40,7 +58,7 @@ fn sender_basis(given: &Sender, input: &Layout, output: &Layout) -> Basis
         (sender (record { input = input.now; output = output.now }) given.now) result }
 {
     match given {
-        Sender::Constant(_) => Basis::Counted,
+        Sender::Constant(_) => Basis::Counted(None),
         Sender::Entry { side, entry } => match *side {
             Side::In => basis_of(input, entry, false),
             Side::Out => basis_of(output, entry, false),

@@ -79,7 +79,7 @@ moves_read x (Choice t holding lacking more) =
 
 -- ---- flows that may be carried out, over moves with as many marks
 
-same_marks : (old new : MarkedMoves) → ends_of_marks new ≡ ends_of_marks old → length new.marks.items ≡ length old.marks.items
+pub same_marks : (old new : MarkedMoves) → ends_of_marks new ≡ ends_of_marks old → length new.marks.items ≡ length old.marks.items
 same_marks old new same = sym (length-map new.marks.items statement_of) ∙ ap length same ∙ length-map old.marks.items statement_of
 
 loop_still : (on : FlowSupport) (new : MarkedMoves) (l : CountedLoop) → length new.marks.items ≡ length on.moves.marks.items → IsLoop on l

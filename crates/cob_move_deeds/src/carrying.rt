@@ -305,11 +305,12 @@ fn next<'a>(
     }
 }
 
-/// Carries out the flows of deeds in order.
+/// Carries out the flows of deeds in order. It isn't inlined, so that what it needs costs nothing where all moves are carried out at once.
 ///
 /// # Errors
 ///
 /// The first thing missing. The storage is as the moves before left it then.
+#[inline(never)]
 pub(crate) fn carry_out(
     deeds: &ReadyDeeds,
     sides: &Sides<'_>,

@@ -9,7 +9,8 @@
 //! - [`ReadyDeeds::apply_kept`] makes of the output record's storage what the deeds that its flows come to say (`carried`, by `deeds_of` of
 //!   specs/Prepared.antt), a stop included. A [`Flow`] is one thing that is carried out, with skips forward alone (`deeds_from` of specs/Flows.antt), so that
 //!   a run ends by the length of the list. A loop whose bound stands in the input record and whose statements move alone reads its bound once: then the
-//!   moves of as many turns as it says are carried out one behind another ([`CountedLoop`]).
+//!   moves of as many turns as it says are carried out one behind another ([`CountedLoop`]). Where one flow is all that there is, and it carries out all moves,
+//!   that is noted beforehand.
 //! - [`ReadyDeeds::new`] puts them together (`deeds`), and they may be carried out where the moves were made ready, the bounds are whole numbers, and the
 //!   flows name what is there (`prepared`); [`ReadyDeeds::with_reading`] are the same with their binary senders read otherwise.
 //! - For who tells what is done: [`ReadyDeeds::flows`], with their bounds and loops, and the statements between marks; [`ReadyDeeds::is_straight`] says whether
@@ -25,6 +26,7 @@
 //! `loop_is_its_turns`, `literal_loop_is_its_moves`, `bound_of_input_is_kept`.
 #![tactic(auto)]
 
+mod at_once;
 mod bound;
 mod carrying;
 mod flow;

@@ -11,18 +11,34 @@ ghost use Rattle.cob_move_apply.specs.Marked.{AreMarkedPrepared, ends_of_marks, 
 ghost use Rattle.cob_move_apply.specs.Prepared.{moves_of};
 ghost use Rattle.cob_move_apply.specs.Room.{room_of};
 ghost use Rattle.cob_move_apply.specs.Told.{most_moves_told, single_moves};
+ghost use Rattle.cob_move_deeds.specs.AtOnce.{are_all_moves};
 ghost use Rattle.cob_move_deeds.specs.Deeds.{Carried};
 ghost use Rattle.cob_move_deeds.specs.Flows.{AreFlows, deeds_by, deeds_from};
 ghost use Rattle.cob_move_deeds.specs.Met.{DeedsHaveMet};
 ghost use Rattle.cob_move_deeds.specs.Tests.{IsBound, Judged};
 
+use crate::at_once::carry_all;
 use crate::carrying::carry_out;
 use crate::flow::{Bound, CountedLoop, Flow};
-use crate::row::lone_moves;
 use crate::sides::Sides;
 use cob_layout::{Layout, one_outcome_of_counts};
 use cob_move_apply::{MarkedMoves, Reading, Scratch, Stop, one_ending};
 use cob_move_data::StatementMoves;
+
+/// The same answer, with the parts of its stop named again: so the compiler keeps them apart, and no function that hands it on copies it through memory.
+#[inline(always)]
+fn parts_again(answer: Result<(), Stop>) -> Result<(), Stop>
+    ensures { result ≡ answer }
+{
+    match answer {
+        Ok(()) => Ok(()),
+        Err(stop) => Err(Stop {
+            side: stop.side,
+            offset: stop.offset,
+            cause: stop.cause,
+        }),
+    }
+}
 
 /// What is done to a record, ready to be carried out: moves parted by marks, and flows that say what lies between which marks, and when.
 #[derive(Drop)]
@@ -31,6 +47,9 @@ pub struct ReadyDeeds {
     pub(crate) bounds: Vec<Bound>,
     pub(crate) loops: Vec<CountedLoop>,
     pub(crate) flows: Vec<Flow>,
+    /// Whether the flows carry out all of the moves at once, which is found out before the first record comes.
+    pub(crate) at_once: bool,
+    pub(crate) ghost told: { at_once ≡ are_all_moves (length moves.marks.items) flows.items },
 }
 
 impl ReadyDeeds {
@@ -52,11 +71,13 @@ impl ReadyDeeds {
             → AreFlows (record { moves = moves; bounds = bounds.items; loops = loops.items })
             flows.items → AreDeedsPrepared r result }
     {
+        let at_once = carry_all(flows.as_slice(), moves.marks());
         ReadyDeeds {
             moves,
             bounds,
             loops,
             flows,
+            at_once,
         }
     }
 
@@ -72,6 +93,7 @@ impl ReadyDeeds {
             bounds: self.bounds,
             loops: self.loops,
             flows: self.flows,
+            at_once: self.at_once,
         }
     }
 
@@ -150,22 +172,16 @@ impl ReadyDeeds {
         one_outcome_of_counts();
         one_ending();
         scratch.forget_output();
-        if let Some(number) = lone_moves(self.flows.as_slice()) {
-            return self.moves.apply_between(
-                number,
-                number + 1,
-                input_layout,
-                output_layout,
-                input,
-                output,
-                scratch,
-            );
+        if self.at_once {
+            return self
+                .moves
+                .apply_all(input_layout, output_layout, input, output, scratch);
         }
         let sides = Sides {
             input_layout,
             output_layout,
             input,
         };
-        carry_out(self, &sides, output, scratch)
+        parts_again(carry_out(self, &sides, output, scratch))
     }
 }

@@ -27,16 +27,6 @@ pub(crate) fn behind(flows: &[Flow], count: usize) -> &[Flow]
     &flows[count..]
 }
 
-/// The first mark of moves that are all that there is.
-pub(crate) fn lone_moves(flows: &[Flow]) -> Option<usize>
-    ensures { IfSome result (λ number. flows.now ≡ flow.Moves number ∷ []) }
-{
-    let Some((Flow::Moves(number), more)) = flows.split_first() else {
-        return None;
-    };
-    if more.is_empty() { Some(*number) } else { None }
-}
-
 /// The first mark of moves that stand in front.
 pub(crate) fn first_moves(flows: &[Flow]) -> Option<usize>
     ensures { IfSome result

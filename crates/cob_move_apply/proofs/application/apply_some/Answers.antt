@@ -39,17 +39,17 @@ returns-in-empty-clause-spends c = λ ms all.
     (c.run_ready-rest.ensures.spends c.args.given.now ms c.args.output.now c.args.space.now.output (spent_steps_first c.one_outcome_of_counts.ensures.needed x r c.args.given.now ms c.args.steps.now on c.args.input.now c.args.output.now c.args.space.now.output all))
 
 pub returns-in_default-clause-applied : goal.returns-in_default-clause-applied
-returns-in_default-clause-applied c = λ ms all.
+returns-in_default-clause-applied c = rw c.parts_again.ensures (λ ms all.
     let x = c.args.layouts.now.reading in
     let r : Records = records c.args.layouts.now in
     let on : Support = support_of c.args.plan.now in
     c.apply_steps.ensures.applied ms c.args.output.now
-    (c.run_ready-rest.ensures.left c.args.given.now ms c.args.output.now (left_all c.one_outcome_of_counts.ensures.needed x r c.args.given.now ms c.args.steps.now on c.args.input.now c.args.output.now c.requires.output all))
+    (c.run_ready-rest.ensures.left c.args.given.now ms c.args.output.now (left_all c.one_outcome_of_counts.ensures.needed x r c.args.given.now ms c.args.steps.now on c.args.input.now c.args.output.now c.requires.output all)))
 
 pub returns-in_default-clause-spends : goal.returns-in_default-clause-spends
-returns-in_default-clause-spends c = λ ms all.
+returns-in_default-clause-spends c = rw c.parts_again.ensures (λ ms all.
     let x = c.args.layouts.now.reading in
     let r : Records = records c.args.layouts.now in
     let on : Support = support_of c.args.plan.now in
     c.apply_steps.ensures.spends ms c.args.output.now c.args.space.now.output
-    (c.run_ready-rest.ensures.spends c.args.given.now ms c.args.output.now c.args.space.now.output (spent_steps_first c.one_outcome_of_counts.ensures.needed x r c.args.given.now ms c.args.steps.now on c.args.input.now c.args.output.now c.args.space.now.output all))
+    (c.run_ready-rest.ensures.spends c.args.given.now ms c.args.output.now c.args.space.now.output (spent_steps_first c.one_outcome_of_counts.ensures.needed x r c.args.given.now ms c.args.steps.now on c.args.input.now c.args.output.now c.args.space.now.output all)))

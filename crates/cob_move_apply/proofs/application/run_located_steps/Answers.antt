@@ -9,7 +9,7 @@ use Rattle.cob_move_apply.proofs.StepLemmas.{left_made, left_same, next_step}
 use Rattle.cob_move_apply.proofs.application.run_located_steps.Goals as goal
 
 pub run_located-requires-clause-step : goal.run_located-requires-clause-step
-run_located-requires-clause-step c =
+run_located-requires-clause-step g c =
     let x = c.args.layouts.now.reading in
     let r : Records = records c.args.layouts.now in
     let on : Support = support_of c.args.plan.now in
@@ -21,17 +21,17 @@ run_located-requires-clause-step c =
     (next.own, subst (λ (s : Step). IsStep x r given on s next.own) c.in-Located.is next.is)
 
 pub returns-then-not-run_located-clause-left : goal.returns-then-not-run_located-clause-left
-returns-then-not-run_located-clause-left c = λ given ms before all.
+returns-then-not-run_located-clause-left g c = λ given ms before all.
     left_same c.args.layouts.now.reading (records c.args.layouts.now) given ms c.loop-step.left.now (support_of c.args.plan.now) 0 c.args.input.now before c.loop-step.output c.run_located.new.output
     (c.if-not-run_located.ensures.same refl).0 (c.loop-step.invariant.left given ms before all)
 
 pub returns-then-not-run_located-clause-spends : goal.returns-then-not-run_located-clause-spends
-returns-then-not-run_located-clause-spends c = λ given ms before first all.
+returns-then-not-run_located-clause-spends g c = λ given ms before first all.
     spent_still c.args.layouts.now.reading (records c.args.layouts.now) given ms c.loop-step.left.now (support_of c.args.plan.now) 0 c.args.input.now before c.loop-step.output c.run_located.new.output
     first c.loop-step.space.output c.run_located.new.space.output (c.if-not-run_located.ensures.same refl).0 (c.if-not-run_located.ensures.same refl).1 (c.loop-step.invariant.spends given ms before first all)
 
 pub loop-step-preserved : goal.loop-step-preserved
-loop-step-preserved c =
+loop-step-preserved g c =
     let x = c.args.layouts.now.reading in
     let r : Records = records c.args.layouts.now in
     let on : Support = support_of c.args.plan.now in

@@ -8,7 +8,7 @@ use Rattle.cob_move_apply.specs.declared.survey.Survey.{Survey}
 use Rattle.cob_move_apply.proofs.application.run_located_steps.Given as goal
 
 abbrev pub invariant-loop-step : goal.invariant-loop-step
-invariant-loop-step l = record {
+invariant-loop-step g l = record {
   left : (given : List StatementMoves) (ms : List Move) (before : List ℕ)
       → Left l.layouts.reading (records l.layouts) given ms l.fn.steps (support_of l.plan) 0 l.input before l.fn.output
       → Left l.layouts.reading (records l.layouts) given ms l.left (support_of l.plan) 0 l.input before l.output;
@@ -21,4 +21,4 @@ invariant-loop-step l = record {
 }
 
 abbrev pub decreases-loop-step : goal.decreases-loop-step
-decreases-loop-step l = length l.left
+decreases-loop-step g l = length l.left

@@ -11,7 +11,7 @@ use Rattle.cob_move_apply.proofs.SpendingLemmas.{always_spends, characters_spend
 use Rattle.cob_move_apply.proofs.located.run_between.Goals as goal
 
 pub make_text-requires-clause-step : goal.make_text-requires-clause-step
-make_text-requires-clause-step c =
+make_text-requires-clause-step g c =
     let r = records c.args.layouts.now in
     let one = c.args.one.now in
     let p = c.args.places.now in
@@ -21,7 +21,7 @@ make_text-requires-clause-step c =
     (kinds_of from to p.from p.to, characters_there In r c.args.plan.now.prepared one c.in-Characters.right p c.args.input.now c.args.output.now c.requires.stand carries, record { sent = refl; received = refl })
 
 pub returns-in-Characters-clause-moved : goal.returns-in-Characters-clause-moved
-returns-in-Characters-clause-moved c = λ yes.
+returns-in-Characters-clause-moved g c = λ yes.
     let r = records c.args.layouts.now in
     let one = c.args.one.now in
     let from = (operand_in r.input one.sent).kind in
@@ -31,7 +31,7 @@ returns-in-Characters-clause-moved c = λ yes.
     (done c.make_text.new.output) c.requires.stand carries c.make_text.ensures.made
 
 pub returns-in-Characters-clause-spends : goal.returns-in-Characters-clause-spends
-returns-in-Characters-clause-spends c = λ yes before spent.
+returns-in-Characters-clause-spends g c = λ yes before spent.
     let r = records c.args.layouts.now in
     let one = c.args.one.now in
     let from = (operand_in r.input one.sent).kind in
@@ -41,7 +41,7 @@ returns-in-Characters-clause-spends c = λ yes before spent.
     (Ok 0) c.make_text.new.output before _ _ c.requires.stand carries c.make_text.ensures.made spent c.make_text.ensures.spends
 
 pub returns-in-Ok-clause-moved : goal.returns-in-Ok-clause-moved
-returns-in-Ok-clause-moved c = λ yes.
+returns-in-Ok-clause-moved g c = λ yes.
     let r = records c.args.layouts.now in
     let one = c.args.one.now in
     let from = (operand_in r.input one.sent).kind in
@@ -51,7 +51,7 @@ returns-in-Ok-clause-moved c = λ yes.
     (done c.make_prepared.new.output) c.requires.stand carries c.in-Ok.ensures.made
 
 pub returns-in-Ok-clause-spends : goal.returns-in-Ok-clause-spends
-returns-in-Ok-clause-spends c = λ yes before spent.
+returns-in-Ok-clause-spends g c = λ yes before spent.
     let r = records c.args.layouts.now in
     let one = c.args.one.now in
     let from = (operand_in r.input one.sent).kind in
@@ -61,7 +61,7 @@ returns-in-Ok-clause-spends c = λ yes before spent.
     (Ok 0) c.make_prepared.new.output before _ _ c.requires.stand carries c.in-Ok.ensures.made spent c.in-Ok.ensures.spends
 
 pub returns-in-Ok-run_pictured-clause-moved : goal.returns-in-Ok-run_pictured-clause-moved
-returns-in-Ok-run_pictured-clause-moved c = λ yes.
+returns-in-Ok-run_pictured-clause-moved g c = λ yes.
     let r = records c.args.layouts.now in
     let one = c.args.one.now in
     let from = (operand_in r.input one.sent).kind in
@@ -72,7 +72,7 @@ returns-in-Ok-run_pictured-clause-moved c = λ yes.
     (done c.run_pictured.new.output) read c.requires.stand carries c.in-Ok-run_pictured.ensures.made
 
 pub returns-in-Ok-run_pictured-clause-spends : goal.returns-in-Ok-run_pictured-clause-spends
-returns-in-Ok-run_pictured-clause-spends c = λ yes before spent.
+returns-in-Ok-run_pictured-clause-spends g c = λ yes before spent.
     let r = records c.args.layouts.now in
     let one = c.args.one.now in
     let from = (operand_in r.input one.sent).kind in

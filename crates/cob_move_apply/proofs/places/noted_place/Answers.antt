@@ -1,6 +1,3 @@
-use Rattle.std.proofs.Common.{refl}
-use Rattle.cob_move_apply.proofs.PlaceLemmas.{noted_by_sums}
-use Rattle.cob_move_apply.specs.Seen.{operand_of}
 use Rattle.cob_move_apply.proofs.places.noted_place.Goals as goal
 
 pub place_by_sums-requires-clause-refers : goal.place_by_sums-requires-clause-refers
@@ -13,14 +10,10 @@ pub place_by_sums-requires-clause-kept : goal.place_by_sums-requires-clause-kept
 place_by_sums-requires-clause-kept c = c.requires.survey.kept
 
 pub place_by_sums-requires-clause-summed : goal.place_by_sums-requires-clause-summed
-place_by_sums-requires-clause-summed c = rw c.in-Summed.is at c.requires.placed.basis
+place_by_sums-requires-clause-summed c = rw c.in-Counted.is at c.requires.placed.basis
 
-pub returns-in-Fixed : goal.returns-in-Fixed
-returns-in-Fixed c = rw c.in-Fixed.is refl
+pub returns-in-Noted : goal.returns-in-Noted
+returns-in-Noted c = rw c.in-Noted.is c.place_if_kept.ensures
 
-pub returns-in-Element : goal.returns-in-Element
-returns-in-Element c = rw c.in-Element.is c.place_of.ensures.there
-
-pub returns-in-Summed : goal.returns-in-Summed
-returns-in-Summed c =
-    rw c.in-Summed.is (noted_by_sums c.args.stored.now.layout.now c.args.receiving (operand_of c.args.placed.now) c.args.stored.now.bytes.now c.args.survey.now.counts.kept c.in-Summed.summed c.place_by_sums.result c.place_by_sums.ensures.found c.place_by_sums.ensures.fits)
+pub returns-in-Counted : goal.returns-in-Counted
+returns-in-Counted c = rw c.in-Counted.is c.place_by_sums.ensures

@@ -1,4 +1,4 @@
-use Rattle.std.proofs.Common.{◌∙◌, ℕ, true, Err, List, Ok, refl, subst, sym}
+use Rattle.std.proofs.Common.{◌∙◌, ℕ, true, Err, List, None, Ok, refl, subst, sym}
 use Rattle.std.proofs.lemmas.Result.{err_from_is_err_and}
 use Rattle.cob_copybook_tree.specs.Forests.{Forest}
 use Rattle.cob_copybook_tree.specs.Nodes.{Resolved}
@@ -22,7 +22,7 @@ placed_operand-receiver-requires-clause-operand c =
     let os : List Operand = receivers_in c.args.layout.now c.args.receivers.now in
     let lt = below (operand_in c.args.layout.now) c.args.receivers.now.entries.now c.loop-index.index c.loop-index-test.true in
     let is = at (operand_in c.args.layout.now) c.args.receivers.now.entries.now c.loop-index.index c.entry-item.result c.loop-index-test.true c.entry-item.is in
-    let placed = left_receiver c.args.layout.now os c.args.receivers.now.bases.now c.loop-index.index (operand_in c.args.layout.now c.entry-item.result) Counted lt is
+    let placed = left_receiver c.args.layout.now os c.args.receivers.now.bases.now c.loop-index.index (operand_in c.args.layout.now c.entry-item.result) (Counted None) lt is
     (in_both c.args.layout.now os c.args.receivers.now.bases.now c.loop-index.index c.requires.receivers lt) c.loop-index.invariant.left in
     placed.operand
 
@@ -63,7 +63,7 @@ loop-index-preserved c =
       get = get_more tree content os c.loop-index.index (operand_in tree c.entry-item.result) c.args.output.now c.loop-index.output c.receive_one.new.output
           lt is c.loop-index.invariant.get
           (subst (λ (o : Operand). Gets tree content o c.loop-index.output (Ok c.receive_one.new.output)) c.placed_operand-receiver.ensures.operand c.in_ok-receive_one.ensures.gets);
-      left = more_left tree os c.args.receivers.now.bases.now c.loop-index.index (operand_in tree c.entry-item.result) Counted lt is
+      left = more_left tree os c.args.receivers.now.bases.now c.loop-index.index (operand_in tree c.entry-item.result) (Counted None) lt is
           (in_both tree os c.args.receivers.now.bases.now c.loop-index.index c.requires.receivers lt) c.loop-index.invariant.left;
       output = c.receive_one.auto.output ∙ c.loop-index.invariant.output;
       survey = c.in_ok-receive_one.ensures.survey;

@@ -1,9 +1,10 @@
-use Rattle.std.proofs.Common.{◌∙◌, List, ap, length, map, sym}
+use Rattle.std.proofs.Common.{◌∙◌, List, ap, length, map, sym, ℕ}
 use Rattle.cob_move_data.specs.Moves.{Move, read_by}
+use Rattle.cob_move_deeds.specs.AtOnce.{are_all_moves}
 use Rattle.cob_move_deeds.specs.Deeds.{Deeds, moves_of_deeds}
 use Rattle.cob_move_deeds.specs.Prepared.{deeds_of, flow_support}
 use Rattle.cob_move_deeds.specs.Tests.{Past}
-use Rattle.cob_move_deeds.proofs.ReadingLemmas.{flows_read, flows_still, moves_read}
+use Rattle.cob_move_deeds.proofs.ReadingLemmas.{flows_read, flows_still, moves_read, same_marks}
 use Rattle.cob_move_deeds.proofs.ready.ReadyDeeds.with_reading.Goals as goal
 
 pub returns-clause-deeds : goal.returns-clause-deeds
@@ -24,3 +25,9 @@ returns-clause-whole c r whole =
     ∙ moves_read c.args.reading (deeds_of r c.args.self)
     ∙ ap (λ (ms : List Move). map (read_by c.args.reading) ms) whole
     ∙ sym (c.with_reading.ensures.moves r)
+
+pub invariant_of-result : goal.invariant_of-result
+invariant_of-result c = record {
+  told = c.args.self.told
+      ∙ ap (λ (n : ℕ). are_all_moves n c.args.self.flows.items) (sym (same_marks c.args.self.moves c.with_reading.result c.with_reading.ensures.ends));
+}
