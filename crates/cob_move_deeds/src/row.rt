@@ -1,6 +1,6 @@
 //! Turns in a row.
 
-ghost use Rattle.std.specs.Prelude.{◌≡◌, ◌<◌, ◌≤◌, ◌∷◌, ℕ, List, [], drop, length, IfSome};
+ghost use Rattle.std.specs.Prelude.{◌≡◌, ◌<◌, ◌≤◌, ◌∷◌, ℕ, List, drop, length, IfSome};
 ghost use Rattle.std.specs.List.{AllByRecursion};
 ghost use Rattle.cob_move_deeds.specs.Flows.{IsFlow};
 ghost use Rattle.cob_move_deeds.specs.Prepared.{flow_support};

@@ -1,4 +1,4 @@
-use Rattle.std.proofs.Common.{◌≡◌, ◌+◌, ◌<◌, ◌≤◌, ◌∷◌, List, ap, arith, inl, inr, length, refl, subst, sym, ℕ}
+use Rattle.std.proofs.Common.{◌≡◌, ◌+◌, ◌∷◌, List, ap, arith, inl, inr, length, refl, subst, sym, ℕ}
 use Rattle.std.specs.List.{AllByRecursion}
 use Rattle.cob_move_deeds.specs.Flows.{FlowSupport, IsFlow}
 use Rattle.cob_move_deeds.specs.Prepared.{flow_support}
