@@ -21,9 +21,9 @@ use Rattle.cob_move_statements.specs.Written.{WrittenStatement}
 use Rattle.cob_move.specs.declared.entries.Entries.{Entries}
 use Rattle.cob_move.specs.Among.{nameable}
 use Rattle.cob_move.specs.Bodies.{RunIsRefused}
-use Rattle.cob_move.specs.Deeds.{AreDeeds, ComeFirstInLoop, IsBoundRefusal, IsTurnRefused, count_of_turns}
+use Rattle.cob_move.specs.Deeds.{AreDeeds, IsBoundRefusal, IsTurnRefused, count_of_turns}
 use Rattle.cob_move.specs.DeedsLaws.{DeedsBreakNoRule, OneDeeds}
-use Rattle.cob_move.specs.DeedsRead.{AreKept, AreTurnsMeant, FewWith, FirstIn, FirstInFront, FirstInLoop, FirstInRun, FirstInTurns, FirstBelow, FrontComesTo, FrontIsRefused, IsRefusedIn, PassageComesTo, TurnComesTo, in_its_turn}
+use Rattle.cob_move.specs.DeedsRead.{AreKept, AreTurnsMeant, BegunIn, FewWith, FirstIn, FirstInFront, FirstInLoop, FirstInRun, FirstInTurns, FirstBelow, FirstUpTo, FrontComesTo, FrontIsRefused, IsRefusedIn, PassageComesTo, TurnComesTo, in_its_turn}
 use Rattle.cob_move.specs.Entries.{AllMayBeNamed, records_of}
 use Rattle.cob_move.specs.Joined.{joined_deeds}
 use Rattle.cob_move.specs.Loops.{RunRefused}
@@ -185,9 +185,9 @@ turns_few_end e ns l p n done old bound all few le many first =
     few le many (k, own, count, subst (λ (t : ℕ). k < t) (sym all) less, whole, part, is)
   where
     first_to_number : (e : Entries) (ns : List Counted) (l : WrittenLoop) (p : Passage) (b : WrittenBound) (n many : ℕ) → b ≡ ToNumber n
-        → ComeFirstInLoop (nameable e) ns l b (λ i c. (d : Deeds Past) × PassageComesTo e (in_its_turn ns l i) p d c) (λ i c. FirstIn e (in_its_turn ns l i) p c) many → FirstInTurns e ns l p (turns_between l.from l.by n) many
+        → FirstUpTo e ns l b p many → FirstInTurns e ns l p (turns_between l.from l.by n) many
     first_to_number e ns l p b n many bound first =
-        subst (λ (t : WrittenBound). ComeFirstInLoop (nameable e) ns l t (λ i c. (d : Deeds Past) × PassageComesTo e (in_its_turn ns l i) p d c) (λ i c. FirstIn e (in_its_turn ns l i) p c) many) bound first
+        subst (λ (t : WrittenBound). FirstUpTo e ns l t p many) bound first
 
 pub turns_few_refused : OneDeeds → DeedsBreakNoRule → (f : MoveFault) (e : Entries) (ns : List Counted) (l : WrittenLoop) (p : Passage) (n done number old now : ℕ) (d : Deeds Past) (m : ℕ) → AllMayBeNamed e → ((f.rule ≡ rule.Memory) → ⊥)
     → number ≡ l.from + done * l.by → now ≡ old + m → (old ≤ most_written_out → now ≤ most_written_out) → AreTurnsMeant (λ j k c. TurnComesTo e ns l p j k c) l.by done l.from d m
@@ -223,57 +223,57 @@ counts_read law e ns l p count other f behind are whole =
     count_one law e (in_its_turn ns l i) p d (f i) (count i) (other i) comes (are i (omega arith) below))
 
 pub below_few_first : (e : Entries) (ns : List Counted) (l : WrittenLoop) (p : Passage) (n : ℕ) → FewWith (λ many. FirstBelow e ns l p l.from many) n
-below_few_first e ns l p n fits many (i, own, count, low, less, whole, part, is) = absurd (omega (arith, low, less))
+below_few_first e ns l p n fits many (i, own, count, low, less, whole, begun, part, is) = absurd (omega (arith, low, less))
 
 -- one number more
 pub below_few_next : OneDeeds → (e : Entries) (ns : List Counted) (l : WrittenLoop) (p : Passage) (behind old now : ℕ) (f : ℕ → Deeds Past) (other : ℕ → ℕ)
     → ((i : ℕ) → l.from ≤ i → i < behind → PassageComesTo e (in_its_turn ns l i) p (f i) (other i)) → now ≡ old + count_of_turns other 1 (behind - l.from) l.from
-    → (old ≤ most_written_out → now ≤ most_written_out) → FewWith (λ many. FirstIn e (in_its_turn ns l behind) p many) now → FewWith (λ many. FirstBelow e ns l p behind many) old
+    → (old ≤ most_written_out → now ≤ most_written_out) → (BegunIn e (in_its_turn ns l behind) p → FewWith (λ many. FirstIn e (in_its_turn ns l behind) p many) now) → FewWith (λ many. FirstBelow e ns l p behind many) old
     → FewWith (λ many. FirstBelow e ns l p (behind + 1) many) old
-below_few_next law e ns l p behind old now f other are size fits few before le many (i, own, count, low, less, whole, part, is) = elim (either_side i behind) [
-  | inl first ↦ before le many (i, own, count, low, first, whole, part, is)
+below_few_next law e ns l p behind old now f other are size fits few before le many (i, own, count, low, less, whole, begun, part, is) = elim (either_side i behind) [
+  | inl first ↦ before le many (i, own, count, low, first, whole, begun, part, is)
   | inr above ↦
       let same : i ≡ behind = omega (arith, above, less) in
       let counted : count_of_turns count 1 (behind - l.from) l.from ≡ count_of_turns other 1 (behind - l.from) l.from =
       counts_read law e ns l p count other f behind are (λ j low lt. whole j low (omega (arith, lt, same))) in
-      let within = few (fits le) own (subst (λ (t : ℕ). FirstIn e (in_its_turn ns l t) p own) same part) in
+      let within = few (subst (λ (t : ℕ). BegunIn e (in_its_turn ns l t) p) same begun) (fits le) own (subst (λ (t : ℕ). FirstIn e (in_its_turn ns l t) p own) same part) in
       omega (arith, within, size, is, counted, ap (λ (t : ℕ). count_of_turns count 1 (t - l.from) l.from) same)
 ]
 
 first_to_item : (e : Entries) (ns : List Counted) (l : WrittenLoop) (p : Passage) (ws : List Lexeme) (many : ℕ) → l.bound ≡ ToItem ws → FirstInLoop e ns l p many
-    → ComeFirstInLoop (nameable e) ns l (ToItem ws) (λ i c. (d : Deeds Past) × PassageComesTo e (in_its_turn ns l i) p d c) (λ i c. FirstIn e (in_its_turn ns l i) p c) many
+    → FirstUpTo e ns l (ToItem ws) p many
 first_to_item e ns l p ws many bound first =
-    subst (λ (t : WrittenBound). ComeFirstInLoop (nameable e) ns l t (λ i c. (d : Deeds Past) × PassageComesTo e (in_its_turn ns l i) p d c) (λ i c. FirstIn e (in_its_turn ns l i) p c) many) bound first
+    subst (λ (t : WrittenBound). FirstUpTo e ns l t p many) bound first
 
 -- where the turn of a number has no meaning, no turn behind it comes first
 pub item_few : (e : Entries) (ns : List Counted) (l : WrittenLoop) (p : Passage) (ws : List Lexeme) (behind old : ℕ) → l.bound ≡ ToItem ws → l.from ≤ behind → ((d : Deeds Past) (c : ℕ) → PassageComesTo e (in_its_turn ns l behind) p d c → ⊥)
     → FewWith (λ many. FirstBelow e ns l p (behind + 1) many) old → FewWith (λ many. FirstInLoop e ns l p many) old
 item_few e ns l p ws behind old bound from none few le many first =
-    let (t, i, own, count, named, low, far, whole, part, is) = first_to_item e ns l p ws many bound first in
+    let (t, i, own, count, named, low, far, whole, begun, part, is) = first_to_item e ns l p ws many bound first in
     elim (either_side behind i) [
       | inl past ↦
           let (d, comes) = whole behind from past in
           absurd (none d (count behind) comes)
-      | inr at ↦ few le many (i, own, count, low, omega (arith, at), whole, part, is)
+      | inr at ↦ few le many (i, own, count, low, omega (arith, at), whole, begun, part, is)
     ]
 
 -- no turn comes first whose number is greater than a table may have elements
 pub far_few : (e : Entries) (ns : List Counted) (l : WrittenLoop) (p : Passage) (ws : List Lexeme) (behind old : ℕ) → l.bound ≡ ToItem ws → l.from + longest_record < behind
     → FewWith (λ many. FirstBelow e ns l p behind many) old → FewWith (λ many. FirstInLoop e ns l p many) old
 far_few e ns l p ws behind old bound past few le many first =
-    let (t, i, own, count, named, low, far, whole, part, is) = first_to_item e ns l p ws many bound first in
-    few le many (i, own, count, low, omega (arith, far, past), whole, part, is)
+    let (t, i, own, count, named, low, far, whole, begun, part, is) = first_to_item e ns l p ws many bound first in
+    few le many (i, own, count, low, omega (arith, far, past), whole, begun, part, is)
 
 -- nothing comes first in a loop whose bound is refused
 pub bound_few : OneReference → OneNamed → NamedBreakNoRule → (r : MoveRule) (e : Entries) (ns : List Counted) (l : WrittenLoop) (p : Passage) (ws : List Lexeme) (old : ℕ) → l.bound ≡ ToItem ws → IsBoundRefusal r (nameable e) (in_turn ns false 0 ws)
     → FewWith (λ many. FirstInLoop e ns l p many) old
 bound_few one named none r e ns l p ws old bound refused le many first =
-    let (t, i, own, count, is, low, far, whole, part, at) = first_to_item e ns l p ws many bound first in
+    let (t, i, own, count, is, low, far, whole, begun, part, at) = first_to_item e ns l p ws many bound first in
     absurd (bound_refused one named none r (nameable e) (in_turn ns false 0 ws) t is refused)
 
 -- where the first turn breaks a rule, what comes first is in it
 pub first_turn_few : OneDeeds → DeedsBreakNoRule → (f : MoveFault) (e : Entries) (ns : List Counted) (l : WrittenLoop) (p : Passage) (ws : List Lexeme) (old : ℕ) → AllMayBeNamed e → ((f.rule ≡ rule.Memory) → ⊥) → l.bound ≡ ToItem ws
-    → IsRefusedIn f e (in_its_turn ns l l.from) p → FewWith (λ many. FirstIn e (in_its_turn ns l l.from) p many) old → FewWith (λ many. FirstInLoop e ns l p many) old
+    → IsRefusedIn f e (in_its_turn ns l l.from) p → (BegunIn e (in_its_turn ns l l.from) p → FewWith (λ many. FirstIn e (in_its_turn ns l l.from) p many) old) → FewWith (λ many. FirstInLoop e ns l p many) old
 first_turn_few law unbroken f e ns l p ws old named other bound refused few =
     item_few e ns l p ws l.from old bound (omega arith) (λ d c comes. other (turn_unbroken unbroken f e (in_its_turn ns l l.from) p d c named comes refused))
     (below_few_next law e ns l p l.from old old (λ i. Nothing) (λ i. 0) (λ i low less. absurd (omega (arith, low, less))) (omega (arith, none_before))

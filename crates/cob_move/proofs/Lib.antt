@@ -20,6 +20,7 @@ mod CloseLemmas
 mod ReadingLemmas
 mod TurnsLemmas
 mod TestedLemmas
+mod LookLemmas
 mod LiteralLemmas
 mod BodyLemmas
 mod ReadyLemmas

@@ -26,7 +26,7 @@ use Rattle.cob_move.specs.declared.made.Sizes.{Sizes}
 use Rattle.cob_move.specs.declared.entries.Entries.{Entries}
 use Rattle.cob_move.specs.Deeds.{IsRunMeant}
 use Rattle.cob_move.specs.Among.{nameable}
-use Rattle.cob_move.specs.DeedsRead.{AddsMoved, AreParted, IsNotBroken, LeavesFront, LoopRefused, MovedRefused, TurnRefused, HasGrown, IsFrontOf, IsMade, IsSizeOf, FirstInRun, MadeLists, all_deeds, forgotten, last_marked, made_deeds, open_deeds, open_statements, taken_back}
+use Rattle.cob_move.specs.DeedsRead.{AddsMoved, AreParted, LeavesFront, LoopRefused, MovedRefused, TriedRefused, TurnRefused, HasGrown, IsFrontOf, IsMade, IsSizeOf, FirstInRun, MadeLists, all_deeds, forgotten, last_marked, made_deeds, open_deeds, open_statements, taken_back}
 use Rattle.cob_move.specs.Entries.{AllMayBeNamed, records_of}
 use Rattle.cob_move.specs.Joined.{joined_deeds}
 use Rattle.cob_move.specs.Loops.{AddsRun, RunRefused}
@@ -241,7 +241,7 @@ memory_loop n e ns l body m is = subst (λ (k : NotRead). LoopRefused k e ns l b
 -- ---- words of MOVE statements that aren't read
 
 -- memory was refused, or not
-either_memory : (r : MoveRule) → (r ≡ rule.Memory) ⊎ ((r ≡ rule.Memory) → ⊥)
+pub either_memory : (r : MoveRule) → (r ≡ rule.Memory) ⊎ ((r ≡ rule.Memory) → ⊥)
 either_memory rule.Memory = inl refl
 either_memory (rule.Source s) = inr (λ e. absurd (let never : rule.Source s ≡ rule.Memory = e in cc))
 either_memory rule.Grammar = inr (λ e. absurd (let never : rule.Grammar ≡ rule.Memory = e in cc))
@@ -257,7 +257,7 @@ either_memory rule.TooLong = inr (λ e. absurd (let never : rule.TooLong ≡ rul
 either_memory rule.Counter = inr (λ e. absurd (let never : rule.Counter ≡ rule.Memory = e in cc))
 either_memory rule.TooMany = inr (λ e. absurd (let never : rule.TooMany ≡ rule.Memory = e in cc))
 
-told_refused : (f : MoveFault) (e : Entries) (ns : List Counted) (ws : List Lexeme) → ((f.rule ≡ rule.Memory) → ⊥) → (f.rule ≡ rule.Memory) ⊎ RunRefused f e (in_turn ns false 0 ws) → RunRefused f e (in_turn ns false 0 ws)
+pub told_refused : (f : MoveFault) (e : Entries) (ns : List Counted) (ws : List Lexeme) → ((f.rule ≡ rule.Memory) → ⊥) → (f.rule ≡ rule.Memory) ⊎ RunRefused f e (in_turn ns false 0 ws) → RunRefused f e (in_turn ns false 0 ws)
 told_refused f e ns ws other (inl is) = absurd (other is)
 told_refused f e ns ws other (inr refused) = refused
 
@@ -282,10 +282,10 @@ leaves_more why.Memory a b c g left = tt
 leaves_more why.TooMany a b c g left = tt
 leaves_more (why.Broken f) a b c g left = grown_both a b c g left
 
-pub leaves_unbroken : (n : NotRead) (a b : MadeLists) → IsNotBroken n → LeavesFront n a b
-leaves_unbroken why.Memory a b only = tt
-leaves_unbroken why.TooMany a b only = tt
-leaves_unbroken (why.Broken f) a b only = absurd only
+pub leaves_tried : (n : NotRead) (e : Entries) (ns : List Counted) (words : List Lexeme) (m a b : MadeLists) → TriedRefused n e ns words m → LeavesFront n a b
+leaves_tried why.Memory e ns words m a b refused = tt
+leaves_tried why.TooMany e ns words m a b refused = tt
+leaves_tried (why.Broken f) e ns words m a b refused = absurd refused
 
 pub leaves_memory : (n : NotRead) (a b : MadeLists) → n ≡ why.Memory → LeavesFront n a b
 leaves_memory n a b is = subst (λ (k : NotRead). LeavesFront k a b) (sym is) tt

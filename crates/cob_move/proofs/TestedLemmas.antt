@@ -34,8 +34,8 @@ use Rattle.cob_move.specs.declared.made.Sizes.{Sizes}
 use Rattle.cob_move.specs.declared.entries.Entries.{Entries}
 use Rattle.cob_move.specs.declared.entries.NamedEntry.{NamedEntry}
 use Rattle.cob_move.specs.Among.{nameable}
-use Rattle.cob_move.specs.Deeds.{AreDeeds, ComeFirstInLoop, IsBoundOf, IsLoopOf, IsLoopRefused, IsTurnRefused, count_of_turns}
-use Rattle.cob_move.specs.DeedsRead.{AddsDeeds, AddsLoop, AddsMade, AreKept, AreParted, AreTurns, BoundNotRead, BreaksInTurn, FewWith, FirstBelow, FirstIn, FirstInLoop, HasBounds, HasGrown, HasNoTurn, IsBoundRead, IsFrontOf, IsMade, IsNotBroken, IsRefusedIn, IsSizeOf, LeavesFront, LoopComesTo, LoopRefused, MadeLists, PassageComesTo, ReadsTurns, TurnRefused, all_deeds, closed, closed_where, flow_lists, in_its_turn, last_marked, linked_turns, made_deeds, open_deeds, open_statements, taken_back, without_flows}
+use Rattle.cob_move.specs.Deeds.{AreDeeds, IsBoundOf, IsLoopOf, IsLoopRefused, IsTurnRefused, count_of_turns}
+use Rattle.cob_move.specs.DeedsRead.{AddsDeeds, AddsLoop, AddsMade, AreKept, AreParted, AreTurns, BegunIn, BoundNotRead, BreaksInTurn, FewWith, FirstBelow, FirstIn, FirstInLoop, FirstUpTo, HasBounds, HasGrown, HasNoTurn, IsBoundRead, IsFrontOf, IsMade, IsRefusedIn, IsSizeOf, LeavesFront, LoopComesTo, LoopRefused, MadeLists, PassageComesTo, ReadsTurns, TriedRefused, all_deeds, closed, closed_where, flow_lists, in_its_turn, last_marked, linked_turns, made_deeds, open_deeds, open_statements, taken_back, without_flows}
 use Rattle.cob_move.specs.Entries.{AllMayBeNamed, records_of}
 use Rattle.cob_move.specs.DeedsLaws.{DeedsBreakNoRule, OneDeeds}
 use Rattle.cob_move.specs.Joined.{before_deeds, joined_deeds}
@@ -201,7 +201,7 @@ reads_passed law e ns l p behind next turns old now after kept so a =
       whole = so.whole ∙ ap (λ (t : List Move). moves (records_of e) old.list ++ t)
           (moves_changed so.comes behind a.deeds l.by (length turns) l.from (λ k less. other k less));
       fits = λ le. a.fits (so.fits le);
-      few = below_few_next law e ns l p behind old.read now.read so.comes so.count so.are so.longer so.fits a.few so.few;
+      few = below_few_next law e ns l p behind old.read now.read so.comes so.count so.are so.longer so.fits (λ begun. a.few) so.few;
     }
 
 -- nothing is made but what has a mark behind it
@@ -265,7 +265,7 @@ reads_kept law e ns l p behind next turns old now mid kept here none marked grow
           ∙ ap (λ (t : List Move). moves r old.list ++ t) (sym (turns_one_more g l.by (length turns) l.from))
           ∙ ap (λ (n : ℕ). moves r old.list ++ loop_turns g l.by n l.from) (sym size);
       fits = λ le. subst (λ (n : ℕ). n ≤ most_written_out) (sym (closed_read mid)) (a.fits (so.fits le));
-      few = below_few_next law e ns l p behind old.read now.read so.comes so.count so.are so.longer so.fits a.few so.few;
+      few = below_few_next law e ns l p behind old.read now.read so.comes so.count so.are so.longer so.fits (λ begun. a.few) so.few;
     }
 
 -- ---- why a loop to an item isn't read
@@ -273,8 +273,8 @@ reads_kept law e ns l p behind next turns old now mid kept here none marked grow
 pub first_refused : OneDeeds → DeedsBreakNoRule → (f : MoveFault) (e : Entries) (ns : List Counted) (l : WrittenLoop) (ws body : List Lexeme) (number : ℕ) (old : MadeLists) → AllMayBeNamed e → l.bound ≡ ToItem ws → number ≡ l.from
     → BreaksInTurn f e (in_its_turn ns l number) body old.read → LoopRefused (why.Broken f) e ns l body old
 first_refused law unbroken f e ns l ws body number old named bound first broken p is =
-    let k : ((f.rule ≡ rule.Memory) → ⊥) × IsRefusedIn f e (in_its_turn ns l l.from) p × FewWith (λ many. FirstIn e (in_its_turn ns l l.from) p many) old.read =
-    subst (λ (i : ℕ). ((f.rule ≡ rule.Memory) → ⊥) × IsRefusedIn f e (in_its_turn ns l i) p × FewWith (λ many. FirstIn e (in_its_turn ns l i) p many) old.read) first (broken p is) in (
+    let k : ((f.rule ≡ rule.Memory) → ⊥) × IsRefusedIn f e (in_its_turn ns l l.from) p × (BegunIn e (in_its_turn ns l l.from) p → FewWith (λ many. FirstIn e (in_its_turn ns l l.from) p many) old.read) =
+    subst (λ (i : ℕ). ((f.rule ≡ rule.Memory) → ⊥) × IsRefusedIn f e (in_its_turn ns l i) p × (BegunIn e (in_its_turn ns l i) p → FewWith (λ many. FirstIn e (in_its_turn ns l i) p many) old.read)) first (broken p is) in (
       k.0,
       subst (λ (b : WrittenBound). IsLoopRefused f (nameable e) ns l b (λ i. IsRefusedIn f e (in_its_turn ns l i) p) (λ i. (d : Deeds Past) × (c : ℕ) × PassageComesTo e (in_its_turn ns l i) p d c)) (sym bound)
           (inr (inl k.1)),
@@ -283,15 +283,15 @@ first_refused law unbroken f e ns l ws body number old named bound first broken 
 
 pub later_refused : (n : NotRead) (e : Entries) (ns : List Counted) (l : WrittenLoop) (ws body : List Lexeme) (behind next : ℕ) (turns : List (List Flow)) (old now : MadeLists) → l.bound ≡ ToItem ws
     → AreKept l.from l.by (length turns) behind next → ((p : Passage) → IsPassage p body → ReadsTurns e ns l p behind turns old now) → behind ≤ l.from + longest_record
-    → ((t : Past) × IsBoundOf (nameable e) (in_turn ns false 0 ws) t) → IsNotBroken n → TurnRefused n e (in_its_turn ns l behind) body now → LoopRefused n e ns l body old
-later_refused why.Memory e ns l ws body behind next turns old now bound kept reads far item only refused p is = tt
-later_refused (why.Broken f) e ns l ws body behind next turns old now bound kept reads far item only refused p is = absurd only
-later_refused why.TooMany e ns l ws body behind next turns old now bound kept reads far item only refused p is =
-    let (m, first, most) = refused p is in
+    → ((t : Past) × IsBoundOf (nameable e) (in_turn ns false 0 ws) t) → TriedRefused n e (in_its_turn ns l behind) body now → LoopRefused n e ns l body old
+later_refused why.Memory e ns l ws body behind next turns old now bound kept reads far item refused p is = tt
+later_refused (why.Broken f) e ns l ws body behind next turns old now bound kept reads far item refused p is = absurd refused
+later_refused why.TooMany e ns l ws body behind next turns old now bound kept reads far item refused p is =
+    let (begun, m, first, most) = refused p is in
     let so = reads p is in
     let begin = count_of_turns so.count 1 (behind - l.from) l.from in (
       begin + m,
-      subst (λ (b : WrittenBound). ComeFirstInLoop (nameable e) ns l b (λ i c. (d : Deeds Past) × PassageComesTo e (in_its_turn ns l i) p d c) (λ i c. FirstIn e (in_its_turn ns l i) p c) (begin + m)) (sym bound) (
+      subst (λ (b : WrittenBound). FirstUpTo e ns l b p (begin + m)) (sym bound) (
         item.0,
         behind,
         m,
@@ -300,6 +300,7 @@ later_refused why.TooMany e ns l ws body behind next turns old now bound kept re
         kept.first,
         far,
         λ j low less. (so.comes j, so.are j low less),
+        begun,
         first,
         refl,
       ),
@@ -468,7 +469,7 @@ loop_made e ns l p n behind turns b old now so = record {
 pub loop_added : (e : Entries) (ns : List Counted) (l : WrittenLoop) (p : Passage) (n : NamedEntry) (ws : List Lexeme) (behind next : ℕ) (turns : List (List Flow)) (b : Bound) (old now : MadeLists) → l.bound ≡ ToItem ws
     → IsBoundRead e (in_turn ns false 0 ws) n → AreKept l.from l.by (length turns) behind next → l.from < behind → behind ≤ l.from + longest_record
     → ((d : Deeds Past) (c : ℕ) → PassageComesTo e (in_its_turn ns l behind) p d c → ⊥) → IsLoopRead e ns l p n behind turns b old now
-    → FewWith (λ many. FirstIn e (in_its_turn ns l behind) p many) now.read → OneDeeds
+    → (BegunIn e (in_its_turn ns l behind) p → FewWith (λ many. FirstIn e (in_its_turn ns l behind) p many) now.read) → OneDeeds
     → AddsMade e (λ d many. LoopComesTo e ns l p d many) (λ many. FirstInLoop e ns l p many) old (with_loop old now b (linked_turns (length now.bounds) l.by l.from turns))
 loop_added e ns l p n ws behind next turns b old now bound named kept first last none so few law =
     let r = records_of e in
@@ -699,7 +700,7 @@ breaks_first f e ns inner l body behind next turns old now t same broken p is =
     let r = t.reads p is in
     let size : now.read ≡ old.read = omega (arith, r.longer, none_before r.count l.from behind same) in
     let k = broken p is in
-    (k.0, k.1, subst (λ (n : ℕ). FewWith (λ many. FirstIn e inner p many) n) size k.2)
+    (k.0, k.1, λ begun. subst (λ (n : ℕ). FewWith (λ many. FirstIn e inner p many) n) size (k.2 begun))
 
 -- behind a turn that was taken back the same is made
 pub breaks_same : (f : MoveFault) (e : Entries) (inner : List Counted) (body : List Lexeme) (now new : MadeLists) → new ≡ now → BreaksInTurn f e inner body now.read → HasNoTurn e inner body new.read

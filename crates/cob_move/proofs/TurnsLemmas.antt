@@ -22,8 +22,8 @@ use Rattle.cob_move.specs.declared.made.NotRead.{NotRead}
 use Rattle.cob_move.specs.declared.made.NotRead.TheVariants as why
 use Rattle.cob_move.specs.declared.entries.Entries.{Entries}
 use Rattle.cob_move.specs.Among.{nameable}
-use Rattle.cob_move.specs.Deeds.{ComeFirstInLoop, IsLoopOf, IsLoopRefused, count_of_turns, deeds_of_turns}
-use Rattle.cob_move.specs.DeedsRead.{AddsDeeds, AddsLoop, AddsMade, AddsTurns, AreTurnsMeant, FewWith, FirstIn, FirstInLoop, FirstInTurns, HasBounds, HasGrown, IsFrontOf, IsMade, IsRefusedIn, LoopComesTo, LoopIsRefused, LoopRefused, MadeLists, PassageComesTo, RefusedMade, TurnComesTo, TurnRefused, in_its_turn, made_deeds}
+use Rattle.cob_move.specs.Deeds.{IsLoopOf, IsLoopRefused, count_of_turns, deeds_of_turns}
+use Rattle.cob_move.specs.DeedsRead.{AddsDeeds, AddsLoop, AddsMade, AddsTurns, AreTurnsMeant, FewWith, FirstIn, FirstInLoop, FirstInTurns, FirstUpTo, HasBounds, HasGrown, IsFrontOf, IsMade, IsRefusedIn, LoopComesTo, LoopIsRefused, LoopRefused, MadeLists, PassageComesTo, RefusedMade, TurnComesTo, TurnRefused, in_its_turn, made_deeds}
 use Rattle.cob_move.specs.DeedsLaws.{DeedsBreakNoRule, OneDeeds}
 use Rattle.cob_move.specs.Entries.{AllMayBeNamed, records_of}
 use Rattle.cob_move.specs.Joined.{joined_deeds}
@@ -281,7 +281,7 @@ none_in_turns law e ns l p count n i comes whole =
 
 loop_first_none : OneDeeds → (e : Entries) (ns : List Counted) (l : WrittenLoop) (p : Passage) (ws : List Lexeme) (b : WrittenBound) → l.bound ≡ b → IsPassage p ws → AreBounded p → IsBounded b l.counter p → turns_of l * statements_of p ≡ 0
     → ((ns : List Counted) → statements_of p ≡ 0 → (m : ℕ) → FirstIn e ns p m → m ≡ 0) → (m : ℕ)
-    → ComeFirstInLoop (nameable e) ns l b (λ i c. (d : Deeds Past) × PassageComesTo e (in_its_turn ns l i) p d c) (λ i c. FirstIn e (in_its_turn ns l i) p c) m → m ≡ 0
+    → FirstUpTo e ns l b p m → m ≡ 0
 loop_first_none law e ns l p ws (ToNumber n) same is bounded counter none part m (k, own, count, less, whole, first, at) =
     let turns : turns_of l ≡ turns_between l.from l.by n = turns_are l n same in
     let no : statements_of p ≡ 0 = no_product (turns_of l) (statements_of p) k none (subst (λ (j : ℕ). k < j) (sym turns) less) in
@@ -323,7 +323,7 @@ none_in_loop : OneDeeds → (e : Entries) (ns : List Counted) (l : WrittenLoop) 
     → (m : ℕ) → FirstInLoop e ns l p m → m ≡ 0
 none_in_loop law e ns l p ws is bounded b same counter none m first =
     loop_first_none law e ns l p ws b same is bounded counter none (λ k no n x. nothing_first law e k p ws is bounded no n x) m
-    (subst (λ (t : WrittenBound). ComeFirstInLoop (nameable e) ns l t (λ i c. (d : Deeds Past) × PassageComesTo e (in_its_turn ns l i) p d c) (λ i c. FirstIn e (in_its_turn ns l i) p c) m) same first)
+    (subst (λ (t : WrittenBound). FirstUpTo e ns l t p m) same first)
 
 -- ---- the turns of a loop to a number
 
@@ -382,7 +382,7 @@ turn_refused law unbroken why.TooMany e ns l body turns done number bound old no
     let k = chosen (λ i t c. TurnComesTo e ns l p i t c) l.by done l.from a.deeds a.many some a.are in
     let begin = count_of_turns k.count l.by done l.from in (
       begin + m,
-      subst (λ (b : WrittenBound). ComeFirstInLoop (nameable e) ns l b (λ i c. (d : Deeds Past) × PassageComesTo e (in_its_turn ns l i) p d c) (λ i c. FirstIn e (in_its_turn ns l i) p c) (begin + m)) (sym same)
+      subst (λ (b : WrittenBound). FirstUpTo e ns l b p (begin + m)) (sym same)
           (done, m, k.count, few, λ j lt. (k.comes (l.from + j * l.by), k.each j lt), subst (λ (i : ℕ). FirstIn e (in_its_turn ns l i) p m) at first, refl),
       omega (arith, most, a.longer, k.many),
     )

@@ -73,15 +73,40 @@ AreDeeds all input output ns (ALoop l body more) d many = (f : ℕ → Deeds Pas
 
 -- ---- how much is read
 
+-- The first turn of a loop, if it has one, can be read; and where it ends by an item, its bound is one.
+abbrev pub IsLoopBegun : List Candidate → List Counted → WrittenLoop → WrittenBound → (first : Type 0) → Type 0
+IsLoopBegun all ns l (ToNumber n) first = l.from ≤ n → first
+IsLoopBegun all ns l (ToItem ws) first = ((t : Past) × IsBoundOf all (in_turn ns false 0 ws) t) × first
+
+-- Each statement of a passage has a meaning where the counters round it have these numbers, and that of each loop in it its first one.
+abbrev pub IsBegun : List Candidate → Forest Resolved → Forest Resolved → List Counted → Passage → Type 0
+IsBegun all input output ns NoMore = Unit {0}
+IsBegun all input output ns (Moves own more) = ((ms : List Move) × (count : ℕ) × IsRunMeant input output (in_turn ns false 0 own) ms count) × IsBegun all input output ns more
+IsBegun all input output ns (Pause more) = IsBegun all input output ns more
+IsBegun all input output ns (ALoop l body more) =
+    IsLoopBegun all ns l l.bound (IsBegun all input output (ns ++ counter_at l l.from ∷ []) body) × IsBegun all input output ns more
+
+-- what stands in a passage from its first loop on
+abbrev pub from_loop : Passage → Passage
+from_loop NoMore = NoMore
+from_loop (Moves own more) = from_loop more
+from_loop (Pause more) = from_loop more
+from_loop (ALoop l body more) = ALoop l body more
+
+-- So it is of a passage from its first loop on: what stands in front of that is read as it comes.
+abbrev pub IsTurnBegun : List Candidate → Forest Resolved → Forest Resolved → List Counted → Passage → Type 0
+IsTurnBegun all input output ns p = IsBegun all input output ns (from_loop p)
+
 -- So many statements come first in a loop: those of the turns in front of one, and of that one so many. Of a loop to an item, whose bound is one, each number is
--- looked at, so far as a table may have elements: the turns in front of one are those of all numbers below its own, also those that BY passes over.
-abbrev pub ComeFirstInLoop : List Candidate → List Counted → WrittenLoop → WrittenBound → (whole part : ℕ → ℕ → Type 0) → ℕ → Type 0
-ComeFirstInLoop all ns l (ToNumber n) whole part many = (k own : ℕ) × (count : ℕ → ℕ)
+-- looked at, so far as a table may have elements: the turns in front of one are those of all numbers below its own, also those that BY passes over. Its turn
+-- counts where it can be begun: before a turn is read, each statement in it is looked at once.
+abbrev pub ComeFirstInLoop : List Candidate → List Counted → WrittenLoop → WrittenBound → (begun : ℕ → Type 0) → (whole part : ℕ → ℕ → Type 0) → ℕ → Type 0
+ComeFirstInLoop all ns l (ToNumber n) begun whole part many = (k own : ℕ) × (count : ℕ → ℕ)
     × (k < turns_between l.from l.by n) × ((j : ℕ) → j < k → whole (l.from + j * l.by) (count (l.from + j * l.by)))
     × part (l.from + k * l.by) own × (many ≡ count_of_turns count l.by k l.from + own)
-ComeFirstInLoop all ns l (ToItem ws) whole part many = (t : Past) × (i own : ℕ) × (count : ℕ → ℕ)
+ComeFirstInLoop all ns l (ToItem ws) begun whole part many = (t : Past) × (i own : ℕ) × (count : ℕ → ℕ)
     × IsBoundOf all (in_turn ns false 0 ws) t × (l.from ≤ i) × (i ≤ l.from + longest_record) × ((j : ℕ) → l.from ≤ j → j < i → whole j (count j))
-    × part i own × (many ≡ count_of_turns count 1 (i - l.from) l.from + own)
+    × begun i × part i own × (many ≡ count_of_turns count 1 (i - l.from) l.from + own)
 
 -- So many statements come first in what a passage comes to, where the counters round it have these numbers: before the first thing that has no meaning, if
 -- there is one.
@@ -93,7 +118,7 @@ ComeFirst all input output ns (Moves own more) many =
 ComeFirst all input output ns (Pause more) many = ComeFirst all input output ns more many
 ComeFirst all input output ns (ALoop l body more) many =
     (many ≡ 0)
-    ⊎ (ComeFirstInLoop all ns l l.bound (λ i c. (d : Deeds Past) × AreDeeds all input output (ns ++ counter_at l i ∷ []) body d c) (λ i c. ComeFirst all input output (ns ++ counter_at l i ∷ []) body c) many
+    ⊎ (ComeFirstInLoop all ns l l.bound (λ i. IsTurnBegun all input output (ns ++ counter_at l i ∷ []) body) (λ i c. (d : Deeds Past) × AreDeeds all input output (ns ++ counter_at l i ∷ []) body d c) (λ i c. ComeFirst all input output (ns ++ counter_at l i ∷ []) body c) many
     ⊎ ((f : ℕ → Deeds Past) × (count : ℕ → ℕ) × (own : Deeds Past) × (turned rest : ℕ)
     × IsLoopOf all ns l l.bound (λ i e c. AreDeeds all input output (ns ++ counter_at l i ∷ []) body e c) f count own turned
     × ComeFirst all input output ns more rest × (many ≡ turned + rest)))

@@ -20,7 +20,7 @@ use Rattle.cob_move_apply.specs.Prepared.{moves_of}
 use Rattle.cob_move_deeds.specs.Tests.{IsBound, IsBoundItem, Past}
 use Rattle.cob_move_loops.specs.Bounded.{AreBounded, BoundedFront}
 use Rattle.cob_move_loops.specs.Few.{loop_line}
-use Rattle.cob_move_loops.specs.Passages.{APause, ARun, IsPassage, IsRun, Looped, Passage, PassageFront, WrittenLoop}
+use Rattle.cob_move_loops.specs.Passages.{APause, ARun, IsPassage, IsRun, Looped, Passage, PassageFront, WrittenBound, WrittenLoop}
 use Rattle.cob_move_loops.specs.Reading.{Within}
 use Rattle.cob_move_loops.specs.Turns.{Counted, counter_at, in_turn, turns as loop_turns}
 use Rattle.cob_move_statements.specs.declared.fault.MoveFault.{MoveFault}
@@ -35,7 +35,7 @@ use Rattle.cob_move.specs.declared.made.Sizes.{Sizes}
 use Rattle.cob_move.specs.declared.entries.Entries.{Entries}
 use Rattle.cob_move.specs.declared.entries.NamedEntry.{NamedEntry}
 use Rattle.cob_move.specs.Among.{NamesAmong, nameable}
-use Rattle.cob_move.specs.Deeds.{AreDeeds, ComeFirst, ComeFirstInLoop, IsBoundRefusal, IsLoopOf, IsLoopRefused, IsRunMeant, IsTurnRefused, count_of_turns}
+use Rattle.cob_move.specs.Deeds.{AreDeeds, ComeFirst, ComeFirstInLoop, IsBegun, IsBoundRefusal, IsLoopBegun, IsTurnBegun, IsLoopOf, IsLoopRefused, IsRunMeant, IsTurnRefused, count_of_turns}
 use Rattle.cob_move.specs.Entries.{records_of}
 use Rattle.cob_move.specs.Joined.{joined_deeds}
 use Rattle.cob_move.specs.Loops.{HasJudged}
@@ -187,12 +187,6 @@ RefusedMade why.Memory refused first old = Unit {0}
 RefusedMade why.TooMany refused first old = (many : ℕ) × first many × (most_written_out < old.read + many)
 RefusedMade (why.Broken f) refused first old = ((f.rule ≡ rule.Memory) → ⊥) × refused f × FewWith first old.read
 
--- it breaks no rule
-abbrev pub IsNotBroken : NotRead → Type 0
-IsNotBroken why.Memory = Unit {0}
-IsNotBroken why.TooMany = Unit {0}
-IsNotBroken (why.Broken f) = ⊥
-
 -- where a rule is broken, what was there stands in front of what was made, so that this can be taken back
 abbrev pub LeavesFront : NotRead → (old new : MadeLists) → Type 0
 LeavesFront why.Memory old new = Unit {0}
@@ -256,10 +250,22 @@ FirstIn e ns p many = ComeFirst (nameable e) e.input.now e.output.now ns p many
 abbrev pub FirstInRun : Entries → List Counted → List Lexeme → ℕ → Type 0
 FirstInRun e ns own many = (ms : List Move) × IsRunMeant e.input.now e.output.now (in_turn ns false 0 own) ms many
 
+-- a passage can be begun in a turn: each statement from its first loop on has a meaning where the counter of each loop in it has its first number
+abbrev pub BegunIn : Entries → List Counted → Passage → Type 0
+BegunIn e ns p = IsTurnBegun (nameable e) e.input.now e.output.now ns p
+
+-- so it has from its first statement on
+abbrev pub AllBegun : Entries → List Counted → Passage → Type 0
+AllBegun e ns p = IsBegun (nameable e) e.input.now e.output.now ns p
+
+-- in a loop with this passage that ends so
+abbrev pub FirstUpTo : Entries → List Counted → WrittenLoop → WrittenBound → Passage → ℕ → Type 0
+FirstUpTo e ns l b p many =
+    ComeFirstInLoop (nameable e) ns l b (λ i. BegunIn e (ns ++ counter_at l i ∷ []) p) (λ i c. (d : Deeds Past) × PassageComesTo e (ns ++ counter_at l i ∷ []) p d c) (λ i c. FirstIn e (ns ++ counter_at l i ∷ []) p c) many
+
 -- in a loop with this passage
 abbrev pub FirstInLoop : Entries → List Counted → WrittenLoop → Passage → ℕ → Type 0
-FirstInLoop e ns l p many =
-    ComeFirstInLoop (nameable e) ns l l.bound (λ i c. (d : Deeds Past) × PassageComesTo e (ns ++ counter_at l i ∷ []) p d c) (λ i c. FirstIn e (ns ++ counter_at l i ∷ []) p c) many
+FirstInLoop e ns l p many = FirstUpTo e ns l l.bound p many
 
 -- in so many turns of a loop to a number
 abbrev pub FirstInTurns : Entries → List Counted → WrittenLoop → Passage → ℕ → ℕ → Type 0
@@ -271,7 +277,7 @@ FirstInTurns e ns l p done many = (k own : ℕ) × (count : ℕ → ℕ)
 abbrev pub FirstBelow : Entries → List Counted → WrittenLoop → Passage → ℕ → ℕ → Type 0
 FirstBelow e ns l p behind many = (i own : ℕ) × (count : ℕ → ℕ)
     × (l.from ≤ i) × (i < behind) × ((j : ℕ) → l.from ≤ j → j < i → (d : Deeds Past) × PassageComesTo e (ns ++ counter_at l j ∷ []) p d (count j))
-    × FirstIn e (ns ++ counter_at l i ∷ []) p own × (many ≡ count_of_turns count 1 (i - l.from) l.from + own)
+    × BegunIn e (ns ++ counter_at l i ∷ []) p × FirstIn e (ns ++ counter_at l i ∷ []) p own × (many ≡ count_of_turns count 1 (i - l.from) l.from + own)
 
 -- in what stands in front
 abbrev pub FirstInFront : Entries → List Counted → PassageFront → Passage → ℕ → Type 0
@@ -311,13 +317,77 @@ LoopRefused n e ns l body old = (p : Passage) → IsPassage p body → RefusedMa
 abbrev pub FrontRefused : NotRead → Entries → List Counted → PassageFront → MadeLists → Type 0
 FrontRefused n e ns front old = (p : Passage) → Within front p → RefusedMade n (λ f. FrontIsRefused f e ns front p) (λ many. FirstInFront e ns front p many) old
 
--- whatever passage words are, it breaks a rule in a turn, and behind so many statements those that come first are few
+-- Whatever passage words are, it breaks a rule in a turn; and if it can be begun, those that come first behind so many statements are few.
 abbrev pub BreaksInTurn : MoveFault → Entries → List Counted → List Lexeme → ℕ → Type 0
-BreaksInTurn f e ns words before = (p : Passage) → IsPassage p words → ((f.rule ≡ rule.Memory) → ⊥) × IsRefusedIn f e ns p × FewWith (λ many. FirstIn e ns p many) before
+BreaksInTurn f e ns words before = (p : Passage) → IsPassage p words → ((f.rule ≡ rule.Memory) → ⊥) × IsRefusedIn f e ns p × (BegunIn e ns p → FewWith (λ many. FirstIn e ns p many) before)
 
 -- so it does, whatever the fault is
 abbrev pub HasNoTurn : Entries → List Counted → List Lexeme → ℕ → Type 0
 HasNoTurn e ns words before = (f : MoveFault) × BreaksInTurn f e ns words before
+
+-- Why a turn of a loop to an item that breaks no rule is not read: memory was refused; or it can be begun, and more statements come first than may be, with those
+-- so far.
+abbrev pub TriedRefused : NotRead → Entries → List Counted → List Lexeme → MadeLists → Type 0
+TriedRefused why.Memory e ns words old = Unit {0}
+TriedRefused why.TooMany e ns words old = (p : Passage) → IsPassage p words → BegunIn e ns p × ((many : ℕ) × FirstIn e ns p many × (most_written_out < old.read + many))
+TriedRefused (why.Broken f) e ns words old = ⊥
+
+-- ---- turns that are looked at before they are read
+
+-- words of MOVE statements have a meaning in a turn
+abbrev pub HasRun : Entries → List Counted → List Lexeme → Type 0
+HasRun e ns own = (ms : List Move) × (count : ℕ) × IsRunMeant e.input.now e.output.now (in_turn ns false 0 own) ms count
+
+-- the first turn of a loop with this passage can be read, and its bound is one
+abbrev pub LoopBegun : Entries → List Counted → WrittenLoop → WrittenBound → Passage → Type 0
+LoopBegun e ns l b p = IsLoopBegun (nameable e) ns l b (AllBegun e (ns ++ counter_at l l.from ∷ []) p)
+
+-- so it is of what stands in front, where its statements, if it is a loop, are this passage
+abbrev pub FrontBegun : Entries → List Counted → PassageFront → Passage → Type 0
+FrontBegun e ns (ARun own) p = HasRun e ns own
+FrontBegun e ns APause p = Unit {0}
+FrontBegun e ns (Looped l own) p = LoopBegun e ns l l.bound p
+
+-- It isn't: memory was refused, or a rule is broken, which refuses it, and it can't be begun.
+abbrev pub StopsAt : NotRead → (refused : MoveFault → Type 0) → (begun : Type 0) → Type 0
+StopsAt why.Memory refused begun = Unit {0}
+StopsAt why.TooMany refused begun = ⊥
+StopsAt (why.Broken f) refused begun = ((f.rule ≡ rule.Memory) → ⊥) × refused f × (begun → ⊥)
+
+-- whatever passage words are, it can be begun in a turn, from its first statement on
+abbrev pub WordsBegun : Entries → List Counted → List Lexeme → Type 0
+WordsBegun e ns words = (p : Passage) → IsPassage p words → AllBegun e ns p
+
+-- it can't
+abbrev pub WordsStop : NotRead → Entries → List Counted → List Lexeme → Type 0
+WordsStop n e ns words = (p : Passage) → IsPassage p words → StopsAt n (λ f. IsRefusedIn f e ns p) (AllBegun e ns p)
+
+-- the same of what stands in front
+abbrev pub BeginsFront : Entries → List Counted → PassageFront → Type 0
+BeginsFront e ns f = (p : Passage) → Within f p → FrontBegun e ns f p
+
+abbrev pub FrontStops : NotRead → Entries → List Counted → PassageFront → Type 0
+FrontStops n e ns f = (p : Passage) → Within f p → StopsAt n (λ g. FrontIsRefused g e ns f p) (FrontBegun e ns f p)
+
+-- the same of a loop
+abbrev pub LoopStops : NotRead → Entries → List Counted → WrittenLoop → List Lexeme → Type 0
+LoopStops n e ns l body = (p : Passage) → IsPassage p body → StopsAt n (λ f. LoopIsRefused f e ns l p) (LoopBegun e ns l l.bound p)
+
+abbrev pub BeginsLoop : Entries → List Counted → WrittenLoop → List Lexeme → Type 0
+BeginsLoop e ns l body = (p : Passage) → IsPassage p body → LoopBegun e ns l l.bound p
+
+-- the same of a turn, from its first loop on
+abbrev pub TurnBegins : Entries → List Counted → List Lexeme → Type 0
+TurnBegins e ns words = (p : Passage) → IsPassage p words → BegunIn e ns p
+
+abbrev pub TurnStops : NotRead → Entries → List Counted → List Lexeme → Type 0
+TurnStops n e ns words = (p : Passage) → IsPassage p words → StopsAt n (λ f. IsRefusedIn f e ns p) (BegunIn e ns p)
+
+-- it is no loop
+abbrev pub IsNoLoop : PassageFront → Type 0
+IsNoLoop (ARun own) = Unit {0}
+IsNoLoop APause = Unit {0}
+IsNoLoop (Looped l own) = ⊥
 
 -- ---- turns of a loop
 

@@ -15,7 +15,7 @@ ghost use Rattle.cob_move_deeds.specs.Tests.{Past};
 ghost use Rattle.cob_move.specs.Among.{nameable};
 ghost use Rattle.cob_move.specs.Deeds.{IsBoundOf};
 ghost use Rattle.cob_move.specs.Between.{ArePairsOf};
-ghost use Rattle.cob_move.specs.DeedsRead.{AddsDeeds, AddsFront, AddsLoop, AddsMoved, AreKept, BoundNotRead, BoundRefused, BreaksInTurn, FrontHasBounds, FrontRefused, HasBounds, HasGrown, HasNoTurn, IsBoundRead, IsFrontRead, IsMade, IsNotBroken, LeavesFront, LoopRefused, MovedRefused, ReadsTurns, TurnRefused, closed, flow_lists, in_its_turn, last_marked, linked_size, linked_turns, made_lists, open_statements, taken_back, without_flows};
+ghost use Rattle.cob_move.specs.DeedsRead.{AddsDeeds, AddsFront, AddsLoop, AddsMoved, AreKept, BoundNotRead, BoundRefused, BreaksInTurn, FrontHasBounds, FrontRefused, HasBounds, HasGrown, HasNoTurn, IsBoundRead, IsFrontRead, IsMade, LeavesFront, LoopRefused, MovedRefused, ReadsTurns, TriedRefused, TurnRefused, closed, flow_lists, in_its_turn, last_marked, linked_size, linked_turns, made_lists, open_statements, taken_back, without_flows};
 ghost use Rattle.cob_move.specs.Entries.{AllMayBeNamed, records_of};
 ghost use Rattle.cob_move.specs.Loops.{AddsRun, RunRefused};
 ghost use Rattle.cob_move.specs.declared.made.NotRead.TheVariants as unread;
@@ -23,6 +23,7 @@ ghost use Rattle.cob_move.specs.declared.made.NotRead.TheVariants as unread;
 use crate::deeds_laws::{deeds_break_no_rule, one_deeds};
 use crate::entries::{Entries, NamedEntry};
 use crate::linking::{link_turns, next_number};
+use crate::looking::begin_turn;
 use crate::loops::{add_words, fault_of};
 use crate::made::{Made, NotRead, keep_turn};
 use crate::meaning_laws::{meant_are_moves, meant_break_no_rule};
@@ -42,7 +43,7 @@ use std::alloc::Global;
 use std::mem::replace;
 
 /// Why words of a fault are not read.
-fn not_read(fault: MoveFault) -> NotRead
+pub(crate) fn not_read(fault: MoveFault) -> NotRead
     ensures memory { fault.rule ≡ Memory → result ≡ unread.Memory }
     ensures broken { fault.rule ≢ Memory → result ≡ unread.Broken fault }
 {
@@ -57,7 +58,7 @@ fn not_read(fault: MoveFault) -> NotRead
 /// # Errors
 ///
 /// The rule that they break, with its line; `Memory`.
-fn add_words_in(
+pub(crate) fn add_words_in(
     alloc: Global,
     entries: &Entries<'_, '_>,
     pairs: &mut Correspondences<'_>,
@@ -177,7 +178,7 @@ fn bound_named(entries: &Entries<'_, '_>, words: &[Token]) -> Result<NamedEntry,
 /// # Errors
 ///
 /// The rule that they break, with the loop's line; `Memory`.
-fn read_bound(
+pub(crate) fn read_bound(
     alloc: Global,
     entries: &Entries<'_, '_>,
     head: &Loop<'_>,
@@ -238,7 +239,8 @@ fn add_turn<'a>(
     add_passage(alloc, entries, pairs, body, inner.as_slice(), made)
 }
 
-/// Reads a turn of a loop to an item, and says whether it has the elements that it names: of one that hasn't nothing is kept or counted, but its fault.
+/// Reads a turn of a loop to an item, and says whether it has the elements that it names: of one that hasn't nothing is kept or counted, but its fault. Each of
+/// its statements is looked at first, so that the loops in a turn that hasn't are not read.
 ///
 /// # Errors
 ///
@@ -266,14 +268,16 @@ fn try_turn<'a>(
         (made_lists made.old).read)) }
     ensures same { IfOk result (λ o. IfSome o
         (λ f. made_lists made.new ≡ made_lists made.old)) }
-    ensures fault { IfErr result (λ n. TurnRefused n entries.now
+    ensures fault { IfErr result (λ n. TriedRefused n entries.now
         (in_its_turn (counters turn.now) (written_loop head.now) number) (lexemes body.now)
         (made_lists made.old)) }
-    ensures only { IfErr result IsNotBroken }
     ensures made { OnOk result (IsMade (records_of entries.now) (made_lists made.new)) }
     ensures grown { OnOk result (HasGrown (made_lists made.old) (made_lists made.new)) }
     ensures pairs { ArePairsOf (records_of entries.now) pairs.new }
 {
+    if let Some(fault) = begin_turn(alloc, entries, pairs, head, number, body, turn)? {
+        return Ok(Some(fault));
+    }
     let before = made.sizes();
     match add_turn(alloc, entries, pairs, head, number, body, turn, made) {
         Ok(()) => Ok(None),

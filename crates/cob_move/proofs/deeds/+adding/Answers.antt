@@ -15,10 +15,11 @@ use Rattle.cob_move_loops.proofs.PassageLemmas.{shorter}
 use Rattle.cob_move_loops.proofs.WritingLemmas.{counters_more}
 use Rattle.cob_move.specs.DeedsRead.{AddsDeeds, AddsFront, AddsMoved, AddsTurns, FrontHasBounds, FrontRefused, HasGrown, IsMade, LeavesFront, LoopRefused, MadeLists, MovedRefused, ReadsTurns, TurnRefused, closed, flow_lists, in_its_turn, linked_turns, made_lists, open_statements, without_flows}
 use Rattle.cob_move.specs.Entries.{records_of}
-use Rattle.cob_move.proofs.MadeLemmas.{forgotten_again, grown_both, grown_none, leaves_more, leaves_same, leaves_unbroken}
+use Rattle.cob_move.proofs.MadeLemmas.{forgotten_again, grown_both, grown_none, leaves_more, leaves_same, leaves_tried}
 use Rattle.cob_move.proofs.ReadingLemmas.{bounds_parted, deeds_end, deeds_first, deeds_more, deeds_refused, front_read, loop_bounds, pause_added}
 use Rattle.cob_move.proofs.TestedLemmas.{HasReadLoop, bound_for, bound_not_read, breaks_first, breaks_same, broken_left, closed_refused, emptied, first_refused, later_refused, loop_left, loop_same, never_refused, no_turn_comes, past_of, tested_added, tested_grown, tested_made, tried_first, tried_now, tried_step}
 use Rattle.cob_move.proofs.CloseLemmas.{closed_made, closed_open}
+use Rattle.cob_move.proofs.LookLemmas.{stops_breaks, turn_breaks, turn_too_many}
 use Rattle.cob_move.proofs.TurnsLemmas.{number_next, turn_refused, turns_begin, turns_end, turns_next}
 use Rattle.cob_move.proofs.deeds.+adding.Goals as goal
 
@@ -91,6 +92,30 @@ add_item-returns-in-Pause-clause-added t c =
 pub add_item-returns-in-Pause-clause-grown : goal.add_item-returns-in-Pause-clause-grown
 add_item-returns-in-Pause-clause-grown t c = grown_none (made_lists c.args.made.now)
 
+pub try_turn-returns-in-Some-clause-refused : goal.try_turn-returns-in-Some-clause-refused
+try_turn-returns-in-Some-clause-refused t c =
+    stops_breaks c.in-Some.fault c.args.entries.now (in_its_turn (counters c.args.turn.now) (written_loop c.args.head.now) c.args.number) (lexemes c.args.body.now) (made_lists c.args.made.now).read (rw c.in-Some.is at c.in_ok-fault.ensures.stops)
+
+pub try_turn-returns-in-Some-clause-grown : goal.try_turn-returns-in-Some-clause-grown
+try_turn-returns-in-Some-clause-grown t c = grown_none (made_lists c.args.made.now)
+
+pub try_turn-returns-in_err-fault-clause-fault : goal.try_turn-returns-in_err-fault-clause-fault
+try_turn-returns-in_err-fault-clause-fault t c =
+    let p = err_from_is_err_and c.from_residual.result c.from_residual.ensures.1 in
+    rw (p.1, p.2, c.in_err-fault.ensures.fault) tt
+
+pub try_turn-returns-in-Err-TooMany-clause-fault : goal.try_turn-returns-in-Err-TooMany-clause-fault
+try_turn-returns-in-Err-TooMany-clause-fault t c =
+    let ns = in_its_turn (counters c.args.turn.now) (written_loop c.args.head.now) c.args.number in
+    turn_too_many c.args.entries.now ns (lexemes c.args.body.now) (made_lists c.args.made.now) (rw c.in_default.is at c.in_ok-fault.ensures.begun)
+    (subst (λ (n : NotRead). TurnRefused n c.args.entries.now ns (lexemes c.args.body.now) (made_lists c.args.made.now)) c.in-Err-TooMany.is c.in-Err-TooMany.ensures.fault)
+
+pub try_turn-returns-in-Err-Broken-clause-refused : goal.try_turn-returns-in-Err-Broken-clause-refused
+try_turn-returns-in-Err-Broken-clause-refused t c =
+    let ns = in_its_turn (counters c.args.turn.now) (written_loop c.args.head.now) c.args.number in
+    turn_breaks c.in-Err-Broken.fault c.args.entries.now ns (lexemes c.args.body.now) (made_lists c.args.made.now)
+    (subst (λ (n : NotRead). TurnRefused n c.args.entries.now ns (lexemes c.args.body.now) (made_lists c.args.made.now)) c.in-Err-Broken.field-0-is c.in-Err-Broken.ensures.fault)
+
 pub try_turn-returns-in-Err-Broken-clause-same : goal.try_turn-returns-in-Err-Broken-clause-same
 try_turn-returns-in-Err-Broken-clause-same t c = c.forget.ensures ∙ forgotten_again c.sizes-before.result (made_lists c.args.made.now) (made_lists c.add_turn.new.made) c.sizes-before.ensures (subst (λ (n : NotRead). LeavesFront n (made_lists c.args.made.now) (made_lists c.add_turn.new.made)) c.in-Err-Broken.field-0-is c.in-Err-Broken.ensures.kept)
 
@@ -156,12 +181,12 @@ pub try_turns-returns-in_err-fault-clause-fault : goal.try_turns-returns-in_err-
 try_turns-returns-in_err-fault-clause-fault t c =
     let k = tried_now c.args.entries.now (counters c.args.turn.now) (written_loop c.args.head.now) (lexemes c.args.body.now) (c.args.head.now.from + c.loop-step.step) c.in_ok-number.number c.loop-step.next (flow_lists c.loop-step.turns.items) (made_lists c.args.made.now) (made_lists c.loop-step.made) (made_lists c.loop-step.made) c.in_ok-number.ensures refl c.loop-step.invariant.tried in
     let p = err_from_is_err_and c.from_residual-in_err-fault.result c.from_residual-in_err-fault.ensures.1 in
-    rw (p.1, p.2) (later_refused c.in_err-fault.field-0.0 c.args.entries.now (counters c.args.turn.now) (written_loop c.args.head.now) c.requires.item.0 (lexemes c.args.body.now) c.in_ok-number.number c.loop-step.next (flow_lists c.loop-step.turns.items) (made_lists c.args.made.now) (made_lists c.loop-step.made) c.requires.item.2 k.kept k.reads (omega (arith, c.in_ok-number.ensures, c.loop-step-test.true)) (c.requires.item.1, c.requires.item.3) c.in_err-fault.ensures.only c.in_err-fault.ensures.fault)
+    rw (p.1, p.2) (later_refused c.in_err-fault.field-0.0 c.args.entries.now (counters c.args.turn.now) (written_loop c.args.head.now) c.requires.item.0 (lexemes c.args.body.now) c.in_ok-number.number c.loop-step.next (flow_lists c.loop-step.turns.items) (made_lists c.args.made.now) (made_lists c.loop-step.made) c.requires.item.2 k.kept k.reads (omega (arith, c.in_ok-number.ensures, c.loop-step-test.true)) (c.requires.item.1, c.requires.item.3) c.in_err-fault.ensures.fault)
 
 pub try_turns-returns-in_err-fault-clause-kept : goal.try_turns-returns-in_err-fault-clause-kept
 try_turns-returns-in_err-fault-clause-kept t c =
     let p = err_from_is_err_and c.from_residual-in_err-fault.result c.from_residual-in_err-fault.ensures.1 in
-    rw (p.1, p.2) (leaves_unbroken c.in_err-fault.field-0.0 (made_lists c.args.made.now) (made_lists c.try_turn.new.made) c.in_err-fault.ensures.only)
+    rw (p.1, p.2) (leaves_tried c.in_err-fault.field-0.0 c.args.entries.now (in_its_turn (counters c.args.turn.now) (written_loop c.args.head.now) c.in_ok-number.number) (lexemes c.args.body.now) (made_lists c.loop-step.made) (made_lists c.args.made.now) (made_lists c.try_turn.new.made) c.in_err-fault.ensures.fault)
 
 pub try_turns-returns-then-step-eq0-clause-fault : goal.try_turns-returns-then-step-eq0-clause-fault
 try_turns-returns-then-step-eq0-clause-fault t c =
