@@ -151,13 +151,13 @@ spare_read x r ms e (inr (side, (p, fixed, begin))) =
     inr (side, (p, fixed, all_mapped (λ (m : Move). AllByRecursion (BeginsFrom r.output (p.offset + p.length)) m.receivers) (read_by x) ms begin))
 
 -- what is noted of bounds stays so
-pub steady_read : (x : Reading) (r : Records) (m new : MarkedMoves) (bounds : List Bound) (noted : List Stretch) → ((from to : ℕ) → moves_between_marks r new from to ≡ map (read_by x) (moves_between_marks r m from to))
+pub steady_read : (x : Reading) (r : Records) (m new : MarkedMoves) (bounds : List Bound) (noted : List (Option Stretch)) → ((from to : ℕ) → moves_between_marks r new from to ≡ map (read_by x) (moves_between_marks r m from to))
     → length new.marks.items ≡ length m.marks.items → AreSteady r m bounds noted → AreSteady r new bounds noted
 steady_read x r m new bounds noted between many steady number b s at is from to low le high within =
     subst (λ (ms : List Move). SpareEntry r ms b.item) (sym (between from to))
     (spare_read x r (moves_between_marks r m from to) b.item (steady number b s at is from to low le high (omega (arith, within, many))))
 
-pub steady_noted_read : {V : Type 0} (items : V → List Stretch) (x : Reading) (r : Records) (m new : MarkedMoves) (bounds : List Bound) (noted : Option V) → ((from to : ℕ) → moves_between_marks r new from to ≡ map (read_by x) (moves_between_marks r m from to))
+pub steady_noted_read : {V : Type 0} (items : V → List (Option Stretch)) (x : Reading) (r : Records) (m new : MarkedMoves) (bounds : List Bound) (noted : Option V) → ((from to : ℕ) → moves_between_marks r new from to ≡ map (read_by x) (moves_between_marks r m from to))
     → length new.marks.items ≡ length m.marks.items → IfSome noted (λ v. AreSteady r m bounds (items v)) → IfSome noted (λ v. AreSteady r new bounds (items v))
 steady_noted_read items x r m new bounds None between many steady = tt
 steady_noted_read items x r m new bounds (Some noted) between many steady = steady_read x r m new bounds (items noted) between many steady
@@ -180,14 +180,15 @@ at_replicate (suc n) zero a x h = same_Some a x h
 at_replicate (suc n) (suc k) a x h = at_replicate n k a x h
 
 -- where nothing is noted of any bound
-pub none_noted : (r : Records) (m : MarkedMoves) (bounds : List Bound) (n : ℕ) → AreSteady r m bounds (replicate n (record { first = 1; last = 0 }))
+pub none_noted : (r : Records) (m : MarkedMoves) (bounds : List Bound) (n : ℕ) → AreSteady r m bounds (replicate n None)
 none_noted r m bounds n number b s at is =
-    subst (λ (t : Stretch). IsSteady r m b t) (at_replicate n number (record { first = 1; last = 0 }) s is) (none_steady r m b)
+    let no : ◌≡◌ {A = Option Stretch} None (Some s) = at_replicate n number None (Some s) is in
+    absurd (cc)
 
 -- and where it is noted of one
-pub one_noted : (r : Records) (m : MarkedMoves) (bounds : List Bound) (noted : List Stretch) (bound : ℕ) (s : Stretch) → AreSteady r m bounds noted → ((b : Bound) → slice_get bounds bound ≡ Some b → IsSteady r m b s)
-    → AreSteady r m bounds (set noted bound s)
-one_noted r m bounds noted bound s steady own number b t at is = elim (at_set noted bound number s t is) [
-  | inl (same, here) ↦ subst (λ (u : Stretch). IsSteady r m b u) here (own b (ap (λ (n : ℕ). slice_get bounds n) (sym same) ∙ at))
+pub one_noted : (r : Records) (m : MarkedMoves) (bounds : List Bound) (noted : List (Option Stretch)) (bound : ℕ) (s : Stretch) → AreSteady r m bounds noted → ((b : Bound) → slice_get bounds bound ≡ Some b → IsSteady r m b s)
+    → AreSteady r m bounds (set noted bound (Some s))
+one_noted r m bounds noted bound s steady own number b t at is = elim (at_set noted bound number (Some s) (Some t) is) [
+  | inl (same, here) ↦ subst (λ (u : Stretch). IsSteady r m b u) (same_Some s t here) (own b (ap (λ (n : ℕ). slice_get bounds n) (sym same) ∙ at))
   | inr there ↦ steady number b t at there
 ]

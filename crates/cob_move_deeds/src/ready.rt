@@ -48,8 +48,8 @@ pub struct ReadyDeeds {
     pub(crate) bounds: Vec<Bound>,
     pub(crate) loops: Vec<CountedLoop>,
     pub(crate) flows: Vec<Flow>,
-    /// Between which marks moves leave each bound alone, by its number, where that is known.
-    pub(crate) steady: Option<Vec<Stretch>>,
+    /// Between which marks moves leave each bound alone, by its number, where that was looked at.
+    pub(crate) steady: Option<Vec<Option<Stretch>>>,
     /// Whether the flows carry out all of the moves at once, which is found out before the first record comes.
     pub(crate) at_once: bool,
     pub(crate) ghost told: { at_once ≡ are_all_moves (length moves.marks.items) flows.items },

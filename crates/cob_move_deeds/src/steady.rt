@@ -7,9 +7,9 @@ ghost use Rattle.std.specs.Prelude.{◌≡◌, ◌∷◌, ◌+◌, ◌<◌, ◌�
 ghost use Rattle.std.specs.List.{AllByRecursion, slice_get};
 ghost use Rattle.cob_move_data.specs.Moves.{Records};
 ghost use Rattle.cob_move_deeds.specs.declared.flow.Bound.{Bound as Bounded};
-ghost use Rattle.cob_move_deeds.specs.Flows.{IsFlow};
+ghost use Rattle.cob_move_deeds.specs.Flows.{FlowSupport, IsFlow};
 ghost use Rattle.cob_move_deeds.specs.Prepared.{AreDeedsPrepared, deeds_of, flow_support};
-ghost use Rattle.cob_move_deeds.specs.Steady.{AreSteady, IsSteady};
+ghost use Rattle.cob_move_deeds.specs.Steady.{AreSteady, IsSteady, IsStretch};
 
 use crate::flow::Flow;
 use crate::ready::ReadyDeeds;
@@ -66,19 +66,27 @@ fn with_moves(found: Option<Stretch>, number: usize) -> Stretch
     }
 }
 
+/// These marks, with those between which the moves of a flow lie, if it has any.
+fn with_flow(found: Option<Stretch>, flow: &Flow) -> Option<Stretch>
+    ensures { (on : FlowSupport) → IfSome found (IsStretch on) → IsFlow on flow.now
+        → IfSome result (IsStretch on) }
+{
+    match *flow {
+        Flow::Moves(number) => Some(with_moves(found, number)),
+        _ => found,
+    }
+}
+
 impl ReadyDeeds {
     /// The marks between which the moves of these flows lie.
     fn marks_of(&self, flows: &[Flow]) -> Option<Stretch>
         requires each { AllByRecursion (IsFlow (flow_support self.now)) flows.now }
-        ensures { IfSome result (λ s. (s.first ≤ s.last)
-            × (s.last < length self.now.moves.marks.items)) }
+        ensures { IfSome result (IsStretch (flow_support self.now)) }
     {
         let mut found = None;
         let mut rest = flows;
         while let Some((flow, more)) = rest.split_first() {
-            if let Flow::Moves(number) = *flow {
-                found = Some(with_moves(found, number));
-            }
+            found = with_flow(found, flow);
             rest = more;
         }
         found
@@ -105,8 +113,9 @@ impl ReadyDeeds {
         }
     }
 
-    /// Notes of the bound of a test that nothing is noted of, between which marks the moves that the test passes over leave it alone.
-    fn note(&self, flow: &Flow, more: &[Flow], output: &Layout, noted: &mut [Stretch])
+    /// Notes of the bound of a test that nothing is noted of, between which marks the moves that the test passes over leave it alone. So each bound is looked
+    /// at once, at the first test of its loop.
+    fn note(&self, flow: &Flow, more: &[Flow], output: &Layout, noted: &mut [Option<Stretch>])
         requires prepared { (r : Records) × AreDeedsPrepared r self.now }
         requires each { AllByRecursion (IsFlow (flow_support self.now)) (flow.now ∷ more.now) }
         ensures { (r : Records) → r.output ≡ output.now → AreDeedsPrepared r self.now
@@ -116,8 +125,8 @@ impl ReadyDeeds {
         let Flow::Until { bound, skip, .. } = *flow else {
             return;
         };
-        if bound < noted.len() && noted[bound].is_empty() {
-            noted[bound] = self.left_by(front(more, skip), bound, output);
+        if bound < noted.len() && noted[bound].is_none() {
+            noted[bound] = Some(self.left_by(front(more, skip), bound, output));
         }
     }
 
@@ -126,13 +135,13 @@ impl ReadyDeeds {
     /// # Errors
     ///
     /// Where no memory is left.
-    fn noted(&self, alloc: Global, output: &Layout) -> Result<Vec<Stretch>, AllocError>
+    fn noted(&self, alloc: Global, output: &Layout) -> Result<Vec<Option<Stretch>>, AllocError>
         requires prepared { (r : Records) × AreDeedsPrepared r self.now }
         ensures { IfOk result (λ noted. (r : Records) → r.output ≡ output.now
             → AreDeedsPrepared r self.now
             → AreSteady r self.now.moves self.now.bounds.items noted.items) }
     {
-        let mut noted = vec![in alloc; NO_MARK; self.bounds.len()]?;
+        let mut noted = vec![in alloc; None; self.bounds.len()]?;
         let mut rest = self.flows.as_slice();
         while let Some((flow, more)) = rest.split_first() {
             self.note(flow, more, output, &mut noted);
@@ -179,8 +188,8 @@ impl ReadyDeeds {
             return NO_MARK;
         };
         match noted.get(bound) {
-            Some(marks) => *marks,
-            None => NO_MARK,
+            Some(Some(marks)) => *marks,
+            _ => NO_MARK,
         }
     }
 
