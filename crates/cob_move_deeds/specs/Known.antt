@@ -30,6 +30,6 @@ pub record IsKnown (r : Records) (on : FlowSupport) (input before : List ℕ) (o
   pub gives : BoundGives r (past_bound r given 0) input before one.gave
 
 -- what is known holds
-pub record AreKnown (r : Records) (on : FlowSupport) (input before : List ℕ) (k : KnownBounds) : Type 0 where
-  pub last : IfSome k.last (IsKnown r on input before)
-  pub before : IfSome k.before (IsKnown r on input before)
+pub record AreKnown (r : Records) (on : FlowSupport) (input now : List ℕ) (k : KnownBounds) : Type 0 where
+  pub last : IfSome k.last (IsKnown r on input now)
+  pub before : IfSome k.before (IsKnown r on input now)
