@@ -38,7 +38,7 @@ pub all_parts : {A : Type 0} (P : A → Type 0) (xs ys : List A) → AllByRecurs
 all_parts P [] ys h = (tt, h)
 all_parts P (x ∷ xs) ys h = let both = all_parts P xs ys h.1 in ((h.0, both.0), both.1)
 
-all_mapped : {A B : Type 0} (P : B → Type 0) (f : A → B) (xs : List A) → AllByRecursion (λ (x : A). P (f x)) xs → AllByRecursion P (map f xs)
+pub all_mapped : {A B : Type 0} (P : B → Type 0) (f : A → B) (xs : List A) → AllByRecursion (λ (x : A). P (f x)) xs → AllByRecursion P (map f xs)
 all_mapped P f [] h = tt
 all_mapped P f (x ∷ xs) h = (h.0, all_mapped P f xs h.1)
 

@@ -1,6 +1,6 @@
 -- What a bound gives behind moves that leave it alone.
 use Rattle.std.proofs.Common.{◌≡◌, ◌⊎◌, ℕ, zero, suc, ◌+◌, ◌<◌, ◌≤◌, false, List, [], ◌∷◌, ◌++◌, length, map, replicate, set, refl, sym, ap, subst, ◌∙◌, arith, inl, inr, Ok, Option, Some, None}
-use Rattle.std.specs.Prelude.{IfSome}
+use Rattle.std.specs.Prelude.{IfSome, slice_index_or}
 use Rattle.std.specs.List.{AllByRecursion, slice_get}
 use Rattle.std.proofs.lemmas.Option.{same_Some}
 use Rattle.cob_codec.specs.declared.reading.Reading.{Reading}
@@ -178,6 +178,16 @@ at_replicate : {A : Type 0} (n k : ℕ) (a x : A) → slice_get (replicate n a) 
 at_replicate zero k a x h = absurd (cc)
 at_replicate (suc n) zero a x h = same_Some a x h
 at_replicate (suc n) (suc k) a x h = at_replicate n k a x h
+
+-- what is noted of a bound
+pub there_noted : (noted : List (Option Stretch)) (n : ℕ) (s : Stretch) → Some s ≡ slice_index_or noted n None → slice_get noted n ≡ Some (Some s)
+there_noted [] n s h = let no : ◌≡◌ {A = Option Stretch} (Some s) None = h in absurd (cc)
+there_noted (x ∷ xs) zero s h = ap (λ (o : Option Stretch). Some o) (sym h)
+there_noted (x ∷ xs) (suc n) s h = there_noted xs n s h
+
+pub noted_steady : {V : Type 0} (items : V → List (Option Stretch)) (r : Records) (m : MarkedMoves) (bounds : List Bound) (noted : Option V) (v : V) → noted ≡ Some v → IfSome noted (λ w. AreSteady r m bounds (items w))
+    → AreSteady r m bounds (items v)
+noted_steady items r m bounds noted v is steady = subst (λ (o : Option V). IfSome o (λ w. AreSteady r m bounds (items w))) is steady
 
 -- where nothing is noted of any bound
 pub none_noted : (r : Records) (m : MarkedMoves) (bounds : List Bound) (n : ℕ) → AreSteady r m bounds (replicate n None)

@@ -3,9 +3,10 @@
 //! A move changes no bound of the input record. One of the output record may stand where the moves of its loop don't reach: that is found out once, for the
 //! marks between which these moves lie.
 
-ghost use Rattle.std.specs.Prelude.{◌≡◌, ◌∷◌, ◌+◌, ◌<◌, ◌≤◌, ℕ, length, IfOk, IfSome, IsTrue, Some};
+ghost use Rattle.std.specs.Prelude.{◌≡◌, ◌∷◌, ◌+◌, ◌<◌, ◌≤◌, ℕ, List, length, slice_index_or, IfOk, IfSome, IsTrue, Some, None};
 ghost use Rattle.std.specs.List.{AllByRecursion, slice_get};
 ghost use Rattle.cob_move_data.specs.Moves.{Records};
+ghost use Rattle.cob_move_apply.specs.declared.marked.MarkedMoves.{MarkedMoves};
 ghost use Rattle.cob_move_deeds.specs.declared.flow.Bound.{Bound as Bounded};
 ghost use Rattle.cob_move_deeds.specs.Flows.{FlowSupport, IsFlow};
 ghost use Rattle.cob_move_deeds.specs.Prepared.{AreDeedsPrepared, deeds_of, flow_support};
@@ -74,6 +75,27 @@ fn with_flow(found: Option<Stretch>, flow: &Flow) -> Option<Stretch>
     match *flow {
         Flow::Moves(number) => Some(with_moves(found, number)),
         _ => found,
+    }
+}
+
+/// What is noted of the bound with this number.
+fn noted_at(noted: &[Option<Stretch>], bound: usize) -> Option<Stretch>
+    ensures { result ≡ slice_index_or noted.now bound None }
+{
+    match noted.get(bound) {
+        Some(marks) => *marks,
+        None => None,
+    }
+}
+
+/// Between which marks moves leave the bound with this number alone, as it is noted.
+fn stretch_at(noted: &[Option<Stretch>], bound: usize) -> Stretch
+    ensures { (r : Records) (m : MarkedMoves) (bounds : List Bounded) (b : Bounded)
+        → AreSteady r m bounds noted.now → slice_get bounds bound ≡ Some b → IsSteady r m b result }
+{
+    match noted_at(noted, bound) {
+        Some(marks) => marks,
+        None => NO_MARK,
     }
 }
 
@@ -184,12 +206,9 @@ impl ReadyDeeds {
             → slice_get self.now.bounds.items bound ≡ Some b
             → IsSteady r self.now.moves b result }
     {
-        let Some(noted) = &self.steady else {
-            return NO_MARK;
-        };
-        match noted.get(bound) {
-            Some(Some(marks)) => *marks,
-            _ => NO_MARK,
+        match &self.steady {
+            Some(noted) => stretch_at(noted.as_slice(), bound),
+            None => NO_MARK,
         }
     }
 

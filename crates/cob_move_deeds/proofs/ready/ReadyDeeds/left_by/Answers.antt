@@ -1,5 +1,7 @@
 use Rattle.std.proofs.Common.{◌≡◌, ◌∙◌, ap, length, refl, subst, sym}
 use Rattle.std.proofs.lemmas.Option.{same_Some, slice_get_read}
+use Rattle.cob_move_apply.specs.Marked.{moves_between_marks}
+use Rattle.cob_move_apply.specs.Spared.{SpareEntry}
 use Rattle.cob_move_deeds.specs.declared.flow.Bound.{Bound}
 use Rattle.cob_move_deeds.proofs.FlowLemmas.{all_at}
 use Rattle.cob_move_deeds.proofs.SteadyLemmas.{none_steady, spared_steady}
@@ -15,7 +17,10 @@ pub returns-then-spare : goal.returns-then-spare
 returns-then-spare c = λ r b same prepared at.
     let here : c.index.result.now ≡ b = same_Some _ _ (sym (slice_get_read c.args.self.now.bounds.items (length c.args.self.now.bounds.items) c.args.bound c.index.result.now refl c.requires.within c.index.ensures) ∙ at) in
     let placed = (all_at r c.args.bound c.args.self.now.bounds.items c.index.result.now c.requires.within c.index.ensures prepared.bounds).placed in
-    spared_steady r c.args.self.now.moves b c.in-Some.marks prepared.moves c.in-Some.ensures.0 c.in-Some.ensures.1 (c.spare.ensures c.if-spare.true r same prepared.moves placed)
+    let m = c.args.self.now.moves in
+    let marks = c.in-Some.marks in
+    spared_steady r m b marks prepared.moves c.in-Some.ensures.0 c.in-Some.ensures.1
+    (subst (λ (k : Bound). SpareEntry r (moves_between_marks r m marks.first marks.last) k.item) here (c.spare.ensures c.if-spare.true r same prepared.moves placed))
 
 pub returns-else-spare : goal.returns-else-spare
 returns-else-spare c = λ r b same prepared at. none_steady r c.args.self.now.moves b
