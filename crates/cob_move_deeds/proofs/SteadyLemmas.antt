@@ -187,7 +187,7 @@ there_noted (x ∷ xs) (suc n) s h = there_noted xs n s h
 
 pub noted_steady : {V : Type 0} (items : V → List (Option Stretch)) (r : Records) (m : MarkedMoves) (bounds : List Bound) (noted : Option V) (v : V) → noted ≡ Some v → IfSome noted (λ w. AreSteady r m bounds (items w))
     → AreSteady r m bounds (items v)
-noted_steady items r m bounds noted v is steady = subst (λ (o : Option V). IfSome o (λ w. AreSteady r m bounds (items w))) is steady
+noted_steady items r m bounds noted v is steady = subst (λ o. IfSome o (λ w. AreSteady r m bounds (items w))) is steady
 
 -- where nothing is noted of any bound
 pub none_noted : (r : Records) (m : MarkedMoves) (bounds : List Bound) (n : ℕ) → AreSteady r m bounds (replicate n None)

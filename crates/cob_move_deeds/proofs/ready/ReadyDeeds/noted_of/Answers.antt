@@ -10,7 +10,7 @@ returns-in-Some c = λ r b prepared at.
     let bounds = c.args.self.now.bounds.items in
     c.stretch_at.ensures r m bounds b
     (subst (λ (ns : List (Option Stretch)). AreSteady r m bounds ns) (sym c.as_slice.ensures.value)
-    (noted_steady (λ v. v.items) r m bounds c.args.self.now.steady c.in-Some.noted.now c.in-Some.is prepared.steady)) at
+    (noted_steady (λ v. v.items) r m bounds c.args.self.now.steady c.in-Some.noted c.in-Some.is prepared.steady)) at
 
 pub returns-in-None : goal.returns-in-None
 returns-in-None c = λ r b prepared at. none_steady r c.args.self.now.moves b
