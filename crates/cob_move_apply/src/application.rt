@@ -440,18 +440,15 @@ fn run_ready<'a>(
         output.new space.old space.new }
     ensures fewer { length result.now ≤ length steps.now }
 {
-    let mut rest = steps;
-    loop {
-        let first = run_placed(plan, rest, layouts, input, output, space);
-        if !first_is_located(first) {
-            return first;
-        }
-        let left = run_all_located(plan, first, layouts, input, output, space);
-        if left.len() == first.len() {
+    let mut rest = run_placed(plan, steps, layouts, input, output, space);
+    while first_is_located(rest) {
+        let left = run_all_located(plan, rest, layouts, input, output, space);
+        if left.len() == rest.len() {
             return left;
         }
-        rest = left;
+        rest = run_placed(plan, left, layouts, input, output, space);
     }
+    rest
 }
 
 /// Carries out steps in order, whatever they are. It isn't inlined: where all steps were made ready and nothing is missing, none is left for it.
