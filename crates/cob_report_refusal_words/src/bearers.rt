@@ -1,237 +1,242 @@
 //! The entries of both records that bear a name.
 
-use crate::entry::{WrittenEntry, entry_at, entry_in_front, name_word, picture_word};
-use crate::levels::{level_of, open_before};
-use crate::near::is_near;
+use crate::entry::{
+    PictureOf, WrittenEntry, entry_at, entry_in_front, level_of, line_of, name_word,
+};
+use crate::search::{Looked, MOST_LEVELS, found_between, found_in, holder_at};
 use crate::words::WordText;
-use cob_copybook_clauses::{WordClass, behind, is_condition, sentence_at};
+use cob_copybook_clauses::{WordClass, behind};
 use cob_source::Token;
-use std::alloc::{AllocError, Global};
 use std::fmt;
 
-/// The words of both copybooks.
+/// More entries than both records may have.
+pub(crate) const MOST_BEARERS: usize = 4_001;
+
+/// The words of a copybook, and whether its record is the input record.
 #[derive(Clone, Copy)]
-pub(crate) struct BothWords<'a> {
-    pub(crate) input: &'a [Token],
-    pub(crate) output: &'a [Token],
+pub(crate) struct BookWords<'a> {
+    pub(crate) words: &'a [Token],
+    pub(crate) is_input: bool,
+}
+
+impl<'a> BookWords<'a> {
+    /// The word that names the record, if one does.
+    fn record_word(self) -> Option<&'a Token> {
+        let first = entry_in_front(self.words);
+        if level_of(first) == 1 {
+            return name_word(first);
+        }
+        None
+    }
+
+    /// The name of a record that has none.
+    fn given_name(self) -> &'static str {
+        if self.is_input {
+            "IN-RECORD"
+        } else {
+            "OUT-RECORD"
+        }
+    }
 }
 
 /// An entry of one of the records.
 #[derive(Clone, Copy)]
-pub(crate) struct Bearer {
-    /// Whether it is of the input record.
-    pub(crate) is_input: bool,
-    /// How many words of its copybook stand before it.
+pub(crate) struct Bearer<'a> {
+    /// Its copybook.
+    pub(crate) book: BookWords<'a>,
+    /// How many words of it stand before the entry.
     pub(crate) before: usize,
 }
 
-/// Which names are looked for.
-#[derive(Clone, Copy)]
-pub(crate) enum Wanted {
-    /// The name itself.
-    Same,
-    /// Names that are near to it.
-    Near,
-}
-
-impl<'a> BothWords<'a> {
-    /// The words of a bearer's copybook.
-    pub(crate) fn words_of(self, bearer: Bearer) -> &'a [Token] {
-        if bearer.is_input {
-            self.input
-        } else {
-            self.output
-        }
-    }
-
-    /// A bearer as it is written.
-    pub(crate) fn entry_of(self, bearer: Bearer) -> WrittenEntry<'a> {
-        entry_at(self.words_of(bearer), bearer.before)
-    }
-}
-
-/// Whether an entry has such a name.
-fn is_wanted(entry: WrittenEntry<'_>, name: &[u8], wanted: Wanted) -> bool {
-    match name_word(entry) {
-        Some(word) => match wanted {
-            Wanted::Same => word.text.as_slice() == name,
-            Wanted::Near => is_near(word.text.as_slice(), name),
-        },
+/// Whether the entry behind so many words has this name.
+fn has_name(words: &[Token], before: usize, name: &[u8]) -> bool {
+    match name_word(entry_at(words, before)) {
+        Some(word) => word.text.as_slice() == name,
         None => false,
     }
 }
 
-/// Adds the entries of one record with such a name.
-fn push_bearers(
-    out: &mut Vec<Bearer>,
-    words: &[Token],
-    is_input: bool,
-    name: &[u8],
-    wanted: Wanted,
-) -> Result<(), AllocError> {
-    let mut rest = words;
-    for _ in 0..words.len() {
-        let Some((sentence, others)) = sentence_at(rest) else {
-            break;
-        };
-        if !is_condition(sentence) && is_wanted(entry_in_front(rest), name, wanted) {
-            out.push(Bearer {
-                is_input,
-                before: words.len().saturating_sub(rest.len()),
-            })?;
-        }
-        rest = others;
+impl<'a> Bearer<'a> {
+    /// The entry as it is written.
+    pub(crate) fn entry(self) -> WrittenEntry<'a> {
+        entry_at(self.book.words, self.before)
     }
-    Ok(())
+
+    /// Whether a group with this name holds the entry, its record too.
+    fn is_held_by(self, group: &[u8]) -> bool {
+        let words = self.book.words;
+        let mut at = self.before;
+        for _ in 0..MOST_LEVELS {
+            let Some(holder) = holder_at(words, at) else {
+                break;
+            };
+            if has_name(words, holder, group) {
+                return true;
+            }
+            at = holder;
+        }
+        match self.book.record_word() {
+            Some(word) => word.text.as_slice() == group,
+            None => self.book.given_name().as_bytes() == group,
+        }
+    }
+
+    /// Whether the entry is meant by its name with this qualifier, if there is one.
+    fn is_meant(self, group: Option<&Token>) -> bool {
+        match group {
+            Some(word) => self.is_held_by(word.text.as_slice()),
+            None => true,
+        }
+    }
 }
 
-/// The entries of both records with such a name, those of the input record first.
-pub(crate) fn bearers(
-    alloc: Global,
-    both: BothWords<'_>,
-    name: &[u8],
-    wanted: Wanted,
-) -> Result<Vec<Bearer>, AllocError> {
-    let mut out: Vec<Bearer> = Vec::new(alloc);
-    push_bearers(&mut out, both.input, true, name, wanted)?;
-    push_bearers(&mut out, both.output, false, name, wanted)?;
-    Ok(out)
-}
-
-/// The name of a bearer's record, which prints.
+/// The words of both copybooks.
 #[derive(Clone, Copy)]
-struct RecordText<'a> {
-    both: BothWords<'a>,
-    bearer: Bearer,
+pub(crate) struct BothWords<'a> {
+    pub(crate) input: BookWords<'a>,
+    pub(crate) output: BookWords<'a>,
 }
 
-/// The word that names the record of these words, if they name one.
-fn record_word(words: &[Token]) -> Option<&Token> {
-    let first = entry_in_front(words);
-    if level_of(first) == 1 {
-        return name_word(first);
+/// The first entry of a record that is looked for, with no fewer than so many words before it.
+fn bearer_from<'a>(book: BookWords<'a>, from: usize, looked: Looked<'_>) -> Option<Bearer<'a>> {
+    let before = found_between(book.words, from, book.words.len(), looked).first?;
+    Some(Bearer { book, before })
+}
+
+impl<'a> BothWords<'a> {
+    /// How many entries of both records are looked for.
+    pub(crate) fn count(self, looked: Looked<'_>) -> usize {
+        let of_input = found_in(self.input.words, looked).count;
+        of_input.saturating_add(found_in(self.output.words, looked).count)
     }
-    None
-}
 
-/// Whether a bearer's record has this name.
-fn has_record(both: BothWords<'_>, bearer: Bearer, name: &[u8]) -> bool {
-    match record_word(both.words_of(bearer)) {
-        Some(word) => word.text.as_slice() == name,
-        None if bearer.is_input => name == b"IN-RECORD".as_slice(),
-        None => name == b"OUT-RECORD".as_slice(),
+    /// The first of them: of the input record, or else of the output record.
+    pub(crate) fn first(self, looked: Looked<'_>) -> Option<Bearer<'a>> {
+        match bearer_from(self.input, 0, looked) {
+            Some(bearer) => Some(bearer),
+            None => bearer_from(self.output, 0, looked),
+        }
     }
-}
 
-impl fmt::Display for RecordText<'_> {
-    fn fmt<W: fmt::Write>(&self, f: &mut fmt::Formatter<W>) -> fmt::Result {
-        match record_word(self.both.words_of(self.bearer)) {
-            Some(word) => write!(f, "{}", WordText { word }),
-            None if self.bearer.is_input => write!(f, "IN-RECORD"),
-            None => write!(f, "OUT-RECORD"),
+    /// The next of them behind this one.
+    pub(crate) fn next(self, bearer: Bearer<'a>, looked: Looked<'_>) -> Option<Bearer<'a>> {
+        match bearer_from(bearer.book, bearer.before.saturating_add(1), looked) {
+            Some(next) => Some(next),
+            None if bearer.book.is_input => bearer_from(self.output, 0, looked),
+            None => None,
         }
     }
 }
 
-/// Whether a group with this name holds a bearer, its record too.
-fn is_held_by(
-    alloc: Global,
-    both: BothWords<'_>,
-    bearer: Bearer,
-    group: &[u8],
-) -> Result<bool, AllocError> {
-    let words = both.words_of(bearer);
-    let holders = open_before(alloc, words, bearer.before)?;
-    for holder in &holders {
-        if is_wanted(entry_at(words, holder.before), group, Wanted::Same) {
-            return Ok(true);
-        }
-    }
-    Ok(has_record(both, bearer, group))
-}
-
-/// Whether a bearer is meant by a name with this qualifier.
-fn is_meant(
-    alloc: Global,
-    both: BothWords<'_>,
-    bearer: Bearer,
-    group: Option<&Token>,
-) -> Result<bool, AllocError> {
-    match group {
-        Some(word) => is_held_by(alloc, both, bearer, word.text.as_slice()),
-        None => Ok(true),
-    }
+/// The first qualifier in front, if there is one.
+fn qualifier_in_front(words: &[Token]) -> Option<&Token> {
+    behind(words, WordClass::Of)?.first()
 }
 
 /// The entry that the name in front means with its first qualifier, where one alone has both.
-pub(crate) fn meant(
-    alloc: Global,
-    both: BothWords<'_>,
-    words: &[Token],
-) -> Result<Option<Bearer>, AllocError> {
-    let Some((name, more)) = words.split_first() else {
-        return Ok(None);
-    };
-    let group = match behind(more, WordClass::Of) {
-        Some(named) => named.first(),
-        None => None,
-    };
-    let all = bearers(alloc, both, name.text.as_slice(), Wanted::Same)?;
-    let mut found: Option<Bearer> = None;
-    for bearer in &all {
-        if is_meant(alloc, both, *bearer, group)? {
+pub(crate) fn meant<'a>(both: BothWords<'a>, words: &[Token]) -> Option<Bearer<'a>> {
+    let (name, more) = words.split_first()?;
+    let group = qualifier_in_front(more);
+    let looked = Looked::Named(name.text.as_slice());
+    let mut next = both.first(looked);
+    let mut found: Option<Bearer<'a>> = None;
+    for _ in 0..MOST_BEARERS {
+        let Some(bearer) = next else {
+            return found;
+        };
+        if bearer.is_meant(group) {
             if found.is_some() {
-                return Ok(None);
+                return None;
             }
-            found = Some(*bearer);
+            found = Some(bearer);
         }
+        next = both.next(bearer, looked);
     }
-    Ok(found)
+    found
 }
 
-/// A bearer with its record, which prints.
+/// An entry with its record, which prints.
 #[derive(Clone, Copy)]
 pub(crate) struct QualifiedText<'a> {
-    pub(crate) both: BothWords<'a>,
-    pub(crate) bearer: Bearer,
+    pub(crate) bearer: Bearer<'a>,
 }
 
 impl fmt::Display for QualifiedText<'_> {
     fn fmt<W: fmt::Write>(&self, f: &mut fmt::Formatter<W>) -> fmt::Result {
-        let Some(word) = name_word(self.both.entry_of(self.bearer)) else {
-            return write!(f, "FILLER");
-        };
-        let record = RecordText {
-            both: self.both,
-            bearer: self.bearer,
-        };
-        write!(f, "{} OF {record}", WordText { word })
+        match name_word(self.bearer.entry()) {
+            Some(word) => write!(f, "{} OF ", WordText { word })?,
+            None => return write!(f, "FILLER"),
+        }
+        match self.bearer.book.record_word() {
+            Some(word) => write!(f, "{}", WordText { word }),
+            None => write!(f, "{}", self.bearer.book.given_name()),
+        }
     }
 }
 
-/// Where a bearer stands, which prints.
+/// Where an entry stands, which prints.
 #[derive(Clone, Copy)]
 pub(crate) struct PlaceText<'a> {
-    pub(crate) both: BothWords<'a>,
-    pub(crate) bearer: Bearer,
+    pub(crate) bearer: Bearer<'a>,
 }
 
 impl fmt::Display for PlaceText<'_> {
     fn fmt<W: fmt::Write>(&self, f: &mut fmt::Formatter<W>) -> fmt::Result {
-        let option = if self.bearer.is_input {
+        let option = if self.bearer.book.is_input {
             "in-book"
         } else {
             "out-book"
         };
-        let line = match self.both.entry_of(self.bearer).words.first() {
-            Some(word) => word.line,
-            None => 0,
-        };
-        write!(f, "{option} line {line}")
+        write!(f, "{option} line {}", line_of(self.bearer.entry()))
     }
 }
 
-/// Whether a bearer has a picture.
-pub(crate) fn is_item(both: BothWords<'_>, bearer: Bearer) -> bool {
-    picture_word(both.entry_of(bearer)).is_some()
+/// The entries of both records with a name, which print with their places, three at most.
+#[derive(Clone, Copy)]
+pub(crate) struct BearersText<'a> {
+    pub(crate) both: BothWords<'a>,
+    pub(crate) name: &'a [u8],
+}
+
+impl fmt::Display for BearersText<'_> {
+    fn fmt<W: fmt::Write>(&self, f: &mut fmt::Formatter<W>) -> fmt::Result {
+        let looked = Looked::Named(self.name);
+        let mut next = self.both.first(looked);
+        for at in 0..3 {
+            let Some(bearer) = next else {
+                return Ok(());
+            };
+            if at > 0 {
+                write!(f, ", ")?;
+            }
+            let own = QualifiedText { bearer };
+            let place = PlaceText { bearer };
+            write!(f, "{own} ({place})")?;
+            next = self.both.next(bearer, looked);
+        }
+        Ok(())
+    }
+}
+
+/// An operand of a statement, which prints with what it is, where one entry is meant.
+#[derive(Clone, Copy)]
+pub(crate) struct OperandText<'a> {
+    pub(crate) both: BothWords<'a>,
+    pub(crate) words: &'a [Token],
+}
+
+impl fmt::Display for OperandText<'_> {
+    fn fmt<W: fmt::Write>(&self, f: &mut fmt::Formatter<W>) -> fmt::Result {
+        match self.words.first() {
+            Some(word) => write!(f, "{}", WordText { word })?,
+            None => return write!(f, "nothing"),
+        }
+        match meant(self.both, self.words) {
+            Some(bearer) => {
+                let entry = bearer.entry();
+                write!(f, ", {}", PictureOf { entry })
+            }
+            None => Ok(()),
+        }
+    }
 }

@@ -9,24 +9,39 @@ use std::fmt;
 /// The last column of a line that is shown.
 const LAST_SHOWN: usize = 80;
 
-/// Up to so many columns stand before a caret.
-const MOST_SPACES: u32 = 255;
+/// Up to so many columns stand before a caret, or in it.
+const MOST_COLUMNS: u32 = 255;
 
 /// So many columns of a line.
 fn shown(line: &[u8]) -> &[u8] {
-    if line.len() > LAST_SHOWN {
-        &line[..LAST_SHOWN]
-    } else {
-        line
+    let (front, _) = line.split_at(line.len().min(LAST_SHOWN));
+    front
+}
+
+/// A character, which prints so many times.
+#[derive(Clone, Copy)]
+struct Repeated {
+    character: char,
+    count: u32,
+}
+
+impl fmt::Display for Repeated {
+    fn fmt<W: fmt::Write>(&self, f: &mut fmt::Formatter<W>) -> fmt::Result {
+        for _ in 0..self.count.min(MOST_COLUMNS) {
+            write!(f, "{}", self.character)?;
+        }
+        Ok(())
     }
 }
 
-/// Adds so many of a character.
-fn push_many(out: &mut String, count: u32, character: &str) -> Result<(), AllocError> {
-    for _ in 0..count.min(MOST_SPACES) {
-        out.push_str(character)?;
+/// How many columns the number of a line takes.
+fn number_width(line: u32) -> u32 {
+    match line {
+        0..=9_999 => 4,
+        10_000..=99_999 => 5,
+        100_000..=999_999 => 6,
+        _ => 7,
     }
-    Ok(())
 }
 
 /// Adds the line of a text and what points at a part of it.
@@ -36,58 +51,48 @@ fn push_source(
     text: &[u8],
     caret: Caret,
 ) -> Result<(), AllocError> {
-    let line = caret.line;
+    let Caret {
+        line,
+        column,
+        width,
+    } = caret;
     let bytes = BytesText {
         bytes: shown(line_in(text, line)),
     };
-    let source = format!(in alloc; "{line:>4} | {bytes}\n")?;
-    out.push_str(&source)?;
-    let number = format!(in alloc; "{line:>4}")?;
-    push_many(out, number.len().min(20) as u32, " ")?;
-    out.push_str(" | ")?;
-    push_many(out, caret.column.saturating_sub(1), " ")?;
-    push_many(out, caret.width, "^")?;
-    out.push_str("\n")
-}
-
-/// Adds the first line of a block.
-fn push_place<D: fmt::Display>(
-    alloc: Global,
-    out: &mut String,
-    file: &str,
-    rule: &D,
-    told: &Told,
-) -> Result<(), AllocError> {
-    let what = told.what.as_str();
-    let first = match told.at {
-        Some(caret) => {
-            let Caret { line, column, .. } = caret;
-            format!(in alloc; "{file}:{line}:{column}: {rule}: {what}\n")?
-        }
-        None => format!(in alloc; "{file}: {rule}: {what}\n")?,
+    let margin = Repeated {
+        character: ' ',
+        count: number_width(line),
     };
-    out.push_str(&first)
+    let before = Repeated {
+        character: ' ',
+        count: column.saturating_sub(1),
+    };
+    let marks = Repeated {
+        character: '^',
+        count: width,
+    };
+    let lines = format!(in alloc; "{line:>4} | {bytes}\n{margin} | {before}{marks}\n")?;
+    out.push_str(&lines)
 }
 
-/// Adds what to do.
-fn push_hint(alloc: Global, out: &mut String, told: &Told) -> Result<(), AllocError> {
-    match &told.hint {
-        Some(hint) => out.push_str(&format!(in alloc; "     = {hint}\n")?),
-        None => Ok(()),
-    }
-}
-
-/// Adds what is told of a refusal, without its place.
+/// Adds the rule, what is wrong and what to do.
 pub(crate) fn push_words<D: fmt::Display>(
     alloc: Global,
     out: &mut String,
     rule: &D,
-    told: &Told,
+    told: &Told<'_>,
 ) -> Result<(), AllocError> {
-    let what = told.what.as_str();
-    let first = format!(in alloc; "{rule}: {what}\n")?;
-    out.push_str(&first)?;
+    let what = told.what;
+    out.push_str(&format!(in alloc; "{rule}: {what}\n")?)?;
     push_hint(alloc, out, told)
+}
+
+/// Adds what to do.
+fn push_hint(alloc: Global, out: &mut String, told: &Told<'_>) -> Result<(), AllocError> {
+    match told.hint {
+        Some(hint) => out.push_str(&format!(in alloc; "     = {hint}\n")?),
+        None => Ok(()),
+    }
 }
 
 /// Adds what is told of a refusal, with the line of its text.
@@ -97,11 +102,15 @@ pub(crate) fn push_block<D: fmt::Display>(
     file: &str,
     text: &[u8],
     rule: &D,
-    told: &Told,
+    told: &Told<'_>,
 ) -> Result<(), AllocError> {
-    push_place(alloc, out, file, rule, told)?;
-    if let Some(caret) = told.at {
-        push_source(alloc, out, text, caret)?;
-    }
+    let Some(caret) = told.at else {
+        out.push_str(&format!(in alloc; "{file}: ")?)?;
+        return push_words(alloc, out, rule, told);
+    };
+    let Caret { line, column, .. } = caret;
+    let what = told.what;
+    out.push_str(&format!(in alloc; "{file}:{line}:{column}: {rule}: {what}\n")?)?;
+    push_source(alloc, out, text, caret)?;
     push_hint(alloc, out, told)
 }

@@ -1,37 +1,20 @@
 //! Clauses that do not go with each other, or with those of a group.
 
-use crate::entry::{EntryText, PictureOf, WrittenEntry, entry_at, picture_word, words_from};
-use crate::levels::open_before;
+use crate::entry::{WrittenEntry, entry_at, picture_word, word_of, words_from};
+use crate::phrases::{Part, Phrase};
+use crate::search::{MOST_LEVELS, holder_at};
 use crate::told::{Caret, Told, advised, said};
-use crate::words::{BytesText, WordText};
 use cob_copybook_clauses::WordClass;
 use cob_copybook_entry::{Usage, UsageWord, usage_word};
 use cob_picture::{Category, Picture};
 use cob_source::Token;
-use std::alloc::{AllocError, Global};
-use std::fmt;
 
 /// What to do where a usage does not fit.
 const USAGE_HINT: &str = "leave the usage out, or change the picture";
 
-/// A usage, which prints as its word, or as that of a group.
-#[derive(Clone, Copy)]
-struct UsageText<'a> {
-    word: Option<&'a Token>,
-}
-
-impl fmt::Display for UsageText<'_> {
-    fn fmt<W: fmt::Write>(&self, f: &mut fmt::Formatter<W>) -> fmt::Result {
-        match self.word {
-            Some(word) => write!(f, "{}", WordText { word }),
-            None => write!(f, "the usage of its group"),
-        }
-    }
-}
-
 /// The word that names the usage of an entry, if there is one.
 fn usage_in(entry: WrittenEntry<'_>) -> Option<&Token> {
-    words_from(entry.words, WordClass::UsageName)?.first()
+    word_of(entry.words, WordClass::UsageName)
 }
 
 /// The usage that a word names.
@@ -42,193 +25,144 @@ fn usage_of(word: &Token) -> Option<Usage> {
     }
 }
 
-/// How many words stand before a group with another usage than an entry in it, before which so many stand, if there is one.
-fn clash_above(
-    alloc: Global,
-    words: &[Token],
-    before: usize,
-    own: &Token,
-) -> Result<Option<usize>, AllocError> {
-    let holders = open_before(alloc, words, before)?;
-    for holder in &holders {
-        if is_other_usage(entry_at(words, holder.before), own) {
-            return Ok(Some(holder.before));
-        }
+/// The word of a group's usage that is another than this.
+fn other_usage<'a>(group: WrittenEntry<'a>, own: &Token) -> Option<&'a Token> {
+    let above = usage_in(group)?;
+    if usage_of(above) == usage_of(own) {
+        return None;
     }
-    Ok(None)
+    Some(above)
 }
 
-/// Whether a group has another usage than this one.
-fn is_other_usage(group: WrittenEntry<'_>, own: &Token) -> bool {
-    match usage_in(group) {
-        Some(above) => usage_of(above) != usage_of(own),
-        None => false,
+/// The innermost group with another usage than an entry in it, before which so many words stand, if there is one.
+fn clash_above<'a>(words: &'a [Token], before: usize, own: &Token) -> Option<WrittenEntry<'a>> {
+    let mut at = before;
+    for _ in 0..MOST_LEVELS {
+        at = holder_at(words, at)?;
+        let group = entry_at(words, at);
+        if other_usage(group, own).is_some() {
+            return Some(group);
+        }
     }
+    None
 }
 
 /// What is told of a usage that is another than that of a group.
-fn told_clash(
-    alloc: Global,
-    entry: WrittenEntry<'_>,
-    own: &Token,
-    group: WrittenEntry<'_>,
-) -> Result<Told, AllocError> {
-    let named = EntryText { entry };
-    let found = WordText { word: own };
-    let holder = EntryText { entry: group };
-    let line = match group.words.first() {
-        Some(first) => first.line,
-        None => 0,
-    };
-    let other = WordText {
-        word: usage_in(group).unwrap_or(own),
-    };
+fn told_clash<'a>(entry: WrittenEntry<'a>, own: &'a Token, group: WrittenEntry<'a>) -> Told<'a> {
+    let above = usage_in(group).unwrap_or(own);
     advised(
         Some(Caret::under(own)),
-        format!(in alloc; "{named} is {found}, and the group {holder} (line {line}) is {other}"),
-        String::from_str(alloc, USAGE_HINT),
+        Phrase::of_four(
+            "{} is {}, and the group {} is {}",
+            Part::Entry(entry),
+            Part::Word(own),
+            Part::EntryWithLine(group),
+            Part::Word(above),
+        ),
+        Phrase::plain(USAGE_HINT),
     )
 }
 
-/// What is wrong with a usage beside a picture.
-fn suit_words(alloc: Global, usage: UsageText<'_>, word: &Token) -> Result<String, AllocError> {
-    let shown = BytesText {
-        bytes: word.text.as_slice(),
-    };
-    match Picture::read(word.text.as_slice()) {
-        Ok(picture) if picture.category() == Category::Numeric => {
-            let digits = picture.digits();
-            format!(in alloc; "{usage} has up to 18 digits, and PIC {shown} has {digits}")
-        }
-        _ => format!(in alloc; "{usage} stands with PIC {shown}, which is no number"),
+/// A usage, as its word or as that of a group.
+fn usage_part(entry: WrittenEntry<'_>) -> Part<'_> {
+    match usage_in(entry) {
+        Some(word) => Part::Word(word),
+        None => Part::Text("the usage of its group"),
     }
 }
 
-/// What is wrong with the usage of an entry.
-fn usage_words(alloc: Global, entry: WrittenEntry<'_>) -> Result<String, AllocError> {
-    let usage = UsageText {
-        word: usage_in(entry),
-    };
-    match picture_word(entry) {
-        Some(picture) => suit_words(alloc, usage, picture),
-        None => format!(in alloc; "{usage} does not fit the entry"),
+/// What is wrong with the usage of an entry with a picture.
+fn suit_words<'a>(entry: WrittenEntry<'a>, word: &'a Token) -> Phrase<'a> {
+    let usage = usage_part(entry);
+    let text = word.text.as_slice();
+    match Picture::read(text) {
+        Ok(picture) if picture.category() == Category::Numeric => Phrase::of_three(
+            "{} has up to 18 digits, and PIC {} has {}",
+            usage,
+            Part::Bytes(text),
+            Part::Number(usize::from(picture.digits())),
+        ),
+        _ => Phrase::of_two(
+            "{} stands with PIC {}, which is no number",
+            usage,
+            Part::Bytes(text),
+        ),
     }
 }
 
 /// What is told of a usage that does not fit the picture of its entry.
-fn told_unsuited(alloc: Global, entry: WrittenEntry<'_>) -> Result<Told, AllocError> {
-    let at = match usage_in(entry) {
-        Some(word) => Some(Caret::under(word)),
-        None => Caret::under_first(entry.words),
+fn told_unsuited(entry: WrittenEntry<'_>) -> Told<'_> {
+    let what = match picture_word(entry) {
+        Some(picture) => suit_words(entry, picture),
+        None => Phrase::of("{} does not fit the entry", usage_part(entry)),
     };
     advised(
-        at,
-        usage_words(alloc, entry),
-        String::from_str(alloc, USAGE_HINT),
+        Caret::under_word(usage_in(entry), entry.words),
+        what,
+        Phrase::plain(USAGE_HINT),
     )
 }
 
 /// What is told of an entry whose usage does not fit, before which so many words stand.
-pub(crate) fn told_usage(
-    alloc: Global,
-    words: &[Token],
+pub(crate) fn told_usage<'a>(
+    words: &'a [Token],
     before: usize,
-    entry: WrittenEntry<'_>,
-) -> Result<Told, AllocError> {
+    entry: WrittenEntry<'a>,
+) -> Told<'a> {
     let Some(own) = usage_in(entry) else {
-        return told_unsuited(alloc, entry);
+        return told_unsuited(entry);
     };
-    match clash_above(alloc, words, before, own)? {
-        Some(group) => told_clash(alloc, entry, own, entry_at(words, group)),
-        None => told_unsuited(alloc, entry),
+    match clash_above(words, before, own) {
+        Some(group) => told_clash(entry, own, group),
+        None => told_unsuited(entry),
     }
 }
 
 /// The first word of a SIGN clause.
 fn sign_word(entry: WrittenEntry<'_>) -> Option<&Token> {
-    let leading = words_from(entry.words, WordClass::Leading);
-    let place = match leading {
-        Some(found) => found.first(),
-        None => words_from(entry.words, WordClass::Trailing)?.first(),
-    };
-    match words_from(entry.words, WordClass::Sign) {
-        Some(found) => found.first(),
-        None => place,
+    for term in &[WordClass::Sign, WordClass::Leading, WordClass::Trailing] {
+        if let Some(word) = word_of(entry.words, *term) {
+            return Some(word);
+        }
     }
+    None
+}
+
+/// Whether a picture begins with S.
+fn has_sign(picture: &Token) -> bool {
+    picture.text.first().copied().unwrap_or(b'9') == b'S'
 }
 
 /// What is told of an entry whose SIGN does not fit.
-pub(crate) fn told_sign(alloc: Global, entry: WrittenEntry<'_>) -> Result<Told, AllocError> {
-    let named = EntryText { entry };
-    let at = match sign_word(entry) {
-        Some(word) => Some(Caret::under(word)),
-        None => Caret::under_first(entry.words),
-    };
+pub(crate) fn told_sign(entry: WrittenEntry<'_>) -> Told<'_> {
+    let at = Caret::under_word(sign_word(entry), entry.words);
     let Some(picture) = picture_word(entry) else {
         return said(
             at,
-            format!(in alloc; "{named} has a SIGN that it can't have"),
+            Phrase::of("{} has a SIGN that it can't have", Part::Entry(entry)),
         );
     };
-    let found = WordText { word: picture };
-    if picture.text.first().copied().unwrap_or(b'9') == b'S' {
+    if has_sign(picture) {
         return advised(
             at,
-            format!(in alloc; "SIGN is for DISPLAY, and {named} is of another usage"),
-            String::from_str(alloc, "leave SIGN out"),
+            Phrase::of(
+                "SIGN is for DISPLAY, and {} is of another usage",
+                Part::Entry(entry),
+            ),
+            Phrase::plain("leave SIGN out"),
         );
     }
     advised(
         at,
-        format!(in alloc; "SIGN is for a number with a sign, and {named}, PIC {found}, has no S"),
-        format!(in alloc; "write PIC S{found} where it is a number with a sign, or leave SIGN out"),
-    )
-}
-
-/// What is told of JUSTIFIED where it can't be.
-fn told_justified(
-    alloc: Global,
-    entry: WrittenEntry<'_>,
-    at: Option<Caret>,
-) -> Result<Told, AllocError> {
-    let named = EntryText { entry };
-    let shown = PictureOf { entry };
-    advised(
-        at,
-        format!(in alloc; "JUSTIFIED is for PIC X or A, and {named} is {shown}"),
-        String::from_str(alloc, "leave the clause out"),
-    )
-}
-
-/// What is told of BLANK WHEN ZERO where it can't be.
-fn told_blank(
-    alloc: Global,
-    entry: WrittenEntry<'_>,
-    at: Option<Caret>,
-) -> Result<Told, AllocError> {
-    let named = EntryText { entry };
-    let shown = PictureOf { entry };
-    advised(
-        at,
-        format!(in alloc;
-            "BLANK WHEN ZERO is for an edited number without *, or a DISPLAY number without S and P, and {named} is {shown}"
+        Phrase::of_two(
+            "SIGN is for a number with a sign, and {}, PIC {}, has no S",
+            Part::Entry(entry),
+            Part::Word(picture),
         ),
-        String::from_str(alloc, "leave the clause out"),
-    )
-}
-
-/// What is told of JUSTIFIED or BLANK WHEN ZERO where it can't be.
-pub(crate) fn told_placement(alloc: Global, entry: WrittenEntry<'_>) -> Result<Told, AllocError> {
-    let blank = words_from(entry.words, WordClass::Blank);
-    if let Some(words) = words_from(entry.words, WordClass::Justified) {
-        if blank.is_none() || !takes_characters(entry) {
-            return told_justified(alloc, entry, Caret::under_first(words));
-        }
-    }
-    told_blank(
-        alloc,
-        entry,
-        Caret::under_first(blank.unwrap_or(entry.words)),
+        Phrase::of(
+            "write PIC S{} where it is a number with a sign, or leave SIGN out",
+            Part::Word(picture),
+        ),
     )
 }
 
@@ -244,4 +178,32 @@ fn takes_characters(entry: WrittenEntry<'_>) -> bool {
         },
         None => false,
     }
+}
+
+/// What is told of a clause that can't be where it stands.
+fn told_misplaced<'a>(entry: WrittenEntry<'a>, clause: &[Token], form: &'static str) -> Told<'a> {
+    advised(
+        Caret::under_first(clause),
+        Phrase::of_two(form, Part::Entry(entry), Part::Picture(entry)),
+        Phrase::plain("leave the clause out"),
+    )
+}
+
+/// What is told of JUSTIFIED or BLANK WHEN ZERO where it can't be.
+pub(crate) fn told_placement(entry: WrittenEntry<'_>) -> Told<'_> {
+    let blank = words_from(entry.words, WordClass::Blank);
+    if let Some(justified) = words_from(entry.words, WordClass::Justified) {
+        if blank.is_none() || !takes_characters(entry) {
+            return told_misplaced(
+                entry,
+                justified,
+                "JUSTIFIED is for PIC X or A, and {} is {}",
+            );
+        }
+    }
+    told_misplaced(
+        entry,
+        blank.unwrap_or(entry.words),
+        "BLANK WHEN ZERO is for an edited number without *, or a DISPLAY number without S and P, and {} is {}",
+    )
 }

@@ -1,6 +1,7 @@
 //! The clauses of an entry, as far as their words go on.
 
-use cob_copybook_clauses::{WordClass, behind, is_name_word, is_term, word_class};
+use crate::entry::behind_many;
+use cob_copybook_clauses::{WordClass, behind, is_name_word, is_term, qualifiers_at, word_class};
 use cob_source::{Token, TokenKind};
 
 /// What lacks in words: what was expected, and the words from the first on that can't go on.
@@ -13,22 +14,25 @@ pub(crate) struct Lack<'a> {
 /// Words behind those that are read, or what lacks there.
 pub(crate) type Read<'a> = Result<&'a [Token], Lack<'a>>;
 
+/// This is expected in front of these words, and does not stand there.
+pub(crate) fn lacks<'a>(rest: &'a [Token], expected: &'static str) -> Read<'a> {
+    Err(Lack { expected, rest })
+}
+
 /// The words without one in front that may be left out.
 fn skip(words: &[Token], term: WordClass) -> &[Token] {
-    match behind(words, term) {
-        Some(more) => more,
-        None => words,
-    }
+    behind(words, term).unwrap_or(words)
 }
 
 /// The words behind this one.
-fn behind_term<'a>(words: &'a [Token], term: WordClass, expected: &'static str) -> Read<'a> {
+pub(crate) fn behind_term<'a>(
+    words: &'a [Token],
+    term: WordClass,
+    expected: &'static str,
+) -> Read<'a> {
     match behind(words, term) {
         Some(more) => Ok(more),
-        None => Err(Lack {
-            expected,
-            rest: words,
-        }),
+        None => lacks(words, expected),
     }
 }
 
@@ -36,49 +40,26 @@ fn behind_term<'a>(words: &'a [Token], term: WordClass, expected: &'static str) 
 pub(crate) fn behind_word<'a>(words: &'a [Token], expected: &'static str) -> Read<'a> {
     match words.split_first() {
         Some((first, more)) if first.kind == TokenKind::Word => Ok(more),
-        _ => Err(Lack {
-            expected,
-            rest: words,
-        }),
+        _ => lacks(words, expected),
     }
 }
 
-/// The words behind one word that is not reserved.
-fn behind_free<'a>(words: &'a [Token], expected: &'static str) -> Read<'a> {
-    behind_term(words, WordClass::Plain, expected)
+/// How many names stand in front.
+fn names_len(words: &[Token]) -> usize {
+    for (at, word) in words.iter().enumerate() {
+        if !is_name_word(word) {
+            return at;
+        }
+    }
+    words.len()
 }
 
 /// The words behind names, of which there is one at least.
 fn behind_names(words: &[Token]) -> Read<'_> {
-    let mut rest = words;
-    while let Some((first, more)) = rest.split_first() {
-        if !is_name_word(first) {
-            break;
-        }
-        rest = more;
+    match names_len(words) {
+        0 => lacks(words, "a name"),
+        count => Ok(behind_many(words, count)),
     }
-    if rest.len() == words.len() {
-        return Err(Lack {
-            expected: "a name",
-            rest,
-        });
-    }
-    Ok(rest)
-}
-
-/// The words behind the qualifiers of a name.
-fn behind_qualifiers(words: &[Token]) -> &[Token] {
-    let mut rest = words;
-    while let Some((first, more)) = rest.split_first() {
-        let Some((second, others)) = more.split_first() else {
-            return rest;
-        };
-        if !is_term(first, WordClass::Of) || !is_name_word(second) {
-            return rest;
-        }
-        rest = others;
-    }
-    rest
 }
 
 fn behind_redefines(words: &[Token]) -> Read<'_> {
@@ -94,10 +75,7 @@ fn behind_picture(words: &[Token]) -> Read<'_> {
         WordClass::Is,
     );
     if behind(more, WordClass::Is).is_some() {
-        return Err(Lack {
-            expected: "a picture",
-            rest: more,
-        });
+        return lacks(more, "a picture");
     }
     behind_word(more, "a picture")
 }
@@ -136,7 +114,8 @@ fn behind_depending(words: &[Token]) -> Read<'_> {
         behind_term(words, WordClass::Depending, "DEPENDING ON")?,
         WordClass::On,
     );
-    Ok(behind_qualifiers(behind_word(on, "a name")?))
+    let (_, rest) = qualifiers_at(behind_word(on, "a name")?);
+    Ok(rest)
 }
 
 /// The words behind the keys and indexes of a table.
@@ -154,24 +133,31 @@ fn behind_keys(words: &[Token]) -> Read<'_> {
     }
 }
 
-fn behind_occurs(words: &[Token]) -> Read<'_> {
-    let first = behind_free(behind_term(words, WordClass::Occurs, "OCCURS")?, "a number")?;
-    let Some(to) = behind(first, WordClass::To) else {
-        let times = skip(first, WordClass::Times);
-        if behind(times, WordClass::Depending).is_some() {
-            return behind_keys(behind_depending(times)?);
-        }
-        return behind_keys(times);
-    };
-    let most = skip(behind_free(to, "a number")?, WordClass::Times);
-    behind_keys(behind_depending(most)?)
+/// The words behind a number.
+fn behind_number(words: &[Token]) -> Read<'_> {
+    behind_term(words, WordClass::Plain, "a number")
 }
 
-/// Whether a word is a figurative constant.
-fn is_figurative(word: &Token) -> bool {
+fn behind_occurs(words: &[Token]) -> Read<'_> {
+    let first = behind_number(behind_term(words, WordClass::Occurs, "OCCURS")?)?;
+    let varies = behind(first, WordClass::To);
+    let most = match varies {
+        Some(more) => behind_number(more)?,
+        None => first,
+    };
+    let times = skip(most, WordClass::Times);
+    if varies.is_some() || behind(times, WordClass::Depending).is_some() {
+        return behind_keys(behind_depending(times)?);
+    }
+    behind_keys(times)
+}
+
+/// Whether a word is a literal in quotes or a figurative constant.
+pub(crate) fn is_characters(word: &Token) -> bool {
     matches!(
         word_class(word),
-        WordClass::Space
+        WordClass::Literal
+            | WordClass::Space
             | WordClass::Zero
             | WordClass::HighValue
             | WordClass::LowValue
@@ -185,19 +171,14 @@ fn behind_value(words: &[Token]) -> Read<'_> {
         Some(more) => more,
         None => skip(value, WordClass::Are),
     };
-    let (all, rest) = match behind(more, WordClass::All) {
-        Some(rest) => (true, rest),
-        None => (false, more),
-    };
+    let repeated = behind(more, WordClass::All);
+    let rest = repeated.unwrap_or(more);
     match rest.split_first() {
-        Some((first, others)) if first.kind == TokenKind::Literal || is_figurative(first) => {
+        Some((first, others)) if is_characters(first) => Ok(others),
+        Some((first, others)) if repeated.is_none() && is_term(first, WordClass::Plain) => {
             Ok(others)
         }
-        Some((first, others)) if !all && is_term(first, WordClass::Plain) => Ok(others),
-        _ => Err(Lack {
-            expected: "a literal",
-            rest,
-        }),
+        _ => lacks(rest, "a literal"),
     }
 }
 
@@ -213,7 +194,7 @@ fn behind_blank(words: &[Token]) -> Read<'_> {
 
 /// The words behind the clause in front, or what lacks in it.
 pub(crate) fn behind_clause(words: &[Token]) -> Read<'_> {
-    let Some((first, _)) = words.split_first() else {
+    let Some(first) = words.first() else {
         return Ok(words);
     };
     match word_class(first) {
@@ -225,10 +206,7 @@ pub(crate) fn behind_clause(words: &[Token]) -> Read<'_> {
         WordClass::Value => behind_value(words),
         WordClass::Justified => behind_justified(words),
         WordClass::Blank => behind_blank(words),
-        _ => Err(Lack {
-            expected: "a clause or a period",
-            rest: words,
-        }),
+        _ => lacks(words, "a clause or a period"),
     }
 }
 

@@ -1,9 +1,8 @@
 //! What the columns of a line say of a word that can't go on.
 
+use crate::phrases::{Part, Phrase};
 use crate::source::line_in;
 use crate::told::{Caret, Told};
-use crate::words::BytesText;
-use std::alloc::{AllocError, Global};
 
 /// The last column that is read.
 const LAST_COLUMN: u32 = 72;
@@ -29,56 +28,37 @@ fn goes_on(line: &[u8], caret: Caret) -> bool {
 }
 
 /// What the columns of a line say to do: where a word goes on behind them, or where nothing else is known and words stand in front of them.
-fn columns_hint(
-    alloc: Global,
-    file: &str,
-    line: &[u8],
+fn columns_hint<'a>(
+    file: &'a str,
+    line: &'a [u8],
     caret: Caret,
-    is_known: bool,
-) -> Result<Option<String>, AllocError> {
+    known: Option<Phrase<'a>>,
+) -> Option<Phrase<'a>> {
     if goes_on(line, caret) {
-        let words =
-            "the word goes on behind column 72, where nothing is read: put it on a further line";
-        return Ok(Some(String::from_str(alloc, words)?));
+        return Some(Phrase::plain(
+            "the word goes on behind column 72, where nothing is read: put it on a further line",
+        ));
     }
     let columns = first_columns(line);
-    if is_known || !hold_words(columns) {
-        return Ok(None);
+    if known.is_some() || !hold_words(columns) {
+        return known;
     }
-    let shown = BytesText { bytes: columns };
-    let hint = format!(in alloc;
-        "columns 1 to 6 are not read, and \"{shown}\" stands there: the text looks like free format\n     = --free reads it so; sed 's/^/       /' {file} puts its words into columns 8 to 72"
-    )?;
-    Ok(Some(hint))
-}
-
-/// The same with another hint.
-fn with_hint(told: Told, hint: String) -> Told {
-    let Told {
-        at,
-        what,
-        hint: _before,
-    } = told;
-    Told {
-        at,
-        what,
-        hint: Some(hint),
-    }
+    Some(Phrase::of_two(
+        "columns 1 to 6 are not read, and \"{}\" stands there: the text looks like free format\n     = --free reads it so; sed 's/^/       /' {} puts its words into columns 8 to 72",
+        Part::Bytes(columns),
+        Part::Text(file),
+    ))
 }
 
 /// What is told, with what the line of its word shows.
-pub(crate) fn with_columns(
-    alloc: Global,
-    file: &str,
-    text: &[u8],
-    told: Told,
-) -> Result<Told, AllocError> {
-    let Some(caret) = told.at else {
-        return Ok(told);
+pub(crate) fn with_columns<'a>(file: &'a str, text: &'a [u8], told: Told<'a>) -> Told<'a> {
+    let Told { at, what, hint } = told;
+    let Some(caret) = at else {
+        return told;
     };
-    let line = line_in(text, caret.line);
-    match columns_hint(alloc, file, line, caret, told.hint.is_some())? {
-        Some(hint) => Ok(with_hint(told, hint)),
-        None => Ok(told),
+    Told {
+        at,
+        what,
+        hint: columns_hint(file, line_in(text, caret.line), caret, hint),
     }
 }

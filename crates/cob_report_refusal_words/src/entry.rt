@@ -2,39 +2,74 @@
 
 use crate::clauses::clause_name;
 use crate::words::WordText;
-use cob_copybook_clauses::{WordClass, is_term, word_class};
+use cob_copybook_clauses::{WordClass, is_term};
+use cob_copybook_entries::whole;
 use cob_source::{Token, TokenKind};
 use std::fmt;
 
-/// An entry as it stands in a text: its words up to the period, and the period, if there is one.
+/// An entry as it stands in a text: its words up to the period, and those from the period on.
 #[derive(Clone, Copy)]
 pub(crate) struct WrittenEntry<'a> {
     pub(crate) words: &'a [Token],
     pub(crate) behind: &'a [Token],
 }
 
+/// The words behind so many of them.
+pub(crate) fn behind_many(words: &[Token], count: usize) -> &[Token] {
+    let (_, rest) = words.split_at(count.min(words.len()));
+    rest
+}
+
+/// So many of the words.
+pub(crate) fn front_of(words: &[Token], count: usize) -> &[Token] {
+    let (front, _) = words.split_at(count.min(words.len()));
+    front
+}
+
 /// How many words stand before the first period.
 fn sentence_len(words: &[Token]) -> usize {
-    let mut count: usize = 0;
-    for word in words {
+    for (at, word) in words.iter().enumerate() {
         if word.kind == TokenKind::Stop {
-            return count;
+            return at;
         }
-        count = count.saturating_add(1);
     }
-    count
+    words.len()
 }
 
 /// The entry that begins with the first of these words.
 pub(crate) fn entry_in_front(words: &[Token]) -> WrittenEntry<'_> {
-    let (words, behind) = words.split_at(sentence_len(words).min(words.len()));
-    WrittenEntry { words, behind }
+    let count = sentence_len(words);
+    WrittenEntry {
+        words: front_of(words, count),
+        behind: behind_many(words, count),
+    }
 }
 
 /// The entry with so many words before it.
 pub(crate) fn entry_at(words: &[Token], before: usize) -> WrittenEntry<'_> {
-    let (_, rest) = words.split_at(before.min(words.len()));
-    entry_in_front(rest)
+    entry_in_front(behind_many(words, before))
+}
+
+/// The words of the entry with so many words before it, and its period.
+pub(crate) fn words_with_stop(words: &[Token], before: usize) -> &[Token] {
+    let rest = behind_many(words, before);
+    front_of(rest, sentence_len(rest).saturating_add(1))
+}
+
+/// The line of an entry's first word.
+pub(crate) fn line_of(entry: WrittenEntry<'_>) -> u32 {
+    match entry.words.first() {
+        Some(first) => first.line,
+        None => 0,
+    }
+}
+
+/// The level of an entry, 0 where none is written.
+pub(crate) fn level_of(entry: WrittenEntry<'_>) -> u32 {
+    match entry.words.first() {
+        Some(level) => whole(level.text.as_slice(), 2).unwrap_or(0),
+        None => 0,
+    }
 }
 
 /// The first of these words, or the period behind them.
@@ -47,15 +82,18 @@ pub(crate) fn word_or_stop<'a>(entry: WrittenEntry<'a>, rest: &'a [Token]) -> Op
 
 /// The words of an entry that stand before the last of them.
 pub(crate) fn words_before<'a>(words: &'a [Token], rest: &[Token]) -> &'a [Token] {
-    let count = words.len().saturating_sub(rest.len());
-    let (front, _) = words.split_at(count.min(words.len()));
-    front
+    front_of(words, words.len().saturating_sub(rest.len()))
+}
+
+/// The last of these words, at most so many.
+pub(crate) fn last_words(words: &[Token], most: usize) -> &[Token] {
+    behind_many(words, words.len().saturating_sub(most))
 }
 
 /// The word that names an entry, if it has a name.
 pub(crate) fn name_word(entry: WrittenEntry<'_>) -> Option<&Token> {
     let (_, more) = entry.words.split_first()?;
-    let (named, _) = more.split_first()?;
+    let named = more.first()?;
     let names = named.kind == TokenKind::Word
         && !is_term(named, WordClass::Filler)
         && clause_name(named).is_none();
@@ -70,12 +108,9 @@ pub(crate) struct EntryText<'a> {
 
 impl fmt::Display for EntryText<'_> {
     fn fmt<W: fmt::Write>(&self, f: &mut fmt::Formatter<W>) -> fmt::Result {
-        if let Some(word) = name_word(self.entry) {
-            return write!(f, "{}", WordText { word });
-        }
-        match self.entry.words.first() {
-            Some(first) => write!(f, "the entry in line {}", first.line),
-            None => write!(f, "the entry"),
+        match name_word(self.entry) {
+            Some(word) => write!(f, "{}", WordText { word }),
+            None => write!(f, "the entry in line {}", line_of(self.entry)),
         }
     }
 }
@@ -97,22 +132,24 @@ impl fmt::Display for PictureOf<'_> {
 
 /// The words from the first of this kind on, if there is one.
 pub(crate) fn words_from(words: &[Token], term: WordClass) -> Option<&[Token]> {
-    let mut rest = words;
-    while let Some((first, more)) = rest.split_first() {
-        if word_class(first) == term {
-            return Some(rest);
+    for (at, word) in words.iter().enumerate() {
+        if is_term(word, term) {
+            return Some(behind_many(words, at));
         }
-        rest = more;
     }
     None
 }
 
+/// The first word of this kind, if there is one.
+pub(crate) fn word_of(words: &[Token], term: WordClass) -> Option<&Token> {
+    words_from(words, term)?.first()
+}
+
 /// The first word behind this one, one that may be left out passed over.
 pub(crate) fn word_behind(words: &[Token], term: WordClass, between: WordClass) -> Option<&Token> {
-    let from = words_from(words, term)?;
-    let (_, more) = from.split_first()?;
+    let (_, more) = words_from(words, term)?.split_first()?;
     let (first, others) = more.split_first()?;
-    if word_class(first) == between {
+    if is_term(first, between) {
         return others.first();
     }
     Some(first)
@@ -123,9 +160,7 @@ pub(crate) fn picture_word(entry: WrittenEntry<'_>) -> Option<&Token> {
     word_behind(entry.words, WordClass::Picture, WordClass::Is)
 }
 
-/// The last words of these, at most so many.
-pub(crate) fn last_words(words: &[Token], most: usize) -> &[Token] {
-    let before = words.len().saturating_sub(most);
-    let (_, last) = words.split_at(before.min(words.len()));
-    last
+/// The word that names the count of a table, if one does.
+pub(crate) fn count_word(entry: WrittenEntry<'_>) -> Option<&Token> {
+    word_behind(entry.words, WordClass::Depending, WordClass::On)
 }

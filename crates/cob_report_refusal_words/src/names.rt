@@ -1,11 +1,11 @@
 //! Names that are none.
 
-use crate::entry::{WrittenEntry, name_word, word_behind, words_from};
+use crate::entry::{WrittenEntry, count_word, name_word, word_behind};
+use crate::phrases::{Part, Phrase};
 use crate::told::{Caret, Told, advised, said};
-use crate::words::WordText;
-use cob_copybook_clauses::{WordClass, behind, is_name};
+use cob_copybook_clauses::{WordClass, is_name};
 use cob_source::Token;
-use std::alloc::{AllocError, Global};
+use std::slice;
 
 /// The word, if it is there and is no name.
 fn if_none(word: Option<&Token>) -> Option<&Token> {
@@ -25,82 +25,71 @@ fn no_name(entry: WrittenEntry<'_>) -> Option<&Token> {
     if let Some(word) = if_none(redefined) {
         return Some(word);
     }
-    if_none(count_word(entry.words))
-}
-
-/// The word that names the count of a table.
-fn count_word(words: &[Token]) -> Option<&Token> {
-    let from = words_from(words, WordClass::Depending)?;
-    let (_, more) = from.split_first()?;
-    let named = behind(more, WordClass::On).unwrap_or(more);
-    named.first()
+    if_none(count_word(entry))
 }
 
 /// Whether a character may stand in a name.
 fn may_stand(character: u8) -> bool {
-    character.is_ascii_uppercase()
-        || character.is_ascii_digit()
-        || character == b'-'
-        || character == b'_'
+    matches!(character, b'A'..=b'Z' | b'0'..=b'9' | b'-' | b'_')
 }
 
 /// The first character that may stand in no name.
-fn foreign_character(text: &[u8]) -> Option<u8> {
+fn foreign_character(text: &[u8]) -> Option<&u8> {
     for character in text {
         if !may_stand(*character) {
-            return Some(*character);
+            return Some(character);
         }
     }
     None
 }
 
-/// Why a text is no name.
-fn reason(alloc: Global, text: &[u8]) -> Result<String, AllocError> {
-    if let Some(character) = foreign_character(text) {
-        let shown = char::from(character);
-        return format!(in alloc;
-            "it has letters, digits, hyphens and underscores, and {shown} is none of them"
-        );
+/// How it is told why a text is no name that has its characters.
+fn form_of(text: &[u8]) -> &'static str {
+    match (text.first(), text.last()) {
+        _ if text.len() > 30 => "{} is no name: it has {} characters, and 30 are the most",
+        (Some(b'-'), _) => "{} is no name: it begins with a hyphen",
+        (Some(b'_'), _) => "{} is no name: it begins with an underscore",
+        (_, Some(b'-')) => "{} is no name: it ends in a hyphen",
+        _ if !text.iter().any(|character| character.is_ascii_uppercase()) => {
+            "{} is no name: it has no letter"
+        }
+        _ => "{} is no name: it is a reserved word",
     }
-    if text.len() > 30 {
-        let count = text.len();
-        return format!(in alloc; "it has {count} characters, and 30 are the most");
+}
+
+/// Why a word is no name.
+fn what_of(word: &Token) -> Phrase<'_> {
+    let text = word.text.as_slice();
+    match foreign_character(text) {
+        Some(character) => Phrase::of_two(
+            "{} is no name: it has letters, digits, hyphens and underscores, and {} is none of them",
+            Part::Word(word),
+            Part::Bytes(slice::from_ref(character)),
+        ),
+        None => Phrase::of_two(form_of(text), Part::Word(word), Part::Number(text.len())),
     }
-    let words = match (text.first(), text.last()) {
-        (Some(b'-'), _) => "it begins with a hyphen",
-        (Some(b'_'), _) => "it begins with an underscore",
-        (_, Some(b'-')) => "it ends in a hyphen",
-        _ if !text.iter().any(|character| character.is_ascii_uppercase()) => "it has no letter",
-        _ => "it is a reserved word",
-    };
-    String::from_str(alloc, words)
 }
 
 /// What to do with a text that is no name.
-fn hint(alloc: Global, text: &[u8]) -> Result<String, AllocError> {
+fn hint_of(text: &[u8]) -> &'static str {
     if text.contains(&b':') {
-        return String::from_str(
-            alloc,
-            "replace the text between colons by a prefix: --replace ':TAG:=CUST' does so for :TAG:",
-        );
+        "replace the text between colons by a prefix: --replace ':TAG:=CUST' does so for :TAG:"
+    } else {
+        "rename the entry"
     }
-    String::from_str(alloc, "rename the entry")
 }
 
 /// What is told of an entry with a name that is none.
-pub(crate) fn told_name(alloc: Global, entry: WrittenEntry<'_>) -> Result<Told, AllocError> {
-    let Some(word) = no_name(entry) else {
-        return said(
+pub(crate) fn told_name(entry: WrittenEntry<'_>) -> Told<'_> {
+    match no_name(entry) {
+        Some(word) => advised(
+            Some(Caret::under(word)),
+            what_of(word),
+            Phrase::plain(hint_of(word.text.as_slice())),
+        ),
+        None => said(
             Caret::under_first(entry.words),
-            String::from_str(alloc, "a name in it is none"),
-        );
-    };
-    let text = word.text.as_slice();
-    let found = WordText { word };
-    let why = reason(alloc, text)?;
-    advised(
-        Some(Caret::under(word)),
-        format!(in alloc; "{found} is no name: {why}"),
-        hint(alloc, text),
-    )
+            Phrase::plain("a name in it is none"),
+        ),
+    }
 }

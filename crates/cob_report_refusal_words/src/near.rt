@@ -50,15 +50,16 @@ pub(crate) fn is_near(a: &[u8], b: &[u8]) -> bool {
     differ_in_one(a, b) || are_one_but_for_hyphens(a, b)
 }
 
-/// The first character that is no hyphen, and what is behind it.
+/// A text from its first character on that is no hyphen and no underscore.
 fn behind_hyphens(text: &[u8]) -> &[u8] {
-    let mut rest = text;
-    while let Some((first, more)) = rest.split_first() {
-        if *first != b'-' && *first != b'_' {
-            return rest;
+    let mut count: usize = 0;
+    for character in text {
+        if *character != b'-' && *character != b'_' {
+            break;
         }
-        rest = more;
+        count = count.saturating_add(1);
     }
+    let (_, rest) = text.split_at(count.min(text.len()));
     rest
 }
 

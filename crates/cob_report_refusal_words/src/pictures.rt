@@ -1,11 +1,10 @@
 //! Pictures that are refused.
 
 use crate::entry::{WrittenEntry, picture_word, words_from};
-use crate::told::{Caret, Told, advised_if, said};
-use crate::words::BytesText;
+use crate::phrases::{Part, Phrase};
+use crate::told::{Caret, Told, said};
 use cob_copybook_clauses::WordClass;
 use cob_picture::{Picture, PictureFault};
-use std::alloc::{AllocError, Global};
 
 /// A symbol of a picture with its repeat.
 #[derive(Clone, Copy)]
@@ -89,13 +88,13 @@ fn count_of(text: &[u8], symbol: u8) -> u32 {
     count
 }
 
-/// A number in words, in front of a symbol.
-fn ordinal(before: u32) -> &'static str {
+/// How the symbol is told that stands out of order, as many of which stand before it.
+fn order_form(before: u32) -> &'static str {
     match before {
-        0 => "",
-        1 => "second ",
-        2 => "third ",
-        _ => "next ",
+        0 => "in PIC {} the {} may not stand behind what is before it",
+        1 => "in PIC {} the second {} may not stand behind what is before it",
+        2 => "in PIC {} the third {} may not stand behind what is before it",
+        _ => "in PIC {} the next {} may not stand behind what is before it",
     }
 }
 
@@ -116,175 +115,167 @@ fn digits_in(text: &[u8]) -> u32 {
     digits
 }
 
+/// The first character of these that are left of a text, if there is one.
+fn first_of(rest: &[u8]) -> &[u8] {
+    let (first, _) = rest.split_at(rest.len().min(1));
+    first
+}
+
 /// What is wrong with the order of symbols.
-fn order_words(alloc: Global, text: &[u8]) -> Result<String, AllocError> {
-    let shown = BytesText { bytes: text };
+fn order_words(text: &[u8]) -> Phrase<'_> {
     let (front, rest) = text.split_at(good_front(text).min(text.len()));
-    let Some(piece) = piece_in_front(rest) else {
-        return format!(in alloc;
-            "the symbols of PIC {shown} stand in an order that no picture has"
-        );
-    };
-    let which = ordinal(count_of(front, piece.symbol));
-    let symbol = char::from(piece.symbol);
-    format!(in alloc; "in PIC {shown} the {which}{symbol} may not stand behind what is before it")
+    match rest.first() {
+        Some(symbol) => Phrase::of_two(
+            order_form(count_of(front, *symbol)),
+            Part::Bytes(text),
+            Part::Bytes(first_of(rest)),
+        ),
+        None => Phrase::of(
+            "the symbols of PIC {} stand in an order that no picture has",
+            Part::Bytes(text),
+        ),
+    }
 }
 
 /// What is wrong with the number of digits.
-fn digit_words(alloc: Global, text: &[u8]) -> Result<String, AllocError> {
-    let shown = BytesText { bytes: text };
+fn digit_words(text: &[u8]) -> Phrase<'_> {
     match digits_in(text) {
-        0 => format!(in alloc; "PIC {shown} has no digit"),
-        digits => format!(in alloc; "PIC {shown} has {digits} digits, and 31 are the most"),
+        0 => Phrase::of("PIC {} has no digit", Part::Bytes(text)),
+        digits => Phrase::of_two(
+            "PIC {} has {} digits, and 31 are the most",
+            Part::Bytes(text),
+            Part::Number(digits as usize),
+        ),
     }
 }
 
 /// Whether a character begins a symbol.
 fn is_symbol(character: u8) -> bool {
-    matches!(
-        character,
-        b'A' | b'X'
-            | b'9'
-            | b'S'
-            | b'V'
-            | b'P'
-            | b'B'
-            | b'0'
-            | b'/'
-            | b','
-            | b'.'
-            | b'Z'
-            | b'*'
-            | b'$'
-            | b'+'
-            | b'-'
-            | b'C'
-            | b'D'
-            | b'('
-            | b')'
-    )
+    b"AX9SVPB0/,.Z*$+-CD()".as_slice().contains(&character)
 }
 
-/// What is wrong with a symbol that is none.
-fn symbol_words(alloc: Global, text: &[u8]) -> Result<String, AllocError> {
-    let shown = BytesText { bytes: text };
+/// A picture from its first symbol on that is none.
+fn from_unknown(text: &[u8]) -> &[u8] {
     let mut rest = text;
     for _ in 0..text.len() {
         let Some(piece) = piece_in_front(rest) else {
-            break;
+            return rest;
         };
         if !is_symbol(piece.symbol) {
-            let symbol = char::from(piece.symbol);
-            return format!(in alloc; "in PIC {shown} {symbol} is no symbol");
+            return rest;
         }
         let (_, behind) = rest.split_at(piece.length.min(rest.len()));
         rest = behind;
     }
-    format!(in alloc; "a character of PIC {shown} is no symbol")
+    rest
 }
 
-/// What a symbol that is left out stands for.
-fn left_out_words(text: &[u8]) -> &'static str {
-    if text.contains(&b'N') {
-        "N is left out: it is a national character"
-    } else if text.contains(&b'E') {
-        "E is left out: it is a number with an exponent"
-    } else if text.contains(&b'G') {
-        "G is left out: it is a character of two bytes"
-    } else if text.contains(&b'U') {
-        "U is left out: it is a character in UTF-8"
-    } else if text.contains(&b'P') {
-        "P is left out in an edited picture"
-    } else {
-        "a currency sign before a floating sign is left out"
+/// What is wrong with a symbol that is none.
+fn symbol_words(text: &[u8]) -> Phrase<'_> {
+    let rest = from_unknown(text);
+    if rest.is_empty() {
+        return Phrase::of("a character of PIC {} is no symbol", Part::Bytes(text));
     }
-}
-
-/// What is wrong with a picture.
-fn what_of(alloc: Global, text: &[u8], fault: PictureFault) -> Result<String, AllocError> {
-    let shown = BytesText { bytes: text };
-    match fault {
-        PictureFault::Empty => format!(in alloc; "no picture stands behind PIC"),
-        PictureFault::UnknownSymbol => symbol_words(alloc, text),
-        PictureFault::BadRepeat => {
-            format!(in alloc;
-                "in PIC {shown} a bracket holds no number above 0, or stands behind no symbol"
-            )
-        }
-        PictureFault::Order => order_words(alloc, text),
-        PictureFault::Digits => digit_words(alloc, text),
-        PictureFault::TooLong => {
-            format!(in alloc;
-                "PIC {shown} has over 50 characters, or more bytes than an item may have"
-            )
-        }
-        PictureFault::LeftOut => {
-            let words = left_out_words(text);
-            format!(in alloc; "in PIC {shown} {words}")
-        }
-    }
-}
-
-/// What to do where a number has too many digits.
-fn digits_hint(
-    alloc: Global,
-    entry: WrittenEntry<'_>,
-    text: &[u8],
-) -> Result<Option<String>, AllocError> {
-    let digits = digits_in(text);
-    if digits == 0 {
-        return Ok(None);
-    }
-    let is_packed = entry
-        .words
-        .iter()
-        .any(|word| word.text.as_slice() == b"COMP-3".as_slice());
-    if is_packed {
-        let size = (digits / 2).saturating_add(1);
-        let hint = format!(in alloc;
-            "PIC X({size}) has the bytes of a packed item of {digits} digits"
-        )?;
-        return Ok(Some(hint));
-    }
-    if words_from(entry.words, WordClass::UsageName).is_some() {
-        return Ok(None);
-    }
-    Ok(Some(format!(in alloc; "PIC X({digits}) has its bytes")?))
-}
-
-/// What is told of an entry whose picture is none.
-pub(crate) fn told_picture(
-    alloc: Global,
-    entry: WrittenEntry<'_>,
-    fault: PictureFault,
-) -> Result<Told, AllocError> {
-    let Some(word) = picture_word(entry) else {
-        return said(
-            Caret::under_first(entry.words),
-            String::from_str(alloc, "the picture is none"),
-        );
-    };
-    let text = word.text.as_slice();
-    advised_if(
-        Some(Caret::under(word)),
-        what_of(alloc, text, fault),
-        hint_of(alloc, entry, text, fault),
+    Phrase::of_two(
+        "in PIC {} {} is no symbol",
+        Part::Bytes(text),
+        Part::Bytes(first_of(rest)),
     )
 }
 
-/// What to do with a picture that is none, if that is known.
-fn hint_of(
-    alloc: Global,
-    entry: WrittenEntry<'_>,
-    text: &[u8],
-    fault: PictureFault,
-) -> Result<Option<String>, AllocError> {
-    if let PictureFault::Digits = fault {
-        return digits_hint(alloc, entry, text);
+/// The symbols that are left out, and how each is told.
+static LEFT_OUT: [(u8, &str); 5] = [
+    (b'N', "in PIC {} N is left out: it is a national character"),
+    (
+        b'E',
+        "in PIC {} E is left out: it is a number with an exponent",
+    ),
+    (
+        b'G',
+        "in PIC {} G is left out: it is a character of two bytes",
+    ),
+    (b'U', "in PIC {} U is left out: it is a character in UTF-8"),
+    (b'P', "in PIC {} P is left out in an edited picture"),
+];
+
+/// How a symbol is told that is left out.
+fn left_out_form(text: &[u8]) -> &'static str {
+    for (symbol, form) in &LEFT_OUT {
+        if text.contains(symbol) {
+            return *form;
+        }
     }
-    let words = match fault {
-        PictureFault::LeftOut => "PIC X with as many bytes has its storage",
-        _ => "PROFILE.md, Pictures",
+    "in PIC {} a currency sign before a floating sign is left out"
+}
+
+/// What is wrong with a picture.
+fn what_of(text: &[u8], fault: PictureFault) -> Phrase<'_> {
+    let form = match fault {
+        PictureFault::Empty => "no picture stands behind PIC",
+        PictureFault::UnknownSymbol => return symbol_words(text),
+        PictureFault::BadRepeat => {
+            "in PIC {} a bracket holds no number above 0, or stands behind no symbol"
+        }
+        PictureFault::Order => return order_words(text),
+        PictureFault::Digits => return digit_words(text),
+        PictureFault::TooLong => {
+            "PIC {} has over 50 characters, or more bytes than an item may have"
+        }
+        PictureFault::LeftOut => left_out_form(text),
     };
-    Ok(Some(String::from_str(alloc, words)?))
+    Phrase::of(form, Part::Bytes(text))
+}
+
+/// Whether an entry is a packed number.
+fn is_packed(entry: WrittenEntry<'_>) -> bool {
+    for word in entry.words {
+        if word.text.as_slice() == b"COMP-3".as_slice() {
+            return true;
+        }
+    }
+    false
+}
+
+/// What to do where a number has too many digits.
+fn digits_hint(entry: WrittenEntry<'_>, text: &[u8]) -> Option<Phrase<'static>> {
+    let digits = digits_in(text) as usize;
+    if digits == 0 {
+        return None;
+    }
+    if is_packed(entry) {
+        return Some(Phrase::of_two(
+            "PIC X({}) has the bytes of a packed item of {} digits",
+            Part::Number((digits / 2).saturating_add(1)),
+            Part::Number(digits),
+        ));
+    }
+    if words_from(entry.words, WordClass::UsageName).is_some() {
+        return None;
+    }
+    Some(Phrase::of("PIC X({}) has its bytes", Part::Number(digits)))
+}
+
+/// What to do with a picture that is none, if that is known.
+fn hint_of(entry: WrittenEntry<'_>, text: &[u8], fault: PictureFault) -> Option<Phrase<'static>> {
+    match fault {
+        PictureFault::Digits => digits_hint(entry, text),
+        PictureFault::LeftOut => Some(Phrase::plain("PIC X with as many bytes has its storage")),
+        _ => Some(Phrase::plain("PROFILE.md, Pictures")),
+    }
+}
+
+/// What is told of an entry whose picture is none.
+pub(crate) fn told_picture(entry: WrittenEntry<'_>, fault: PictureFault) -> Told<'_> {
+    let Some(word) = picture_word(entry) else {
+        return said(
+            Caret::under_first(entry.words),
+            Phrase::plain("the picture is none"),
+        );
+    };
+    let text = word.text.as_slice();
+    Told {
+        at: Some(Caret::under(word)),
+        what: what_of(text, fault),
+        hint: hint_of(entry, text, fault),
+    }
 }

@@ -1,192 +1,110 @@
 //! Names of other entries: of an area that is redefined, and of the count of a table.
 
 use crate::entry::{
-    EntryText, WrittenEntry, entry_at, entry_in_front, name_word, word_behind, words_from,
+    WrittenEntry, count_word, entry_at, level_of, picture_word, word_behind, words_from,
 };
-use crate::levels::level_of;
-use crate::near::is_near;
-use crate::told::{Caret, Told, advised, advised_if, said};
-use crate::words::WordText;
-use cob_copybook_clauses::{WordClass, behind, is_condition, sentence_at};
+use crate::phrases::{Part, Phrase};
+use crate::search::{Looked, found_before, found_in};
+use crate::told::{Caret, Told, advised, said};
+use cob_copybook_clauses::WordClass;
 use cob_picture::{Category, Picture};
 use cob_source::Token;
-use std::alloc::{AllocError, Global};
 
-/// Entries of a text with a name.
-#[derive(Clone, Copy)]
-struct Found {
-    /// How many have it.
-    count: u32,
-    /// How many words stand before the last of them.
-    last: Option<usize>,
-    /// How many words stand before the last one whose name is near to it.
-    near: Option<usize>,
+/// The last entry among these words whose name is near to this one, with its line, if there is one.
+fn near_hint<'a>(words: &'a [Token], name: &[u8]) -> Option<Phrase<'a>> {
+    let near = found_in(words, Looked::Near(name)).last?;
+    Some(Phrase::of(
+        "{} is near to it",
+        Part::EntryWithLine(entry_at(words, near)),
+    ))
 }
 
-/// What is found, with one more entry behind so many words.
-fn with_entry(found: Found, entry: WrittenEntry<'_>, before: usize, name: &[u8]) -> Found {
-    let Some(word) = name_word(entry) else {
-        return found;
-    };
-    let own = word.text.as_slice();
-    if own == name {
-        return Found {
-            count: found.count.saturating_add(1),
-            last: Some(before),
-            near: found.near,
-        };
+/// What is told where no entry before another has the name that it redefines.
+fn told_none<'a>(front: &'a [Token], entry: WrittenEntry<'a>, word: &'a Token) -> Told<'a> {
+    Told {
+        at: Some(Caret::under(word)),
+        what: Phrase::of_two(
+            "no entry before {} is named {}",
+            Part::Entry(entry),
+            Part::Word(word),
+        ),
+        hint: near_hint(front, word.text.as_slice()),
     }
-    if is_near(own, name) {
-        return Found {
-            count: found.count,
-            last: found.last,
-            near: Some(before),
-        };
+}
+
+/// Whether an entry has a clause that begins so.
+fn has(entry: WrittenEntry<'_>, term: WordClass) -> bool {
+    words_from(entry.words, term).is_some()
+}
+
+/// The entry that began the area in front of an entry of this level, if it is another than this one, which has its own area.
+fn area_between(front: &[Token], area: usize, level: u32) -> Option<WrittenEntry<'_>> {
+    let last = found_in(front, Looked::Area(level)).last?;
+    if last == area || has(entry_at(front, area), WordClass::Redefines) {
+        return None;
     }
-    found
+    Some(entry_at(front, last))
 }
 
-/// The entries among these words that have a name.
-fn entries_named(words: &[Token], name: &[u8]) -> Found {
-    let mut found = Found {
-        count: 0,
-        last: None,
-        near: None,
-    };
-    let mut rest = words;
-    for _ in 0..words.len() {
-        let Some((sentence, others)) = sentence_at(rest) else {
-            break;
-        };
-        if !is_condition(sentence) {
-            let before = words.len().saturating_sub(rest.len());
-            found = with_entry(found, entry_in_front(rest), before, name);
-        }
-        rest = others;
-    }
-    found
-}
-
-/// Whether an entry begins an area on this level.
-fn begins_area(entry: WrittenEntry<'_>, level: u32) -> bool {
-    level_of(entry) == level && words_from(entry.words, WordClass::Redefines).is_none()
-}
-
-/// How many words stand before the entry that began the last area among these words on this level.
-fn area_before(words: &[Token], level: u32) -> Option<usize> {
-    let mut area: Option<usize> = None;
-    let mut rest = words;
-    for _ in 0..words.len() {
-        let Some((sentence, others)) = sentence_at(rest) else {
-            break;
-        };
-        if !is_condition(sentence) && begins_area(entry_in_front(rest), level) {
-            area = Some(words.len().saturating_sub(rest.len()));
-        }
-        rest = others;
-    }
-    area
-}
-
-/// The name of an entry that is near to another, with its line.
-fn near_hint(alloc: Global, words: &[Token], found: Found) -> Result<Option<String>, AllocError> {
-    let Some(before) = found.near else {
-        return Ok(None);
-    };
-    let entry = entry_at(words, before);
-    let named = EntryText { entry };
-    let line = line_of(entry);
-    Ok(Some(format!(in alloc; "{named} (line {line}) is near to it")?))
-}
-
-/// What is told where no entry has a name.
-fn told_none(
-    alloc: Global,
-    words: &[Token],
-    word: &Token,
-    found: Found,
-    entry: WrittenEntry<'_>,
-) -> Result<Told, AllocError> {
-    let name = WordText { word };
-    let named = EntryText { entry };
-    advised_if(
-        Some(Caret::under(word)),
-        format!(in alloc; "no entry before {named} is named {name}"),
-        near_hint(alloc, words, found),
-    )
-}
-
-/// Why an entry can't redefine the area of another one that is there before it.
-fn area_words(
-    alloc: Global,
-    front: &[Token],
-    entry: WrittenEntry<'_>,
-    area: WrittenEntry<'_>,
-) -> Result<String, AllocError> {
-    let named = EntryText { entry };
-    let other = EntryText { entry: area };
+/// Why an entry can't redefine the area of one behind so many words before it.
+fn area_words<'a>(front: &'a [Token], entry: WrittenEntry<'a>, area: usize) -> Phrase<'a> {
+    let named = Part::Entry(entry);
+    let redefined = entry_at(front, area);
+    let other = Part::Entry(redefined);
     let level = level_of(entry);
-    let above = level_of(area);
-    if level != above {
-        return format!(in alloc; "{named} has level {level:02}, and {other} has {above:02}");
+    if level != level_of(redefined) {
+        return Phrase::of_four(
+            "{} has level {}, and {} has {}",
+            named,
+            Part::Level(level),
+            other,
+            Part::Level(level_of(redefined)),
+        );
     }
-    if words_from(area.words, WordClass::Occurs).is_some() {
-        return format!(in alloc; "{other} is a table, and a table is not redefined");
+    if has(redefined, WordClass::Occurs) {
+        return Phrase::of("{} is a table, and a table is not redefined", other);
     }
-    if let Some(before) = area_before(front, level) {
-        let first = entry_at(front, before);
-        let is_other = first.words.len() != area.words.len() || line_of(first) != line_of(area);
-        let redefines = words_from(area.words, WordClass::Redefines).is_some();
-        if is_other && !redefines {
-            let between = EntryText { entry: first };
-            return format!(in alloc;
-                "{named} stands behind {between}, and an area is redefined right behind it: here that of {between}"
-            );
-        }
-    }
-    format!(in alloc; "{named} is longer than {other}, or one of both varies")
-}
-
-/// The line of an entry's first word.
-fn line_of(entry: WrittenEntry<'_>) -> u32 {
-    match entry.words.first() {
-        Some(first) => first.line,
-        None => 0,
+    match area_between(front, area, level) {
+        Some(between) => Phrase::of_three(
+            "{} stands behind {}, and an area is redefined right behind it: here that of {}",
+            named,
+            Part::Entry(between),
+            Part::Entry(between),
+        ),
+        None => Phrase::of_two("{} is longer than {}, or one of both varies", named, other),
     }
 }
 
 /// What is told of an entry that redefines what it can't, before which so many words stand.
-pub(crate) fn told_redefinition(
-    alloc: Global,
-    words: &[Token],
+pub(crate) fn told_redefinition<'a>(
+    words: &'a [Token],
     before: usize,
-    entry: WrittenEntry<'_>,
-) -> Result<Told, AllocError> {
+    entry: WrittenEntry<'a>,
+) -> Told<'a> {
     let (front, _) = words.split_at(before.min(words.len()));
-    let named = EntryText { entry };
     let Some(word) = word_behind(entry.words, WordClass::Redefines, WordClass::Stop) else {
         return said(
             Caret::under_first(entry.words),
-            format!(in alloc; "{named} can't redefine an area"),
+            Phrase::of("{} can't redefine an area", Part::Entry(entry)),
         );
     };
-    let found = entries_named(front, word.text.as_slice());
-    let Some(area) = found.last else {
-        return told_none(alloc, front, word, found, entry);
+    let Some(area) = found_in(front, Looked::Named(word.text.as_slice())).last else {
+        return told_none(front, entry, word);
     };
-    let other = WordText { word };
     advised(
         Some(Caret::under(word)),
-        area_words(alloc, front, entry, entry_at(front, area)),
-        format!(in alloc;
-            "move the entry of {named} behind that of {other}, with the same level and no more bytes"
+        area_words(front, entry, area),
+        Phrase::of_two(
+            "move the entry of {} behind that of {}, with the same level and no more bytes",
+            Part::Entry(entry),
+            Part::Word(word),
         ),
     )
 }
 
 /// Whether an entry is a whole number.
 fn is_whole_number(entry: WrittenEntry<'_>) -> bool {
-    match word_behind(entry.words, WordClass::Picture, WordClass::Is) {
+    match picture_word(entry) {
         Some(word) => match Picture::read(word.text.as_slice()) {
             Ok(picture) => picture.category() == Category::Numeric && picture.scale() == 0,
             Err(_) => false,
@@ -195,74 +113,56 @@ fn is_whole_number(entry: WrittenEntry<'_>) -> bool {
     }
 }
 
-/// Why an entry can't be the count of a table.
-fn count_words(
-    alloc: Global,
-    words: &[Token],
-    word: &Token,
-    found: Found,
-    before: u32,
-) -> Result<String, AllocError> {
-    let name = WordText { word };
-    let Some(last) = found.last else {
-        return format!(in alloc; "no entry is named {name}");
-    };
-    if found.count > 1 {
-        let count = found.count;
-        return format!(in alloc; "{name} is {count} entries, and its qualifiers do not tell one");
+/// How it is told why the last of the entries with a name can't be the count of a table behind so many words.
+fn count_form(words: &[Token], before: usize, name: &[u8], last: usize) -> &'static str {
+    if found_before(words, before, Looked::Named(name)).count == 0 {
+        "{} stands behind its table"
+    } else if is_whole_number(entry_at(words, last)) {
+        "{} stands in a table, or in another group than its qualifiers say"
+    } else {
+        "{} is no whole number"
     }
-    if before == 0 {
-        return format!(in alloc; "{name} stands behind its table");
-    }
-    if is_whole_number(entry_at(words, last)) {
-        return format!(in alloc;
-            "{name} stands in a table, or in another group than its qualifiers say"
-        );
-    }
-    format!(in alloc; "{name} is no whole number")
 }
 
-/// What is told of a table whose count is none, before which so many words stand.
-pub(crate) fn told_count(
-    alloc: Global,
-    words: &[Token],
-    before: usize,
-    entry: WrittenEntry<'_>,
-) -> Result<Told, AllocError> {
-    let named = EntryText { entry };
-    let (front, _) = words.split_at(before.min(words.len()));
-    let Some(word) = count_word(entry) else {
-        return said(
-            Caret::under_first(entry.words),
-            format!(in alloc; "the count of {named} is none"),
-        );
+/// Why this can't be the count of a table behind so many words, and what to do.
+fn told_of_count<'a>(words: &'a [Token], before: usize, word: &'a Token) -> Told<'a> {
+    let at = Some(Caret::under(word));
+    let name = word.text.as_slice();
+    let found = found_in(words, Looked::Named(name));
+    let Some(last) = found.last else {
+        return Told {
+            at,
+            what: Phrase::of("no entry is named {}", Part::Word(word)),
+            hint: near_hint(words, name),
+        };
     };
-    let found = entries_named(words, word.text.as_slice());
-    let before = entries_named(front, word.text.as_slice()).count;
-    advised_if(
-        Some(Caret::under(word)),
-        count_words(alloc, words, word, found, before),
-        count_hint(alloc, words, found),
+    let what = if found.count > 1 {
+        Phrase::of_two(
+            "{} is {} entries, and its qualifiers do not tell one",
+            Part::Word(word),
+            Part::Number(found.count),
+        )
+    } else {
+        Phrase::of(count_form(words, before, name, last), Part::Word(word))
+    };
+    advised(
+        at,
+        what,
+        Phrase::plain("a count is one whole number before its table, in no table itself"),
     )
 }
 
-/// What to do with the count of a table that is none, if that is known.
-fn count_hint(alloc: Global, words: &[Token], found: Found) -> Result<Option<String>, AllocError> {
-    if found.count == 0 {
-        return near_hint(alloc, words, found);
-    }
-    Ok(Some(String::from_str(
-        alloc,
-        "a count is one whole number before its table, in no table itself",
-    )?))
-}
-
-/// The word that names the count of a table.
-fn count_word(entry: WrittenEntry<'_>) -> Option<&Token> {
-    let from = words_from(entry.words, WordClass::Depending)?;
-    let (_, more) = from.split_first()?;
-    match behind(more, WordClass::On) {
-        Some(named) => named.first(),
-        None => more.first(),
+/// What is told of a table whose count is none, before which so many words stand.
+pub(crate) fn told_count<'a>(
+    words: &'a [Token],
+    before: usize,
+    entry: WrittenEntry<'a>,
+) -> Told<'a> {
+    match count_word(entry) {
+        Some(word) => told_of_count(words, before, word),
+        None => said(
+            Caret::under_first(entry.words),
+            Phrase::of("the count of {} is none", Part::Entry(entry)),
+        ),
     }
 }

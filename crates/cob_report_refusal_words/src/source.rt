@@ -1,8 +1,8 @@
 //! Lines that break a rule of the reference format.
 
+use crate::phrases::{Part, Phrase};
 use crate::told::{Caret, Told, advised, said};
 use cob_source::{SourceRule, without_return};
-use std::alloc::{AllocError, Global};
 
 /// The bytes of the line with this number, from 1; none where there are fewer.
 pub(crate) fn line_in(text: &[u8], number: u32) -> &[u8] {
@@ -16,40 +16,72 @@ pub(crate) fn line_in(text: &[u8], number: u32) -> &[u8] {
     b""
 }
 
-/// Which byte of a line is looked for.
+/// A line that breaks a rule.
 #[derive(Clone, Copy)]
-enum Looked {
+struct BadLine<'a> {
+    /// Its number, from 1.
+    number: u32,
+    /// Its bytes.
+    bytes: &'a [u8],
+}
+
+impl BadLine<'_> {
+    /// One column of the line.
+    fn at(self, column: u32) -> Option<Caret> {
+        Some(Caret {
+            line: self.number,
+            column,
+            width: 1,
+        })
+    }
+
+    /// The byte in a column, a space where the line is shorter.
+    fn byte(self, column: usize) -> u8 {
+        self.bytes
+            .get(column.saturating_sub(1))
+            .copied()
+            .unwrap_or(b' ')
+    }
+}
+
+/// A kind of bytes of a line.
+#[derive(Clone, Copy)]
+enum ByteKind {
+    /// Tabs.
     Tab,
+    /// From column 7 on bytes that do not print.
     Foreign,
+    /// In columns 8 to 72 quotes.
+    Quote,
+    /// From column 8 on bytes other than spaces.
+    Written,
 }
 
-/// Whether it is the byte that is looked for.
-fn is_looked(byte: u8, looked: Looked) -> bool {
-    match looked {
-        Looked::Tab => byte == b'\t',
-        Looked::Foreign => (byte < 32 || byte > 126) && byte != b'\t',
+/// Whether a byte in its column is of this kind.
+fn is_of_kind(byte: u8, column: u32, kind: ByteKind) -> bool {
+    match kind {
+        ByteKind::Tab => byte == b'\t',
+        ByteKind::Foreign => column > 6 && (byte < 32 || byte > 126) && byte != b'\t',
+        ByteKind::Quote => column > 7 && column < 73 && (byte == b'"' || byte == b'\''),
+        ByteKind::Written => column > 7 && byte != b' ',
     }
 }
 
-/// The first byte of this kind from this column on, and its column.
-fn first_in(line: &[u8], looked: Looked, from: u32) -> Option<(u8, u32)> {
-    let mut column: u32 = 1;
+/// The first column with a byte of this kind, and the last, 0 where there is none.
+fn columns_of(line: &[u8], kind: ByteKind) -> (u32, u32) {
+    let mut column: u32 = 0;
+    let mut first: u32 = 0;
+    let mut last: u32 = 0;
     for byte in line {
-        if column >= from && is_looked(*byte, looked) {
-            return Some((*byte, column));
-        }
         column = column.saturating_add(1);
+        if is_of_kind(*byte, column, kind) {
+            last = column;
+            if first == 0 {
+                first = column;
+            }
+        }
     }
-    None
-}
-
-/// One column of a line.
-fn at_column(line: u32, column: u32) -> Option<Caret> {
-    Some(Caret {
-        line,
-        column,
-        width: 1,
-    })
+    (first, last)
 }
 
 /// What to do with a byte that does not print.
@@ -62,138 +94,134 @@ fn foreign_hint(byte: u8) -> &'static str {
 }
 
 /// What is told of a byte that does not print.
-fn told_foreign(alloc: Global, line: &[u8], number: u32) -> Result<Told, AllocError> {
-    let Some((byte, column)) = first_in(line, Looked::Foreign, 7) else {
+fn told_foreign(line: BadLine<'_>) -> Told<'_> {
+    let (column, _) = columns_of(line.bytes, ByteKind::Foreign);
+    if column == 0 {
         return said(
             None,
-            format!(in alloc; "a byte stands in line {number} that no text has"),
+            Phrase::of(
+                "a byte stands in line {} that no text has",
+                Part::Number(line.number as usize),
+            ),
         );
-    };
+    }
+    let byte = line.byte(column as usize);
     advised(
-        at_column(number, column),
-        format!(in alloc;
-            "the byte {byte:02X} stands in column {column}, and a text has the characters 20 to 7E"
+        line.at(column),
+        Phrase::of_two(
+            "the byte {} stands in column {}, and a text has the characters 20 to 7E",
+            Part::Hexadecimal(byte),
+            Part::Number(column as usize),
         ),
-        String::from_str(alloc, foreign_hint(byte)),
+        Phrase::plain(foreign_hint(byte)),
     )
 }
 
 /// What is told of a tab.
-fn told_tab(alloc: Global, file: &str, line: &[u8], number: u32) -> Result<Told, AllocError> {
-    let Some((_, column)) = first_in(line, Looked::Tab, 1) else {
-        return said(None, format!(in alloc; "a tab stands in line {number}"));
-    };
+fn told_tab<'a>(file: &'a str, line: BadLine<'a>) -> Told<'a> {
+    let (column, _) = columns_of(line.bytes, ByteKind::Tab);
+    if column == 0 {
+        return said(
+            None,
+            Phrase::of(
+                "a tab stands in line {}",
+                Part::Number(line.number as usize),
+            ),
+        );
+    }
     advised(
-        at_column(number, column),
-        format!(in alloc;
-            "a tab stands in column {column}, and how many columns it is worth is not known"
+        line.at(column),
+        Phrase::of(
+            "a tab stands in column {}, and how many columns it is worth is not known",
+            Part::Number(column as usize),
         ),
-        format!(in alloc;
-            "--tabs 8 reads it so that tabs stop at every eighth column; expand -t 8 {file} writes the spaces"
+        Phrase::of(
+            "--tabs 8 reads it so that tabs stop at every eighth column; expand -t 8 {} writes the spaces",
+            Part::Text(file),
         ),
     )
 }
 
 /// What is told of a character in column 7 that is none of its own.
-fn told_indicator(alloc: Global, line: &[u8], number: u32) -> Result<Told, AllocError> {
-    let shown = char::from(line.get(6).copied().unwrap_or(b' '));
+fn told_indicator(line: BadLine<'_>) -> Told<'_> {
+    let (_, rest) = line.bytes.split_at(line.bytes.len().min(6));
+    let (shown, _) = rest.split_at(rest.len().min(1));
     advised(
-        at_column(number, 7),
-        format!(in alloc; "{shown} stands in column 7, where a space, *, /, -, D or d stands"),
-        String::from_str(
-            alloc,
-            "columns 1 to 6 are not read: --free reads a copybook without columns",
+        line.at(7),
+        Phrase::of(
+            "{} stands in column 7, where a space, *, /, -, D or d stands",
+            Part::Bytes(shown),
         ),
+        Phrase::plain("columns 1 to 6 are not read: --free reads a copybook without columns"),
     )
 }
 
-/// Where a literal opens that is not closed: the last quote of the line, from column 8 on.
-fn last_quote(line: &[u8]) -> u32 {
-    let mut column: u32 = 0;
-    let mut found: u32 = 0;
-    for byte in line {
-        column = column.saturating_add(1);
-        let is_quote = *byte == b'"' || *byte == b'\'';
-        if column > 7 && column < 73 && is_quote {
-            found = column;
-        }
-    }
-    found
-}
-
 /// What to do with a literal that is left open.
-fn open_hint(line: &[u8]) -> &'static str {
-    if line.get(72).copied().unwrap_or(b' ') != b' ' {
+fn open_hint(line: BadLine<'_>) -> &'static str {
+    if line.byte(73) != b' ' {
         "it goes on behind column 72, where nothing is read"
     } else {
         "close it, or go on in the next line with - in column 7 and a quote"
     }
 }
 
-/// What is told of a literal that is left open.
-fn told_open(alloc: Global, line: &[u8], number: u32) -> Result<Told, AllocError> {
+/// What is told of a literal that is left open: its quote is the last of the line.
+fn told_open(line: BadLine<'_>) -> Told<'_> {
+    let (_, quote) = columns_of(line.bytes, ByteKind::Quote);
     advised(
-        at_column(number, last_quote(line).max(8)),
-        String::from_str(
-            alloc,
-            "this literal is not closed on its line, and no continuation follows",
-        ),
-        String::from_str(alloc, open_hint(line)),
+        line.at(quote.max(8)),
+        Phrase::plain("this literal is not closed on its line, and no continuation follows"),
+        Phrase::plain(open_hint(line)),
     )
 }
 
-/// The first column of a line from 8 on that is no space.
-fn first_written(line: &[u8]) -> u32 {
-    let mut column: u32 = 0;
-    for byte in line {
-        column = column.saturating_add(1);
-        if column > 7 && *byte != b' ' {
-            return column;
-        }
-    }
-    8
-}
-
 /// What is told of a continuation that does not fit.
-fn told_continuation(alloc: Global, line: &[u8], number: u32) -> Result<Told, AllocError> {
-    let column = first_written(line);
-    let words = if column < 12 {
+fn told_continuation(line: BadLine<'_>) -> Told<'_> {
+    let (written, _) = columns_of(line.bytes, ByteKind::Written);
+    let column = written.max(8);
+    let what = if column < 12 {
         "a continuation leaves columns 8 to 11 empty"
     } else {
         "this continuation does not fit the line before it"
     };
     advised(
-        at_column(number, column),
-        String::from_str(alloc, words),
-        String::from_str(
-            alloc,
+        line.at(column),
+        Phrase::plain(what),
+        Phrase::plain(
             "one of a literal begins with its quote, one of a word or behind a closed literal without, and a line stands before it",
         ),
     )
 }
 
+/// What is told of a text that is too long.
+fn told_too_long(text: &[u8]) -> Told<'_> {
+    advised(
+        None,
+        Phrase::of(
+            "the text has {} bytes, and 1,000,000 are the most",
+            Part::Number(text.len()),
+        ),
+        Phrase::plain("give a part of it"),
+    )
+}
+
 /// What is told of a line that breaks a rule of the reference format.
-pub(crate) fn told_source(
-    alloc: Global,
-    file: &str,
-    text: &[u8],
+pub(crate) fn told_source<'a>(
+    file: &'a str,
+    text: &'a [u8],
     rule: SourceRule,
     number: u32,
-) -> Result<Told, AllocError> {
-    let line = line_in(text, number);
+) -> Told<'a> {
+    let line = BadLine {
+        number,
+        bytes: line_in(text, number),
+    };
     match rule {
-        SourceRule::NotAscii => told_foreign(alloc, line, number),
-        SourceRule::Tab => told_tab(alloc, file, line, number),
-        SourceRule::OpenLiteral => told_open(alloc, line, number),
-        SourceRule::BadContinuation => told_continuation(alloc, line, number),
-        SourceRule::UnknownIndicator => told_indicator(alloc, line, number),
-        SourceRule::TooLong | SourceRule::Memory => {
-            let size = text.len();
-            advised(
-                None,
-                format!(in alloc; "the text has {size} bytes, and 1,000,000 are the most"),
-                String::from_str(alloc, "give a part of it"),
-            )
-        }
+        SourceRule::NotAscii => told_foreign(line),
+        SourceRule::Tab => told_tab(file, line),
+        SourceRule::OpenLiteral => told_open(line),
+        SourceRule::BadContinuation => told_continuation(line),
+        SourceRule::UnknownIndicator => told_indicator(line),
+        SourceRule::TooLong | SourceRule::Memory => told_too_long(text),
     }
 }

@@ -1,24 +1,20 @@
 //! The words of a statement, as far as they go on.
 
-use crate::clauses::{Lack, Read};
-use cob_copybook_clauses::{WordClass, behind, is_name_word, is_term, word_class};
+use crate::clauses::{Read, behind_term, is_characters, lacks};
+use crate::entry::{behind_many, front_of};
+use cob_copybook_clauses::{WordClass, behind, is_name_word, is_term};
 use cob_source::{Token, TokenKind};
 
 /// The words behind the qualifiers of a name, or what lacks in them.
 fn behind_qualifiers(words: &[Token]) -> Read<'_> {
     let mut rest = words;
-    while let Some((first, more)) = rest.split_first() {
-        if !is_term(first, WordClass::Of) {
+    for _ in 0..words.len() {
+        let Some(more) = behind(rest, WordClass::Of) else {
             return Ok(rest);
-        }
+        };
         match more.split_first() {
             Some((named, others)) if is_name_word(named) => rest = others,
-            _ => {
-                return Err(Lack {
-                    expected: "a name",
-                    rest: more,
-                });
-            }
+            _ => return lacks(more, "a name"),
         }
     }
     Ok(rest)
@@ -32,88 +28,58 @@ fn is_subscript(word: &Token) -> bool {
     word.kind == TokenKind::Word && (is_sign || is_number || is_name_word(word))
 }
 
+/// How many words may stand among subscripts.
+fn subscripts_len(words: &[Token]) -> usize {
+    for (at, word) in words.iter().enumerate() {
+        if !is_subscript(word) {
+            return at;
+        }
+    }
+    words.len()
+}
+
 /// The words behind the subscripts of a name, if there are some, or what lacks in them.
 fn behind_subscripts(words: &[Token]) -> Read<'_> {
     let Some(inside) = behind(words, WordClass::OpenBracket) else {
         return Ok(words);
     };
-    let mut rest = inside;
-    while let Some((first, more)) = rest.split_first() {
-        if is_term(first, WordClass::CloseBracket) {
-            if rest.len() == inside.len() {
-                break;
-            }
-            return Ok(more);
-        }
-        if !is_subscript(first) {
-            break;
-        }
-        rest = more;
+    let count = subscripts_len(inside);
+    let rest = behind_many(inside, count);
+    match behind(rest, WordClass::CloseBracket) {
+        Some(more) if count > 0 => Ok(more),
+        _ => lacks(rest, "a subscript"),
     }
-    Err(Lack {
-        expected: "a subscript",
-        rest,
-    })
 }
 
 /// The words behind a name with its qualifiers and subscripts, or what lacks in it.
-pub(crate) fn behind_reference<'a>(words: &'a [Token], expected: &'static str) -> Read<'a> {
+fn behind_reference<'a>(words: &'a [Token], expected: &'static str) -> Read<'a> {
     match words.split_first() {
         Some((first, more)) if is_name_word(first) => behind_subscripts(behind_qualifiers(more)?),
-        _ => Err(Lack {
-            expected,
-            rest: words,
-        }),
+        _ => lacks(words, expected),
     }
-}
-
-/// Whether a word is a figurative constant.
-fn is_figurative(word: &Token) -> bool {
-    matches!(
-        word_class(word),
-        WordClass::Space
-            | WordClass::Zero
-            | WordClass::HighValue
-            | WordClass::LowValue
-            | WordClass::Quote
-    )
 }
 
 /// Whether a word is a literal, of characters or of digits.
 pub(crate) fn is_constant(word: &Token) -> bool {
-    if word.kind == TokenKind::Literal || is_figurative(word) {
-        return true;
+    is_characters(word) || (is_term(word, WordClass::Plain) && !is_name_word(word))
+}
+
+/// The words behind a literal in quotes or a figurative constant, or what lacks there.
+fn behind_characters(words: &[Token]) -> Read<'_> {
+    match words.split_first() {
+        Some((first, more)) if is_characters(first) => Ok(more),
+        _ => lacks(words, "a literal"),
     }
-    is_term(word, WordClass::Plain) && !is_name_word(word)
 }
 
 /// The words behind what is sent, or what lacks in it.
 fn behind_sender(words: &[Token]) -> Read<'_> {
     if let Some(repeated) = behind(words, WordClass::All) {
-        return match repeated.split_first() {
-            Some((first, more)) if first.kind == TokenKind::Literal || is_figurative(first) => {
-                Ok(more)
-            }
-            _ => Err(Lack {
-                expected: "a literal",
-                rest: repeated,
-            }),
-        };
+        return behind_characters(repeated);
     }
     match words.split_first() {
         Some((first, more)) if is_constant(first) => Ok(more),
         _ => behind_reference(words, "a name, a literal or CORRESPONDING"),
-    }
-}
-
-/// The words behind TO, or what lacks.
-fn behind_to(words: &[Token]) -> Read<'_> {
-    match behind(words, WordClass::To) {
-        Some(more) => Ok(more),
-        None => Err(Lack {
-            expected: "TO",
-            rest: words,
-        }),
     }
 }
 
@@ -139,44 +105,74 @@ fn behind_receivers(words: &[Token]) -> Read<'_> {
 
 /// The words behind the statement in front, or what lacks in it.
 pub(crate) fn behind_statement(words: &[Token]) -> Read<'_> {
-    let Some(moved) = behind(words, WordClass::Move) else {
-        return Err(Lack {
-            expected: "MOVE",
-            rest: words,
-        });
-    };
+    let moved = behind_term(words, WordClass::Move, "MOVE")?;
     let sent = match behind(moved, WordClass::Corresponding) {
         Some(named) => behind_reference(named, "a group")?,
         None => behind_sender(moved)?,
     };
-    behind_receivers(behind_to(sent)?)
+    behind_receivers(behind_term(sent, WordClass::To, "TO")?)
 }
 
 /// The words of the statement in front, up to the next period or MOVE.
 pub(crate) fn statement_in_front(words: &[Token]) -> &[Token] {
-    let Some((_, more)) = words.split_first() else {
-        return words;
-    };
-    let mut rest = more;
-    while let Some((_, others)) = rest.split_first() {
-        if ends(rest) {
-            break;
+    for at in 1..words.len() {
+        if ends(behind_many(words, at)) {
+            return front_of(words, at);
         }
-        rest = others;
     }
-    let count = words.len().saturating_sub(rest.len());
-    let (front, _) = words.split_at(count.min(words.len()));
-    front
+    words
 }
 
 /// The words from the first that receives on.
 pub(crate) fn receivers_of(statement: &[Token]) -> &[Token] {
-    let mut rest = statement;
-    while let Some((first, more)) = rest.split_first() {
-        if is_term(first, WordClass::To) {
-            return more;
+    for (at, word) in statement.iter().enumerate() {
+        if is_term(word, WordClass::To) {
+            return behind_many(statement, at.saturating_add(1));
         }
-        rest = more;
     }
-    rest
+    &[]
+}
+
+/// The words from the first that stands on a line on.
+pub(crate) fn words_on(words: &[Token], line: u32) -> &[Token] {
+    for (at, word) in words.iter().enumerate() {
+        if word.line == line {
+            return behind_many(words, at);
+        }
+    }
+    &[]
+}
+
+/// How many of these words stand on a line, up to the first that does not.
+fn line_len(words: &[Token], line: u32) -> usize {
+    for (at, word) in words.iter().enumerate() {
+        if word.line != line {
+            return at;
+        }
+    }
+    words.len()
+}
+
+/// The words from the statement on a line on that lacks something, or from the first word there where none does.
+pub(crate) fn broken_on(words: &[Token], line: u32) -> &[Token] {
+    let from = words_on(words, line);
+    for at in 0..line_len(from, line) {
+        let rest = behind_many(from, at);
+        if behind(rest, WordClass::Move).is_some() && behind_statement(rest).is_err() {
+            return rest;
+        }
+    }
+    from
+}
+
+/// The first statement that begins with MOVE on a line, or what stands there.
+pub(crate) fn statement_on(words: &[Token], line: u32) -> &[Token] {
+    let from = words_on(words, line);
+    for at in 0..line_len(from, line) {
+        let rest = behind_many(from, at);
+        if behind(rest, WordClass::Move).is_some() {
+            return statement_in_front(rest);
+        }
+    }
+    statement_in_front(from)
 }

@@ -1,198 +1,162 @@
 //! Subscripts that do not fit.
 
 use crate::bearers::{Bearer, BothWords, meant};
-use crate::entry::entry_at;
-use crate::levels::open_before;
+use crate::entry::{behind_many, front_of};
+use crate::phrases::{Part, Phrase};
+use crate::search::{MOST_LEVELS, holder_at};
 use crate::tables::greatest_number;
 use crate::told::{Caret, Told, advised};
-use crate::words::WordText;
-use cob_copybook_clauses::{WordClass, is_name_word, is_term};
+use cob_copybook_clauses::{WordClass, behind, is_name_word, is_term, qualifiers_at};
 use cob_copybook_entries::whole;
 use cob_source::Token;
-use std::alloc::{AllocError, Global};
 
-/// How many elements each table has that holds an entry, or that it is itself, the outermost first.
-fn tables_of(alloc: Global, both: BothWords<'_>, bearer: Bearer) -> Result<Vec<u32>, AllocError> {
-    let mut tables: Vec<u32> = Vec::new(alloc);
-    let words = both.words_of(bearer);
-    let holders = open_before(alloc, words, bearer.before)?;
-    for holder in &holders {
-        if let Some(number) = greatest_number(entry_at(words, holder.before)) {
-            tables.push(number)?;
+/// What holds an entry, if something does.
+fn holder<'a>(bearer: Bearer<'a>) -> Option<Bearer<'a>> {
+    let before = holder_at(bearer.book.words, bearer.before)?;
+    Some(Bearer {
+        book: bearer.book,
+        before,
+    })
+}
+
+/// How many elements the table has that holds so many tables round an entry, or that the entry is itself; nothing where there are no more.
+fn table_round(bearer: Bearer<'_>, place: usize) -> Option<u32> {
+    let mut at = bearer;
+    let mut left = place;
+    for _ in 0..MOST_LEVELS {
+        if let Some(most) = greatest_number(at.entry()) {
+            if left == 0 {
+                return Some(most);
+            }
+            left = left.saturating_sub(1);
+        }
+        at = holder(at)?;
+    }
+    None
+}
+
+/// How many tables hold an entry, itself with them.
+fn tables_round(bearer: Bearer<'_>) -> usize {
+    for place in 0..MOST_LEVELS {
+        if table_round(bearer, place).is_none() {
+            return place;
         }
     }
-    if let Some(number) = greatest_number(both.entry_of(bearer)) {
-        tables.push(number)?;
+    MOST_LEVELS
+}
+
+/// How many words stand before the bracket that closes.
+fn subscripts_len(words: &[Token]) -> usize {
+    for (at, word) in words.iter().enumerate() {
+        if is_term(word, WordClass::CloseBracket) {
+            return at;
+        }
     }
-    Ok(tables)
+    words.len()
 }
 
 /// The words between the brackets behind the name in front, none where none stand there.
 fn subscripts_of(words: &[Token]) -> &[Token] {
-    let mut rest = words;
-    while let Some((first, more)) = rest.split_first() {
-        if is_term(first, WordClass::OpenBracket) {
-            return before_bracket(more);
-        }
-        let goes_on = is_name_word(first) || is_term(first, WordClass::Of);
-        if !goes_on {
-            break;
-        }
-        let is_next = match more.first() {
-            Some(next) => is_term(next, WordClass::Of) || is_term(next, WordClass::OpenBracket),
-            None => false,
-        };
-        if !is_next && !is_term(first, WordClass::Of) {
-            break;
-        }
-        rest = more;
+    let (_, more) = qualifiers_at(behind_many(words, 1));
+    match behind(more, WordClass::OpenBracket) {
+        Some(inside) => front_of(inside, subscripts_len(inside)),
+        None => &[],
     }
-    &[]
-}
-
-/// The words before the bracket that closes.
-fn before_bracket(words: &[Token]) -> &[Token] {
-    let mut count: usize = 0;
-    for word in words {
-        if is_term(word, WordClass::CloseBracket) {
-            break;
-        }
-        count = count.saturating_add(1);
-    }
-    let (front, _) = words.split_at(count.min(words.len()));
-    front
-}
-
-/// What is wrong with the number of subscripts.
-fn number_words(
-    alloc: Global,
-    name: &Token,
-    tables: usize,
-    written: usize,
-) -> Result<String, AllocError> {
-    let shown = WordText { word: name };
-    if tables == 0 {
-        return format!(in alloc; "{shown} stands in no table, and a subscript is written");
-    }
-    format!(in alloc;
-        "{shown} has {tables} OCCURS at it or above, and {written} subscripts are written"
-    )
 }
 
 /// What is told of the number of subscripts.
-fn told_number(
-    alloc: Global,
-    name: &Token,
-    tables: usize,
-    written: usize,
-) -> Result<Told, AllocError> {
+fn told_number(name: &Token, tables: usize, written: usize) -> Told<'_> {
+    let form = if tables == 0 {
+        "{} stands in no table, and a subscript is written"
+    } else {
+        "{} has {} OCCURS at it or above, and {} subscripts are written"
+    };
     advised(
         Some(Caret::under(name)),
-        number_words(alloc, name, tables, written),
-        String::from_str(
-            alloc,
-            "write a subscript for each OCCURS, the outermost first",
+        Phrase::of_three(
+            form,
+            Part::Word(name),
+            Part::Number(tables),
+            Part::Number(written),
         ),
+        Phrase::plain("write a subscript for each OCCURS, the outermost first"),
     )
 }
 
-/// A subscript that is out of bounds.
-#[derive(Clone, Copy)]
-struct OutOfBounds<'a> {
-    word: &'a Token,
-    number: u32,
-    most: u32,
+/// What is told of a subscript of a table with so many elements, if it is out of bounds.
+fn told_bounds<'a>(name: &'a Token, word: &'a Token, most: u32) -> Option<Told<'a>> {
+    let number = whole(word.text.as_slice(), 9)?;
+    if number > 0 && number <= most {
+        return None;
+    }
+    Some(advised(
+        Some(Caret::under(word)),
+        Phrase::of_three(
+            "{} occurs {} times, and the element {} is asked for",
+            Part::Word(name),
+            Part::Number(most as usize),
+            Part::Number(number as usize),
+        ),
+        Phrase::of("1 to {}", Part::Number(most as usize)),
+    ))
 }
 
-/// The first subscript that is out of bounds, if one is.
-fn out_of_bounds<'a>(tables: &[u32], written: &'a [Token]) -> Option<OutOfBounds<'a>> {
-    for (most, word) in tables.iter().zip(written.iter()) {
-        let number = whole(word.text.as_slice(), 9).unwrap_or(1);
-        if number == 0 || number > *most {
-            return Some(OutOfBounds {
-                word,
-                number,
-                most: *most,
-            });
+/// What is told of the first subscript that is out of bounds, the outermost first, as many of which are written as there are tables.
+fn told_first<'a>(bearer: Bearer<'_>, name: &'a Token, written: &'a [Token]) -> Option<Told<'a>> {
+    for (at, word) in written.iter().enumerate() {
+        let place = written.len().saturating_sub(at).saturating_sub(1);
+        if let Some(most) = table_round(bearer, place) {
+            let told = told_bounds(name, word, most);
+            if told.is_some() {
+                return told;
+            }
         }
     }
     None
 }
 
-/// What is told of a subscript that is out of bounds.
-fn told_bounds(alloc: Global, name: &Token, out: OutOfBounds<'_>) -> Result<Told, AllocError> {
-    let shown = WordText { word: name };
-    let OutOfBounds { word, number, most } = out;
-    advised(
-        Some(Caret::under(word)),
-        format!(in alloc; "{shown} occurs {most} times, and the element {number} is asked for"),
-        format!(in alloc; "1 to {most}"),
-    )
-}
-
-/// What is told of the subscripts that are written of a name, beneath tables of so many elements, if they do not fit.
-fn told_written(
-    alloc: Global,
-    name: &Token,
-    tables: &[u32],
-    written: &[Token],
-) -> Result<Option<Told>, AllocError> {
-    let has_counter = written
-        .iter()
-        .any(|word| whole(word.text.as_slice(), 9).is_none());
-    if has_counter {
-        return Ok(None);
+/// Whether these words are whole numbers.
+fn are_numbers(words: &[Token]) -> bool {
+    for word in words {
+        if whole(word.text.as_slice(), 9).is_none() {
+            return false;
+        }
     }
-    if tables.len() != written.len() {
-        return Ok(Some(told_number(alloc, name, tables.len(), written.len())?));
-    }
-    match out_of_bounds(tables, written) {
-        Some(out) => Ok(Some(told_bounds(alloc, name, out)?)),
-        None => Ok(None),
-    }
+    true
 }
 
 /// What is told of the subscripts of the name in front, if they do not fit.
-fn told_name(
-    alloc: Global,
-    both: BothWords<'_>,
-    words: &[Token],
-) -> Result<Option<Told>, AllocError> {
-    let Some(name) = words.first() else {
-        return Ok(None);
-    };
-    let Some(bearer) = meant(alloc, both, words)? else {
-        return Ok(None);
-    };
-    let tables = tables_of(alloc, both, bearer)?;
-    told_written(alloc, name, tables.as_slice(), subscripts_of(words))
+fn told_name<'a>(both: BothWords<'_>, words: &'a [Token]) -> Option<Told<'a>> {
+    let name = words.first()?;
+    let bearer = meant(both, words)?;
+    let written = subscripts_of(words);
+    if !are_numbers(written) {
+        return None;
+    }
+    let tables = tables_round(bearer);
+    if tables != written.len() {
+        return Some(told_number(name, tables, written.len()));
+    }
+    told_first(bearer, name, written)
 }
 
 /// What is told of a statement with subscripts that do not fit.
-pub(crate) fn told_subscripts(
-    alloc: Global,
-    both: BothWords<'_>,
-    statement: &[Token],
-) -> Result<Told, AllocError> {
-    let mut rest = statement;
+pub(crate) fn told_subscripts<'a>(both: BothWords<'_>, statement: &'a [Token]) -> Told<'a> {
     let mut qualifies = false;
-    while let Some((word, more)) = rest.split_first() {
+    for (at, word) in statement.iter().enumerate() {
         if is_name_word(word) && !qualifies {
-            if let Some(told) = told_name(alloc, both, rest)? {
-                return Ok(told);
+            if let Some(told) = told_name(both, behind_many(statement, at)) {
+                return told;
             }
         }
         qualifies = is_term(word, WordClass::Of);
-        rest = more;
     }
     advised(
         Caret::under_first(statement),
-        String::from_str(
-            alloc,
+        Phrase::plain(
             "the subscripts of a name are not one for each OCCURS round it, each from 1 to its greatest number",
         ),
-        String::from_str(
-            alloc,
+        Phrase::plain(
             "write the subscripts of all tables, the outermost first; end a loop before the table's end",
         ),
     )

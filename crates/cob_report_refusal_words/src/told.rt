@@ -1,7 +1,8 @@
 //! What is told of one refusal.
 
+use crate::phrases::Phrase;
+use cob_report_refusals::spot_at;
 use cob_source::{Token, TokenKind};
-use std::alloc::AllocError;
 
 /// The last column that is read.
 const LAST_COLUMN: u32 = 72;
@@ -18,14 +19,14 @@ pub(crate) struct Caret {
 }
 
 /// What is wrong, where, and what to do.
-#[derive(Drop)]
-pub(crate) struct Told {
+#[derive(Clone, Copy)]
+pub(crate) struct Told<'a> {
     /// Where, if a word or a byte shows it.
     pub(crate) at: Option<Caret>,
     /// What is wrong.
-    pub(crate) what: String,
+    pub(crate) what: Phrase<'a>,
     /// What to do, if that is known.
-    pub(crate) hint: Option<String>,
+    pub(crate) hint: Option<Phrase<'a>>,
 }
 
 /// How many columns a word takes on its own line.
@@ -49,6 +50,14 @@ impl Caret {
         }
     }
 
+    /// Under a word, if it is there, and else under the first of these, if there is one.
+    pub(crate) fn under_word(word: Option<&Token>, words: &[Token]) -> Option<Caret> {
+        match word {
+            Some(word) => Some(Caret::under(word)),
+            None => Caret::under_first(words),
+        }
+    }
+
     /// Under the first of these words, if there is one.
     pub(crate) fn under_first(words: &[Token]) -> Option<Caret> {
         match words.first() {
@@ -58,53 +67,53 @@ impl Caret {
     }
 }
 
+/// How many of these words stand before the one that a caret is under, if it is under one of them.
+fn number_under(words: &[Token], caret: Caret) -> Option<usize> {
+    for (at, word) in words.iter().enumerate() {
+        if word.line == caret.line && u32::from(word.column) == caret.column {
+            return Some(at);
+        }
+    }
+    None
+}
+
+/// A caret, at the place of that one of these words which it is under; none where it is under none of them.
+fn caret_among(words: &[Token], at: Option<Caret>) -> Option<Caret> {
+    let caret = at?;
+    let spot = spot_at(words, number_under(words, caret)?)?;
+    Some(Caret {
+        line: spot.line,
+        column: u32::from(spot.column),
+        width: caret.width,
+    })
+}
+
+impl<'a> Told<'a> {
+    /// The same, pointed at one of these words.
+    pub(crate) fn among(self, words: &[Token]) -> Told<'a> {
+        let Told { at, what, hint } = self;
+        Told {
+            at: caret_among(words, at),
+            what,
+            hint,
+        }
+    }
+}
+
 /// What is wrong there.
-///
-/// # Errors
-///
-/// Where no memory was left for it.
-pub(crate) fn said(
-    at: Option<Caret>,
-    what: Result<String, AllocError>,
-) -> Result<Told, AllocError> {
-    let what = what?;
-    Ok(Told {
+pub(crate) fn said<'a>(at: Option<Caret>, what: Phrase<'a>) -> Told<'a> {
+    Told {
         at,
         what,
         hint: None,
-    })
+    }
 }
 
 /// What is wrong there, and what to do.
-///
-/// # Errors
-///
-/// Where no memory was left for it.
-pub(crate) fn advised(
-    at: Option<Caret>,
-    what: Result<String, AllocError>,
-    hint: Result<String, AllocError>,
-) -> Result<Told, AllocError> {
-    let what = what?;
-    let hint = hint?;
-    Ok(Told {
+pub(crate) fn advised<'a>(at: Option<Caret>, what: Phrase<'a>, hint: Phrase<'a>) -> Told<'a> {
+    Told {
         at,
         what,
         hint: Some(hint),
-    })
-}
-
-/// What is wrong there, and what to do, if that is known.
-///
-/// # Errors
-///
-/// Where no memory was left for it.
-pub(crate) fn advised_if(
-    at: Option<Caret>,
-    what: Result<String, AllocError>,
-    hint: Result<Option<String>, AllocError>,
-) -> Result<Told, AllocError> {
-    let what = what?;
-    let hint = hint?;
-    Ok(Told { at, what, hint })
+    }
 }
