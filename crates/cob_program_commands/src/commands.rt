@@ -5,11 +5,12 @@ ghost use Rattle.cob_program_texts.specs.CheckEnds.{EndsCheck};
 ghost use Rattle.cob_program_commands.specs.Commands.{EndsConvert, IsEndOfLine, IsEndOfRefusal, IsEndOfSaid, IsEndOfWords, status_of_refusal};
 
 use crate::handed::with_handed_books;
+use crate::refusals::{tell_refused, tells_in_words};
 use crate::release::VERSION;
 use cob_convert::Status;
 use cob_program_compare::do_compare;
 use cob_program_convert::{do_convert, do_convert_aside};
-use cob_program_copies::{HandedRuntime, hand_over, tell_unhanded};
+use cob_program_copies::{HandedBook, HandedRuntime, hand_over, tell_unhanded};
 use cob_program_explain::do_explain;
 use cob_program_explained::{
     do_convert_aside_explained, do_convert_explained, files_of, tell_file_error,
@@ -112,6 +113,23 @@ fn perform_line<R: AllocGlobal + Files + Input + Print + Eprint + Clock>(
     }
 }
 
+/// Carries out what a line asks for, with the copybooks that are handed over to it, prints what comes of it, and answers the program's status. Behind a text that
+/// is refused it prints why, if that is asked for or a person reads it.
+fn perform_with_books<R: AllocGlobal + Files + Input + Print + Eprint + Clock>(
+    rt: &R,
+    line: &Line<'_>,
+    books: &[HandedBook<'_>],
+    explain: bool,
+) -> u8
+    requires { HasBlocks line.now }
+    ensures { IsEndOfLine line.now result }
+{
+    let handed = HandedRuntime::new(rt, books);
+    let code = perform_line(&handed, &with_handed_books(line), explain);
+    tell_refused(rt, line, books, explain, code);
+    code
+}
+
 /// Carries out what a line asks for, with its copybooks as the options hand them over, prints what comes of it, and answers the program's status.
 fn perform_handed<R: AllocGlobal + Files + Input + Print + Eprint + Clock>(
     rt: &R,
@@ -122,11 +140,8 @@ fn perform_handed<R: AllocGlobal + Files + Input + Print + Eprint + Clock>(
     requires { HasBlocks line.now }
     ensures { IsEndOfSaid line.now result }
 {
-    match hand_over(rt, line, handing) {
-        Ok(books) => {
-            let handed = HandedRuntime::new(rt, books.as_slice());
-            perform_line(&handed, &with_handed_books(line), explain)
-        }
+    match hand_over(rt, line, handing, tells_in_words(rt, explain)) {
+        Ok(books) => perform_with_books(rt, line, books.as_slice(), explain),
         Err(fault) => tell_unhanded(rt, &fault).code(),
     }
 }

@@ -8,7 +8,7 @@ use crate::books::{BookFiles, HandedBook, IN_BOOK, LISTED_BOOK, OUT_BOOK, books_
 use crate::exchanges::exchanges_of;
 use crate::fault::{BookRefusal, HandingFault};
 use crate::folders::Folders;
-use crate::judging::judged;
+use crate::judging::{Telling, judged};
 use crate::outputs::Outputs;
 use crate::spacing::Spacing;
 use crate::told::{of_fetching, of_own_source, of_text};
@@ -45,6 +45,19 @@ struct Asked<'a> {
     outputs: Outputs,
     /// How the texts stand on their lines.
     spacing: Spacing,
+    /// Whether refusals of texts that are made are told in words too.
+    in_words: bool,
+}
+
+impl<'a> BookOption<'a> {
+    /// How the faults of the text that is made of it are told.
+    fn telling(self, handing: &Asked<'_>) -> Telling<'a> {
+        Telling {
+            option: self.file,
+            path: self.path,
+            in_words: handing.in_words,
+        }
+    }
 }
 
 /// The texts that these words copy, or the exchanges in them, as the options say.
@@ -100,14 +113,20 @@ fn unread(
 fn unchanged(
     alloc: Global,
     book: BookOption<'_>,
-    format: TextFormat,
+    handing: &Asked<'_>,
     words: &[Token],
     text: Vec<u8>,
 ) -> Result<Vec<u8>, BookRefusal> {
-    match format {
+    match handing.spacing.format {
         TextFormat::Reference => Ok(text),
         TextFormat::Free => match text_saying(alloc, words)? {
-            Some(made) => judged(alloc, book.file, book.role, &Copying::Left, made),
+            Some(made) => judged(
+                alloc,
+                book.telling(handing),
+                book.role,
+                &Copying::Left,
+                made,
+            ),
             None => Err(of_text(
                 alloc,
                 book.file,
@@ -140,8 +159,8 @@ fn text_handed<R: AllocGlobal + Files>(
         None => None,
     };
     match record_text(alloc, &how, chosen, words.as_slice()) {
-        Ok(None) => unchanged(alloc, book, format, words.as_slice(), text),
-        Ok(Some(made)) => judged(alloc, book.file, book.role, &how, made),
+        Ok(None) => unchanged(alloc, book, handing, words.as_slice(), text),
+        Ok(Some(made)) => judged(alloc, book.telling(handing), book.role, &how, made),
         Err(fault) => Err(of_text(alloc, book.file, &how, &name, fault)?),
     }
 }
@@ -252,11 +271,12 @@ fn hand_files<'a, R: AllocGlobal + Files>(
 /// # Errors
 ///
 /// A file that is not opened or not read; a copybook that is refused, or a text that it copies; an exchange that is none, or a bad number of columns between tab
-/// stops; want of memory.
+/// stops; want of memory. What is wrong with a text that is made is told in words too, where that is asked for.
 pub fn hand_over<'a, R: AllocGlobal + Files>(
     rt: &R,
     line: &Line<'a>,
     handing: &Handing<'a>,
+    in_words: bool,
 ) -> Result<Vec<HandedBook<'a>>, HandingFault>
     ensures lacks { IfErr result LacksHanding }
     ensures books { IfErr result (λ _. HasBooks line.now) }
@@ -272,6 +292,7 @@ pub fn hand_over<'a, R: AllocGlobal + Files>(
         options: *handing,
         outputs: Outputs::of(rt, line),
         spacing,
+        in_words,
     };
     hand_files(rt, files, &asked)
 }

@@ -9,7 +9,7 @@
 //! and of a library a folder of its name beneath. At most as many bytes are read of one as a text may have, and a piece more.
 //!
 //! A text that was made is read once before it is handed on: what is wrong with it is told here, by the name of the text that has it and its line there, which no
-//! command could tell. All other faults of a copybook are those of the command.
+//! command could tell; and in words too, where that is asked for. All other faults of a copybook are those of the command.
 //!
 //! What is promised: that a command has copybooks wherever something is wrong with one (`HasBooks` of specs/Handing.antt), and with which status it ends then
 //! (`LacksHanding`, `status_of_handing`); that a line whose copybooks are handed over names all else as it did, so that it ends in the same ways

@@ -49,10 +49,37 @@ pub(crate) fn of_book(
     file: FileName,
     how: &Copying,
     fault: BookFault,
-) -> Result<BookRefusal, AllocError> {
+) -> Result<String, AllocError> {
     let line = words_of_line(alloc, how, fault.line)?;
     let rule = fault.rule;
-    Ok(BookRefusal::Refused(format!(in alloc; "{file} {rule} {line}")?))
+    format!(in alloc; "{file} {rule} {line}")
+}
+
+/// A line by its number as it is counted on, as a place: of the copybook itself, by its file, or of a text that it copies, by that one's name.
+pub(crate) fn place_of(
+    alloc: Global,
+    path: &str,
+    how: &Copying,
+    number: u32,
+) -> Result<String, AllocError> {
+    if number == 0 {
+        return format!(in alloc; "{path}");
+    }
+    let Copying::CarriedOut(library) = how else {
+        return format!(in alloc; "{path}:{number}");
+    };
+    let at = line_numbered(number);
+    let line = at.line;
+    let Some(before) = (at.text as usize).checked_sub(1) else {
+        return format!(in alloc; "{path}:{line}");
+    };
+    match library.texts.get(before) {
+        Some(text) => {
+            let name = words_of_name(alloc, &text.named)?;
+            format!(in alloc; "{name}:{line}")
+        }
+        None => format!(in alloc; "{path}:{line}"),
+    }
 }
 
 /// What is told where no text is made of a copybook.

@@ -1,0 +1,242 @@
+//! The entries of both records that bear a name.
+
+use crate::entry::{
+    PictureOf, WrittenEntry, entry_at, entry_in_front, level_of, line_of, name_word,
+};
+use crate::search::{Looked, MOST_LEVELS, found_between, found_in, holder_at};
+use crate::words::WordText;
+use cob_copybook_clauses::{WordClass, behind};
+use cob_source::Token;
+use std::fmt;
+
+/// More entries than both records may have.
+pub(crate) const MOST_BEARERS: usize = 4_001;
+
+/// The words of a copybook, and whether its record is the input record.
+#[derive(Clone, Copy)]
+pub(crate) struct BookWords<'a> {
+    pub(crate) words: &'a [Token],
+    pub(crate) is_input: bool,
+}
+
+impl<'a> BookWords<'a> {
+    /// The word that names the record, if one does.
+    fn record_word(self) -> Option<&'a Token> {
+        let first = entry_in_front(self.words);
+        if level_of(first) == 1 {
+            return name_word(first);
+        }
+        None
+    }
+
+    /// The name of a record that has none.
+    fn given_name(self) -> &'static str {
+        if self.is_input {
+            "IN-RECORD"
+        } else {
+            "OUT-RECORD"
+        }
+    }
+}
+
+/// An entry of one of the records.
+#[derive(Clone, Copy)]
+pub(crate) struct Bearer<'a> {
+    /// Its copybook.
+    pub(crate) book: BookWords<'a>,
+    /// How many words of it stand before the entry.
+    pub(crate) before: usize,
+}
+
+/// Whether the entry behind so many words has this name.
+fn has_name(words: &[Token], before: usize, name: &[u8]) -> bool {
+    match name_word(entry_at(words, before)) {
+        Some(word) => word.text.as_slice() == name,
+        None => false,
+    }
+}
+
+impl<'a> Bearer<'a> {
+    /// The entry as it is written.
+    pub(crate) fn entry(self) -> WrittenEntry<'a> {
+        entry_at(self.book.words, self.before)
+    }
+
+    /// Whether a group with this name holds the entry, its record too.
+    fn is_held_by(self, group: &[u8]) -> bool {
+        let words = self.book.words;
+        let mut at = self.before;
+        for _ in 0..MOST_LEVELS {
+            let Some(holder) = holder_at(words, at) else {
+                break;
+            };
+            if has_name(words, holder, group) {
+                return true;
+            }
+            at = holder;
+        }
+        match self.book.record_word() {
+            Some(word) => word.text.as_slice() == group,
+            None => self.book.given_name().as_bytes() == group,
+        }
+    }
+
+    /// Whether the entry is meant by its name with this qualifier, if there is one.
+    fn is_meant(self, group: Option<&Token>) -> bool {
+        match group {
+            Some(word) => self.is_held_by(word.text.as_slice()),
+            None => true,
+        }
+    }
+}
+
+/// The words of both copybooks.
+#[derive(Clone, Copy)]
+pub(crate) struct BothWords<'a> {
+    pub(crate) input: BookWords<'a>,
+    pub(crate) output: BookWords<'a>,
+}
+
+/// The first entry of a record that is looked for, with no fewer than so many words before it.
+fn bearer_from<'a>(book: BookWords<'a>, from: usize, looked: Looked<'_>) -> Option<Bearer<'a>> {
+    let before = found_between(book.words, from, book.words.len(), looked).first?;
+    Some(Bearer { book, before })
+}
+
+impl<'a> BothWords<'a> {
+    /// How many entries of both records are looked for.
+    pub(crate) fn count(self, looked: Looked<'_>) -> usize {
+        let of_input = found_in(self.input.words, looked).count;
+        of_input.saturating_add(found_in(self.output.words, looked).count)
+    }
+
+    /// The first of them: of the input record, or else of the output record.
+    pub(crate) fn first(self, looked: Looked<'_>) -> Option<Bearer<'a>> {
+        match bearer_from(self.input, 0, looked) {
+            Some(bearer) => Some(bearer),
+            None => bearer_from(self.output, 0, looked),
+        }
+    }
+
+    /// The next of them behind this one.
+    pub(crate) fn next(self, bearer: Bearer<'a>, looked: Looked<'_>) -> Option<Bearer<'a>> {
+        match bearer_from(bearer.book, bearer.before.saturating_add(1), looked) {
+            Some(next) => Some(next),
+            None if bearer.book.is_input => bearer_from(self.output, 0, looked),
+            None => None,
+        }
+    }
+}
+
+/// The first qualifier in front, if there is one.
+fn qualifier_in_front(words: &[Token]) -> Option<&Token> {
+    behind(words, WordClass::Of)?.first()
+}
+
+/// The entry that the name in front means with its first qualifier, where one alone has both.
+pub(crate) fn meant<'a>(both: BothWords<'a>, words: &[Token]) -> Option<Bearer<'a>> {
+    let (name, more) = words.split_first()?;
+    let group = qualifier_in_front(more);
+    let looked = Looked::Named(name.text.as_slice());
+    let mut next = both.first(looked);
+    let mut found: Option<Bearer<'a>> = None;
+    for _ in 0..MOST_BEARERS {
+        let Some(bearer) = next else {
+            return found;
+        };
+        if bearer.is_meant(group) {
+            if found.is_some() {
+                return None;
+            }
+            found = Some(bearer);
+        }
+        next = both.next(bearer, looked);
+    }
+    found
+}
+
+/// An entry with its record, which prints.
+#[derive(Clone, Copy)]
+pub(crate) struct QualifiedText<'a> {
+    pub(crate) bearer: Bearer<'a>,
+}
+
+impl fmt::Display for QualifiedText<'_> {
+    fn fmt<W: fmt::Write>(&self, f: &mut fmt::Formatter<W>) -> fmt::Result {
+        match name_word(self.bearer.entry()) {
+            Some(word) => write!(f, "{} OF ", WordText { word })?,
+            None => return write!(f, "FILLER"),
+        }
+        match self.bearer.book.record_word() {
+            Some(word) => write!(f, "{}", WordText { word }),
+            None => write!(f, "{}", self.bearer.book.given_name()),
+        }
+    }
+}
+
+/// Where an entry stands, which prints.
+#[derive(Clone, Copy)]
+pub(crate) struct PlaceText<'a> {
+    pub(crate) bearer: Bearer<'a>,
+}
+
+impl fmt::Display for PlaceText<'_> {
+    fn fmt<W: fmt::Write>(&self, f: &mut fmt::Formatter<W>) -> fmt::Result {
+        let option = if self.bearer.book.is_input {
+            "in-book"
+        } else {
+            "out-book"
+        };
+        write!(f, "{option} line {}", line_of(self.bearer.entry()))
+    }
+}
+
+/// The entries of both records with a name, which print with their places, three at most.
+#[derive(Clone, Copy)]
+pub(crate) struct BearersText<'a> {
+    pub(crate) both: BothWords<'a>,
+    pub(crate) name: &'a [u8],
+}
+
+impl fmt::Display for BearersText<'_> {
+    fn fmt<W: fmt::Write>(&self, f: &mut fmt::Formatter<W>) -> fmt::Result {
+        let looked = Looked::Named(self.name);
+        let mut next = self.both.first(looked);
+        for at in 0..3 {
+            let Some(bearer) = next else {
+                return Ok(());
+            };
+            if at > 0 {
+                write!(f, ", ")?;
+            }
+            let own = QualifiedText { bearer };
+            let place = PlaceText { bearer };
+            write!(f, "{own} ({place})")?;
+            next = self.both.next(bearer, looked);
+        }
+        Ok(())
+    }
+}
+
+/// An operand of a statement, which prints with what it is, where one entry is meant.
+#[derive(Clone, Copy)]
+pub(crate) struct OperandText<'a> {
+    pub(crate) both: BothWords<'a>,
+    pub(crate) words: &'a [Token],
+}
+
+impl fmt::Display for OperandText<'_> {
+    fn fmt<W: fmt::Write>(&self, f: &mut fmt::Formatter<W>) -> fmt::Result {
+        match self.words.first() {
+            Some(word) => write!(f, "{}", WordText { word })?,
+            None => return write!(f, "nothing"),
+        }
+        match meant(self.both, self.words) {
+            Some(bearer) => {
+                let entry = bearer.entry();
+                write!(f, ", {}", PictureOf { entry })
+            }
+            None => Ok(()),
+        }
+    }
+}

@@ -1,0 +1,185 @@
+//! The blocks of a copybook.
+
+use crate::blocks::{push_block, push_words};
+use crate::clashes::{told_placement, told_sign, told_usage};
+use crate::columns::with_columns;
+use crate::entry::{WrittenEntry, entry_at, words_with_stop};
+use crate::grammar::told_grammar;
+use crate::left_out::told_left_out;
+use crate::levels::told_level_rule;
+use crate::names::told_name;
+use crate::phrases::Phrase;
+use crate::pictures::told_picture;
+use crate::references::{told_count, told_redefinition};
+use crate::source::told_source;
+use crate::tables::told_table;
+use crate::told::{Caret, Told, advised};
+use crate::values::told_value;
+use cob_copybook::{BookRule, Role};
+use cob_report_refusals::{Refusal, book_refusals};
+use cob_source::{SourceRule, Token, tokens};
+use std::alloc::{AllocError, Global};
+
+/// The blocks of a text that is refused.
+#[derive(Drop)]
+pub struct Blocks {
+    /// The blocks, one behind the other.
+    pub text: String,
+    /// How many refusals there are.
+    pub count: u32,
+}
+
+/// A text as its blocks tell it.
+#[derive(Clone, Copy)]
+pub struct RefusedBook<'a> {
+    /// Its file, as the command line says it.
+    pub file: &'a str,
+    /// What it describes.
+    pub role: Role,
+    /// Its bytes.
+    pub text: &'a [u8],
+}
+
+/// The words of a text, none where it breaks a rule of the reference format.
+///
+/// # Errors
+///
+/// Where no memory is left.
+pub(crate) fn words_of(alloc: Global, text: &[u8]) -> Result<Vec<Token>, AllocError> {
+    match tokens(alloc, text) {
+        Ok(words) => Ok(words),
+        Err(fault) => match fault.rule {
+            SourceRule::Memory => Err(AllocError),
+            _ => Ok(Vec::new(alloc)),
+        },
+    }
+}
+
+/// What is told of an entry that breaks a rule, before which so many words stand.
+fn told_entry<'a>(words: &'a [Token], before: usize, rule: &'a BookRule) -> Told<'a> {
+    let entry = entry_at(words, before);
+    match rule {
+        BookRule::Grammar => told_grammar(entry),
+        BookRule::Level => told_level_rule(words, before, entry),
+        BookRule::Picture(fault) => told_picture(entry, *fault),
+        BookRule::Usage => told_usage(words, before, entry),
+        BookRule::Sign => told_sign(entry),
+        BookRule::Redefinition => told_redefinition(words, before, entry),
+        BookRule::Table => told_table(entry),
+        BookRule::Count => told_count(words, before, entry),
+        BookRule::Value => told_value(entry),
+        BookRule::Placement => told_placement(entry),
+        BookRule::LeftOut(word) => told_left_out(entry, word.as_str().as_bytes()),
+        BookRule::Name => told_name(entry),
+        BookRule::TooLong => told_too_long(entry),
+        BookRule::TooMany => told_too_many(entry),
+        BookRule::Source(_) | BookRule::NoEntry | BookRule::Memory => told_empty(),
+    }
+}
+
+/// What is told of a record that is too long.
+fn told_too_long(entry: WrittenEntry<'_>) -> Told<'_> {
+    advised(
+        Caret::under_first(entry.words),
+        Phrase::plain("the record is longer than 32,752 bytes, which are the most"),
+        Phrase::plain("split the record, or make its longest table shorter"),
+    )
+}
+
+/// What is told of the first entry that is one too many.
+fn told_too_many(entry: WrittenEntry<'_>) -> Told<'_> {
+    advised(
+        Caret::under_first(entry.words),
+        Phrase::plain("this is entry 2,001, and 2,000 are the most"),
+        Phrase::plain("split the copybook"),
+    )
+}
+
+/// What is told of a text without entries.
+fn told_empty() -> Told<'static> {
+    advised(
+        None,
+        Phrase::plain("no entry stands in it"),
+        Phrase::plain("words stand in columns 8 to 72: --free reads a copybook without columns"),
+    )
+}
+
+/// What is told of a refusal.
+fn told_of<'a>(book: RefusedBook<'a>, words: &'a [Token], refusal: &'a Refusal) -> Told<'a> {
+    let rule = &refusal.fault.rule;
+    if let BookRule::Source(broken) = rule {
+        return told_source(book.file, book.text, *broken, refusal.fault.line);
+    }
+    let before = refusal.from.unwrap_or(0);
+    let told = told_entry(words, before, rule).among(words_with_stop(words, before));
+    if let BookRule::Grammar = rule {
+        return with_columns(book.file, book.text, told);
+    }
+    told
+}
+
+/// What is told of a refusal of a text that was made of others: where their lines are told elsewhere, it has none itself.
+#[derive(Drop)]
+pub struct MadeRefusal {
+    /// Its line in the text that was made.
+    pub line: u32,
+    /// The rule, what is wrong, and what to do, a line each.
+    pub words: String,
+}
+
+/// What is told of a refusal of a text that was made, whose words are these.
+fn made_refusal(
+    alloc: Global,
+    book: RefusedBook<'_>,
+    words: &[Token],
+    refusal: &Refusal,
+) -> Result<MadeRefusal, AllocError> {
+    let told = told_of(book, words, refusal);
+    let line = match told.at {
+        Some(caret) => caret.line,
+        None => refusal.fault.line,
+    };
+    let mut text = String::new(alloc);
+    push_words(alloc, &mut text, &refusal.fault.rule, &told)?;
+    Ok(MadeRefusal { line, words: text })
+}
+
+/// The refusals of a copybook whose text was made of others, at most so many, in words without their lines.
+///
+/// # Errors
+///
+/// Where no memory is left.
+pub fn made_refusals(
+    alloc: Global,
+    book: RefusedBook<'_>,
+    most: usize,
+) -> Result<Vec<MadeRefusal>, AllocError> {
+    let refusals = book_refusals(alloc, book.role, book.text)?;
+    let words = words_of(alloc, book.text)?;
+    let mut made: Vec<MadeRefusal> = Vec::new(alloc);
+    for refusal in refusals.iter().take(most) {
+        made.push(made_refusal(alloc, book, words.as_slice(), refusal)?)?;
+    }
+    Ok(made)
+}
+
+/// The blocks of a copybook that is refused, at most so many, each with its line of the text; none of one that is not.
+///
+/// # Errors
+///
+/// Where no memory is left.
+pub fn book_blocks(alloc: Global, book: RefusedBook<'_>, most: u32) -> Result<Blocks, AllocError> {
+    let refusals = book_refusals(alloc, book.role, book.text)?;
+    let words = words_of(alloc, book.text)?;
+    let mut text = String::new(alloc);
+    let mut count: u32 = 0;
+    for refusal in &refusals {
+        if count < most {
+            let told = told_of(book, words.as_slice(), refusal);
+            let rule = &refusal.fault.rule;
+            push_block(alloc, &mut text, book.file, book.text, rule, &told)?;
+        }
+        count = count.saturating_add(1);
+    }
+    Ok(Blocks { text, count })
+}

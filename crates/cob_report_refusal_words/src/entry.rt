@@ -1,0 +1,166 @@
+//! The words of an entry.
+
+use crate::clauses::clause_name;
+use crate::words::WordText;
+use cob_copybook_clauses::{WordClass, is_term};
+use cob_copybook_entries::whole;
+use cob_source::{Token, TokenKind};
+use std::fmt;
+
+/// An entry as it stands in a text: its words up to the period, and those from the period on.
+#[derive(Clone, Copy)]
+pub(crate) struct WrittenEntry<'a> {
+    pub(crate) words: &'a [Token],
+    pub(crate) behind: &'a [Token],
+}
+
+/// The words behind so many of them.
+pub(crate) fn behind_many(words: &[Token], count: usize) -> &[Token] {
+    let (_, rest) = words.split_at(count.min(words.len()));
+    rest
+}
+
+/// So many of the words.
+pub(crate) fn front_of(words: &[Token], count: usize) -> &[Token] {
+    let (front, _) = words.split_at(count.min(words.len()));
+    front
+}
+
+/// How many words stand before the first period.
+fn sentence_len(words: &[Token]) -> usize {
+    for (at, word) in words.iter().enumerate() {
+        if word.kind == TokenKind::Stop {
+            return at;
+        }
+    }
+    words.len()
+}
+
+/// The entry that begins with the first of these words.
+pub(crate) fn entry_in_front(words: &[Token]) -> WrittenEntry<'_> {
+    let count = sentence_len(words);
+    WrittenEntry {
+        words: front_of(words, count),
+        behind: behind_many(words, count),
+    }
+}
+
+/// The entry with so many words before it.
+pub(crate) fn entry_at(words: &[Token], before: usize) -> WrittenEntry<'_> {
+    entry_in_front(behind_many(words, before))
+}
+
+/// The words of the entry with so many words before it, and its period.
+pub(crate) fn words_with_stop(words: &[Token], before: usize) -> &[Token] {
+    let rest = behind_many(words, before);
+    front_of(rest, sentence_len(rest).saturating_add(1))
+}
+
+/// The line of an entry's first word.
+pub(crate) fn line_of(entry: WrittenEntry<'_>) -> u32 {
+    match entry.words.first() {
+        Some(first) => first.line,
+        None => 0,
+    }
+}
+
+/// The level of an entry, 0 where none is written.
+pub(crate) fn level_of(entry: WrittenEntry<'_>) -> u32 {
+    match entry.words.first() {
+        Some(level) => whole(level.text.as_slice(), 2).unwrap_or(0),
+        None => 0,
+    }
+}
+
+/// The first of these words, or the period behind them.
+pub(crate) fn word_or_stop<'a>(entry: WrittenEntry<'a>, rest: &'a [Token]) -> Option<&'a Token> {
+    match rest.first() {
+        Some(word) => Some(word),
+        None => entry.behind.first(),
+    }
+}
+
+/// The words of an entry that stand before the last of them.
+pub(crate) fn words_before<'a>(words: &'a [Token], rest: &[Token]) -> &'a [Token] {
+    front_of(words, words.len().saturating_sub(rest.len()))
+}
+
+/// The last of these words, at most so many.
+pub(crate) fn last_words(words: &[Token], most: usize) -> &[Token] {
+    behind_many(words, words.len().saturating_sub(most))
+}
+
+/// The word that names an entry, if it has a name.
+pub(crate) fn name_word(entry: WrittenEntry<'_>) -> Option<&Token> {
+    let (_, more) = entry.words.split_first()?;
+    let named = more.first()?;
+    let names = named.kind == TokenKind::Word
+        && !is_term(named, WordClass::Filler)
+        && clause_name(named).is_none();
+    if names { Some(named) } else { None }
+}
+
+/// An entry, which prints as it is told: by its name, or by its line.
+#[derive(Clone, Copy)]
+pub(crate) struct EntryText<'a> {
+    pub(crate) entry: WrittenEntry<'a>,
+}
+
+impl fmt::Display for EntryText<'_> {
+    fn fmt<W: fmt::Write>(&self, f: &mut fmt::Formatter<W>) -> fmt::Result {
+        match name_word(self.entry) {
+            Some(word) => write!(f, "{}", WordText { word }),
+            None => write!(f, "the entry in line {}", line_of(self.entry)),
+        }
+    }
+}
+
+/// What an entry is, which prints as its picture, or as a group.
+#[derive(Clone, Copy)]
+pub(crate) struct PictureOf<'a> {
+    pub(crate) entry: WrittenEntry<'a>,
+}
+
+impl fmt::Display for PictureOf<'_> {
+    fn fmt<W: fmt::Write>(&self, f: &mut fmt::Formatter<W>) -> fmt::Result {
+        match picture_word(self.entry) {
+            Some(word) => write!(f, "PIC {}", WordText { word }),
+            None => write!(f, "a group"),
+        }
+    }
+}
+
+/// The words from the first of this kind on, if there is one.
+pub(crate) fn words_from(words: &[Token], term: WordClass) -> Option<&[Token]> {
+    for (at, word) in words.iter().enumerate() {
+        if is_term(word, term) {
+            return Some(behind_many(words, at));
+        }
+    }
+    None
+}
+
+/// The first word of this kind, if there is one.
+pub(crate) fn word_of(words: &[Token], term: WordClass) -> Option<&Token> {
+    words_from(words, term)?.first()
+}
+
+/// The first word behind this one, one that may be left out passed over.
+pub(crate) fn word_behind(words: &[Token], term: WordClass, between: WordClass) -> Option<&Token> {
+    let (_, more) = words_from(words, term)?.split_first()?;
+    let (first, others) = more.split_first()?;
+    if is_term(first, between) {
+        return others.first();
+    }
+    Some(first)
+}
+
+/// The picture of an entry, if it has one.
+pub(crate) fn picture_word(entry: WrittenEntry<'_>) -> Option<&Token> {
+    word_behind(entry.words, WordClass::Picture, WordClass::Is)
+}
+
+/// The word that names the count of a table, if one does.
+pub(crate) fn count_word(entry: WrittenEntry<'_>) -> Option<&Token> {
+    word_behind(entry.words, WordClass::Depending, WordClass::On)
+}

@@ -1,0 +1,147 @@
+//! Words and levels that are left out by name.
+
+use crate::entry::{WrittenEntry, picture_word};
+use crate::phrases::{Part, Phrase};
+use crate::told::{Caret, Told, advised};
+use cob_picture::Picture;
+use cob_source::Token;
+
+/// The word of an entry with this text.
+fn word_of<'a>(entry: WrittenEntry<'a>, text: &[u8]) -> Option<&'a Token> {
+    for word in entry.words {
+        if word.text.as_slice() == text {
+            return Some(word);
+        }
+    }
+    None
+}
+
+/// How many bytes a binary item with this picture takes.
+fn binary_size(word: &Token) -> usize {
+    match Picture::read(word.text.as_slice()) {
+        Ok(picture) => match picture.digits() {
+            0..=4 => 2,
+            5..=9 => 4,
+            _ => 8,
+        },
+        Err(_) => 4,
+    }
+}
+
+/// What to do with an item that is COMP-5.
+fn native_hint(entry: WrittenEntry<'_>) -> Phrase<'_> {
+    match picture_word(entry) {
+        Some(word) => Phrase::of_three(
+            "write COMP where each value keeps to the digits of PIC {}, or where {} is only sent and convert has --binary whole; else PIC X({})",
+            Part::Word(word),
+            Part::Entry(entry),
+            Part::Number(binary_size(word)),
+        ),
+        None => Phrase::plain("write COMP where each value keeps to the digits of its picture"),
+    }
+}
+
+/// What to do with the words that are left out: the entry's storage without them.
+static WAYS_ROUND: [(&str, &str); 20] = [
+    ("SYNC", SLACK),
+    ("SYNCHRONIZED", SLACK),
+    ("COMP-1", SINGLE),
+    ("COMPUTATIONAL-1", SINGLE),
+    ("COMP-2", DOUBLE),
+    ("COMPUTATIONAL-2", DOUBLE),
+    ("INDEX", ADDRESS),
+    ("POINTER", ADDRESS),
+    ("PROCEDURE-POINTER", ADDRESS),
+    ("FUNCTION-POINTER", ADDRESS),
+    ("NATIONAL", WIDE),
+    ("DISPLAY-1", WIDE),
+    ("GROUP-USAGE", WIDE),
+    (
+        "COPY",
+        "--copy-dir FOLDER looks for its text in that folder",
+    ),
+    (
+        "REPLACE",
+        "--replace 'X=Y' puts Y in place of X; or change the text by an editor",
+    ),
+    (
+        "UNBOUNDED",
+        "write the greatest number of elements that a record has room for",
+    ),
+    (
+        "66",
+        "leave the entry out: RENAMES names storage that other entries have",
+    ),
+    ("77", "leave the entry out: it is no part of a record"),
+    ("78", CONSTANT),
+    ("CONSTANT", CONSTANT),
+];
+
+/// What to do with an item that is aligned.
+const SLACK: &str =
+    "write it without SYNC, and before it the slack bytes of the compiler's listing as FILLER PIC X(n)";
+
+/// What to do with a number with an exponent, of four bytes.
+const SINGLE: &str =
+    "PIC X(4) has its bytes, which can be moved to such an item and not to a number";
+
+/// What to do with a number with an exponent, of eight bytes.
+const DOUBLE: &str =
+    "PIC X(8) has its bytes, which can be moved to such an item and not to a number";
+
+/// What to do with an address.
+const ADDRESS: &str =
+    "PIC X(4) has its bytes, or PIC X(8) where the program was compiled for addresses of 64 bits";
+
+/// What to do with characters of two bytes.
+const WIDE: &str = "PIC X(n) with two bytes a character has its bytes";
+
+/// What to do with a constant.
+const CONSTANT: &str = "leave the entry out, and write its number where its name stands";
+
+/// What to do with a word that is left out.
+fn way_round(text: &[u8]) -> &'static str {
+    for (word, way) in &WAYS_ROUND {
+        if word.as_bytes() == text {
+            return *way;
+        }
+    }
+    "leave it out: it says nothing of a record's storage"
+}
+
+/// Whether it is the usage of a number in the machine's own form.
+fn is_native(text: &[u8]) -> bool {
+    text == b"COMP-5".as_slice() || text == b"COMPUTATIONAL-5".as_slice()
+}
+
+/// How it is told that a word is left out.
+fn form_of(text: &[u8]) -> &'static str {
+    if text == b"COPY".as_slice() {
+        "{} is left out: the text is not looked for"
+    } else if text.len() == 2 {
+        "level {} is left out"
+    } else {
+        "{} is left out"
+    }
+}
+
+/// What to do with a word of an entry that is left out.
+fn hint_of<'a>(entry: WrittenEntry<'a>, text: &[u8]) -> Phrase<'a> {
+    if is_native(text) {
+        return native_hint(entry);
+    }
+    Phrase::plain(way_round(text))
+}
+
+/// What is told of a word or a level that is left out by name.
+pub(crate) fn told_left_out<'a>(entry: WrittenEntry<'a>, text: &'a [u8]) -> Told<'a> {
+    let at = match word_of(entry, text) {
+        Some(word) => Some(Caret::under(word)),
+        None => None,
+    };
+    advised(
+        at,
+        Phrase::of(form_of(text), Part::Bytes(text)),
+        hint_of(entry, text),
+    )
+}

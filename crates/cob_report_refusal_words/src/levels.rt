@@ -1,0 +1,82 @@
+//! Levels that do not fit.
+
+use crate::entry::{WrittenEntry, entry_at, level_of, picture_word};
+use crate::phrases::{Part, Phrase};
+use crate::search::holder_of;
+use crate::told::{Caret, Told, advised, said};
+use cob_source::Token;
+
+/// What is told of an entry beneath one with a picture.
+fn told_beneath<'a>(entry: WrittenEntry<'a>, holder: WrittenEntry<'a>) -> Told<'a> {
+    let upper = Part::Level(level_of(holder));
+    advised(
+        Caret::under_first(entry.words),
+        Phrase::of_four(
+            "{}, level {}, stands beneath {}, level {}, which has a picture",
+            Part::Entry(entry),
+            Part::Level(level_of(entry)),
+            Part::Entry(holder),
+            upper,
+        ),
+        Phrase::of_three(
+            "give {} no picture, so that it is a group, or {} the level {}",
+            Part::Entry(holder),
+            Part::Entry(entry),
+            upper,
+        ),
+    )
+}
+
+/// What is told of an entry with neither a picture nor entries beneath it.
+fn told_empty(entry: WrittenEntry<'_>) -> Told<'_> {
+    advised(
+        Caret::under_first(entry.words),
+        Phrase::of(
+            "{} has no picture and nothing beneath it",
+            Part::Entry(entry),
+        ),
+        Phrase::plain("give it a picture, or put entries with a higher level behind it"),
+    )
+}
+
+/// What is told of a record that begins behind another one.
+fn told_second_record(entry: WrittenEntry<'_>) -> Told<'_> {
+    advised(
+        Caret::under_first(entry.words),
+        Phrase::plain("a second record begins, and a copybook has one"),
+        Phrase::plain(
+            "--in-record NAME, --out-record NAME or --record-name NAME chooses one; or a copybook for each type of record",
+        ),
+    )
+}
+
+/// The entry that would hold one of this level behind so many words, if it has a picture.
+fn pictured_holder(words: &[Token], before: usize, level: u32) -> Option<WrittenEntry<'_>> {
+    let holder = entry_at(words, holder_of(words, before, level)?);
+    if picture_word(holder).is_some() {
+        return Some(holder);
+    }
+    None
+}
+
+/// What is told of an entry with a level that does not fit, before which so many words stand.
+pub(crate) fn told_level_rule<'a>(
+    words: &'a [Token],
+    before: usize,
+    entry: WrittenEntry<'a>,
+) -> Told<'a> {
+    let level = level_of(entry);
+    if level == 0 || level > 49 {
+        return said(
+            Caret::under_first(entry.words),
+            Phrase::of("level {} is none of 01 to 49", Part::Level(level)),
+        );
+    }
+    if level == 1 && before > 0 {
+        return told_second_record(entry);
+    }
+    match pictured_holder(words, before, level) {
+        Some(holder) => told_beneath(entry, holder),
+        None => told_empty(entry),
+    }
+}

@@ -1,0 +1,224 @@
+//! Names of a statement, and what they mean.
+
+use crate::bearers::{Bearer, BearersText, BothWords, MOST_BEARERS, OperandText};
+use crate::entry::{behind_many, front_of, picture_word};
+use crate::phrases::{Part, Phrase};
+use crate::search::Looked;
+use crate::statements::receivers_of;
+use crate::told::{Caret, Told, advised, said};
+use cob_copybook_clauses::{WordClass, behind, is_name_word, is_term, word_class};
+use cob_source::Token;
+
+/// Whether the last bracket among these words is one that opens.
+fn end_in_brackets(words: &[Token]) -> bool {
+    let mut inside = false;
+    for word in words {
+        match word_class(word) {
+            WordClass::OpenBracket => inside = true,
+            WordClass::CloseBracket => inside = false,
+            _ => {}
+        }
+    }
+    inside
+}
+
+/// Whether a word of a statement, which so many stand before, names an entry of its own: it is no qualifier and no subscript.
+fn is_reference(statement: &[Token], at: usize, word: &Token) -> bool {
+    let front = front_of(statement, at);
+    let qualifies = match front.last() {
+        Some(last) => is_term(last, WordClass::Of),
+        None => false,
+    };
+    is_name_word(word) && !qualifies && !end_in_brackets(front)
+}
+
+/// The first name of a statement that no entry has.
+fn unknown_name<'a>(both: BothWords<'_>, statement: &'a [Token]) -> Option<&'a Token> {
+    for (at, word) in statement.iter().enumerate() {
+        let looked = Looked::Named(word.text.as_slice());
+        if is_reference(statement, at, word) && both.count(looked) == 0 {
+            return Some(word);
+        }
+    }
+    None
+}
+
+/// An entry whose name is near to a word, if there is one.
+fn near_hint<'a>(both: BothWords<'a>, word: &Token) -> Option<Phrase<'a>> {
+    let near = both.first(Looked::Near(word.text.as_slice()))?;
+    Some(Phrase::of_two(
+        "{} ({}) is near to it",
+        Part::Entry(near.entry()),
+        Part::Place(near),
+    ))
+}
+
+/// What is told of a name that no entry has.
+pub(crate) fn told_unknown<'a>(both: BothWords<'a>, statement: &'a [Token]) -> Told<'a> {
+    match unknown_name(both, statement) {
+        Some(word) => Told {
+            at: Some(Caret::under(word)),
+            what: Phrase::of("no entry of the two records is named {}", Part::Word(word)),
+            hint: near_hint(both, word),
+        },
+        None => said(
+            Caret::under_first(statement),
+            Phrase::plain("no entry of the two records has a name of it with these qualifiers"),
+        ),
+    }
+}
+
+/// The first name of a statement without qualifiers that several entries have.
+fn ambiguous_name<'a>(both: BothWords<'_>, statement: &'a [Token]) -> Option<&'a Token> {
+    for (at, word) in statement.iter().enumerate() {
+        let more = behind_many(statement, at.saturating_add(1));
+        let is_free = behind(more, WordClass::Of).is_none();
+        let looked = Looked::Named(word.text.as_slice());
+        if is_free && is_reference(statement, at, word) && both.count(looked) > 1 {
+            return Some(word);
+        }
+    }
+    None
+}
+
+/// How the first of several entries with a name is meant.
+fn first_hint<'a>(both: BothWords<'a>, name: &[u8]) -> Option<Phrase<'a>> {
+    let first = both.first(Looked::Named(name))?;
+    Some(Phrase::of("write {}", Part::Qualified(first)))
+}
+
+/// What is told of a name that several entries have.
+pub(crate) fn told_ambiguous<'a>(both: BothWords<'a>, statement: &'a [Token]) -> Told<'a> {
+    let Some(word) = ambiguous_name(both, statement) else {
+        return said(
+            Caret::under_first(statement),
+            Phrase::plain("several entries have a name of it with these qualifiers"),
+        );
+    };
+    let name = word.text.as_slice();
+    Told {
+        at: Some(Caret::under(word)),
+        what: Phrase::of_three(
+            "{} is {} entries: {}",
+            Part::Word(word),
+            Part::Number(both.count(Looked::Named(name))),
+            Part::Bearers(BearersText { both, name }),
+        ),
+        hint: first_hint(both, name),
+    }
+}
+
+/// The first entry that a word names, if it names one of its own and the first is of the input record.
+fn input_bearer<'a>(
+    both: BothWords<'a>,
+    receivers: &[Token],
+    at: usize,
+    word: &Token,
+) -> Option<Bearer<'a>> {
+    if !is_reference(receivers, at, word) {
+        return None;
+    }
+    let bearer = both.first(Looked::Named(word.text.as_slice()))?;
+    if bearer.book.is_input {
+        Some(bearer)
+    } else {
+        None
+    }
+}
+
+/// What is told of what receives and is of the input record.
+pub(crate) fn told_receiver<'a>(both: BothWords<'a>, statement: &'a [Token]) -> Told<'a> {
+    let receivers = receivers_of(statement);
+    for (at, word) in receivers.iter().enumerate() {
+        if let Some(bearer) = input_bearer(both, receivers, at, word) {
+            return told_input(both, word, bearer);
+        }
+    }
+    said(
+        Caret::under_first(receivers),
+        Phrase::plain("what receives is of the output record"),
+    )
+}
+
+/// What is told of a receiver that is of the input record.
+fn told_input<'a>(both: BothWords<'a>, word: &'a Token, bearer: Bearer<'a>) -> Told<'a> {
+    let hint = if both.count(Looked::Named(word.text.as_slice())) > 1 {
+        "qualify {} by a group of the output record"
+    } else {
+        "no entry of the output record is named {}"
+    };
+    advised(
+        Some(Caret::under(word)),
+        Phrase::of_two(
+            "{} is an entry of the input record ({}), and what receives is of the output record",
+            Part::Word(word),
+            Part::Place(bearer),
+        ),
+        Phrase::of(hint, Part::Word(word)),
+    )
+}
+
+/// What is told of a move between two items, as they are described, by a form with places for both.
+pub(crate) fn told_pair<'a>(
+    both: BothWords<'a>,
+    statement: &'a [Token],
+    form: &'static str,
+    hint: &'static str,
+) -> Told<'a> {
+    let receivers = receivers_of(statement);
+    let from = OperandText {
+        both,
+        words: behind_many(statement, 1),
+    };
+    let to = OperandText {
+        both,
+        words: receivers,
+    };
+    advised(
+        Caret::under_first(receivers),
+        Phrase::of_two(form, Part::Operand(from), Part::Operand(to)),
+        Phrase::plain(hint),
+    )
+}
+
+/// The first entry with a name that is an item, if one is.
+fn first_item<'a>(both: BothWords<'a>, name: &[u8]) -> Option<Bearer<'a>> {
+    let looked = Looked::Named(name);
+    let mut next = both.first(looked);
+    for _ in 0..MOST_BEARERS {
+        let bearer = next?;
+        if picture_word(bearer.entry()).is_some() {
+            return Some(bearer);
+        }
+        next = both.next(bearer, looked);
+    }
+    None
+}
+
+/// What is told of an item beside CORRESPONDING.
+fn told_item<'a>(word: &'a Token, bearer: Bearer<'a>) -> Told<'a> {
+    advised(
+        Some(Caret::under(word)),
+        Phrase::of_two(
+            "{}, {}, is an item, and CORRESPONDING is between two groups",
+            Part::Word(word),
+            Part::Picture(bearer.entry()),
+        ),
+        Phrase::plain("leave CORRESPONDING out, or name a group"),
+    )
+}
+
+/// What is told of CORRESPONDING with an item.
+pub(crate) fn told_groups<'a>(both: BothWords<'a>, statement: &'a [Token]) -> Told<'a> {
+    for (at, word) in statement.iter().enumerate() {
+        if is_reference(statement, at, word) {
+            if let Some(bearer) = first_item(both, word.text.as_slice()) {
+                return told_item(word, bearer);
+            }
+        }
+    }
+    said(
+        Caret::under_first(statement),
+        Phrase::plain("CORRESPONDING is between two groups"),
+    )
+}

@@ -1,0 +1,104 @@
+//! Entries of a text that are looked for.
+
+use crate::entry::{WrittenEntry, behind_many, entry_at, level_of, name_word, words_from};
+use crate::near::is_near;
+use cob_copybook_clauses::{WordClass, is_condition, sentence_at};
+use cob_source::Token;
+
+/// More levels than there are.
+pub(crate) const MOST_LEVELS: usize = 50;
+
+/// Which entries are looked for.
+#[derive(Clone, Copy)]
+pub(crate) enum Looked<'a> {
+    /// Those with this name.
+    Named(&'a [u8]),
+    /// Those whose name is near to it.
+    Near(&'a [u8]),
+    /// Those of a lower level than this.
+    Below(u32),
+    /// Those of this level that begin an area.
+    Area(u32),
+}
+
+/// Whether an entry is one that is looked for.
+fn is_looked(entry: WrittenEntry<'_>, looked: Looked<'_>) -> bool {
+    match looked {
+        Looked::Named(name) => match name_word(entry) {
+            Some(word) => word.text.as_slice() == name,
+            None => false,
+        },
+        Looked::Near(name) => match name_word(entry) {
+            Some(word) => is_near(word.text.as_slice(), name),
+            None => false,
+        },
+        Looked::Below(level) => level_of(entry) < level,
+        Looked::Area(level) => {
+            level_of(entry) == level && words_from(entry.words, WordClass::Redefines).is_none()
+        }
+    }
+}
+
+/// Entries that are found.
+#[derive(Clone, Copy)]
+pub(crate) struct Found {
+    /// How many there are.
+    pub(crate) count: usize,
+    /// How many words stand before the first of them.
+    pub(crate) first: Option<usize>,
+    /// How many words stand before the last of them.
+    pub(crate) last: Option<usize>,
+}
+
+/// What is found, with one more entry.
+fn with_entry(found: Found, before: usize) -> Found {
+    Found {
+        count: found.count.saturating_add(1),
+        first: Some(found.first.unwrap_or(before)),
+        last: Some(before),
+    }
+}
+
+/// The entries that are looked for among these words, with fewer than so many words before them, and no fewer than others.
+pub(crate) fn found_between(words: &[Token], from: usize, end: usize, looked: Looked<'_>) -> Found {
+    let mut found = Found {
+        count: 0,
+        first: None,
+        last: None,
+    };
+    let mut before: usize = 0;
+    for _ in 0..words.len() {
+        let Some((sentence, _)) = sentence_at(behind_many(words, before)) else {
+            return found;
+        };
+        if before >= end {
+            return found;
+        }
+        let is_entry = before >= from && !is_condition(sentence);
+        if is_entry && is_looked(entry_at(words, before), looked) {
+            found = with_entry(found, before);
+        }
+        before = before.saturating_add(sentence.len()).saturating_add(1);
+    }
+    found
+}
+
+/// The entries that are looked for among these words.
+pub(crate) fn found_in(words: &[Token], looked: Looked<'_>) -> Found {
+    found_between(words, 0, words.len(), looked)
+}
+
+/// The entries that are looked for with fewer than so many words before them.
+pub(crate) fn found_before(words: &[Token], end: usize, looked: Looked<'_>) -> Found {
+    found_between(words, 0, end, looked)
+}
+
+/// How many words stand before the entry that would hold one of this level behind so many words, if there is one.
+pub(crate) fn holder_of(words: &[Token], before: usize, level: u32) -> Option<usize> {
+    found_before(words, before, Looked::Below(level)).last
+}
+
+/// How many words stand before the entry that holds the one behind so many words, if there is one.
+pub(crate) fn holder_at(words: &[Token], before: usize) -> Option<usize> {
+    holder_of(words, before, level_of(entry_at(words, before)))
+}

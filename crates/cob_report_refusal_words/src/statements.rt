@@ -1,0 +1,178 @@
+//! The words of a statement, as far as they go on.
+
+use crate::clauses::{Read, behind_term, is_characters, lacks};
+use crate::entry::{behind_many, front_of};
+use cob_copybook_clauses::{WordClass, behind, is_name_word, is_term};
+use cob_source::{Token, TokenKind};
+
+/// The words behind the qualifiers of a name, or what lacks in them.
+fn behind_qualifiers(words: &[Token]) -> Read<'_> {
+    let mut rest = words;
+    for _ in 0..words.len() {
+        let Some(more) = behind(rest, WordClass::Of) else {
+            return Ok(rest);
+        };
+        match more.split_first() {
+            Some((named, others)) if is_name_word(named) => rest = others,
+            _ => return lacks(more, "a name"),
+        }
+    }
+    Ok(rest)
+}
+
+/// Whether a word may stand among subscripts: a whole number, the name of a counter, a sign before a number.
+fn is_subscript(word: &Token) -> bool {
+    let text = word.text.as_slice();
+    let is_sign = text == b"+".as_slice() || text == b"-".as_slice();
+    let is_number = text.iter().all(|character| character.is_ascii_digit());
+    word.kind == TokenKind::Word && (is_sign || is_number || is_name_word(word))
+}
+
+/// How many words may stand among subscripts.
+fn subscripts_len(words: &[Token]) -> usize {
+    for (at, word) in words.iter().enumerate() {
+        if !is_subscript(word) {
+            return at;
+        }
+    }
+    words.len()
+}
+
+/// The words behind the subscripts of a name, if there are some, or what lacks in them.
+fn behind_subscripts(words: &[Token]) -> Read<'_> {
+    let Some(inside) = behind(words, WordClass::OpenBracket) else {
+        return Ok(words);
+    };
+    let count = subscripts_len(inside);
+    let rest = behind_many(inside, count);
+    match behind(rest, WordClass::CloseBracket) {
+        Some(more) if count > 0 => Ok(more),
+        _ => lacks(rest, "a subscript"),
+    }
+}
+
+/// The words behind a name with its qualifiers and subscripts, or what lacks in it.
+fn behind_reference<'a>(words: &'a [Token], expected: &'static str) -> Read<'a> {
+    match words.split_first() {
+        Some((first, more)) if is_name_word(first) => behind_subscripts(behind_qualifiers(more)?),
+        _ => lacks(words, expected),
+    }
+}
+
+/// Whether a word is a literal, of characters or of digits.
+pub(crate) fn is_constant(word: &Token) -> bool {
+    is_characters(word) || (is_term(word, WordClass::Plain) && !is_name_word(word))
+}
+
+/// The words behind a literal in quotes or a figurative constant, or what lacks there.
+fn behind_characters(words: &[Token]) -> Read<'_> {
+    match words.split_first() {
+        Some((first, more)) if is_characters(first) => Ok(more),
+        _ => lacks(words, "a literal"),
+    }
+}
+
+/// The words behind what is sent, or what lacks in it.
+fn behind_sender(words: &[Token]) -> Read<'_> {
+    if let Some(repeated) = behind(words, WordClass::All) {
+        return behind_characters(repeated);
+    }
+    match words.split_first() {
+        Some((first, more)) if is_constant(first) => Ok(more),
+        _ => behind_reference(words, "a name, a literal or CORRESPONDING"),
+    }
+}
+
+/// Whether a statement ends before these words.
+fn ends(words: &[Token]) -> bool {
+    match words.first() {
+        Some(first) => first.kind == TokenKind::Stop || is_term(first, WordClass::Move),
+        None => true,
+    }
+}
+
+/// The words behind the names that receive, or what lacks in them.
+fn behind_receivers(words: &[Token]) -> Read<'_> {
+    let mut rest = behind_reference(words, "a receiver")?;
+    for _ in 0..words.len() {
+        if ends(rest) {
+            return Ok(rest);
+        }
+        rest = behind_reference(rest, "a receiver or a period")?;
+    }
+    Ok(rest)
+}
+
+/// The words behind the statement in front, or what lacks in it.
+pub(crate) fn behind_statement(words: &[Token]) -> Read<'_> {
+    let moved = behind_term(words, WordClass::Move, "MOVE")?;
+    let sent = match behind(moved, WordClass::Corresponding) {
+        Some(named) => behind_reference(named, "a group")?,
+        None => behind_sender(moved)?,
+    };
+    behind_receivers(behind_term(sent, WordClass::To, "TO")?)
+}
+
+/// The words of the statement in front, up to the next period or MOVE.
+pub(crate) fn statement_in_front(words: &[Token]) -> &[Token] {
+    for at in 1..words.len() {
+        if ends(behind_many(words, at)) {
+            return front_of(words, at);
+        }
+    }
+    words
+}
+
+/// The words from the first that receives on.
+pub(crate) fn receivers_of(statement: &[Token]) -> &[Token] {
+    for (at, word) in statement.iter().enumerate() {
+        if is_term(word, WordClass::To) {
+            return behind_many(statement, at.saturating_add(1));
+        }
+    }
+    &[]
+}
+
+/// The words from the first that stands on a line on.
+pub(crate) fn words_on(words: &[Token], line: u32) -> &[Token] {
+    for (at, word) in words.iter().enumerate() {
+        if word.line == line {
+            return behind_many(words, at);
+        }
+    }
+    &[]
+}
+
+/// How many of these words stand on a line, up to the first that does not.
+fn line_len(words: &[Token], line: u32) -> usize {
+    for (at, word) in words.iter().enumerate() {
+        if word.line != line {
+            return at;
+        }
+    }
+    words.len()
+}
+
+/// The words from the statement on a line on that lacks something, or from the first word there where none does.
+pub(crate) fn broken_on(words: &[Token], line: u32) -> &[Token] {
+    let from = words_on(words, line);
+    for at in 0..line_len(from, line) {
+        let rest = behind_many(from, at);
+        if behind(rest, WordClass::Move).is_some() && behind_statement(rest).is_err() {
+            return rest;
+        }
+    }
+    from
+}
+
+/// The first statement that begins with MOVE on a line, or what stands there.
+pub(crate) fn statement_on(words: &[Token], line: u32) -> &[Token] {
+    let from = words_on(words, line);
+    for at in 0..line_len(from, line) {
+        let rest = behind_many(from, at);
+        if behind(rest, WordClass::Move).is_some() {
+            return statement_in_front(rest);
+        }
+    }
+    statement_in_front(from)
+}

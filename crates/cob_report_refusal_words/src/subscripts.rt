@@ -1,0 +1,163 @@
+//! Subscripts that do not fit.
+
+use crate::bearers::{Bearer, BothWords, meant};
+use crate::entry::{behind_many, front_of};
+use crate::phrases::{Part, Phrase};
+use crate::search::{MOST_LEVELS, holder_at};
+use crate::tables::greatest_number;
+use crate::told::{Caret, Told, advised};
+use cob_copybook_clauses::{WordClass, behind, is_name_word, is_term, qualifiers_at};
+use cob_copybook_entries::whole;
+use cob_source::Token;
+
+/// What holds an entry, if something does.
+fn holder<'a>(bearer: Bearer<'a>) -> Option<Bearer<'a>> {
+    let before = holder_at(bearer.book.words, bearer.before)?;
+    Some(Bearer {
+        book: bearer.book,
+        before,
+    })
+}
+
+/// How many elements the table has that holds so many tables round an entry, or that the entry is itself; nothing where there are no more.
+fn table_round(bearer: Bearer<'_>, place: usize) -> Option<u32> {
+    let mut at = bearer;
+    let mut left = place;
+    for _ in 0..MOST_LEVELS {
+        if let Some(most) = greatest_number(at.entry()) {
+            if left == 0 {
+                return Some(most);
+            }
+            left = left.saturating_sub(1);
+        }
+        at = holder(at)?;
+    }
+    None
+}
+
+/// How many tables hold an entry, itself with them.
+fn tables_round(bearer: Bearer<'_>) -> usize {
+    for place in 0..MOST_LEVELS {
+        if table_round(bearer, place).is_none() {
+            return place;
+        }
+    }
+    MOST_LEVELS
+}
+
+/// How many words stand before the bracket that closes.
+fn subscripts_len(words: &[Token]) -> usize {
+    for (at, word) in words.iter().enumerate() {
+        if is_term(word, WordClass::CloseBracket) {
+            return at;
+        }
+    }
+    words.len()
+}
+
+/// The words between the brackets behind the name in front, none where none stand there.
+fn subscripts_of(words: &[Token]) -> &[Token] {
+    let (_, more) = qualifiers_at(behind_many(words, 1));
+    match behind(more, WordClass::OpenBracket) {
+        Some(inside) => front_of(inside, subscripts_len(inside)),
+        None => &[],
+    }
+}
+
+/// What is told of the number of subscripts.
+fn told_number(name: &Token, tables: usize, written: usize) -> Told<'_> {
+    let form = if tables == 0 {
+        "{} stands in no table, and a subscript is written"
+    } else {
+        "{} has {} OCCURS at it or above, and {} subscripts are written"
+    };
+    advised(
+        Some(Caret::under(name)),
+        Phrase::of_three(
+            form,
+            Part::Word(name),
+            Part::Number(tables),
+            Part::Number(written),
+        ),
+        Phrase::plain("write a subscript for each OCCURS, the outermost first"),
+    )
+}
+
+/// What is told of a subscript of a table with so many elements, if it is out of bounds.
+fn told_bounds<'a>(name: &'a Token, word: &'a Token, most: u32) -> Option<Told<'a>> {
+    let number = whole(word.text.as_slice(), 9)?;
+    if number > 0 && number <= most {
+        return None;
+    }
+    Some(advised(
+        Some(Caret::under(word)),
+        Phrase::of_three(
+            "{} occurs {} times, and the element {} is asked for",
+            Part::Word(name),
+            Part::Number(most as usize),
+            Part::Number(number as usize),
+        ),
+        Phrase::of("1 to {}", Part::Number(most as usize)),
+    ))
+}
+
+/// What is told of the first subscript that is out of bounds, the outermost first, as many of which are written as there are tables.
+fn told_first<'a>(bearer: Bearer<'_>, name: &'a Token, written: &'a [Token]) -> Option<Told<'a>> {
+    for (at, word) in written.iter().enumerate() {
+        let place = written.len().saturating_sub(at).saturating_sub(1);
+        if let Some(most) = table_round(bearer, place) {
+            let told = told_bounds(name, word, most);
+            if told.is_some() {
+                return told;
+            }
+        }
+    }
+    None
+}
+
+/// Whether these words are whole numbers.
+fn are_numbers(words: &[Token]) -> bool {
+    for word in words {
+        if whole(word.text.as_slice(), 9).is_none() {
+            return false;
+        }
+    }
+    true
+}
+
+/// What is told of the subscripts of the name in front, if they do not fit.
+fn told_name<'a>(both: BothWords<'_>, words: &'a [Token]) -> Option<Told<'a>> {
+    let name = words.first()?;
+    let bearer = meant(both, words)?;
+    let written = subscripts_of(words);
+    if !are_numbers(written) {
+        return None;
+    }
+    let tables = tables_round(bearer);
+    if tables != written.len() {
+        return Some(told_number(name, tables, written.len()));
+    }
+    told_first(bearer, name, written)
+}
+
+/// What is told of a statement with subscripts that do not fit.
+pub(crate) fn told_subscripts<'a>(both: BothWords<'_>, statement: &'a [Token]) -> Told<'a> {
+    let mut qualifies = false;
+    for (at, word) in statement.iter().enumerate() {
+        if is_name_word(word) && !qualifies {
+            if let Some(told) = told_name(both, behind_many(statement, at)) {
+                return told;
+            }
+        }
+        qualifies = is_term(word, WordClass::Of);
+    }
+    advised(
+        Caret::under_first(statement),
+        Phrase::plain(
+            "the subscripts of a name are not one for each OCCURS round it, each from 1 to its greatest number",
+        ),
+        Phrase::plain(
+            "write the subscripts of all tables, the outermost first; end a loop before the table's end",
+        ),
+    )
+}

@@ -1,0 +1,119 @@
+//! What is told of one refusal.
+
+use crate::phrases::Phrase;
+use cob_report_refusals::spot_at;
+use cob_source::{Token, TokenKind};
+
+/// The last column that is read.
+const LAST_COLUMN: u32 = 72;
+
+/// Where a refusal is pointed at: so many columns of a line.
+#[derive(Clone, Copy)]
+pub(crate) struct Caret {
+    /// The line, from 1.
+    pub(crate) line: u32,
+    /// The first column, from 1.
+    pub(crate) column: u32,
+    /// How many columns.
+    pub(crate) width: u32,
+}
+
+/// What is wrong, where, and what to do.
+#[derive(Clone, Copy)]
+pub(crate) struct Told<'a> {
+    /// Where, if a word or a byte shows it.
+    pub(crate) at: Option<Caret>,
+    /// What is wrong.
+    pub(crate) what: Phrase<'a>,
+    /// What to do, if that is known.
+    pub(crate) hint: Option<Phrase<'a>>,
+}
+
+/// How many columns a word takes on its own line.
+fn width_of(word: &Token) -> u32 {
+    let characters = word.text.len().min(100) as u32;
+    let written = match word.kind {
+        TokenKind::Literal => characters.saturating_add(2),
+        TokenKind::Word | TokenKind::Stop => characters,
+    };
+    let left = (LAST_COLUMN + 1).saturating_sub(u32::from(word.column));
+    written.min(left).max(1)
+}
+
+impl Caret {
+    /// Under a word.
+    pub(crate) fn under(word: &Token) -> Caret {
+        Caret {
+            line: word.line,
+            column: u32::from(word.column),
+            width: width_of(word),
+        }
+    }
+
+    /// Under a word, if it is there, and else under the first of these, if there is one.
+    pub(crate) fn under_word(word: Option<&Token>, words: &[Token]) -> Option<Caret> {
+        match word {
+            Some(word) => Some(Caret::under(word)),
+            None => Caret::under_first(words),
+        }
+    }
+
+    /// Under the first of these words, if there is one.
+    pub(crate) fn under_first(words: &[Token]) -> Option<Caret> {
+        match words.first() {
+            Some(word) => Some(Caret::under(word)),
+            None => None,
+        }
+    }
+}
+
+/// How many of these words stand before the one that a caret is under, if it is under one of them.
+fn number_under(words: &[Token], caret: Caret) -> Option<usize> {
+    for (at, word) in words.iter().enumerate() {
+        if word.line == caret.line && u32::from(word.column) == caret.column {
+            return Some(at);
+        }
+    }
+    None
+}
+
+/// A caret, at the place of that one of these words which it is under; none where it is under none of them.
+fn caret_among(words: &[Token], at: Option<Caret>) -> Option<Caret> {
+    let caret = at?;
+    let spot = spot_at(words, number_under(words, caret)?)?;
+    Some(Caret {
+        line: spot.line,
+        column: u32::from(spot.column),
+        width: caret.width,
+    })
+}
+
+impl<'a> Told<'a> {
+    /// The same, pointed at one of these words.
+    pub(crate) fn among(self, words: &[Token]) -> Told<'a> {
+        let Told { at, what, hint } = self;
+        Told {
+            at: caret_among(words, at),
+            what,
+            hint,
+        }
+    }
+}
+
+/// What is wrong there.
+pub(crate) fn said<'a>(at: Option<Caret>, what: Phrase<'a>) -> Told<'a> {
+    Told {
+        at,
+        what,
+        hint: None,
+    }
+}
+
+/// What is wrong there, and what to do.
+pub(crate) fn advised<'a>(at: Option<Caret>, what: Phrase<'a>, hint: Phrase<'a>) -> Told<'a> {
+    Told {
+        at,
+        what,
+        hint: Some(hint),
+    }
+}

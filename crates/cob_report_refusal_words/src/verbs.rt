@@ -1,0 +1,126 @@
+//! Words of a paragraph that are no statements.
+
+use crate::clauses::Lack;
+use crate::entry::{last_words, words_before};
+use crate::phrases::{Part, Phrase};
+use crate::statements::{behind_statement, broken_on};
+use crate::told::{Caret, Told, advised, said};
+use cob_copybook_clauses::{WordClass, is_name_word, is_term};
+use cob_source::Token;
+
+/// What to do with a condition.
+const CONDITION: &str =
+    "choose the records before (RECIPES.md), or leave the condition to a program before or behind";
+
+/// What to do with a loop.
+const LOOP: &str =
+    "PERFORM VARYING I FROM 1 BY 1 UNTIL I > 3, statements without a period, END-PERFORM";
+
+/// What to do with the statements of other verbs.
+static VERBS: [(&str, &str); 4] = [
+    ("IF", CONDITION),
+    ("EVALUATE", CONDITION),
+    ("PERFORM", LOOP),
+    ("END-PERFORM", LOOP),
+];
+
+/// What to do with a statement of another verb.
+fn verb_hint(word: &Token) -> &'static str {
+    for (verb, hint) in &VERBS {
+        if verb.as_bytes() == word.text.as_slice() {
+            return *hint;
+        }
+    }
+    "leave it to a program before or behind the conversion"
+}
+
+/// What is told of a word where no statement begins.
+fn told_verb(word: &Token) -> Told<'_> {
+    advised(
+        Some(Caret::under(word)),
+        Phrase::of(
+            "MOVE is expected, and {} stands there: a paragraph is MOVE statements and loops round them",
+            Part::Word(word),
+        ),
+        Phrase::plain(verb_hint(word)),
+    )
+}
+
+/// What is expected where a word can't go on, behind those before it.
+fn lack_words<'a>(before: &'a [Token], expected: &'static str, word: &'a Token) -> Phrase<'a> {
+    let behind = Part::Words(last_words(before, 1));
+    let found = Part::Word(word);
+    match expected {
+        "a subscript" => Phrase::of(
+            "a subscript is a whole number without a sign, or a counter, and {} stands there",
+            found,
+        ),
+        "TO" => Phrase::of_two(
+            "TO is expected behind the sender {}, and {} stands there",
+            behind,
+            found,
+        ),
+        _ => Phrase::of_three(
+            "{} is expected behind {}, and {} stands there",
+            Part::Text(expected),
+            behind,
+            found,
+        ),
+    }
+}
+
+/// What is told of a statement whose words can't go on.
+fn told_lack<'a>(words: &'a [Token], lack: Lack<'a>) -> Told<'a> {
+    let before = words_before(words, lack.rest);
+    match lack.rest.first() {
+        Some(word) => Told {
+            at: Some(Caret::under(word)),
+            what: lack_words(before, lack.expected, word),
+            hint: lack_hint(before, lack.expected, word),
+        },
+        None => told_end(last_words(before, 1), lack.expected),
+    }
+}
+
+/// What is told of a statement that ends behind these words, and can't.
+fn told_end<'a>(last: &'a [Token], expected: &'static str) -> Told<'a> {
+    said(
+        Caret::under_first(last),
+        Phrase::of_two(
+            "{} is expected behind {}, and the text ends",
+            Part::Text(expected),
+            Part::Words(last),
+        ),
+    )
+}
+
+/// What to do where a word can't go on, if that is known.
+fn lack_hint<'a>(before: &'a [Token], expected: &str, word: &'a Token) -> Option<Phrase<'a>> {
+    if word.text.contains(&b':') {
+        return Some(Phrase::plain(
+            "parts of an item are left out: redefine the item in the copybook by smaller ones",
+        ));
+    }
+    if expected == "TO" && is_name_word(word) {
+        return Some(Phrase::of_two("{} TO {}.", Part::Words(before), Part::Word(word)));
+    }
+    None
+}
+
+/// What is told of words that are no statements, on a line.
+pub(crate) fn told_words(words: &[Token], line: u32) -> Told<'_> {
+    let rest = broken_on(words, line);
+    let Some(first) = rest.first() else {
+        return said(None, Phrase::plain("no statement stands in it"));
+    };
+    if !is_term(first, WordClass::Move) {
+        return told_verb(first);
+    }
+    match behind_statement(rest) {
+        Err(lack) => told_lack(rest, lack),
+        Ok(_) => said(
+            Some(Caret::under(first)),
+            Phrase::plain("no statement stands there"),
+        ),
+    }
+}

@@ -1,0 +1,3 @@
+pub mod Walking
+pub mod Own
+pub mod Placing

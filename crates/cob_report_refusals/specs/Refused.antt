@@ -1,0 +1,71 @@
+-- What is told of a text that is refused.
+use Rattle.std.specs.Prelude.{◌≡◌, ◌⊎◌, ℕ, List, [], ◌∷◌, ⊤}
+use Rattle.std.specs.List.{AllByRecursion}
+use Rattle.cob_source.specs.Tokens.{Lexeme}
+use Rattle.cob_source.specs.Words.{AreWordsOf}
+use Rattle.cob_source.specs.declared.fault.SourceRule.{SourceRule}
+use Rattle.cob_source.specs.declared.fault.SourceRule.TheVariants as source
+use Rattle.cob_copybook_entry.specs.declared.fault.BookFault.{BookFault}
+use Rattle.cob_copybook_entry.specs.declared.fault.BookRule.{BookRule}
+use Rattle.cob_copybook_entry.specs.declared.fault.BookRule.TheVariants as rule
+use Rattle.cob_copybook_entries.specs.Books.{BreaksSentence}
+use Rattle.cob_copybook.specs.Books.{IsBookRefusal, IsTextRefusal}
+use Rattle.cob_copybook.specs.declared.role.Role.{Role}
+use Rattle.cob_report_refusals.specs.declared.refusal.Refusal.{Refusal}
+use Rattle.cob_report_refusals.specs.declared.spots.Spot.{Spot}
+
+-- the refusal names a rule of copybooks that the text breaks
+abbrev pub IsRefusedFor : Role → List ℕ → Refusal → Type 0
+IsRefusedFor role text r = IsBookRefusal role r.fault.rule r.fault.line text
+
+-- Each of them names a rule of copybooks that the text breaks.
+abbrev pub AreRefusals : Role → List ℕ → List Refusal → Type 0
+AreRefusals role text rs = AllByRecursion (IsRefusedFor role text) rs
+
+-- the text or its words break the rule, on this line where the rule is one of lines
+abbrev pub IsRefusedText : List ℕ → Refusal → Type 0
+IsRefusedText text r = IsTextRefusal r.fault.rule r.fault.line text
+
+-- each of them names a rule that the text breaks, whatever text it is that has these words
+abbrev pub AreToldOf : List Lexeme → List Refusal → Type 0
+AreToldOf words rs = (text : List ℕ) → AreWordsOf text words → AllByRecursion (IsRefusedText text) rs
+
+-- a rule that an entry can break by itself
+abbrev pub IsOfSentences : BookRule → Type 0
+IsOfSentences rule.Grammar = ⊤
+IsOfSentences (rule.Picture fault) = ⊤
+IsOfSentences (rule.LeftOut word) = ⊤
+IsOfSentences rule.Name = ⊤
+IsOfSentences rule.Table = ⊤
+IsOfSentences rule.Value = ⊤
+IsOfSentences other = ⊥
+
+-- one that a text of an entry breaks, or a word that is left out
+abbrev pub IsOfTexts : BookRule → Type 0
+IsOfTexts (rule.Picture fault) = ⊤
+IsOfTexts (rule.LeftOut word) = ⊤
+IsOfTexts rule.Name = ⊤
+IsOfTexts rule.Table = ⊤
+IsOfTexts rule.Value = ⊤
+IsOfTexts other = ⊥
+
+-- a rule that a line breaks by itself, whatever stands before it
+abbrev pub IsOfLines : SourceRule → Type 0
+IsOfLines source.NotAscii = ⊤
+IsOfLines source.Tab = ⊤
+IsOfLines source.UnknownIndicator = ⊤
+IsOfLines other = ⊥
+
+-- the sentence breaks the rule by itself
+abbrev pub BreaksByItself : BookRule → List Lexeme → Type 0
+BreaksByItself r s = IsOfSentences r × BreaksSentence r s
+
+-- the first of them is of this fault
+abbrev pub BeginWith : BookFault → List Refusal → Type 0
+BeginWith fault [] = ⊥
+BeginWith fault (r ∷ rs) = r.fault ≡ fault
+
+-- The place is that of one of the words.
+abbrev pub StandsIn : Spot → List Lexeme → Type 0
+StandsIn s [] = ⊥
+StandsIn s (w ∷ ws) = ((s.line ≡ w.line) × (s.column ≡ w.column)) ⊎ StandsIn s ws

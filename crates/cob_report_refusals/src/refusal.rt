@@ -1,0 +1,10 @@
+use cob_copybook_entry::BookFault;
+
+/// Why a text is refused: a rule that it breaks.
+#[derive(Clone, Copy)]
+pub struct Refusal {
+    /// The rule, and the line that is told: that of the entry's first word.
+    pub fault: BookFault,
+    /// How many of the text's words stand before the entry that breaks it, where one does by itself.
+    pub from: Option<usize>,
+}
