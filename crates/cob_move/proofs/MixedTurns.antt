@@ -1,6 +1,6 @@
 -- What comes to something in an early turn, and comes first in a later one, comes first in the early one too: so turns behind the last come to few statements.
 use Rattle.std.proofs.Common.{◌≡◌, ◌⊎◌, ℕ, zero, suc, ◌+◌, ◌-◌, ◌*◌, ◌<◌, ◌≤◌, max, nat_eq, if◌then◌else◌, Bool, true, false, inl, inr, List, [], ◌∷◌, ◌++◌, length, refl, sym, ap, subst, ◌∙◌, arith}
-use Rattle.std.proofs.Math.Nat.{add-mul, mul-suc}
+use Rattle.std.proofs.Math.Nat.{add-mul, le-max_left, le-max_right, mul-suc, suc-mul}
 use Rattle.cob_limits.specs.Limits.{longest_record}
 use Rattle.cob_source.specs.Tokens.{Lexeme}
 use Rattle.cob_copybook_tree.specs.declared.node.Item.{Item}
@@ -169,3 +169,105 @@ mixed_first ended one input output all ks bs es (ALoop l body more) d m many mix
     (λ i j x y a b is si. mixed_deeds ended one input output all (bs ++ counter_at l i ∷ []) (es ++ counter_at l j ∷ []) (bs ++ counter_at l j ∷ []) body x y a b
     (mixed_deeper bs es bs l.counter i j j (mixed_back ks bs es mixed) (inr refl)) is si) f g count other own nwo turned denrut loop pool in
     inr (inr (h, other, o, denrut, tser, third, mixed_first ended one input output all ks bs es more next rest tser mixed are first, cut))
+
+-- ---- how much comes first
+
+-- fewer turns count for no more
+fewer_turns : (f : ℕ → ℕ) (by k n i : ℕ) → k ≤ n → count_of_turns f by k i ≤ count_of_turns f by n i
+fewer_turns f by zero n i le = omega arith
+fewer_turns f by (suc k) zero i le = absurd (omega (arith, le))
+fewer_turns f by (suc k) (suc n) i le = omega (arith, fewer_turns f by k n (i + by) (omega (arith, le)))
+
+-- one more
+turn_more : (f : ℕ → ℕ) (by k i : ℕ) → count_of_turns f by (suc k) i ≡ count_of_turns f by k i + f (i + k * by)
+turn_more f by zero i = let same : f i ≡ f (i + 0 * by) = ap f (omega arith) in omega (arith, same)
+turn_more f by (suc k) i =
+    let more = turn_more f by k (i + by) in
+    let same : f ((i + by) + k * by) ≡ f (i + suc k * by) = ap f (omega (arith, suc-mul k by)) in
+    omega (arith, more, same)
+
+-- what stands in one turn is no more than all
+one_turn : (f : ℕ → ℕ) (by k n i : ℕ) → k < n → f (i + k * by) ≤ count_of_turns f by n i
+one_turn f by k n i less = omega (arith, turn_more f by k i, fewer_turns f by (suc k) n i (omega (arith, less)))
+
+-- what comes first of turns up to one, which comes to little itself
+within_turns : (whole turned own one q : ℕ) → whole ≤ turned → one ≤ turned → own ≤ one * q → whole + own ≤ turned * suc q
+within_turns whole turned own one q few less is =
+    let more : one * q ≤ turned * q = mul_within one turned q less in
+    omega (arith, few, is, more, mul-suc turned q)
+
+-- what comes first behind what is read
+behind_within : (many m own count rest q : ℕ) → own ≤ rest * suc q → many ≡ count + own → m ≡ count + rest → many ≤ m * suc q
+behind_within many m own count rest q few is m_is =
+    let whole : m * suc q ≡ count * suc q + rest * suc q = ap (λ (t : ℕ). t * suc q) m_is ∙ add-mul count rest (suc q) in
+    omega (arith, whole, few, is, mul-suc count q)
+
+front_within : (many m turned rest q : ℕ) → many ≤ turned * suc q → m ≡ turned + rest → many ≤ m * suc q
+front_within many m turned rest q few m_is =
+    let whole : m * suc q ≡ turned * suc q + rest * suc q = ap (λ (t : ℕ). t * suc q) m_is ∙ add-mul turned rest (suc q) in
+    omega (arith, whole, few)
+
+-- a turn comes to one count
+abbrev OneCount : (ℕ → Deeds Past → ℕ → Type 0) → Type 0
+OneCount meant = (i : ℕ) (d e : Deeds Past) (m n : ℕ) → meant i d m → meant i e n → m ≡ n
+
+loop_within : (all : List Candidate) (ns : List Counted) (l : WrittenLoop) (b : WrittenBound) (meant : ℕ → Deeds Past → ℕ → Type 0) (part : ℕ → ℕ → Type 0) (q : ℕ) → OneCount meant
+    → ((i : ℕ) (d : Deeds Past) (m own : ℕ) → meant i d m → part i own → own ≤ m * q) → ((i j : ℕ) (d : Deeds Past) (m own : ℕ) → meant i d m → part j own → part i own)
+    → (f : ℕ → Deeds Past) (count : ℕ → ℕ) (own : Deeds Past) (m many : ℕ) → IsLoopOf all ns l b meant f count own m
+    → ComeFirstInLoop all ns l b (λ i c. (d : Deeds Past) × meant i d c) part many → many ≤ m * suc q
+loop_within all ns l (ToNumber n) meant part q one within early f count own m many (are, own_is, m_is) (k, o, counted, less, whole, is, cut) =
+    let at = l.from + k * l.by in
+    let same : count_of_turns counted l.by k l.from ≡ count_of_turns count l.by k l.from = counted_same counted count l.by k l.from (λ j lt.
+    let (d, comes) = whole j lt in
+    one (l.from + j * l.by) d (f (l.from + j * l.by)) (counted (l.from + j * l.by)) (count (l.from + j * l.by)) comes (are j (omega (arith, lt, less)))) in
+    let few = within_turns (count_of_turns count l.by k l.from) m o (count at) q
+    (omega (arith, m_is, fewer_turns count l.by k (turns_between l.from l.by n) l.from (omega (arith, less))))
+    (omega (arith, m_is, one_turn count l.by k (turns_between l.from l.by n) l.from less)) (within at (f at) (count at) o (are k less) is) in
+    omega (arith, few, cut, same)
+loop_within all ns l (ToItem ws) meant part q one within early f count own m many (t, bound, low, far, are, end, own_is, m_is) (s, i, o, counted, si, wol, raf, whole, is, cut) =
+    elim (either_side (t.most + 1) i) [
+      | inl past ↦ let (d, comes) = whole (t.most + 1) (omega (arith, low)) past in absurd (end d (counted (t.most + 1)) comes)
+      | inr near ↦
+          let same : count_of_turns counted 1 (i - l.from) l.from ≡ count_of_turns count 1 (i - l.from) l.from = counted_same counted count 1 (i - l.from) l.from (λ j lt.
+          let (d, comes) = whole (l.from + j * 1) (omega arith) (omega (arith, lt)) in
+          one (l.from + j * 1) d (f (l.from + j * 1)) (counted (l.from + j * 1)) (count (l.from + j * 1)) comes (are (l.from + j * 1) (omega arith) (omega (arith, lt, near)))) in
+          let first : count (l.from + 0 * 1) ≡ count l.from = ap count (omega arith) in
+          let few = within_turns (count_of_turns count 1 (i - l.from) l.from) m o (count l.from) q
+          (omega (arith, m_is, fewer_turns count 1 (i - l.from) (t.most + 1 - l.from) l.from (omega (arith, near))))
+          (omega (arith, m_is, first, one_turn count 1 0 (t.most + 1 - l.from) l.from (omega (arith, low))))
+          (within l.from (f l.from) (count l.from) o (are l.from (omega arith) low) (early l.from i (f l.from) (count l.from) o (are l.from (omega arith) low) is)) in
+          omega (arith, few, cut, same)
+    ]
+
+-- what comes first in a passage that comes to something is no more than its statements, once for each loop that holds others
+pub first_within : OneDeeds → OneListOfEnded → OneReference → (input output : Forest Resolved) (all : List Candidate) (ns : List Counted) (p : Passage) (d : Deeds Past) (m many q : ℕ) → deep p ≤ q
+    → AreDeeds all input output ns p d m → ComeFirst all input output ns p many → many ≤ m * suc q
+first_within law ended one input output all ns NoMore d m many q low are first = omega (arith, first)
+first_within law ended one input output all ns (Moves own more) d m many q low (ms, next, count, rest, run, are, d_is, m_is) (inl none) = omega (arith, none)
+first_within law ended one input output all ns (Moves own more) d m many q low (ms, next, count, rest, run, are, d_is, m_is) (inr (sm, tnuoc, tser, nur, first, cut)) =
+    let same : tnuoc ≡ count = (run_same ended (in_turn ns false 0 own) sm ms tnuoc count nur run) in
+    behind_within many m tser count rest q (first_within law ended one input output all ns more next rest tser q low are first) (omega (arith, cut, same)) m_is
+  where
+    run_same : OneListOfEnded → (ws : List Lexeme) (a b : List Move) (c e : ℕ) → IsRunMeant input output ws a c → IsRunMeant input output ws b e → c ≡ e
+    run_same ended ws a b c e x y = x.many ∙ ap length (ended ws x.statements y.statements x.spelled y.spelled) ∙ sym y.many
+first_within law ended one input output all ns (Pause more) d m many q low are first = first_within law ended one input output all ns more d m many q low are first
+first_within law ended one input output all ns (ALoop l body more) d m many zero low are first = absurd (omega (arith, low, le-max_left (deep body + 1) (deep more)))
+first_within law ended one input output all ns (ALoop l body more) d m many (suc q) low (f, count, own, next, turned, rest, loop, are, d_is, m_is) (inl none) = omega (arith, none)
+first_within law ended one input output all ns (ALoop l body more) d m many (suc q) low (f, count, own, next, turned, rest, loop, are, d_is, m_is) (inr (inl within)) =
+    front_within many m turned rest (suc q)
+    (loop_within all ns l l.bound (λ i x c. AreDeeds all input output (ns ++ counter_at l i ∷ []) body x c) (λ i c. ComeFirst all input output (ns ++ counter_at l i ∷ []) body c) (suc q)
+    (λ i x y a b is si. (law all input output (ns ++ counter_at l i ∷ []) body x y a b is si).1)
+    (λ i x a o is part. first_within law ended one input output all (ns ++ counter_at l i ∷ []) body x a o q (omega (arith, low, le-max_left (deep body + 1) (deep more))) is part)
+    (λ i j x a o is part. mixed_first ended one input output all (ns ++ counter_at l i ∷ []) (ns ++ counter_at l j ∷ []) (ns ++ counter_at l i ∷ []) body x a o
+    (mixed_deeper ns ns ns l.counter i j i (mixed_self ns) (inl refl)) is part) f count own turned many loop within) m_is
+first_within law ended one input output all ns (ALoop l body more) d m many (suc q) low (f, count, own, next, turned, rest, loop, are, d_is, m_is) (inr (inr (g, other, nwo, denrut, tser, pool, first, cut))) =
+    let same : denrut + 0 ≡ turned + 0 = (law all input output ns (ALoop l body NoMore) (joined_deeds nwo Nothing) (joined_deeds own Nothing) (denrut + 0) (turned + 0)
+    (g, other, nwo, Nothing, denrut, 0, pool, (refl, refl), refl, refl) (f, count, own, Nothing, turned, 0, loop, (refl, refl), refl, refl)).1 in
+    behind_within many m tser turned rest (suc q) (first_within law ended one input output all ns more next rest tser (suc q) (omega (arith, low, le-max_right (deep body + 1) (deep more))) are first) (omega (arith, cut, same)) m_is
+
+-- What comes first in a turn behind one that comes to something: so few statements, that with those so far they are few.
+pub late_within : OneDeeds → OneListOfEnded → OneReference → (input output : Forest Resolved) (all : List Candidate) (ns : List Counted) (l : WrittenLoop) (p : Passage) (i j : ℕ) (d : Deeds Past) (m many q : ℕ) → deep p ≤ q
+    → AreDeeds all input output (ns ++ counter_at l i ∷ []) p d m → ComeFirst all input output (ns ++ counter_at l j ∷ []) p many → many ≤ m * suc q
+late_within law ended one input output all ns l p i j d m many q low are first =
+    first_within law ended one input output all (ns ++ counter_at l i ∷ []) p d m many q low are
+    (mixed_first ended one input output all (ns ++ counter_at l i ∷ []) (ns ++ counter_at l j ∷ []) (ns ++ counter_at l i ∷ []) p d m many (mixed_deeper ns ns ns l.counter i j i (mixed_self ns) (inl refl)) are first)
