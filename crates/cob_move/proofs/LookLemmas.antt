@@ -1,6 +1,6 @@
 -- Turns that are looked at before they are read.
 use Rattle.std.proofs.Common.{◌≡◌, ◌⊎◌, inl, inr, ℕ, suc, ◌+◌, ◌-◌, ◌*◌, ◌/◌, ◌<◌, ◌≤◌, max, List, ◌∷◌, [], ◌++◌, length, nat_eq, Bool, true, false, refl, sym, ap, subst, ◌∙◌, arith}
-use Rattle.std.proofs.Math.Nat.{div-mul-le_self, le-max_left, le-max_right, max-le}
+use Rattle.std.proofs.Math.Nat.{div-mul-le_self, max-le}
 use Rattle.cob_limits.specs.Limits.{most_written_out}
 use Rattle.cob_source.specs.Tokens.{Lexeme}
 use Rattle.cob_move_deeds.specs.Deeds.{Deeds}
@@ -105,15 +105,15 @@ pub deep_first : (words : List Lexeme) → LeftOfDeep 0 words words
 deep_first words p is = (p, is, λ n some k. k)
 
 pub deep_more : (most here then_most : ℕ) (words rest more : List Lexeme) (f : PassageFront) → LeftOfDeep most words rest → 0 < length rest → IsOnlyFront f rest more → ((p : Passage) → Within f p → deep_front f p ≤ here)
-    → then_most ≡ max most here → LeftOfDeep then_most words more
-deep_more most here then_most words rest more f left some only front so p is =
+    → most ≤ then_most → here ≤ then_most → LeftOfDeep then_most words more
+deep_more most here then_most words rest more f left some only front before own p is =
     let (q, are, behind) = left p is in
     let k : Parted f more q = parted f rest more q are some only in
     (
       k.others,
       k.is,
-      λ n greater others. behind n (omega (arith, greater, so, le-max_left most here))
-          (subst (λ (t : Passage). deep t ≤ n) (sym k.same) (deep_joined f k.body k.others n (omega (arith, front k.body k.within, greater, so, le-max_right most here)) others)),
+      λ n greater others. behind n (omega (arith, greater, before))
+          (subst (λ (t : Passage). deep t ≤ n) (sym k.same) (deep_joined f k.body k.others n (omega (arith, front k.body k.within, greater, own)) others)),
     )
 
 pub deep_end : (most : ℕ) (words rest : List Lexeme) → LeftOfDeep most words rest → ((f : PassageFront) (more : List Lexeme) → FrontStands f rest more → ⊥) → (p : Passage) → IsPassage p words → deep p ≤ most

@@ -13,11 +13,10 @@ ghost use Rattle.cob_move.specs.declared.made.NotRead.TheVariants as unread;
 use crate::deeds::{add_words_in, not_read, read_bound};
 use crate::entries::Entries;
 use crate::made::NotRead;
-use crate::meaning_laws::meant_break_no_rule;
 use cob_limits::MAX_WRITTEN_OUT;
 use cob_move_loops::{Counter, Loop, LoopBound, PassageItem, item_at, with_counter};
-use cob_move_names::{Correspondences, named_break_no_rule, one_named};
-use cob_move_statements::{MoveFault, one_list_of_ended, one_reference};
+use cob_move_names::Correspondences;
+use cob_move_statements::MoveFault;
 use cob_source::Token;
 use std::alloc::Global;
 
@@ -39,9 +38,6 @@ fn look_at_run(
         (λ f. RunRefusedIn f entries.now (counters turn.now) (lexemes words.now))) }
     ensures pairs { ArePairsOf (records_of entries.now) pairs.new }
 {
-    // Words are one list of statements, and what has a meaning breaks no rule.
-    one_list_of_ended();
-    meant_break_no_rule();
     let mut list = Vec::new(alloc);
     match add_words_in(alloc, entries, pairs, words, turn, &mut list) {
         Ok(()) => Ok(()),
@@ -98,10 +94,6 @@ fn look_at_loop<'a>(
         (written_loop head.now) (lexemes body.now)) }
     ensures pairs { ArePairsOf (records_of entries.now) pairs.new }
 {
-    // A bound that breaks a rule names nothing.
-    one_reference();
-    one_named();
-    named_break_no_rule();
     match head.bound {
         LoopBound::Number(most) => {
             if most < head.from {
