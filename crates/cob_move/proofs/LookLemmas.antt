@@ -108,8 +108,7 @@ pub deep_more : (most here then_most : ℕ) (words rest more : List Lexeme) (f :
     → most ≤ then_most → here ≤ then_most → LeftOfDeep then_most words more
 deep_more most here then_most words rest more f left some only front before own p is =
     let (q, are, behind) = left p is in
-    let k : Parted f more q = parted f rest more q are some only in
-    (
+    let k : Parted f more q = parted f rest more q are some only in (
       k.others,
       k.is,
       λ n greater others. behind n (omega (arith, greater, before))

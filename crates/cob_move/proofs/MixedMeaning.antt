@@ -69,7 +69,7 @@ mixed_named all r s t side edis o p m first second =
         bearer = second.bearer;
         only = ap (λ (x : List ℕ). named x t.qualifiers all) m.third.0 ∙ ap (λ (x : List (List ℕ)). named s.name x all) m.third.1 ∙ second.only;
         subscripts = mixed_elements second.bearer.entry.tables r.subscripts s.subscripts t.subscripts
-        (subst (λ (c : Candidate). AreSubscriptsOf c.entry.tables r.subscripts) same first.subscripts) second.subscripts m.subscripts;
+            (subst (λ (c : Candidate). AreSubscriptsOf c.entry.tables r.subscripts) same first.subscripts) second.subscripts m.subscripts;
         stands = second.stands;
         is = refl;
       };
@@ -120,8 +120,7 @@ mixed_receives all (r ∷ rs) (s ∷ ss) [] os ps m first second = absurd m
 mixed_receives all (r ∷ rs) (s ∷ ss) (t ∷ ts) os ps (m, more) (o, firsts, first, are, is) (p, seconds, second, era, si) =
     let third = mixed_named all r s t Out Out o p m first second in
     let (qs, thirds, alike, ekila) = mixed_receives all rs ss ts firsts seconds more are era in
-    let same = same_kind all r s t Out Out o p m first second in
-    (
+    let same = same_kind all r s t Out Out o p m first second in (
       third.operand ∷ qs,
       (third.operand, qs, third.named, thirds, refl),
       subst (λ (x : List Operand). AreAlike x (third.operand ∷ qs)) (sym is) (same ∙ sym third.kind, alike),
@@ -143,8 +142,7 @@ mixed_move : (all : List Candidate) (r s t : WrittenSender) (rs ss ts : List Wri
     → (o : Move) × IsMoveOf all t ts o
 mixed_move all r s t rs ss ts m n senders receivers first second =
     let (c, sends, kind) = mixed_sends all r s t m.sender n.sender senders first.sender second.sender in
-    let (qs, gets, alike, ekila) = mixed_receives all rs ss ts m.receivers n.receivers receivers first.receivers second.receivers in
-    (
+    let (qs, gets, alike, ekila) = mixed_receives all rs ss ts m.receivers n.receivers receivers first.receivers second.receivers in (
       record { sender = c; receivers = qs },
       record { sender = sends; receivers = gets; allowed = allowed_mixed m.sender n.sender c m.receivers n.receivers qs kind alike ekila first.allowed second.allowed },
     )
@@ -164,8 +162,7 @@ mixed_groups all input output r s t u v w m n froms tos first second =
     let g : TwoGroups = record { side = h.side; from = from.operand; to = to.operand } in
     let same : pairs_of input output g ≡ pairs_of input output h =
     ap (λ (x : ℕ). pairs_of input output (record { side = h.side; from = record { entry = record { node = x; subscripts = from.operand.entry.subscripts }; kind = from.operand.kind }; to = to.operand })) from.node
-    ∙ ap (λ (x : ℕ). pairs_of input output (record { side = h.side; from = h.from; to = record { entry = record { node = x; subscripts = to.operand.entry.subscripts }; kind = to.operand.kind } })) to.node in
-    (
+    ∙ ap (λ (x : ℕ). pairs_of input output (record { side = h.side; from = h.from; to = record { entry = record { node = x; subscripts = to.operand.entry.subscripts }; kind = to.operand.kind } })) to.node in (
       map (pair_move g) (pairs_of input output g),
       record {
         groups = g;
@@ -177,7 +174,7 @@ mixed_groups all input output r s t u v w m n froms tos first second =
         once = subst AreOnce (sym same) second.once;
         moves = refl;
         allowed = allowed_pairs h g (pairs_of input output g)
-        (subst (λ (ps : List Pair). AllByRecursion IsAllowedMove (map (pair_move h) ps)) (sym same) (subst (AllByRecursion IsAllowedMove) second.moves second.allowed));
+            (subst (λ (ps : List Pair). AllByRecursion IsAllowedMove (map (pair_move h) ps)) (sym same) (subst (AllByRecursion IsAllowedMove) second.moves second.allowed));
       },
     )
 

@@ -123,8 +123,7 @@ mixed_subscripts (s ∷ more) vs us ws (before, after, numbers, is, same, cut) m
     let (first, third) = kept u before w (no_other term.OpenBracket before (λ k. cc) is.opens) opens in
     let (tsrif, driht) = kept x after y (no_other term.CloseBracket after (λ k. cc) is.closes) closes in
     let (are, era, texts) = mixed_numerals numbers o p is.are front in
-    let (long, gnol) = mixed_some numbers o p front in
-    (
+    let (long, gnol) = mixed_some numbers o p front in (
       word_texts o,
       word_texts p,
       bracketed before after u x numbers us r o first tsrif e (g ∙ ap (λ (t : List Lexeme). o ++ t) i ∙ ap (λ (t : List Lexeme). o ++ x ∷ t) none) is (omega (arith, long, is.some)) are,
@@ -142,8 +141,7 @@ same_qualifiers (v ∷ n ∷ vs) us ws are m =
     let (x, y, b, c, g, h, name, back) = mixed_head n vs r q rest in
     let (first, third) = kept u v w (no_other term.Of v (λ k. cc) are.0) of in
     let (tsrif, driht) = kept x n y (number_no_name n are.1) name in
-    let (same, emas) = same_qualifiers vs b c are.2 back in
-    (
+    let (same, emas) = same_qualifiers vs b c are.2 back in (
       e ∙ ap (λ (t : List Lexeme). u ∷ t) (g ∙ ap (λ (t : List Lexeme). x ∷ t) same) ∙ ap (λ (k : Lexeme). k ∷ (x ∷ vs)) first ∙ ap (λ (k : Lexeme). v ∷ (k ∷ vs)) tsrif,
       f ∙ ap (λ (t : List Lexeme). w ∷ t) (h ∙ ap (λ (t : List Lexeme). y ∷ t) emas) ∙ ap (λ (k : Lexeme). k ∷ (y ∷ vs)) third ∙ ap (λ (k : Lexeme). v ∷ (k ∷ vs)) driht,
     )
@@ -179,8 +177,7 @@ mixed_reference s vs us ws is m =
     let (first, third) = kept u is.named w (number_no_name is.named is.is) name in
     let (o, b, p, c, g, h, front, back) = mixed_split is.behind is.brackets r q rest in
     let (same, emas) = same_qualifiers is.behind o p is.qualified front in
-    let (texts, stxet, are, era, mixed) = mixed_subscripts s.subscripts is.brackets b c is.subscripted back in
-    (
+    let (texts, stxet, are, era, mixed) = mixed_subscripts s.subscripts is.brackets b c is.subscripted back in (
       subscripted s texts,
       subscripted s stxet,
       subscripted_words s vs us r b u texts is e (g ∙ ap (λ (t : List Lexeme). t ++ b) same) first are,
@@ -339,8 +336,7 @@ mixed_action (MoveTo s ss) vs us ws (sender, receivers, between, sends, to, some
     let (first, third) = kept u between w (no_other term.To between (λ k. cc) to) word in
     let (r, t, sent, tnes, mixed) = mixed_sender s sender o p sends front in
     let (rs, ts, are, era, all) = mixed_several IsReference AreMixedReferences mixed_reference ss receivers x q several rest in
-    let (long, gnol) = mixed_length AreMixedReferences rs ss ts all in
-    (
+    let (long, gnol) = mixed_length AreMixedReferences rs ss ts all in (
       MoveTo r rs,
       MoveTo t ts,
       (o, x, between, sent, to, omega (arith, long, some), are, g ∙ ap (λ (y : List Lexeme). o ++ y) e ∙ ap (λ (k : Lexeme). o ++ k ∷ x) first),
@@ -354,14 +350,31 @@ mixed_action (MoveCorresponding from to) vs us ws (corresponding, between, sende
     let (first, third) = kept u corresponding w (no_other term.Corresponding corresponding (λ n. cc) is) word in
     let (tsrif, driht) = kept x between y (no_other term.To between (λ n. cc) stands) drow in
     let (a, z, sent, tnes, mixed) = mixed_reference from sender o p sends front in
-    let (l, v, got, tog, dexim) = mixed_reference to receiver d k gets last in
-    (
+    let (l, v, got, tog, dexim) = mixed_reference to receiver d k gets last in (
       MoveCorresponding a l,
       MoveCorresponding z v,
-      (corresponding, between, o, d, is, sent, stands, got,
-        e ∙ ap (λ (t : List Lexeme). u ∷ t) (g ∙ ap (λ (t : List Lexeme). o ++ t) i ∙ ap (λ (n : Lexeme). o ++ n ∷ d) tsrif) ∙ ap (λ (n : Lexeme). n ∷ (o ++ between ∷ d)) first),
-      (corresponding, between, p, k, is, tnes, stands, tog,
-        f ∙ ap (λ (t : List Lexeme). w ∷ t) (h ∙ ap (λ (t : List Lexeme). p ++ t) j ∙ ap (λ (n : Lexeme). p ++ n ∷ k) driht) ∙ ap (λ (n : Lexeme). n ∷ (p ++ between ∷ k)) third),
+      (
+        corresponding,
+        between,
+        o,
+        d,
+        is,
+        sent,
+        stands,
+        got,
+        e ∙ ap (λ (t : List Lexeme). u ∷ t) (g ∙ ap (λ (t : List Lexeme). o ++ t) i ∙ ap (λ (n : Lexeme). o ++ n ∷ d) tsrif) ∙ ap (λ (n : Lexeme). n ∷ (o ++ between ∷ d)) first,
+      ),
+      (
+        corresponding,
+        between,
+        p,
+        k,
+        is,
+        tnes,
+        stands,
+        tog,
+        f ∙ ap (λ (t : List Lexeme). w ∷ t) (h ∙ ap (λ (t : List Lexeme). p ++ t) j ∙ ap (λ (n : Lexeme). p ++ n ∷ k) driht) ∙ ap (λ (n : Lexeme). n ∷ (p ++ between ∷ k)) third,
+      ),
       (mixed, dexim),
     )
 
@@ -377,8 +390,7 @@ mixed_statement : (s : WrittenStatement) (vs us ws : List Lexeme) → IsStatemen
 mixed_statement s vs us ws is m =
     let (u, w, r, q, e, f, word, rest) = mixed_head is.move is.behind us ws (subst (λ (x : List Lexeme). AreMixed us x ws) is.words m) in
     let (first, third) = kept u is.move w (no_other term.Move is.move (λ n. cc) is.is) word in
-    let (a, b, acts, stca, mixed) = mixed_action s.action is.behind r q is.acts rest in
-    (
+    let (a, b, acts, stca, mixed) = mixed_action s.action is.behind r q is.acts rest in (
       record { line = s.line; action = a },
       record { line = s.line; action = b },
       record { move = is.move; behind = r; is = is.is; line = is.line; acts = acts; words = e ∙ ap (λ (k : Lexeme). k ∷ r) first },
@@ -390,8 +402,7 @@ pub mixed_ended : (s : WrittenStatement) (vs us ws : List Lexeme) → IsEndedSta
 mixed_ended s vs us ws is m =
     let (o, b, p, c, g, h, front, back) = mixed_split is.own is.stops us ws (subst (λ (x : List Lexeme). AreMixed us x ws) is.words m) in
     let (r, t, first, third, mixed) = mixed_statement s is.own o p is.statement front in
-    let (same, emas) = same_periods is.stops b c is.are_stops back in
-    (
+    let (same, emas) = same_periods is.stops b c is.are_stops back in (
       r,
       t,
       record { own = o; stops = is.stops; statement = first; are_stops = is.are_stops; words = g ∙ ap (λ (k : List Lexeme). o ++ k) same },

@@ -77,8 +77,7 @@ mixed_loop one all ks bs es l (ToNumber bound) first second third mixed forth ba
 mixed_loop one all ks bs es l (ToItem ws) first second third mixed forth back f g count other own nwo m n (t, is, low, far, are, end, own_is, m_is) (s, si, wol, raf, era, dne, nwo_is, n_is) =
     let (o, bound) = mixed_bound one all (in_turn ks false 0 ws) (in_turn bs false 0 ws) (in_turn es false 0 ws) t s (mixed_in_turn ks bs es false 0 ws mixed) is si in
     let (h, thirds) = chosen (λ i d. third i d (other i)) 1 (s.most + 1 - l.from) l.from (λ k less.
-    forth l.from (l.from + k * 1) (f l.from) (g (l.from + k * 1)) (count l.from) (other (l.from + k * 1)) (are l.from (omega arith) low) (era (l.from + k * 1) (omega arith) (omega (arith, less)))) in
-    (
+    forth l.from (l.from + k * 1) (f l.from) (g (l.from + k * 1)) (count l.from) (other (l.from + k * 1)) (are l.from (omega arith) low) (era (l.from + k * 1) (omega arith) (omega (arith, less)))) in (
       h,
       turns_from (with_number (bounded_by s o)) h l.by (turns_between l.from l.by s.most) l.from,
       (
@@ -103,7 +102,7 @@ first_loop one all ks bs es l (ToNumber n) first second third part trap mixed fo
   counted,
   less,
   λ j lt. let (d, comes) = whole j lt in
-  forth (l.from + j * l.by) (l.from + j * l.by) (f (l.from + j * l.by)) d (count (l.from + j * l.by)) (counted (l.from + j * l.by)) (are j (omega (arith, lt, less))) comes,
+      forth (l.from + j * l.by) (l.from + j * l.by) (f (l.from + j * l.by)) d (count (l.from + j * l.by)) (counted (l.from + j * l.by)) (are j (omega (arith, lt, less))) comes,
   parts (l.from + k * l.by) (l.from + k * l.by) (f (l.from + k * l.by)) (count (l.from + k * l.by)) o (are k less) is,
   cut,
 )

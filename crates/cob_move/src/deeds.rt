@@ -400,7 +400,9 @@ fn try_turns<'a>(
         let number = next_number(head.from, step)?;
         let before = made.sizes();
         let read = made.read;
-        if let Some(fault) = try_turn(alloc, entries, pairs, head, number, body, turn, sure, made)? {
+        if let Some(fault) = try_turn(
+            alloc, entries, pairs, head, number, body, turn, sure, made,
+        )? {
             if step == 0 {
                 return Err(NotRead::Broken(fault));
             }
