@@ -20,8 +20,8 @@ take_few n skip fs few within = omega (arith, few, within, length-take-le skip f
 drop_few : (n skip : ℕ) (fs : List Flow) → length fs ≤ n → length (drop skip fs) ≤ n
 drop_few n skip fs few = omega (arith, few, length-drop skip fs)
 
-unless_same : (r : Records) (o : Option Bound) (number : ℕ) (d e f g : Deeds Past) → d ≡ f → e ≡ g → unless_past r o number d e ≡ unless_past r o number f g
-unless_same r o number d e f g p q = ap (λ (k : Deeds Past). unless_past r o number k e) p ∙ ap (λ (k : Deeds Past). unless_past r o number f k) q
+unless_same : (r : Records) (o : Option Bound) (number : ℕ) (d e f g : Deeds Test) → d ≡ f → e ≡ g → unless_past r o number d e ≡ unless_past r o number f g
+unless_same r o number d e f g p q = ap (λ (k : Deeds Test). unless_past r o number k e) p ∙ ap (λ (k : Deeds Test). unless_past r o number f k) q
 
 deeds_same : (r : Records) (on : FlowSupport) (n m : ℕ) (fs : List Flow) → AreNestedFlows n fs → length fs ≤ n → length fs ≤ m → deeds_from r on n fs ≡ deeds_from r on m fs
 deeds_same r on zero zero fs nested few le = refl
@@ -31,9 +31,9 @@ deeds_same r on (suc n) zero [] nested few le = refl
 deeds_same r on (suc n) zero (f ∷ fs) nested few le = absurd (omega (arith, le))
 deeds_same r on (suc n) (suc m) [] nested few le = refl
 deeds_same r on (suc n) (suc m) (flow.Moves number ∷ fs) nested few le =
-    ap (λ (d : Deeds Past). Moving (moves_between_marks r on.moves number (number + 1)) d) (deeds_same r on n m fs nested (omega (arith, few)) (omega (arith, le)))
+    ap (λ (d : Deeds Test). Moving (moves_between_marks r on.moves number (number + 1)) d) (deeds_same r on n m fs nested (omega (arith, few)) (omega (arith, le)))
 deeds_same r on (suc n) (suc m) (flow.Turns number ∷ fs) nested few le =
-    ap (λ (d : Deeds Past). both_deeds (loop_done r on (slice_get on.loops number)) d) (deeds_same r on n m fs nested (omega (arith, few)) (omega (arith, le)))
+    ap (λ (d : Deeds Test). both_deeds (loop_done r on (slice_get on.loops number)) d) (deeds_same r on n m fs nested (omega (arith, few)) (omega (arith, le)))
 deeds_same r on (suc n) (suc m) (flow.Until bound number skip ∷ fs) (within, inside, behind) few le =
     unless_same r (slice_get on.bounds bound) number (deeds_from r on n (take skip fs)) (deeds_from r on n (drop skip fs)) (deeds_from r on m (take skip fs)) (deeds_from r on m (drop skip fs))
     (deeds_same r on n m (take skip fs) inside (take_few n skip fs (omega (arith, few)) within) (take_few m skip fs (omega (arith, le)) within))
@@ -54,13 +54,13 @@ nested_same (suc n) (suc m) (flow.Until bound number skip ∷ fs) few le (within
 
 -- ---- one behind another
 
-both_again : (d e f : Deeds Past) → both_deeds d (both_deeds e f) ≡ both_deeds (both_deeds d e) f
+both_again : (d e f : Deeds Test) → both_deeds d (both_deeds e f) ≡ both_deeds (both_deeds d e) f
 both_again Nothing e f = refl
-both_again (Moving ms more) e f = ap (λ (k : Deeds Past). Moving ms k) (both_again more e f)
-both_again (Choice t holding lacking more) e f = ap (λ (k : Deeds Past). Choice t holding lacking k) (both_again more e f)
+both_again (Moving ms more) e f = ap (λ (k : Deeds Test). Moving ms k) (both_again more e f)
+both_again (Choice t holding lacking more) e f = ap (λ (k : Deeds Test). Choice t holding lacking k) (both_again more e f)
 
 -- a test whose bound is there, and what stands behind all of it
-unless_both : (r : Records) (number : ℕ) (o : Option Bound) (b : Bound) (d e f g next : Deeds Past) → o ≡ Some b → d ≡ f → e ≡ both_deeds g next
+unless_both : (r : Records) (number : ℕ) (o : Option Bound) (b : Bound) (d e f g next : Deeds Test) → o ≡ Some b → d ≡ f → e ≡ both_deeds g next
     → unless_past r o number d e ≡ both_deeds (unless_past r o number f g) next
 unless_both r number o b d e f g next at p q =
     unless_same r o number d e f (both_deeds g next) p q
@@ -74,9 +74,9 @@ deeds_both r on (suc n) k m [] gs each nested more few fewer le = sym (deeds_sam
 deeds_both r on zero k m (f ∷ fs) gs each nested more few fewer le = absurd (omega (arith, few))
 deeds_both r on (suc n) zero m (f ∷ fs) gs each nested more few fewer le = absurd (omega (arith, le))
 deeds_both r on (suc n) (suc k) m (flow.Moves number ∷ fs) gs each nested more few fewer le =
-    ap (λ (d : Deeds Past). Moving (moves_between_marks r on.moves number (number + 1)) d) (deeds_both r on n k m fs gs each.1 nested more (omega (arith, few)) fewer (omega (arith, le)))
+    ap (λ (d : Deeds Test). Moving (moves_between_marks r on.moves number (number + 1)) d) (deeds_both r on n k m fs gs each.1 nested more (omega (arith, few)) fewer (omega (arith, le)))
 deeds_both r on (suc n) (suc k) m (flow.Turns number ∷ fs) gs each nested more few fewer le =
-    ap (λ (d : Deeds Past). both_deeds (loop_done r on (slice_get on.loops number)) d) (deeds_both r on n k m fs gs each.1 nested more (omega (arith, few)) fewer (omega (arith, le)))
+    ap (λ (d : Deeds Test). both_deeds (loop_done r on (slice_get on.loops number)) d) (deeds_both r on n k m fs gs each.1 nested more (omega (arith, few)) fewer (omega (arith, le)))
     ∙ both_again (loop_done r on (slice_get on.loops number)) (deeds_from r on n fs) (deeds_from r on m gs)
 deeds_both r on (suc n) (suc k) m (flow.Until bound number skip ∷ fs) gs each (within, inside, behind) more few fewer le =
     let (b, at) = each.0 in

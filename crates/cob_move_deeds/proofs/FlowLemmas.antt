@@ -111,7 +111,7 @@ pub leaves_none : (r : Records) (on : FlowSupport) (all left : List Flow) (input
 leaves_none r on all left input before now none so =
     let (m, few, back) = so (length all) (omega arith) in
     back (done now)
-    (subst (λ (d : Deeds Past). Carried (Judged r) r d input now (done now)) (sym (ap (λ (fs : List Flow). carried_from r on m fs) none ∙ none_carried r on m)) refl)
+    (subst (λ (d : Deeds Test). Carried (Judged r) r d input now (done now)) (sym (ap (λ (fs : List Flow). carried_from r on m fs) none ∙ none_carried r on m)) refl)
 
 pub flows_none : (fs : List Flow) → length fs ≤ 0 → fs ≡ []
 flows_none [] none = refl
@@ -145,16 +145,16 @@ test_apart : (r : Records) (on : FlowSupport) (n k number skip : ℕ) (fs others
     → Carried (Judged r) r (either_way r (Some b) number (carried_from r on k (drop skip (fs ++ others))) (carried_from r on k (fs ++ others))) input before end
     → Then (λ e. Carried (Judged r) r (unless_past r (Some b) number (deeds_from r on n (take skip fs)) (deeds_from r on n (drop skip fs))) input before e) (λ after last. GoOn r on others input after last) end
 test_apart r on n k number skip fs others b input before end within past inside behind (inl (is, x)) =
-    let d : Deeds Past = deeds_from r on n (drop skip fs) in
-    let all : Deeds Past = Choice (past_bound r b number) Nothing (deeds_from r on n (take skip fs)) d in
+    let d : Deeds Test = deeds_from r on n (drop skip fs) in
+    let all : Deeds Test = Choice (past_bound r b number) Nothing (deeds_from r on n (take skip fs)) d in
     let here = to_nothing (Judged r) r (carried_from r on k (drop skip (fs ++ others))) input before end x in
     then_map (λ e. Carried (Judged r) r d input before e) (λ e. Carried (Judged r) r all input before e) (λ after last. GoOn r on others input after last) (λ after last. GoOn r on others input after last) end
     (λ e y. inl (is, then_done before (λ after last. Carried (Judged r) r d input after last) e y)) (λ after e y. y)
     (past (subst (λ (gs : List Flow). Carried (Judged r) r (carried_from r on k gs) input before end) (drop-append-le skip fs others within) here))
 test_apart r on n k number skip fs others b input before end within past inside behind (inr (inl (is, x))) =
-    let front : Deeds Past = deeds_from r on n (take skip fs) in
-    let d : Deeds Past = deeds_from r on n (drop skip fs) in
-    let all : Deeds Past = Choice (past_bound r b number) Nothing front d in
+    let front : Deeds Test = deeds_from r on n (take skip fs) in
+    let d : Deeds Test = deeds_from r on n (drop skip fs) in
+    let all : Deeds Test = Choice (past_bound r b number) Nothing front d in
     let here = to_nothing (Judged r) r (carried_from r on k (fs ++ others)) input before end x in
     let cut : fs ++ others ≡ take skip fs ++ (drop skip fs ++ others) = ap (λ (gs : List Flow). gs ++ others) (sym (take-append-drop skip fs)) ∙ append_assoc (take skip fs) (drop skip fs) others in
     then_map (λ e. Then (λ k. Carried (Judged r) r front input before k) (λ after last. Carried (Judged r) r d input after last) e) (λ e. Carried (Judged r) r all input before e)
@@ -180,7 +180,7 @@ flows_apart r on (suc n) (suc k) (flow.Moves number ∷ fs) others input before 
     (λ after last. Then (λ e. Carried (Judged r) r (deeds_from r on n fs) input after e) (λ s t. GoOn r on others input s t) last) end
     (λ e y. y) (λ after e y. flows_apart r on n k fs others input after e each.1 nested (omega (arith, few)) (omega (arith, le)) y) x)
 flows_apart r on (suc n) (suc k) (flow.Turns number ∷ fs) others input before end each nested few le x =
-    let d : Deeds Past = loop_done r on (slice_get on.loops number) in
+    let d : Deeds Test = loop_done r on (slice_get on.loops number) in
     then_map (λ e. Then (λ e. Carried (Judged r) r d input before e) (λ after last. Carried (Judged r) r (deeds_from r on n fs) input after last) e) (λ e. Carried (Judged r) r (both_deeds d (deeds_from r on n fs)) input before e)
     (λ after last. GoOn r on others input after last) (λ after last. GoOn r on others input after last) end
     (λ e y. both_together (Judged r) r d (deeds_from r on n fs) input before e y) (λ after e y. y)
@@ -209,7 +209,7 @@ flows_carried r on fs input before end each nested x =
     to_nothing (Judged r) r (deeds_from r on (length fs) fs) input before end
     (then_map (λ e. Carried (Judged r) r (deeds_from r on (length fs) fs) input before e) (λ e. Carried (Judged r) r (deeds_from r on (length fs) fs) input before e)
     (λ after last. GoOn r on [] input after last) (λ after last. Carried (Judged r) r Nothing input after last) end (λ e y. y)
-    (λ after e (m, few, y). subst (λ (d : Deeds Past). Carried (Judged r) r d input after e) (none_carried r on m) y)
+    (λ after e (m, few, y). subst (λ (d : Deeds Test). Carried (Judged r) r d input after e) (none_carried r on m) y)
     (flows_apart r on (length fs) (length fs) fs [] input before end each nested (omega arith) long
     (subst (λ (gs : List Flow). Carried (Judged r) r (carried_from r on (length fs) gs) input before end) (sym whole) x)))
 

@@ -162,7 +162,7 @@ loop_made law r on l b v input before end prepared is at same gives below applie
     subst (λ (o : Option Bound). Carried (Judged r) r (turns_to r on.moves l o) input before end) (sym at) (known.1 moves)
 
 -- something is missing for the bound, and so for the first test
-first_stops : (r : Records) (t : Past) (body : ℕ → Deeds Past) (by n i : ℕ) (input before : List ℕ) (stop : Stop) → Judged r (with_number t i) input before (Err stop)
+first_stops : (r : Records) (t : Past) (body : ℕ → Deeds Test) (by n i : ℕ) (input before : List ℕ) (stop : Stop) → Judged r (with_number t i) input before (Err stop)
     → Carried (Judged r) r (turns_from (with_number t) body by n i) input before (stopped stop before)
 first_stops r t body by zero i input before stop is = inr (inr (stop, is, refl))
 first_stops r t body by (suc n) i input before stop is = inr (inr (stop, is, refl))

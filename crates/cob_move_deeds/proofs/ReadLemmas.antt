@@ -73,7 +73,7 @@ loop_reads r on l b v k input before result old mid new prepared is at same give
 )
 
 -- a test that stopped, and nothing met
-pub none_reads : {A : Type 0} (r : Records) (d : Deeds Past) (input before : List ℕ) (result : Result A Stop) (old new : Scratching) → ReadsFor r.output 0 result old new → ReadsOfDeeds r d input before result old new
+pub none_reads : {A : Type 0} (r : Records) (d : Deeds Test) (input before : List ℕ) (result : Result A Stop) (old new : Scratching) → ReadsFor r.output 0 result old new → ReadsOfDeeds r d input before result old new
 none_reads r d input before result old new spent = (0, none_done r d input before, spent)
 
 -- ---- a flow
@@ -202,7 +202,7 @@ all_reads r on all left input before now old new none (met, so, spent) =
     let sum : met + 0 ≡ met = omega arith in (
       met,
       subst (λ (c : ℕ). DeedsHaveMet r (carried_from r on (length all) all) input before c) sum
-          (back 0 (subst (λ (d : Deeds Past). DeedsHaveMet r d input now 0) (sym (ap (λ (fs : List Flow). carried_from r on m fs) none ∙ none_carried r on m)) refl)),
+          (back 0 (subst (λ (d : Deeds Test). DeedsHaveMet r d input now 0) (sym (ap (λ (fs : List Flow). carried_from r on m fs) none ∙ none_carried r on m)) refl)),
       spent,
     )
 
@@ -225,17 +225,17 @@ test_met : (r : Records) (on : FlowSupport) (n k number skip : ℕ) (fs others :
     (λ after. Carried (Judged r) r (unless_past r (Some b) number (deeds_from r on n (take skip fs)) (deeds_from r on n (drop skip fs))) input before (done after)) (λ after j. MeetOn r on others input after j) count
 test_met r on n k number skip fs others b input before count within past inside behind (inl none) = inl (inl none)
 test_met r on n k number skip fs others b input before count within past inside behind (inr (inl (is, x))) =
-    let d : Deeds Past = deeds_from r on n (drop skip fs) in
-    let all : Deeds Past = Choice (past_bound r b number) Nothing (deeds_from r on n (take skip fs)) d in
+    let d : Deeds Test = deeds_from r on n (drop skip fs) in
+    let all : Deeds Test = Choice (past_bound r b number) Nothing (deeds_from r on n (take skip fs)) d in
     let here = met_nothing r (carried_from r on k (drop skip (fs ++ others))) input before count x in
     met_map (λ j. DeedsHaveMet r d input before j) (λ j. DeedsHaveMet r all input before j) (λ after. Carried (Judged r) r d input before (done after)) (λ after. Carried (Judged r) r all input before (done after))
     (λ after j. MeetOn r on others input after j) (λ after j. MeetOn r on others input after j) count
     (λ j y. inr (inl (is, inr (before, 0, j, plain j, refl, refl, y)))) (λ after y. inl (is, inl (before, refl, y))) (λ after j y. y)
     (past count (subst (λ (gs : List Flow). DeedsHaveMet r (carried_from r on k gs) input before count) (drop-append-le skip fs others within) here))
 test_met r on n k number skip fs others b input before count within past inside behind (inr (inr (is, x))) =
-    let front : Deeds Past = deeds_from r on n (take skip fs) in
-    let d : Deeds Past = deeds_from r on n (drop skip fs) in
-    let all : Deeds Past = Choice (past_bound r b number) Nothing front d in
+    let front : Deeds Test = deeds_from r on n (take skip fs) in
+    let d : Deeds Test = deeds_from r on n (drop skip fs) in
+    let all : Deeds Test = Choice (past_bound r b number) Nothing front d in
     let first : ℕ → Type 0 = λ j. DeedsHaveMet r front input before j in
     let goes : List ℕ → Type 0 = λ s. Carried (Judged r) r front input before (done s) in
     let here = met_nothing r (carried_from r on k (fs ++ others)) input before count x in
@@ -259,7 +259,7 @@ flows_met law one r on (suc n) k [] others input before count each nested few le
 flows_met law one r on (suc n) zero (f ∷ fs) others input before count each nested few le x = absurd (omega (arith, le))
 flows_met law one r on (suc n) (suc k) (flow.Moves number ∷ fs) others input before count each nested few le x =
     let ms : List Move = moves_between_marks r on.moves number (number + 1) in
-    let d : Deeds Past = deeds_from r on n fs in
+    let d : Deeds Test = deeds_from r on n fs in
     let first : ℕ → Type 0 = λ j. HaveMet r ms input before j in
     let goes : List ℕ → Type 0 = λ s. Applied r ms input before (done s) in
     met_map (λ j. MetThen first goes (λ s i. DeedsHaveMet r d input s i) j) (λ j. DeedsHaveMet r (Moving ms d) input before j)
@@ -270,8 +270,8 @@ flows_met law one r on (suc n) (suc k) (flow.Moves number ∷ fs) others input b
     (λ mid j. MetThen (λ i. DeedsHaveMet r d input mid i) (λ after. Carried (Judged r) r d input mid (done after)) (λ after i. MeetOn r on others input after i) j) count (λ j y. y) (λ s y. y)
     (λ mid j y. flows_met law one r on n k fs others input mid j each.1 nested (omega (arith, few)) (omega (arith, le)) y) x))
 flows_met law one r on (suc n) (suc k) (flow.Turns number ∷ fs) others input before count each nested few le x =
-    let loop : Deeds Past = loop_done r on (slice_get on.loops number) in
-    let d : Deeds Past = deeds_from r on n fs in
+    let loop : Deeds Test = loop_done r on (slice_get on.loops number) in
+    let d : Deeds Test = deeds_from r on n fs in
     let first : ℕ → Type 0 = λ j. DeedsHaveMet r loop input before j in
     let goes : List ℕ → Type 0 = λ s. Carried (Judged r) r loop input before (done s) in
     met_map (λ j. MetThen first goes (λ s i. DeedsHaveMet r d input s i) j) (λ j. DeedsHaveMet r (both_deeds loop d) input before j)
@@ -305,7 +305,7 @@ flows_have_met law one r on fs input before count each nested x =
     (met_map (λ j. DeedsHaveMet r (deeds_from r on (length fs) fs) input before j) (λ j. DeedsHaveMet r (deeds_from r on (length fs) fs) input before j)
     (λ after. Carried (Judged r) r (deeds_from r on (length fs) fs) input before (done after)) (λ after. Carried (Judged r) r (deeds_from r on (length fs) fs) input before (done after))
     (λ after j. MeetOn r on [] input after j) (λ after j. DeedsHaveMet r Nothing input after j) count (λ j y. y) (λ s y. y)
-    (λ after j (m, few, y). subst (λ (d : Deeds Past). DeedsHaveMet r d input after j) (none_carried r on m) y)
+    (λ after j (m, few, y). subst (λ (d : Deeds Test). DeedsHaveMet r d input after j) (none_carried r on m) y)
     (flows_met law one r on (length fs) (length fs) fs [] input before count each nested (omega arith) long
     (subst (λ (gs : List Flow). DeedsHaveMet r (carried_from r on (length fs) gs) input before count) (sym whole) x)))
 

@@ -19,10 +19,10 @@ use Rattle.cob_move_deeds.specs.Turns.{turns_from}
 abbrev pub ReadsAs : Reading → Records → (old new : MarkedMoves) → Type 0
 ReadsAs x r old new = (from to : ℕ) → moves_between_marks r new from to ≡ map (read_by x) (moves_between_marks r old from to)
 
-both_read : (x : Reading) (d e : Deeds Past) → deeds_by x (both_deeds d e) ≡ both_deeds (deeds_by x d) (deeds_by x e)
+both_read : (x : Reading) (d e : Deeds Test) → deeds_by x (both_deeds d e) ≡ both_deeds (deeds_by x d) (deeds_by x e)
 both_read x Nothing e = refl
-both_read x (Moving ms more) e = ap (λ (k : Deeds Past). Moving (map (read_by x) ms) k) (both_read x more e)
-both_read x (Choice t holding lacking more) e = ap (λ (k : Deeds Past). Choice t (deeds_by x holding) (deeds_by x lacking) k) (both_read x more e)
+both_read x (Moving ms more) e = ap (λ (k : Deeds Test). Moving (map (read_by x) ms) k) (both_read x more e)
+both_read x (Choice t holding lacking more) e = ap (λ (k : Deeds Test). Choice t (deeds_by x holding) (deeds_by x lacking) k) (both_read x more e)
 
 turns_read : (x : Reading) (until : ℕ → Past) (old new : ℕ → List Move) (by n i : ℕ) → ((k : ℕ) → new k ≡ map (read_by x) (old k))
     → turns_from until (λ k. Moving (new k) Nothing) by n i ≡ deeds_by x (turns_from until (λ k. Moving (old k) Nothing) by n i)
@@ -30,7 +30,7 @@ turns_read x until old new by zero i same = refl
 turns_read x until old new by (suc n) i same =
     let rest = turns_read x until old new by n (i + by) same in
     ap (λ (ms : List Move). Choice (until i) Nothing (Moving ms (turns_from until (λ k. Moving (new k) Nothing) by n (i + by))) Nothing) (same i)
-    ∙ ap (λ (d : Deeds Past). Choice (until i) Nothing (Moving (map (read_by x) (old i)) d) Nothing) rest
+    ∙ ap (λ (d : Deeds Test). Choice (until i) Nothing (Moving (map (read_by x) (old i)) d) Nothing) rest
 
 loop_read : (x : Reading) (r : Records) (old new : MarkedMoves) (l : CountedLoop) (o : Option Bound) → ReadsAs x r old new → turns_to r new l o ≡ deeds_by x (turns_to r old l o)
 loop_read x r old new l None same = refl
@@ -41,10 +41,10 @@ loops_read : (x : Reading) (r : Records) (on : FlowSupport) (new : MarkedMoves) 
 loops_read x r on new None same = refl
 loops_read x r on new (Some l) same = loop_read x r on.moves new l (slice_get on.bounds l.bound) same
 
-test_read : (x : Reading) (r : Records) (o : Option Bound) (number : ℕ) (d e f g : Deeds Past) → f ≡ deeds_by x d → g ≡ deeds_by x e → unless_past r o number f g ≡ deeds_by x (unless_past r o number d e)
+test_read : (x : Reading) (r : Records) (o : Option Bound) (number : ℕ) (d e f g : Deeds Test) → f ≡ deeds_by x d → g ≡ deeds_by x e → unless_past r o number f g ≡ deeds_by x (unless_past r o number d e)
 test_read x r None number d e f g p q = refl
 test_read x r (Some b) number d e f g p q =
-    ap (λ (k : Deeds Past). Choice (past_bound r b number) Nothing k g) p ∙ ap (λ (k : Deeds Past). Choice (past_bound r b number) Nothing (deeds_by x d) k) q
+    ap (λ (k : Deeds Test). Choice (past_bound r b number) Nothing k g) p ∙ ap (λ (k : Deeds Test). Choice (past_bound r b number) Nothing (deeds_by x d) k) q
 
 pub flows_read : (x : Reading) (r : Records) (on : FlowSupport) (new : MarkedMoves) → ReadsAs x r on.moves new → (n : ℕ) (fs : List Flow)
     → deeds_from r (record { moves = new; bounds = on.bounds; loops = on.loops }) n fs ≡ deeds_by x (deeds_from r on n fs)
@@ -53,11 +53,11 @@ flows_read x r on new same (suc n) [] = refl
 flows_read x r on new same (suc n) (flow.Moves number ∷ rest) =
     let now : FlowSupport = record { moves = new; bounds = on.bounds; loops = on.loops } in
     ap (λ (ms : List Move). Moving ms (deeds_from r now n rest)) (same number (number + 1))
-    ∙ ap (λ (d : Deeds Past). Moving (map (read_by x) (moves_between_marks r on.moves number (number + 1))) d) (flows_read x r on new same n rest)
+    ∙ ap (λ (d : Deeds Test). Moving (map (read_by x) (moves_between_marks r on.moves number (number + 1))) d) (flows_read x r on new same n rest)
 flows_read x r on new same (suc n) (flow.Turns number ∷ rest) =
     let now : FlowSupport = record { moves = new; bounds = on.bounds; loops = on.loops } in
-    ap (λ (d : Deeds Past). both_deeds d (deeds_from r now n rest)) (loops_read x r on new (slice_get on.loops number) same)
-    ∙ ap (λ (d : Deeds Past). both_deeds (deeds_by x (loop_done r on (slice_get on.loops number))) d) (flows_read x r on new same n rest)
+    ap (λ (d : Deeds Test). both_deeds d (deeds_from r now n rest)) (loops_read x r on new (slice_get on.loops number) same)
+    ∙ ap (λ (d : Deeds Test). both_deeds (deeds_by x (loop_done r on (slice_get on.loops number))) d) (flows_read x r on new same n rest)
     ∙ sym (both_read x (loop_done r on (slice_get on.loops number)) (deeds_from r on n rest))
 flows_read x r on new same (suc n) (flow.Until bound number skip ∷ rest) =
     test_read x r (slice_get on.bounds bound) number (deeds_from r on n (take skip rest)) (deeds_from r on n (drop skip rest))
@@ -65,7 +65,7 @@ flows_read x r on new same (suc n) (flow.Until bound number skip ∷ rest) =
     (flows_read x r on new same n (take skip rest)) (flows_read x r on new same n (drop skip rest))
 
 -- the moves of deeds whose binary senders are read so
-pub moves_read : (x : Reading) (d : Deeds Past) → moves_of_deeds (deeds_by x d) ≡ map (read_by x) (moves_of_deeds d)
+pub moves_read : (x : Reading) (d : Deeds Test) → moves_of_deeds (deeds_by x d) ≡ map (read_by x) (moves_of_deeds d)
 moves_read x Nothing = refl
 moves_read x (Moving ms more) =
     ap (λ (ns : List Move). map (read_by x) ms ++ ns) (moves_read x more) ∙ sym (map-append (read_by x) ms (moves_of_deeds more))

@@ -13,11 +13,11 @@ use Rattle.cob_move_deeds.specs.Turns.{turns_from}
 use Rattle.cob_move_deeds.specs.Told.{MovesAlone}
 
 -- a loop written out begins with a test
-turns_tested : (until : ℕ → Past) (body : ℕ → Deeds Past) (by n i : ℕ) (d : Deeds Past) → IsStraight (both_deeds (turns_from until body by n i) d) → ⊥
+turns_tested : (until : ℕ → Past) (body : ℕ → Deeds Test) (by n i : ℕ) (d : Deeds Test) → IsStraight (both_deeds (turns_from until body by n i) d) → ⊥
 turns_tested until body by zero i d s = s
 turns_tested until body by (suc n) i d s = s
 
-loop_tested : (r : Records) (on : FlowSupport) (l : CountedLoop) (b : Bound) (d : Deeds Past) → slice_get on.bounds l.bound ≡ Some b → IsStraight (both_deeds (loop_done r on (Some l)) d) → ⊥
+loop_tested : (r : Records) (on : FlowSupport) (l : CountedLoop) (b : Bound) (d : Deeds Test) → slice_get on.bounds l.bound ≡ Some b → IsStraight (both_deeds (loop_done r on (Some l)) d) → ⊥
 loop_tested r on l b d at s =
     turns_tested (λ number. past_bound r b number) (λ number. Moving (moves_of_turn r on.moves l number) Nothing) l.by l.turns l.from d (subst (λ (o : Option Bound). IsStraight (both_deeds (turns_to r on.moves l o) d)) at s)
 

@@ -30,6 +30,7 @@ mod at_once;
 mod bound;
 mod carrying;
 mod flow;
+mod giving;
 mod known;
 mod laws;
 mod ready;
@@ -37,9 +38,9 @@ mod row;
 mod sides;
 mod told;
 
-pub use flow::{Bound, CountedLoop, Flow};
+pub use flow::{Asked, Bound, CountedLoop, Flow};
 pub use laws::{
-    bound_of_input_is_kept, literal_loop_is_its_moves, loop_is_its_turns, one_carried,
-    straight_is_applied,
+    bound_of_input_is_kept, choice_is_if, literal_loop_is_its_moves, loop_is_its_turns, one_carried,
+    selection_is_first, straight_is_applied,
 };
 pub use ready::ReadyDeeds;

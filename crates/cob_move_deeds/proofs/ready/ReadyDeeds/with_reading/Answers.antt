@@ -20,7 +20,7 @@ returns-clause-prepared c r prepared = record {
 
 pub returns-clause-whole : goal.returns-clause-whole
 returns-clause-whole c r whole =
-    ap (λ (d : Deeds Past). moves_of_deeds d)
+    ap (λ (d : Deeds Test). moves_of_deeds d)
     (flows_read c.args.reading r (flow_support c.args.self) c.with_reading.result (λ from to. c.with_reading.ensures.between r from to) (length c.args.self.flows.items) c.args.self.flows.items)
     ∙ moves_read c.args.reading (deeds_of r c.args.self)
     ∙ ap (λ (ms : List Move). map (read_by c.args.reading) ms) whole
