@@ -1,6 +1,7 @@
 -- Conditions: where each of their pieces ends, and chains of them.
 use Rattle.std.specs.declared.cmp.Ordering.{Ordering}
-use Rattle.std.proofs.Common.{◌≡◌, ◌⊎◌, inl, inr, Bool, false, true, List, [], ◌∷◌, ◌++◌, refl, sym, ap, subst, ◌∙◌, append_assoc, append-nil, Some}
+use Rattle.std.proofs.Common.{◌≡◌, ◌⊎◌, inl, inr, Bool, false, true, List, [], ◌∷◌, ◌++◌, refl, sym, ap, subst, ◌∙◌, append_assoc, append-nil, Some, arith, length, ◌≤◌}
+use Rattle.std.proofs.lemmas.List.{length-append}
 use Rattle.std.specs.Prelude.{IfOk, IfSome, Ok, Err, Result}
 use denote.Ref.{Bor}
 use Rattle.cob_source.specs.declared.token.Token.{Token}
@@ -468,3 +469,11 @@ pub found_up : {E : Type 0} (words : List Lexeme) (answer : Result (Option (Cond
 found_up words (Ok None) h = tt
 found_up words (Ok (Some r)) (ws, is, e) = (ws, not_up (written_condition r.0) ws is, e)
 found_up words (Err x) h = tt
+
+-- ---- what is left is no longer
+
+pub front_fewer : (words own rest : List Lexeme) → words ≡ own ++ rest → length rest ≤ length words
+front_fewer words own rest e = omega (arith, ap length e, length-append own rest)
+
+pub word_fewer : (words rest left own behind : List Lexeme) (w : Lexeme) → length rest ≤ length words → rest ≡ w ∷ left → left ≡ own ++ behind → length behind ≤ length words
+word_fewer words rest left own behind w fewer e f = omega (arith, fewer, ap length e, front_fewer left own behind f)
