@@ -2,7 +2,6 @@
 use Rattle.std.proofs.Common.{◌≡◌, ◌⊎◌, ℕ, zero, suc, ◌+◌, ◌<◌, ◌≤◌, Bool, false, List, [], ◌∷◌, ◌++◌, nat_lt, refl, sym, ap, subst, arith, inl, inr, Ok}
 use Rattle.cob_copybook_tree.specs.Forests.{Forest}
 use Rattle.cob_copybook_tree.specs.Nodes.{Resolved}
-use Rattle.cob_layout.specs.Laws.{OneOfNeeded}
 use Rattle.cob_move_data.specs.declared.operands.Operand.{Operand}
 use Rattle.cob_move_data.specs.Moves.{Move, Records}
 use Rattle.cob_move_apply.specs.Applied.{AllGet, Applied, Content, Ending, OneEnding, done}
@@ -11,8 +10,9 @@ use Rattle.cob_move_apply.proofs.MetLemmas.{none_met}
 use Rattle.cob_move_apply.proofs.OneLemmas.{stop_of}
 use Rattle.cob_move_loops.specs.Turns.{turns}
 use Rattle.cob_move_deeds.specs.Deeds.{Carried, Choice, Deeds, Moving, Nothing, both_deeds}
+use Rattle.cob_move_deeds.specs.Laws.{TestLaws}
 use Rattle.cob_move_deeds.specs.Met.{DeedsHaveMet, MetThen}
-use Rattle.cob_move_deeds.specs.Tests.{Judged, Past}
+use Rattle.cob_move_deeds.specs.Tests.{Judged, Test}
 use Rattle.cob_move_deeds.specs.Turns.{number_after, turns_from}
 use Rattle.cob_move_deeds.proofs.DeedLemmas.{one_carried, says_not}
 use Rattle.cob_move_deeds.proofs.TestLemmas.{determined}
@@ -96,7 +96,7 @@ branch_met r front goes more next input mid after own rest one go x so h (inr (s
     let same : s ≡ mid = one s gone in
     inr (mid, a, b + rest, more_in own a b rest sum, go, met, so a b (subst (λ (z : List ℕ). DeedsHaveMet r more input z b) same y))
 
-pub both_met : OneOfNeeded → OneEnding → (r : Records) (d next : Deeds Test) (input before after : List ℕ) (own rest : ℕ) → Carried (Judged r) r d input before (done after) → DeedsHaveMet r d input before own
+pub both_met : TestLaws → OneEnding → (r : Records) (d next : Deeds Test) (input before after : List ℕ) (own rest : ℕ) → Carried (Judged r) r d input before (done after) → DeedsHaveMet r d input before own
     → DeedsHaveMet r next input after rest → DeedsHaveMet r (both_deeds d next) input before (own + rest)
 both_met law one r Nothing next input before after own rest e none h =
     let sum : rest ≡ own + rest = omega (arith, none) in
@@ -130,7 +130,7 @@ both_met law one r (Choice t holding lacking more) next input before after own r
 both_met law one r (Choice t holding lacking more) next input before after own rest (inr (inr (stop, is, e))) (inr (inr (same, met))) h = absurd (stop_of after before stop e)
 
 -- the one, or the one and then the other
-pub met_together : OneOfNeeded → OneEnding → (r : Records) (d next : Deeds Test) (input before : List ℕ) (n : ℕ)
+pub met_together : TestLaws → OneEnding → (r : Records) (d next : Deeds Test) (input before : List ℕ) (n : ℕ)
     → MetThen (λ k. DeedsHaveMet r d input before k) (λ after. Carried (Judged r) r d input before (done after)) (λ after k. DeedsHaveMet r next input after k) n → DeedsHaveMet r (both_deeds d next) input before n
 met_together law one r d next input before n (inl x) = front_met r d next input before n x
 met_together law one r d next input before n (inr (after, own, rest, sum, go, x, y)) =
@@ -196,7 +196,7 @@ met_nothing r d input before n (inr (after, own, rest, sum, go, x, none)) =
 -- ---- the turns of a loop
 
 -- what met of the moves of turns met of the loop whose bound says the same before each turn
-pub turns_met : (r : Records) (until : ℕ → Past) (body : ℕ → List Move) (by most n k i v : ℕ) (input before : List ℕ) (m : ℕ) → ((s : List ℕ) (j : ℕ) → Judged r (until j) input s (Ok (nat_lt v j)))
+pub turns_met : (r : Records) (until : ℕ → Test) (body : ℕ → List Move) (by most n k i v : ℕ) (input before : List ℕ) (m : ℕ) → ((s : List ℕ) (j : ℕ) → Judged r (until j) input s (Ok (nat_lt v j)))
     → v ≤ most → most < number_after by n i → (k ≡ 0) ⊎ (number_after by k i ≤ v + by) → HaveMet r (turns body by k i) input before m
     → DeedsHaveMet r (turns_from until (λ j. Moving (body j) Nothing) by n i) input before m
 turns_met r until body by most n zero i v input before m says below far near none =

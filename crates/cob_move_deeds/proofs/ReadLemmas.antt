@@ -5,7 +5,6 @@ use Rattle.std.proofs.lemmas.List.{drop-append-le, length-take-le, take-append-d
 use Rattle.std.proofs.Math.Nat.{mul-add, mul_comm}
 use Rattle.cob_copybook_tree.specs.Forests.{Forest}
 use Rattle.cob_copybook_tree.specs.Nodes.{Resolved}
-use Rattle.cob_layout.specs.Laws.{OneOfNeeded}
 use Rattle.cob_layout_places.specs.Counts.{tables_of}
 use Rattle.cob_move_data.specs.declared.operands.Side.TheVariants.{In}
 use Rattle.cob_move_data.specs.Moves.{Move, Records}
@@ -25,8 +24,9 @@ use Rattle.cob_move_deeds.specs.declared.flow.Flow.TheVariants as flow
 use Rattle.cob_move_deeds.specs.Carrying.{FlowSpends, FlowSpendsAtStop, MeetFlows, MetFlows, carried_from, either_way}
 use Rattle.cob_move_deeds.specs.Deeds.{Carried, Choice, Deeds, Moving, Nothing, both_deeds}
 use Rattle.cob_move_deeds.specs.Flows.{AreNestedFlows, FlowSupport, IsFlow, IsLoop, deeds_from, loop_done, moves_of_turn, turns_to, unless_past}
+use Rattle.cob_move_deeds.specs.Laws.{TestLaws}
 use Rattle.cob_move_deeds.specs.Met.{DeedsHaveMet, MetThen, ReadsOfDeeds}
-use Rattle.cob_move_deeds.specs.Tests.{BoundGives, Judged, Past, past_bound, with_number}
+use Rattle.cob_move_deeds.specs.Tests.{BoundGives, Holds, Judged, JudgedPast, Past, Test, Until, past_bound, with_number}
 use Rattle.cob_move_deeds.specs.Turns.{number_after}
 use Rattle.cob_move_deeds.proofs.DeedLemmas.{both_together}
 use Rattle.cob_move_deeds.proofs.FlowLemmas.{all_behind, all_front, none_carried}
@@ -49,7 +49,7 @@ loop_met r on l b v input before m prepared is at same gives below h =
     let moves : HaveMet r (turns (moves_of_turn r on.moves l) l.by (turns_between l.from l.by v) l.from) input before m =
     subst (λ (ms : List Move). HaveMet r ms input before m) (sym (turns_all r on.moves l (turns_between l.from l.by v) prepared is.grows (omega (arith, few, is.marks)))) h in
     subst (λ (o : Option Bound). DeedsHaveMet r (turns_to r on.moves l o) input before m) (sym at)
-    (turns_met r (with_number t) (moves_of_turn r on.moves l) l.by b.most l.turns (turns_between l.from l.by v) l.from v input before m (says_of_input r t input before v of_input gives) below far known_of.near moves)
+    (turns_met r (λ j. Until (with_number t j)) (moves_of_turn r on.moves l) l.by b.most l.turns (turns_between l.from l.by v) l.from v input before m (says_of_input r t input before v of_input gives) below far known_of.near moves)
 
 -- ---- reads, one behind another
 
@@ -88,7 +88,7 @@ pub met_moves : (r : Records) (on : FlowSupport) (number : ℕ) (more : List Flo
 met_moves r on number more input before met own zero le = absurd (omega (arith, le))
 met_moves r on number more input before met own (suc n) le = inl own
 
-meet_turns : OneOfNeeded → OneEnding → (r : Records) (on : FlowSupport) (number : ℕ) (more : List Flow) (l : CountedLoop) (input before after : List ℕ) (met : ℕ) → slice_get on.loops number ≡ Some l
+meet_turns : TestLaws → OneEnding → (r : Records) (on : FlowSupport) (number : ℕ) (more : List Flow) (l : CountedLoop) (input before after : List ℕ) (met : ℕ) → slice_get on.loops number ≡ Some l
     → Carried (Judged r) r (loop_done r on (Some l)) input before (done after) → DeedsHaveMet r (loop_done r on (Some l)) input before met → MeetFlows r on (flow.Turns number ∷ more) more input before after met
 meet_turns law one r on number more l input before after met at made own zero le = absurd (omega (arith, le))
 meet_turns law one r on number more l input before after met at made own (suc n) le = (
@@ -105,7 +105,7 @@ met_turns r on number more l input before met at own (suc n) le =
     subst (λ (o : Option CountedLoop). DeedsHaveMet r (both_deeds (loop_done r on o) (carried_from r on n more)) input before met) (sym at)
     (front_met r (loop_done r on (Some l)) (carried_from r on n more) input before met own)
 
-judged_so : (r : Records) (t : Past) (input before : List ℕ) (v j : ℕ) (b : Bool) → BoundGives r t input before v → nat_lt v j ≡ b → Judged r (with_number t j) input before (Ok b)
+judged_so : (r : Records) (t : Past) (input before : List ℕ) (v j : ℕ) (b : Bool) → BoundGives r t input before v → nat_lt v j ≡ b → JudgedPast r (with_number t j) input before (Ok b)
 judged_so r t input before v j b (p, i, located, kind, says) is = inr (p, i, located, kind, (v, says, sym is))
 
 pub meet_past : (r : Records) (on : FlowSupport) (bound number skip : ℕ) (more left : List Flow) (b : Bound) (input before : List ℕ) (v : ℕ) → slice_get on.bounds bound ≡ Some b → BoundGives r (past_bound r b 0) input before v
@@ -147,7 +147,7 @@ pub moves_stop_reads : (r : Records) (on : FlowSupport) (number : ℕ) (more : L
     → ReadsOfMoves {A = Unit {0}} r (moves_between_marks r on.moves number (number + 1)) input before (Err stop) old new → FlowSpendsAtStop r on (flow.Moves number ∷ more) input before old new
 moves_stop_reads r on number more input before stop old new (met, own, spent) = (met, met_moves r on number more input before met own, spent)
 
-pub turns_spend : OneOfNeeded → OneEnding → (r : Records) (on : FlowSupport) (number : ℕ) (more : List Flow) (l : CountedLoop) (input before after : List ℕ) (old new : Scratching) → slice_get on.loops number ≡ Some l
+pub turns_spend : TestLaws → OneEnding → (r : Records) (on : FlowSupport) (number : ℕ) (more : List Flow) (l : CountedLoop) (input before after : List ℕ) (old new : Scratching) → slice_get on.loops number ≡ Some l
     → Carried (Judged r) r (loop_done r on (Some l)) input before (done after) → ReadsOfDeeds {A = Unit {0}} r (loop_done r on (Some l)) input before (Ok tt) old new → FlowSpends r on (flow.Turns number ∷ more) more input before after old new
 turns_spend law one r on number more l input before after old new at made (met, own, spent) = (met, meet_turns law one r on number more l input before after met at made own, spent)
 
@@ -226,7 +226,7 @@ test_met : (r : Records) (on : FlowSupport) (n k number skip : ℕ) (fs others :
 test_met r on n k number skip fs others b input before count within past inside behind (inl none) = inl (inl none)
 test_met r on n k number skip fs others b input before count within past inside behind (inr (inl (is, x))) =
     let d : Deeds Test = deeds_from r on n (drop skip fs) in
-    let all : Deeds Test = Choice (past_bound r b number) Nothing (deeds_from r on n (take skip fs)) d in
+    let all : Deeds Test = Choice (Until (past_bound r b number)) Nothing (deeds_from r on n (take skip fs)) d in
     let here = met_nothing r (carried_from r on k (drop skip (fs ++ others))) input before count x in
     met_map (λ j. DeedsHaveMet r d input before j) (λ j. DeedsHaveMet r all input before j) (λ after. Carried (Judged r) r d input before (done after)) (λ after. Carried (Judged r) r all input before (done after))
     (λ after j. MeetOn r on others input after j) (λ after j. MeetOn r on others input after j) count
@@ -235,7 +235,7 @@ test_met r on n k number skip fs others b input before count within past inside 
 test_met r on n k number skip fs others b input before count within past inside behind (inr (inr (is, x))) =
     let front : Deeds Test = deeds_from r on n (take skip fs) in
     let d : Deeds Test = deeds_from r on n (drop skip fs) in
-    let all : Deeds Test = Choice (past_bound r b number) Nothing front d in
+    let all : Deeds Test = Choice (Until (past_bound r b number)) Nothing front d in
     let first : ℕ → Type 0 = λ j. DeedsHaveMet r front input before j in
     let goes : List ℕ → Type 0 = λ s. Carried (Judged r) r front input before (done s) in
     let here = met_nothing r (carried_from r on k (fs ++ others)) input before count x in
@@ -250,7 +250,7 @@ test_met r on n k number skip fs others b input before count within past inside 
     (λ mid j (m, few, y). behind m mid j few y)
     (inside count (subst (λ (gs : List Flow). DeedsHaveMet r (carried_from r on k gs) input before count) cut here))))
 
-flows_met : OneOfNeeded → OneEnding → (r : Records) (on : FlowSupport) (n k : ℕ) (fs others : List Flow) (input before : List ℕ) (count : ℕ) → AllByRecursion (IsFlow on) fs → AreNestedFlows n fs → length fs ≤ n → length (fs ++ others) ≤ k
+flows_met : TestLaws → OneEnding → (r : Records) (on : FlowSupport) (n k : ℕ) (fs others : List Flow) (input before : List ℕ) (count : ℕ) → AllByRecursion (IsFlow on) fs → AreNestedFlows n fs → length fs ≤ n → length (fs ++ others) ≤ k
     → DeedsHaveMet r (carried_from r on k (fs ++ others)) input before count
     → MetThen (λ j. DeedsHaveMet r (deeds_from r on n fs) input before j) (λ after. Carried (Judged r) r (deeds_from r on n fs) input before (done after)) (λ after j. MeetOn r on others input after j) count
 flows_met law one r on zero k [] others input before count each nested few le x = inr (before, 0, count, plain count, refl, refl, (k, le, x))
@@ -296,7 +296,7 @@ flows_met law one r on (suc n) (suc k) (flow.Until bound number skip ∷ fs) oth
     (subst (λ (o : Option Bound). DeedsHaveMet r (either_way r o number (carried_from r on k (drop skip (fs ++ others))) (carried_from r on k (fs ++ others))) input before count) at x))
 
 -- what met of flows that are nested met of what is done
-flows_have_met : OneOfNeeded → OneEnding → (r : Records) (on : FlowSupport) (fs : List Flow) (input before : List ℕ) (count : ℕ) → AllByRecursion (IsFlow on) fs → AreNestedFlows (length fs) fs
+flows_have_met : TestLaws → OneEnding → (r : Records) (on : FlowSupport) (fs : List Flow) (input before : List ℕ) (count : ℕ) → AllByRecursion (IsFlow on) fs → AreNestedFlows (length fs) fs
     → DeedsHaveMet r (carried_from r on (length fs) fs) input before count → DeedsHaveMet r (deeds_from r on (length fs) fs) input before count
 flows_have_met law one r on fs input before count each nested x =
     let whole : fs ++ [] ≡ fs = append-nil fs in
@@ -315,7 +315,7 @@ bounded : (t : ℕ) (met : ℕ) → t + met * t ≡ t * (1 + met)
 bounded t met = omega (arith, mul_comm t met, mul-add t 1 met)
 
 -- where nothing was read before, and nothing was kept, the reads are within their bound
-pub deeds_reads : {A : Type 0} (r : Records) (on : FlowSupport) (fs : List Flow) (input before : List ℕ) (result : Result A Stop) (old new : Scratching) → OneOfNeeded → OneEnding → AllByRecursion (IsFlow on) fs → AreNestedFlows (length fs) fs
+pub deeds_reads : {A : Type 0} (r : Records) (on : FlowSupport) (fs : List Flow) (input before : List ℕ) (result : Result A Stop) (old new : Scratching) → TestLaws → OneEnding → AllByRecursion (IsFlow on) fs → AreNestedFlows (length fs) fs
     → old.reads ≡ 0 → kept_among r.output old.kept_output ≡ 0 → ReadsOfDeeds r (carried_from r on (length fs) fs) input before result old new
     → (met : ℕ) × DeedsHaveMet r (deeds_from r on (length fs) fs) input before met × (new.reads ≤ length (tables_of r.output) * (1 + met))
 deeds_reads r on fs input before (Ok a) old new law one each nested none unkept (met, have, spent) =

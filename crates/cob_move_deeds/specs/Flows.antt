@@ -1,5 +1,5 @@
 -- Flows: what is carried out in the place of what is done, one behind another, with skips forward.
-use Rattle.std.specs.Prelude.{◌≡◌, ℕ, zero, suc, ◌+◌, ◌-◌, ◌/◌, ◌<◌, ◌≤◌, List, [], ◌∷◌, drop, length, map, take, ◌++◌, Option, Some, None}
+use Rattle.std.specs.Prelude.{◌≡◌, ℕ, zero, suc, ◌+◌, ◌-◌, ◌/◌, ◌<◌, ◌≤◌, List, [], ◌∷◌, drop, length, map, take, Option, Some, None}
 use Rattle.std.specs.List.{AllByRecursion, slice_get}
 use Rattle.cob_codec.specs.declared.reading.Reading.{Reading}
 use Rattle.cob_move_data.specs.declared.operands.Side.TheVariants.{In}
@@ -67,9 +67,14 @@ abbrev pub where_holds : Records → FlowSupport → Option code.Condition → (
 where_holds r on None holding lacking behind = Nothing
 where_holds r on (Some c) holding lacking behind = Choice (Holds (condition_of (sender_at r on) c)) holding lacking behind
 
+-- the flows behind the first
+abbrev pub behind_first : List Flow → List Flow
+behind_first [] = []
+behind_first (f ∷ fs) = fs
+
 -- the flows behind so many and a skip
 abbrev pub behind_skip : ℕ → List Flow → List Flow
-behind_skip count fs = drop 1 (drop count fs)
+behind_skip count fs = behind_first (drop count fs)
 
 -- What flows come to, of which so many at most are looked at: moves; the turns of a loop, each behind its test; behind the test of a loop what is passed
 -- over where it holds; and behind a condition what is done where it holds, a skip, and what is done where it doesn't.
@@ -133,8 +138,8 @@ AreNestedFlows (suc n) (flow.Moves number ∷ rest) = AreNestedFlows n rest
 AreNestedFlows (suc n) (flow.Turns number ∷ rest) = AreNestedFlows n rest
 AreNestedFlows (suc n) (flow.Until bound number skip ∷ rest) = (skip ≤ length rest) × AreNestedFlows n (take skip rest) × AreNestedFlows n (drop skip rest)
 AreNestedFlows (suc n) (flow.Where condition holding lacking ∷ rest) =
-    (front behind : List Flow) × (rest ≡ front ++ flow.Skip lacking ∷ behind) × (length front ≡ holding) × (lacking ≤ length behind)
-    × AreNestedFlows n front × AreNestedFlows n (take lacking behind) × AreNestedFlows n (drop lacking behind)
+    (drop holding rest ≡ flow.Skip lacking ∷ behind_skip holding rest) × (lacking ≤ length (behind_skip holding rest)) × AreNestedFlows n (take holding rest)
+    × AreNestedFlows n (take lacking (behind_skip holding rest)) × AreNestedFlows n (drop lacking (behind_skip holding rest))
 AreNestedFlows (suc n) (flow.Skip count ∷ rest) = ⊥
 
 -- flows that may be carried out

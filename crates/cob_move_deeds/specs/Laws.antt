@@ -3,12 +3,19 @@ use Rattle.std.specs.Prelude.{◌≡◌, ◌⊎◌, ◌↔◌, ℕ, ◌+◌, ◌
 use Rattle.cob_move_data.specs.declared.operands.Side.TheVariants.{In}
 use Rattle.cob_move_data.specs.Moves.{Move, Records}
 use Rattle.cob_move_apply.specs.Applied.{Applied, Ending}
+use Rattle.cob_layout.specs.Laws.{OneOfNeeded}
 use Rattle.cob_move_condition.specs.Conditions.{Condition}
+use Rattle.cob_move_condition.specs.Laws.{OneComparison}
 use Rattle.cob_move_deeds.specs.Choices.{FirstDone, IfDone, When, selection}
 use Rattle.cob_move_deeds.specs.Deeds.{Carried, Choice, Deeds, IsStraight, Moving, Nothing, moves_of_deeds}
 use Rattle.cob_move_deeds.specs.Tests.{BoundGives, Holds, Judged, Past, Test, Until, with_number}
 use Rattle.cob_move_loops.specs.Turns.{turns}
 use Rattle.cob_move_deeds.specs.Turns.{IsPastLiteral, Performed, number_after, turns_from}
+
+-- The laws of lower crates by which a test says one thing: the counts that a place needs are one, and so is what two operands compare to.
+pub record TestLaws : Type 0 where
+  pub counts : OneOfNeeded
+  pub compared : OneComparison
 
 -- Law: what is done without a test is what its moves come to, in order.
 abbrev pub StraightIsApplied : Type 0

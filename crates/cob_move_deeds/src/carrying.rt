@@ -24,10 +24,10 @@ use crate::bound::number_of;
 use crate::flow::{CountedLoop, Flow};
 use crate::giving::Giving;
 use crate::known::KnownBounds;
+use crate::laws::tests_are_one;
 use crate::ready::ReadyDeeds;
 use crate::row::{behind, behind_skip, first_moves};
 use crate::sides::Sides;
-use cob_layout::one_outcome_of_counts;
 use cob_move_apply::{Scratch, Stop, one_ending};
 use cob_move_condition::says;
 use cob_move_data::Side;
@@ -185,7 +185,7 @@ fn make_turns(
         (loop_done (records_of_sides sides.now) (flow_support deeds.now) (Some one.now))
         sides.now.input.now output.old result scratch.old scratch.new }
 {
-    one_outcome_of_counts();
+    tests_are_one();
     let number = read_bound(deeds, one.bound, sides, output, scratch)?;
     let turns = turns_up_to(one, number);
     make_moves(deeds, one.first, one.first + turns, sides, output, scratch)
@@ -365,7 +365,7 @@ fn next<'a>(
         sides.now.input.now known.new }
 {
     // For `spends`: what is done ends in one way.
-    one_outcome_of_counts();
+    tests_are_one();
     one_ending();
     match *flow {
         Flow::Moves(number) => {
@@ -389,7 +389,9 @@ fn next<'a>(
             Ok(left)
         }
         Flow::Where {
-            condition, holding, ..
+            condition,
+            holding,
+            ..
         } => {
             let left = take_branch(deeds, condition, holding, more, sides, output, scratch)?;
             Ok(left)

@@ -99,8 +99,20 @@ impl Operands for Giving<'_> {
         let place = self.place_of(number, room)?;
         let entry = &self.entries[number];
         let sent = match entry.side() {
-            Side::In => sent_at(entry, self.reading, self.sides.input_layout, place, self.sides.input),
-            Side::Out => sent_at(entry, self.reading, self.sides.output_layout, place, self.output),
+            Side::In => sent_at(
+                entry,
+                self.reading,
+                self.sides.input_layout,
+                place,
+                self.sides.input,
+            ),
+            Side::Out => sent_at(
+                entry,
+                self.reading,
+                self.sides.output_layout,
+                place,
+                self.output,
+            ),
         };
         Ok(sent)
     }

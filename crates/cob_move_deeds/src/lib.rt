@@ -40,7 +40,7 @@ mod told;
 
 pub use flow::{Asked, Bound, CountedLoop, Flow};
 pub use laws::{
-    bound_of_input_is_kept, choice_is_if, literal_loop_is_its_moves, loop_is_its_turns, one_carried,
-    selection_is_first, straight_is_applied,
+    bound_of_input_is_kept, choice_is_if, literal_loop_is_its_moves, loop_is_its_turns,
+    one_carried, selection_is_first, straight_is_applied,
 };
 pub use ready::ReadyDeeds;

@@ -20,8 +20,9 @@ ghost use Rattle.cob_move_deeds.specs.Tests.{IsBound, Judged};
 use crate::at_once::carry_all;
 use crate::carrying::carry_out;
 use crate::flow::{Asked, Bound, CountedLoop, Flow};
+use crate::laws::tests_are_one;
 use crate::sides::Sides;
-use cob_layout::{Layout, one_outcome_of_counts};
+use cob_layout::Layout;
 use cob_move_apply::{MarkedMoves, Reading, Scratch, Stop, one_ending};
 use cob_move_data::StatementMoves;
 
@@ -174,7 +175,7 @@ impl ReadyDeeds {
             × (scratch.new.reads ≤ length (tables_of output_layout.now) * (1 + met)) }
     {
         // For `reads`: what is done ends in one way.
-        one_outcome_of_counts();
+        tests_are_one();
         one_ending();
         scratch.forget_output();
         if self.at_once {

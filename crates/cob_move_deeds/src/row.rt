@@ -32,7 +32,11 @@ pub(crate) fn behind_skip(flows: &[Flow], count: usize) -> &[Flow]
     ensures value { result.now ≡ behind_skip count flows.now }
     ensures fewer { length result.now ≤ length flows.now }
 {
-    behind(behind(flows, count), 1)
+    let rest = behind(flows, count);
+    match rest.split_first() {
+        Some((_, more)) => more,
+        None => rest,
+    }
 }
 
 /// The first mark of moves that stand in front.
