@@ -1,0 +1,4 @@
+pub mod Qualities
+pub mod Meant
+pub mod Broken
+pub mod Laws
