@@ -22,10 +22,11 @@ use Rattle.cob_move_names.specs.Candidates.{Candidate}
 use Rattle.cob_move_names.specs.Laws.{NamedBreakNoRule, OneNamed}
 use Rattle.cob_move_names.specs.References.{BreaksReceiver, BreaksReference, NamesOperand}
 use Rattle.cob_move_names.specs.Pairs.{AreOnce, Pair, is_elementary}
+use Rattle.cob_move_tests.specs.Senders.{IsSenderOf, kind_of_sender, sent_references}
 use Rattle.cob_move.specs.declared.corresponding.TwoGroups.{TwoGroups}
-use Rattle.cob_move.specs.Meaning.{AreMeanings, AreReceiversOf, IsAllowedMove, IsMeaning, IsSenderOf, kind_of_sender, pair_move, pairs_of}
+use Rattle.cob_move.specs.Meaning.{AreMeanings, AreReceiversOf, IsAllowedMove, IsMeaning, pair_move, pairs_of}
 use Rattle.cob_move_apply.specs.Some.{SomeOf}
-use Rattle.cob_move.specs.Refusals.{BreaksMove, BreaksOn, BreaksPair, BreaksReceiving, BreaksStatement, IsNoGroup, SomeBreak, fault_on, receivers, references, sent_references, sent_constant}
+use Rattle.cob_move.specs.Refusals.{BreaksMove, BreaksOn, BreaksPair, BreaksReceiving, BreaksStatement, IsNoGroup, SomeBreak, fault_on, receivers, references, sent_constant}
 use Rattle.cob_move.specs.MeaningLaws.{MeaningsBreakNoRule, MeantBreakNoRule}
 use Rattle.cob_move.proofs.OneLemmas.{one_groups, one_sender}
 use Rattle.cob_move.proofs.SomeLemmas.{all_append, clash}

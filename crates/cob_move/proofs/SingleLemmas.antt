@@ -13,9 +13,10 @@ use Rattle.cob_move_statements.specs.declared.parts.Reference.{Reference}
 use Rattle.cob_move_statements.specs.Written.{WrittenReference, WrittenSender, SentReference, MoveTo, written_reference, written_references}
 use Rattle.cob_move_names.specs.Candidates.{Candidate}
 use Rattle.cob_move_names.specs.References.{NamesOperand, BreaksReference, BreaksReceiver}
-use Rattle.cob_move.specs.Meaning.{AreReceiversOf, IsSenderOf}
+use Rattle.cob_move_tests.specs.Senders.{BreaksSender, IsSenderOf, sent_references}
+use Rattle.cob_move.specs.Meaning.{AreReceiversOf}
 use Rattle.cob_move_apply.specs.Some.{SomeOf}
-use Rattle.cob_move.specs.Refusals.{BreaksReceipt, BreaksReceiving, BreaksSender, BreaksStatement, sent_references}
+use Rattle.cob_move.specs.Refusals.{BreaksReceipt, BreaksReceiving, BreaksStatement}
 use Rattle.cob_move.proofs.SomeLemmas.{all_append, left, right, next, none_of, some_behind, some_front, some_map}
 
 pub sender_reference : (r : MoveRule) (all : List Candidate) (w : WrittenReference) → BreaksReference r all w → BreaksSender r all (SentReference w)

@@ -22,11 +22,12 @@ use Rattle.cob_move_names.specs.Pairs.{Pair}
 use Rattle.cob_move_names.specs.Candidates.{Candidate}
 use Rattle.cob_move_names.specs.Directory.{entries_named}
 use Rattle.cob_move_names.specs.References.{NamesOperand}
+use Rattle.cob_move_tests.specs.Senders.{IsSenderOf, kind_of_sender}
 use Rattle.cob_move.specs.declared.corresponding.TwoGroups.{TwoGroups}
 use Rattle.cob_move.specs.declared.entries.Entries.{Entries}
 use Rattle.cob_move.specs.Between.{numbered}
 use Rattle.cob_move.specs.Entries.{records_of}
-use Rattle.cob_move.specs.Meaning.{AreMeanings, AreMeant, AreMovesOf, AreReceiversOf, IsMeaning, IsMoveOf, IsSenderOf, kind_of_sender}
+use Rattle.cob_move.specs.Meaning.{AreMeanings, AreMeant, AreMovesOf, AreReceiversOf, IsMeaning, IsMoveOf}
 use Rattle.cob_move.specs.Refusals.{BreaksOn, BreaksReceipt, BreaksStatement, SomeBroken}
 
 -- the entries that may be named

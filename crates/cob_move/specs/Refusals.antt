@@ -1,5 +1,5 @@
 -- Which rules a statement breaks.
-use Rattle.std.specs.Prelude.{◌≡◌, ◌⊎◌, ℕ, true, List, [], ◌∷◌, ◌++◌, Option, Some, None}
+use Rattle.std.specs.Prelude.{◌≡◌, ◌⊎◌, ℕ, true, List, [], ◌∷◌, ◌++◌, Option, None}
 use Rattle.cob_copybook_clauses.specs.Written.{WrittenValue}
 use Rattle.cob_copybook_entries.specs.Books.{BreaksConstant, BreaksValue}
 use Rattle.cob_copybook_tree.specs.declared.node.Kind.{Kind}
@@ -15,24 +15,15 @@ use Rattle.cob_move_receive.specs.declared.refusals.Refusal.TheVariants as refus
 use Rattle.cob_move_statements.specs.declared.fault.MoveRule.{MoveRule}
 use Rattle.cob_move_statements.specs.declared.fault.MoveRule.TheVariants as rule
 use Rattle.cob_move_statements.specs.declared.fault.MoveFault.{MoveFault}
-use Rattle.cob_move_statements.specs.Written.{WrittenReference, WrittenSender, SentReference, SentConstant, WrittenAction, MoveTo, MoveCorresponding, WrittenStatement}
+use Rattle.cob_move_statements.specs.Written.{WrittenReference, WrittenAction, MoveTo, MoveCorresponding, WrittenStatement}
 use Rattle.cob_move_apply.specs.Some.{SomeOf}
 use Rattle.cob_move_names.specs.Candidates.{Candidate, all_entries}
 use Rattle.cob_move_names.specs.References.{NamesOperand, BreaksReference, BreaksReceiver}
 use Rattle.cob_move_names.specs.Between.{PairEnds, ends_of}
 use Rattle.cob_move_names.specs.Pairs.{AreOnce, Pair, is_elementary}
+use Rattle.cob_move_tests.specs.Senders.{IsSenderOf, constant_sent, kind_of_sender, sent_references}
 use Rattle.cob_move.specs.declared.corresponding.TwoGroups.{TwoGroups}
-use Rattle.cob_move.specs.Meaning.{IsSenderOf, AreGroupsOf, kind_of_sender, pairs_of}
-
--- the reference that a sender is, if it is one
-abbrev pub sent_references : WrittenSender → List WrittenReference
-sent_references (SentReference r) = r ∷ []
-sent_references (SentConstant w) = []
-
--- the constant that a sender is, if it is one
-abbrev pub constant_sent : WrittenSender → Option WrittenValue
-constant_sent (SentReference r) = None
-constant_sent (SentConstant w) = Some w
+use Rattle.cob_move.specs.Meaning.{AreGroupsOf, pairs_of}
 
 -- the references of a statement
 abbrev pub references : WrittenAction → List WrittenReference
@@ -64,15 +55,6 @@ BreaksReceiving r all s w = (o : Operand) × NamesOperand all w Out o × BreaksM
 -- A receiver breaks a rule by its reference, or by the sender's move to what it names.
 abbrev pub BreaksReceipt : MoveRule → List Candidate → Sender → WrittenReference → Type 0
 BreaksReceipt r all s w = BreaksReceiver r all w ⊎ BreaksReceiving r all s w
-
--- A sender breaks a rule: its literal M1 or M7, its reference M2, M3 or M4.
-abbrev pub BreaksSender : MoveRule → List Candidate → WrittenSender → Type 0
-BreaksSender rule.Grammar all s = BreaksConstant (constant_sent s)
-BreaksSender rule.Literal all s = BreaksValue (constant_sent s)
-BreaksSender rule.Unknown all s = SomeOf (BreaksReference rule.Unknown all) (sent_references s)
-BreaksSender rule.Ambiguous all s = SomeOf (BreaksReference rule.Ambiguous all) (sent_references s)
-BreaksSender rule.Subscripts all s = SomeOf (BreaksReference rule.Subscripts all) (sent_references s)
-BreaksSender other all s = ⊥
 
 -- The move between two entries breaks the rule.
 abbrev pub BreaksBetween : MoveRule → PairEnds → Type 0

@@ -2,6 +2,7 @@
 
 ghost use Rattle.std.specs.Prelude.{◌≡◌, ◌⊎◌, List, [], ◌∷◌, map, IfErr, IfNone, IfOk, IfSome, OnOk};
 ghost use Rattle.std.specs.List.{AllByRecursion};
+ghost use Rattle.cob_move_tests.specs.Senders.{kind_of_sender};
 ghost use Rattle.cob_move.specs.Among.{
   AreReceiversAmong,
   BreaksBetweenAny,
@@ -11,7 +12,6 @@ ghost use Rattle.cob_move.specs.Among.{
   NamesAmong,
   nameable,
 };
-ghost use Rattle.cob_move.specs.Meaning.{kind_of_sender};
 ghost use Rattle.cob_move_apply.specs.Some.{SomeOf};
 ghost use Rattle.cob_move.specs.Refusals.{BreaksMove};
 ghost use Rattle.cob_move_data.specs.declared.operands.Side.TheVariants.{Out};

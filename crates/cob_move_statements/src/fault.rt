@@ -39,6 +39,8 @@ pub enum MoveRule {
     Counter,
     /// M12: loops that come to too many statements, or too many that hold one another.
     TooMany,
+    /// M13: operands of a condition that may not be compared, or an entry of which a class or a sign may not be asked.
+    NotComparable,
     /// M19: memory was refused.
     Memory,
 }
@@ -58,6 +60,7 @@ impl fmt::Display for MoveRule {
             MoveRule::Twice => write!(f, "M9"),
             MoveRule::TooLong => write!(f, "M10"),
             MoveRule::Counter => write!(f, "M11"),
+            MoveRule::NotComparable => write!(f, "M13"),
             MoveRule::TooMany => write!(f, "M12"),
             MoveRule::Memory => write!(f, "M19"),
         }

@@ -1,9 +1,7 @@
 -- Which rules a written condition breaks.
-use Rattle.std.specs.Prelude.{◌≡◌, ◌⊎◌, ◌<◌, false, List, length}
+use Rattle.std.specs.Prelude.{◌≡◌, ◌⊎◌, false, List}
 use Rattle.cob_move_condition.specs.Comparable.{may_compare}
 use Rattle.cob_move_condition.specs.Conditions.{Condition}
-use Rattle.cob_move_conditions.specs.declared.phrases.Quality.{Quality}
-use Rattle.cob_move_conditions.specs.declared.relations.Relation.{Relation}
 use Rattle.cob_move_conditions.specs.Conditions.{IsWholeCondition}
 use Rattle.cob_move_conditions.specs.Written.{BehindNot, Has, InBrackets, Relates, RelatesTo, Simple, StandsAlone, WithAnd, WithOr, WrittenCondition, WrittenTest}
 use Rattle.cob_move_data.specs.declared.operands.Operand.{Operand}
@@ -11,7 +9,7 @@ use Rattle.cob_move_data.specs.declared.operands.Side.{Side}
 use Rattle.cob_move_data.specs.Moves.{Records, Sender}
 use Rattle.cob_move_names.specs.Candidates.{Candidate, all_entries}
 use Rattle.cob_move_names.specs.References.{BreaksReference, NamesOperand}
-use Rattle.cob_move_names.specs.Senders.{BreaksSender, kind_of_sender}
+use Rattle.cob_move_tests.specs.Senders.{BreaksSender, kind_of_sender}
 use Rattle.cob_move_statements.specs.declared.fault.MoveRule.{MoveRule}
 use Rattle.cob_move_statements.specs.declared.fault.MoveRule.TheVariants as rule
 use Rattle.cob_move_statements.specs.Written.{SentConstant, SentReference, WrittenSender}

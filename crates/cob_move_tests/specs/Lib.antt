@@ -1,3 +1,4 @@
+pub mod Senders
 pub mod Qualities
 pub mod Meant
 pub mod Broken

@@ -1,8 +1,8 @@
 -- What a written condition means: the condition on the operands that its references name, with what abbreviations leave out.
-use Rattle.std.specs.Prelude.{◌≡◌, ℕ, ◌<◌, Bool, true, false, List, length}
+use Rattle.std.specs.Prelude.{◌≡◌, ◌<◌, Bool, true, false, List, length}
 use Rattle.std.specs.declared.cmp.Ordering.TheVariants.{Equal, Greater, Less}
 use Rattle.cob_codec.specs.declared.reading.Reading.TheVariants.{Pictured}
-use Rattle.cob_copybook_clauses.specs.Written.{Quoted as QuotedText, WrittenValue}
+use Rattle.cob_copybook_clauses.specs.Written.{Quoted as QuotedText}
 use Rattle.cob_copybook_entry.specs.declared.kinds.Figurative.TheVariants.{Zero}
 use Rattle.cob_copybook_entry.specs.Described.{Figure}
 use Rattle.cob_move_condition.specs.Comparable.{is_number_operand, may_compare}
@@ -17,9 +17,9 @@ use Rattle.cob_move_data.specs.declared.operands.Side.{Side}
 use Rattle.cob_move_data.specs.Moves.{Entry, Literal, Records, Sender, record_of}
 use Rattle.cob_move_names.specs.Candidates.{Candidate, all_entries}
 use Rattle.cob_move_names.specs.References.{NamesOperand}
-use Rattle.cob_move_names.specs.Senders.{IsSenderOf, kind_of_sender}
+use Rattle.cob_move_tests.specs.Senders.{IsSenderOf, kind_of_sender}
 use Rattle.cob_move_receive.specs.Table.{Entry as EntryOf}
-use Rattle.cob_move_statements.specs.Written.{SentConstant, SentReference, WrittenReference, WrittenSender}
+use Rattle.cob_move_statements.specs.Written.{SentConstant, SentReference, WrittenSender}
 use Rattle.cob_source.specs.Tokens.{Lexeme}
 use Rattle.cob_move_tests.specs.Qualities.{may_be_of_class}
 

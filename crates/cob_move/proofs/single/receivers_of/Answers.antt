@@ -1,6 +1,6 @@
 use Rattle.std.proofs.Common.{inr, map}
 use Rattle.std.proofs.lemmas.Result.{err_from_is_err_and}
-use Rattle.cob_move.specs.Meaning.{kind_of_sender}
+use Rattle.cob_move_tests.specs.Senders.{kind_of_sender}
 use Rattle.cob_move.specs.Refusals.{BreaksReceipt}
 use Rattle.cob_move_data.specs.declared.operands.Operand.{Operand}
 use Rattle.cob_move_data.specs.Moves.{operand_in, sender}

@@ -1,6 +1,7 @@
 use Rattle.std.proofs.Common.{◌++◌, drop, List, map}
 use Rattle.std.specs.List.{AllByRecursion}
-use Rattle.cob_move.specs.Meaning.{AreReceiversOf, kind_of_sender}
+use Rattle.cob_move_tests.specs.Senders.{kind_of_sender}
+use Rattle.cob_move.specs.Meaning.{AreReceiversOf}
 use Rattle.cob_move_apply.specs.Some.{SomeOf}
 use Rattle.cob_move.specs.Refusals.{BreaksReceipt}
 use Rattle.cob_move_data.specs.declared.operands.Operand.{Operand}
