@@ -60,8 +60,8 @@ impl fmt::Display for MoveRule {
             MoveRule::Twice => write!(f, "M9"),
             MoveRule::TooLong => write!(f, "M10"),
             MoveRule::Counter => write!(f, "M11"),
-            MoveRule::NotComparable => write!(f, "M13"),
             MoveRule::TooMany => write!(f, "M12"),
+            MoveRule::NotComparable => write!(f, "M13"),
             MoveRule::Memory => write!(f, "M19"),
         }
     }
