@@ -32,16 +32,8 @@ trim {X} (suc l) (x ∷ xs) ys = ap (λ (zs : List X). x ∷ zs) (trim l xs ys)
 pub full : {X : Type 0} (l : ℕ) (xs ys : List X) → length xs ≡ l → take l (xs ++ ys) ≡ xs
 full l xs ys is = take_at xs ys l is
 
-pub short : {X : Type 0} (l : ℕ) (xs ys : List X) → length (xs ++ ys) ≤ l → take l (xs ++ ys) ≡ xs ++ ys
-short l xs ys le = take_all l (xs ++ ys) le
-
 pub within : {X : Type 0} (l : ℕ) (xs ys : List X) → xs ≡ take l ys → length xs ≤ l
 within {X} l xs ys is = omega (arith, ap length is, length-take l ys)
-
--- what has been put up to a limit, and the next part behind it
-pub put_next : {X : Type 0} (l : ℕ) (old now new done part : List X) → now ≡ take l (old ++ done) → new ≡ take l (now ++ part) → new ≡ take l (old ++ (done ++ part))
-put_next {X} l old now new done part before is =
-    is ∙ ap (λ (xs : List X). take l (xs ++ part)) before ∙ trim l (old ++ done) part ∙ ap (take l) (append_assoc old done part)
 
 -- at the limit, nothing more is put
 pub put_full : {X : Type 0} (l : ℕ) (old now done more : List X) → now ≡ take l (old ++ done) → length now ≡ l → now ≡ take l (old ++ (done ++ more))
@@ -78,9 +70,6 @@ element_out n = ap element_bytes (node_out n)
 
 pub element_group : (n : Node) → (out-Node n).kind ≡ Group → element_bytes (node n) ≡ bytes_beneath (below n)
 element_group n is = element_out n ∙ ap (λ (k : Kind). bytes_by_kind (out-Node n).number k (bytes_beneath (below n))) is
-
-pub element_item : (n : Node) (i : Item) → (out-Node n).kind ≡ ItemKind i → element_bytes (node n) ≡ item_bytes (out-Node n).number i (item_size i)
-element_item n i is = element_out n ∙ ap (λ (k : Kind). bytes_by_kind (out-Node n).number k (bytes_beneath (below n))) is
 
 -- all elements of an entry
 pub all_elements : (n : Node) → bytes_beneath (tree_of n) ≡ unless (out-Node n).redefines (several (λ k. element_bytes (node n)) (greatest_number (node n).top))

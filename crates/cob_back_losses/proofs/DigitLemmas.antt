@@ -6,7 +6,7 @@ use Rattle.std.proofs.lemmas.Int.{ints}
 use Rattle.cob_decimal.specs.Decimal.{IsDigits}
 use Rattle.cob_picture.specs.Counts.{digits, scale}
 use Rattle.cob_picture.specs.Positions.{PlainPicture}
-use Rattle.cob_back_losses.specs.Given.{GivesDigit, GivesMinus, HasDigitAt, IsOfExtent, SomeDigit}
+use Rattle.cob_back_losses.specs.Given.{GivesDigit, GivesMinus, HasDigitAt, IsOfExtent}
 use Rattle.cob_back_losses.specs.Losses.{IsBelowLast, IsBeyondFirst, last_power}
 use Rattle.cob_back_losses.specs.declared.numbers.NumberExtent.{NumberExtent}
 
@@ -119,17 +119,3 @@ below_zero e = (
 )
 
 -- ---- the digits of a constant
-
--- the first digit, or one of the others
-pub first_so : (Lost : ℤ → Type 0) (d : ℕ) (ds : List ℕ) (point power : ℤ) → d ≢ 0 → power ≡ (pos (length ds) -ℤ point) → Lost power → SomeDigit (d ∷ ds) point Lost
-first_so Lost d ds point power some is lost = record { power = power; digit = inl (some, is); lost = lost }
-
-pub later_so : (Lost : ℤ → Type 0) (d : ℕ) (ds : List ℕ) (point : ℤ) → SomeDigit ds point Lost → SomeDigit (d ∷ ds) point Lost
-later_so Lost d ds point s = record { power = s.power; digit = inr s.digit; lost = s.lost }
-
-pub only_later : (Lost : ℤ → Type 0) (d : ℕ) (ds : List ℕ) (point : ℤ) → (d ≢ 0 → (power : ℤ) → power ≡ (pos (length ds) -ℤ point) → Lost power → ⊥)
-    → SomeDigit (d ∷ ds) point Lost → SomeDigit ds point Lost
-only_later Lost d ds point none s = elim s.digit [
-  | inl (some, is) ↦ absurd (none some s.power is s.lost)
-  | inr h ↦ record { power = s.power; digit = h; lost = s.lost }
-]

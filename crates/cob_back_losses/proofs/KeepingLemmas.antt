@@ -1,33 +1,17 @@
 -- Which bytes keep their description.
-use Rattle.std.proofs.Common.{◌≡◌, ℕ, zero, suc, ◌+◌, ◌<◌, ◌≤◌, Bool, true, false, List, [], ◌∷◌, length, take, map, get_or, refl, sym, ap, subst, ◌∙◌, arith, not}
-use Rattle.std.specs.Prelude.{Option, Some, None, option_map, IsFalse, IsTrue, nat_lt}
+use Rattle.std.proofs.Common.{◌≡◌, ℕ, ◌<◌, ◌≤◌, Bool, true, false, List, length, take, map, get_or, refl, sym, ap, subst, ◌∙◌, arith, not}
+use Rattle.std.specs.Prelude.{Option, Some, None, option_map, IsFalse, IsTrue}
 use Rattle.std.specs.Bool.{Decides}
 use Rattle.std.specs.List.{slice_get}
 use Rattle.std.proofs.lemmas.Option.{slice_get-map, slice_get_read, slice_get_within}
 use Rattle.std.proofs.lemmas.List.{length-take, take_all}
-use Rattle.cob_back_losses.proofs.ByteLemmas.{less, not_less}
 use Rattle.cob_copybook_tree.specs.Forests.{Tree}
 use Rattle.cob_copybook_tree.specs.Nodes.{Resolved}
 use Rattle.cob_back_losses.specs.declared.bytes.ItemByte as code_bytes
 use Rattle.cob_back_losses.specs.declared.keeping.Unkept.{Unkept}
 use Rattle.cob_back_losses.specs.Bytes.{ItemByte, element_bytes, item_byte}
-use Rattle.cob_back_losses.specs.Keeping.{Element, KeepsByte, IsMarked, IsUnkept, KeepsDescription, Nothing, SentElement, TellsFirstUnkept, TellsAmong, byte_sense, gets_byte, gets_of, moves_bytes, sent_sense}
+use Rattle.cob_back_losses.specs.Keeping.{KeepsByte, IsMarked, IsUnkept, KeepsDescription, SentElement, TellsFirstUnkept, TellsAmong, moves_bytes, sent_sense}
 use Rattle.cob_back_losses.specs.Senses.{KeepsSense, Sense, item_sense}
-
--- what is cut has the same before its end
-pub get_take : {X : Type 0} (l : ℕ) (xs : List X) (at : ℕ) → at < l → slice_get (take l xs) at ≡ slice_get xs at
-get_take zero xs at lt = absurd (omega (arith, lt))
-get_take (suc l) [] at lt = refl
-get_take (suc l) (x ∷ xs) zero lt = refl
-get_take (suc l) (x ∷ xs) (suc at) lt = get_take l xs at (omega (arith, lt))
-
-pub sense_of_entry : (t : Tree Resolved) (bytes : List code_bytes.ItemByte) (limit at : ℕ) → map item_byte bytes ≡ take limit (element_bytes t) → at < limit
-    → byte_sense (slice_get (map item_byte bytes) at) ≡ sent_sense (Element t) at
-sense_of_entry t bytes limit at is lt = ap (λ (xs : List ItemByte). byte_sense (slice_get xs at)) is ∙ ap byte_sense (get_take limit (element_bytes t) at lt)
-
-pub gets_of_entry : (t : Tree Resolved) (bytes : List code_bytes.ItemByte) (limit at : ℕ) → map item_byte bytes ≡ take limit (element_bytes t) → at < limit
-    → gets_byte (slice_get (map item_byte bytes) at) ≡ gets_of (Element t) at
-gets_of_entry t bytes limit at is lt = ap (λ (xs : List ItemByte). gets_byte (slice_get xs at)) is ∙ ap gets_byte (get_take limit (element_bytes t) at lt)
 
 -- ---- one byte
 
@@ -70,26 +54,9 @@ pub all_kept : (from : SentElement) (bytes : List ItemByte) (Covered : ℕ → T
     → (at : ℕ) → KeepsByte from bytes Covered at
 all_kept from bytes Covered n le kept at byte there = kept at (omega (arith, le, slice_get_within bytes at byte there)) byte there
 
--- one more byte is kept
-pub next_kept : (from : SentElement) (bytes : List ItemByte) (Covered : ℕ → Type 0) (n : ℕ) → ((at : ℕ) → at < n → KeepsByte from bytes Covered at)
-    → KeepsByte from bytes Covered n → (at : ℕ) → at < n + 1 → KeepsByte from bytes Covered at
-next_kept from bytes Covered n kept here at lt = by (nat_lt at n) refl
-  where
-    by : (before : Bool) → nat_lt at n ≡ before → KeepsByte from bytes Covered at
-    by true is = kept at (less at n is)
-    by false is =
-        let same : n ≡ at = omega (arith, lt, not_less at n is) in
-        subst (KeepsByte from bytes Covered) same here
-
 pub told : (from : SentElement) (to : Tree Resolved) (Covered : ℕ → Type 0) (o : Option Unkept) → IsTrue (moves_bytes from to) → TellsAmong from (element_bytes to) Covered o → TellsFirstUnkept from to Covered o
 told from to Covered (Some u) moves h = (moves, h)
 told from to Covered None moves h = λ also. h
-
-pub moves_none : (from : SentElement) (to : Tree Resolved) (Covered : ℕ → Type 0) → moves_bytes from to ≡ false → KeepsDescription from to Covered
-moves_none from to Covered is moves = absurd (cc (is, moves))
-
-pub covered_none : (from : SentElement) (to : Tree Resolved) (Covered : ℕ → Type 0) → ((at : ℕ) → at < length (element_bytes to) → Covered at) → KeepsDescription from to Covered
-covered_none from to Covered all moves at byte there bare = absurd (bare (all at (slice_get_within (element_bytes to) at byte there)))
 
 -- ---- what is covered, said in another way
 
@@ -110,6 +77,3 @@ tells_as from to C D there back (Some u) (moves, f) = (
   },
 )
 tells_as from to C D there back None h = keeps_as from to C D there h
-
-pub nothing_marked : (at : ℕ) → IsMarked [] at → Nothing at
-nothing_marked at is = absurd (cc (is))

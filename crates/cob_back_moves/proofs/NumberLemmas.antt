@@ -1,6 +1,6 @@
 -- Numbers that are moved to a wider item and back.
-use Rattle.std.proofs.Common.{◌≡◌, ℕ, ◌+◌, ◌*◌, ◌/◌, ◌%◌, ◌^◌, ◌<◌, ◌≤◌, nat_lt, Bool, true, false, ◌&&◌, IsTrue, ◌↔◌, zero, suc, List, length, refl, sym, ap, subst, ◌∙◌, arith}
-use Rattle.std.specs.Prelude.{MatchBool, ℤ, pos, negsuc, ◌-ℤ◌, ◌≤ℤ◌}
+use Rattle.std.proofs.Common.{◌≡◌, ℕ, ◌*◌, ◌%◌, ◌^◌, ◌<◌, nat_lt, Bool, true, false, ◌&&◌, IsTrue, ◌↔◌, zero, suc, List, length, refl, sym, ap, subst, ◌∙◌, arith}
+use Rattle.std.specs.Prelude.{MatchBool, ℤ, pos, negsuc, ◌-ℤ◌}
 use Rattle.std.proofs.lemmas.Bool.Decides.{nat_tests}
 use Rattle.std.proofs.lemmas.Int.{ints}
 use Rattle.std.proofs.Math.Nat.{mod-eq_of_lt}
@@ -13,11 +13,11 @@ use Rattle.cob_picture.specs.declared.category.Category.{Category}
 use Rattle.cob_picture.specs.declared.category.Category.TheVariants.{Alphabetic, Numeric, Alphanumeric, AlphanumericEdited, NumericEdited}
 use Rattle.cob_codec.specs.Sign.{IsHeld}
 use Rattle.cob_edit.specs.Editing.{shows_sign}
-use Rattle.cob_edit.specs.Pictured.{IsEdited, IsInRange, places}
+use Rattle.cob_edit.specs.Pictured.{IsEdited, places}
 use Rattle.cob_copybook_tree.specs.declared.node.Item.{Item}
 use Rattle.cob_copybook_tree.specs.Lengths.{item_size}
 use Rattle.cob_copybook_tree.specs.Resolving.{is_number}
-use Rattle.cob_copybook_tree.specs.Items.{HoldsNumbers, IsNumberItem, IsStorable, ItemReadsBack, stored_form}
+use Rattle.cob_copybook_tree.specs.Items.{HoldsNumbers, IsNumberItem, ItemReadsBack, stored_form}
 use Rattle.cob_move_receive.specs.Sent.{Amount}
 use Rattle.cob_move_receive.specs.Numbers.{GivesUnder, HoldsAligned, HoldsAmount, IsNumberIn, IsUnedited, ItemGives}
 use Rattle.cob_codec.specs.declared.reading.Reading.TheVariants.{Pictured}
@@ -137,9 +137,6 @@ same_minus true s l m e f g =
     let has_sign : s ≡ true = f refl in
     let is_some : l ≡ true = g refl in
     e ∙ ap (λ x. x && l) has_sign ∙ is_some
-
-kept_minus : (n m : Bool) (P : Type 0) → IsTrue m → n ≡ m → IsTrue n
-kept_minus n m P t e = e ∙ t
 
 -- a sign that is shown exactly where the number has one
 shown_minus : (n m : Bool) → (IsTrue m → IsTrue n) → (IsTrue n → IsTrue m) → m ≡ n

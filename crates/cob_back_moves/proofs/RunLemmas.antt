@@ -1,7 +1,7 @@
 -- The symbols of runs, place by place.
-use Rattle.std.proofs.Common.{◌≡◌, ℕ, ◌+◌, ◌-◌, ◌<◌, ◌≤◌, List, [], ◌++◌, length, drop, get_or, replicate, Some, sym, ap, ◌∙◌, arith, inl, inr}
+use Rattle.std.proofs.Common.{◌≡◌, ℕ, ◌+◌, ◌-◌, ◌<◌, ◌≤◌, List, ◌++◌, length, drop, get_or, replicate, Some, sym, ap, ◌∙◌, arith, inl, inr}
 use Rattle.std.specs.List.{slice_get}
-use Rattle.std.proofs.lemmas.List.{drop_more, drop_all, get_or-append_right, get_or_append_left, get_or-replicate, length-replicate, length-append, same_lists}
+use Rattle.std.proofs.lemmas.List.{drop_more, get_or-append_right, get_or_append_left, get_or-replicate, length-replicate, length-append, same_lists}
 use Rattle.std.proofs.lemmas.Option.{slice_get_past, slice_get-get_or}
 use Rattle.std.proofs.lemmas.Bool.{cases_lt}
 use Rattle.cob_picture.specs.declared.symbol.Symbol.{Symbol}
@@ -14,15 +14,6 @@ behind runs k = written_out (drop k runs)
 
 pub behind_is : (runs : List Run) (k : ℕ) (d : Run) → k < length runs → behind runs k ≡ replicate (get_or runs k d).count (get_or runs k d).symbol ++ behind runs (k + 1)
 behind_is runs k d lt = ap written_out (drop_more runs k d lt)
-
-pub length-behind : (runs : List Run) (k : ℕ) (d : Run) → k < length runs → length (behind runs k) ≡ (get_or runs k d).count + length (behind runs (k + 1))
-length-behind runs k d lt =
-    ap (length {A = Symbol}) (behind_is runs k d lt)
-    ∙ length-append (replicate (get_or runs k d).count (get_or runs k d).symbol) (behind runs (k + 1))
-    ∙ ap (λ (n : ℕ). n + length (behind runs (k + 1))) (length-replicate (get_or runs k d).count (get_or runs k d).symbol)
-
-pub behind_none : (runs : List Run) (k : ℕ) → length runs ≤ k → behind runs k ≡ []
-behind_none runs k le = ap written_out (drop_all k runs le)
 
 -- a place in the first of several symbols that are one
 pub in_run : (count left : ℕ) (s : Symbol) (rest : List Symbol) → left < count → slice_get (replicate count s ++ rest) left ≡ Some s

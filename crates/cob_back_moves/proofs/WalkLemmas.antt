@@ -80,9 +80,6 @@ lost_once P e children above r once (rs, i, has, unfine) =
 abbrev pub FineBelow : (ℕ → List ℕ → Item → Type 0) → Resolved → Forest Resolved → List ℕ → ℕ → Type 0
 FineBelow P e children above k = (s : ℕ) → 0 < s → s < k → AllFine P (ElementHas e children) (above ++ s ∷ [])
 
-pub none_below : (P : ℕ → List ℕ → Item → Type 0) (e : Resolved) (children : Forest Resolved) (above : List ℕ) (k : ℕ) → k ≤ 1 → FineBelow P e children above k
-none_below P e children above k le s low high = absurd (omega (arith, le, low, high))
-
 pub more_below : (P : ℕ → List ℕ → Item → Type 0) (e : Resolved) (children : Forest Resolved) (above : List ℕ) (k : ℕ) → FineBelow P e children above k → AllFine P (ElementHas e children) (above ++ k ∷ []) → FineBelow P e children above (k + 1)
 more_below P e children above k below at s low high = elim (cases_lt s k) [
   | inl lt ↦ below s low lt

@@ -166,13 +166,6 @@ untested_from r on n fs = untested_moves (deeds_from r on n fs)
 abbrev pub marks_from : Records → FlowSupport → ℕ → List Flow → List Bool
 marks_from r on n fs = tested_moves false (deeds_from r on n fs)
 
-pub untested_first : (r : Records) (on : FlowSupport) (fs : List Flow) (so : List (List Move)) → AllByRecursion (IsFlow on) fs → so ≡ []
-    → LeftOf (List Move) on (untested_from r on) fs so (untested_from r on (length fs) fs)
-untested_first r on fs so each none = record {
-  each = each;
-  left = (length fs, omega arith, ap (λ (xs : List (List Move)). xs ++ untested_from r on (length fs) fs) none);
-}
-
 pub untested_behind : (r : Records) (on : FlowSupport) (f : Flow) (fs rest : List Flow) (so own whole : List (List Move)) → LeftOf (List Move) on (untested_from r on) (f ∷ fs) so whole
     → own ≡ so ++ stretches_of r on f → rest ≡ drop (passed_of f) fs → LeftOf (List Move) on (untested_from r on) rest own whole
 untested_behind r on f fs rest so own whole before is behind = let (n, few, left) = before.left in from n few left
@@ -197,12 +190,6 @@ untested_whole r on [] so whole before none =
     let (n, few, left) = before.left in
     sym (append-nil so) ∙ ap (λ (d : Deeds Past). so ++ untested_moves d) (sym (none_from r on n)) ∙ left
 untested_whole r on (f ∷ fs) so whole before none = absurd (omega (arith, none))
-
-pub marks_first : (r : Records) (on : FlowSupport) (fs : List Flow) (so : List Bool) → AllByRecursion (IsFlow on) fs → so ≡ [] → LeftOf Bool on (marks_from r on) fs so (marks_from r on (length fs) fs)
-marks_first r on fs so each none = record {
-  each = each;
-  left = (length fs, omega arith, ap (λ (xs : List Bool). xs ++ marks_from r on (length fs) fs) none);
-}
 
 pub marks_behind : (r : Records) (on : FlowSupport) (f : Flow) (fs inside rest : List Flow) (so mid own whole : List Bool) → LeftOf Bool on (marks_from r on) (f ∷ fs) so whole
     → mid ≡ so ++ flow_marks r on false f → own ≡ mid ++ replicate (length (flat_map (flow_moves r on) inside)) true → inside ≡ take (passed_of f) fs → rest ≡ drop (passed_of f) fs

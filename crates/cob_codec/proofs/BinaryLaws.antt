@@ -71,7 +71,6 @@ pub half_of : ℕ → ℕ
 half_of count = if nat_le count 4 then 2 ^ 15 else (if nat_le count 9 then 2 ^ 31 else 2 ^ 63)
 
 pub width : (count : ℕ) → Width (binary_length count) (half_of count)
-unfolding half_of
 width count = by_tests (nat_le count 4) (nat_le count 9)
   where
     by_tests : (a b : Bool) → Width (if a then 2 else (if b then 4 else 8)) (if a then 2 ^ 15 else (if b then 2 ^ 31 else 2 ^ 63))
@@ -84,7 +83,6 @@ tested a b t e h = grind (arith, nat_tests)
 
 -- a number of a binary item's digits is below half of what its bytes hold
 pub fits_half : (count a : ℕ) → count ≤ 18 → a < 10 ^ count → a < half_of count
-unfolding half_of
 fits_half count a few lt = by_tests (nat_le count 4) (nat_le count 9) (tested count 4 (nat_le count 4) refl) (tested count 9 (nat_le count 9) refl)
   where
     by_tests : (s t : Bool) → (s ≡ true → count ≤ 4) → (t ≡ true → count ≤ 9) → a < (if s then 2 ^ 15 else (if t then 2 ^ 31 else 2 ^ 63))

@@ -1,5 +1,5 @@
 -- Lemmas on numbers and their digits.
-use Rattle.std.proofs.Common.{◌≡◌, ℕ, ◌+◌, ◌*◌, ◌/◌, ◌%◌, ◌^◌, ◌<◌, ◌≤◌, ◌&&◌, ◌==◌, ◌↔◌, List, [], ◌∷◌, length, get_or, drop, refl, ap, sym, ◌∙◌, arith, suc, zero, Bool, true, false, IsTrue}
+use Rattle.std.proofs.Common.{◌≡◌, ℕ, ◌+◌, ◌*◌, ◌/◌, ◌%◌, ◌^◌, ◌<◌, ◌≤◌, ◌&&◌, ◌==◌, List, [], ◌∷◌, length, get_or, drop, refl, ap, sym, ◌∙◌, arith, suc, zero, Bool, true, false}
 use Rattle.std.proofs.Math.ListN.{set}
 use Rattle.std.proofs.Math.Nat.{pow-le-pow_right, mul_assoc, mul_comm, add-mul, add_assoc}
 use Rattle.std.proofs.lemmas.Bool.Decides.{nat_tests}
@@ -58,10 +58,3 @@ lowest r p m = let split : r ≡ r / 10 * 10 + r % 10 = omega arith in distribut
 pub none_left : (r p m n : ℕ) → n ≡ r * p + m → n < p → n ≡ m
 none_left zero p m n e lt = omega arith
 none_left (suc r) p m n e lt = absurd (grind arith)
-
--- the sign of a number that is not zero stays
-pub kept_sign : (v n : Bool) (m : ℕ) → (IsTrue n → 0 < m) → IsTrue v ↔ (IsTrue n × (0 < m)) → v ≡ n
-kept_sign true true m some s = refl
-kept_sign false false m some s = refl
-kept_sign true false m some s = let both = s.0 refl in sym both.0
-kept_sign false true m some s = s.1 (refl, some refl)

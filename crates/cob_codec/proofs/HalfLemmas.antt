@@ -1,12 +1,10 @@
 -- Half bytes by their numbers, and numbers made of parts that suit.
-use Rattle.std.proofs.Common.{◌≡◌, ◌↔◌, ℕ, zero, suc, ◌+◌, ◌*◌, ◌/◌, ◌%◌, ◌<◌, ◌≢◌, Bool, true, false, IsTrue, List, [], ◌∷◌, length, get_or, refl, sym, subst, arith, Option, Some, None, inl, inr}
+use Rattle.std.proofs.Common.{◌≡◌, ◌↔◌, ℕ, zero, suc, ◌+◌, ◌*◌, ◌/◌, ◌%◌, ◌<◌, ◌≢◌, Bool, true, false, IsTrue, List, [], ◌∷◌, length, get_or, refl, sym, arith, Option, Some, None}
 use Rattle.std.specs.Prelude.{IfNone, IfSome}
 use Rattle.cob_decimal.specs.Decimal.{IsDigits, number_of}
 use Rattle.cob_codec.specs.Packed.{halves}
 use Rattle.cob_codec.specs.Sign.{IsSigned}
-use Rattle.std.proofs.lemmas.Bool.{cases_lt}
-use Rattle.cob_codec.specs.declared.flaw.ExpectedPart.{ExpectedPart}
-use Rattle.cob_codec.specs.Flaws.{is_either, suits}
+use Rattle.cob_codec.specs.Flaws.{is_either}
 
 -- ---- half bytes
 
@@ -40,16 +38,6 @@ pub half_low : (bs : List ℕ) (at : ℕ) → at < 2 * length bs → at % 2 ≢ 
 half_low bs at lt odd = sym (low_is bs (at / 2) at (omega (arith, odd)) (omega (arith, lt)))
 
 -- ---- parts that suit, one after another
-
-pub more_suit : (signed : Bool) (wanted : ℕ → ExpectedPart) (parts : List ℕ) (at : ℕ) (w : ExpectedPart) (part : ℕ) → ((k : ℕ) → k < at → suits signed (wanted k) (get_or parts k 0) ≡ true)
-    → w ≡ wanted at → part ≡ get_or parts at 0 → suits signed w part ≡ true → (k : ℕ) → k < at + 1 → suits signed (wanted k) (get_or parts k 0) ≡ true
-more_suit signed wanted parts at w part before is there so k lt =
-    let here : suits signed (wanted at) (get_or parts at 0) ≡ true =
-    subst (λ (v : ExpectedPart). suits signed v (get_or parts at 0) ≡ true) is (subst (λ (n : ℕ). suits signed w n ≡ true) there so) in
-    elim (cases_lt k at) [
-      | inl below ↦ before k below
-      | inr above ↦ let same : at ≡ k = omega (arith, lt, above) in subst (λ (n : ℕ). suits signed (wanted n) (get_or parts n 0) ≡ true) same here
-    ]
 
 -- ---- signs
 

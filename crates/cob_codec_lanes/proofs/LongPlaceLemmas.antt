@@ -1,7 +1,7 @@
 -- Texts of at most forty-eight bytes in three vectors: their lanes, and the bytes at given places.
-use Rattle.std.proofs.Common.{◌≡◌, ℕ, ◌+◌, ◌-◌, ◌%◌, ◌<◌, ◌≤◌, ◌&&◌, true, false, cond, ltb, List, ◌++◌, length, get_or, take, drop, replicate, sym, ap, ◌∙◌, inl, inr, arith, lt-ltb, le-ltb, length-append, length-drop, length-take-le}
+use Rattle.std.proofs.Common.{◌≡◌, ℕ, ◌+◌, ◌-◌, ◌%◌, ◌<◌, ◌≤◌, ◌&&◌, true, false, cond, ltb, List, ◌++◌, length, get_or, replicate, sym, ap, ◌∙◌, inl, inr, arith, lt-ltb, le-ltb, length-append}
 use Rattle.std.proofs.lemmas.Bool.{cases_lt, le-leb, lt-leb}
-use Rattle.std.proofs.lemmas.List.{append_assoc, append-nil, replicate-append-replicate, take-append-drop, get_or_append_left, get_or-append_right}
+use Rattle.std.proofs.lemmas.List.{append_assoc, replicate-append-replicate, get_or_append_left, get_or-append_right}
 use Rattle.cob_codec_lanes.specs.Lanes.{picked_at}
 use Rattle.cob_codec_lanes.specs.LongPlaces.{AreLongPlacesAt, ArePlacesFrom, padded_long_text}
 use Rattle.cob_codec_lanes.specs.Texts.{padded_text, place_from}
@@ -15,21 +15,6 @@ few_padded bytes few =
     let zeros : 32 - length bytes + 16 ≡ 48 - length bytes = omega arith in
     append_assoc bytes (replicate (32 - length bytes) 0) (replicate 16 0)
     ∙ ap (λ xs. bytes ++ xs) (replicate-append-replicate (32 - length bytes) 16 0)
-    ∙ ap (λ n. bytes ++ replicate n 0) zeros
-
--- thirty-two bytes, and those behind them with zeros
-pub many_padded : (bytes lead last : List ℕ) → 32 < length bytes → length bytes ≤ 48 → lead ≡ padded_text (take 32 bytes) → last ≡ drop 32 bytes ++ replicate (16 - length (drop 32 bytes)) 0 → lead ++ last ≡ padded_long_text bytes
-many_padded bytes lead last more most lead_is last_is =
-    let front : List ℕ = take 32 bytes in
-    let behind : List ℕ = drop 32 bytes in
-    let long : length front ≡ 32 = length-take-le 32 bytes (omega arith) in
-    let none : 32 - length front ≡ 0 = omega (arith, long) in
-    let zeros : 16 - length behind ≡ 48 - length bytes = omega (arith, length-drop 32 bytes) in
-    let first : lead ≡ front = lead_is ∙ ap (λ n. front ++ replicate n 0) none ∙ append-nil front in
-    ap (λ xs. xs ++ last) first
-    ∙ ap (λ xs. front ++ xs) last_is
-    ∙ sym (append_assoc front behind (replicate (16 - length behind) 0))
-    ∙ ap (λ xs. xs ++ replicate (16 - length behind) 0) (take-append-drop 32 bytes)
     ∙ ap (λ n. bytes ++ replicate n 0) zeros
 
 -- ---- places

@@ -49,12 +49,6 @@ code_is count code ds many =
     let behind : pad + count - pad ≡ count = omega arith in
     get_or-append_right (replicate pad 0) (ds ++ code ∷ []) pad (pad + count) 0 zeros (omega arith) ∙ ap (λ i. get_or (ds ++ code ∷ []) i 0) behind ∙ get_or_at ds code [] 0 count many
 
-plain_left : (n : ℕ) → n + 0 ≡ n
-plain_left n = omega arith
-
-plain_right : (n : ℕ) → 0 + n ≡ n
-plain_right n = omega arith
-
 -- a half byte that is a digit or the pad
 both_are : (count m code : ℕ) (front back : List ℕ) → 16 < count → count ≤ 32 → length front ≡ 16 → length back ≡ 16 → AreTens front → AreTens back → m < pad_count count + count
     → (both_at (pad_count count) count m front back ≡ get_or (packed_halves count (joined count front back) code) m 0) × (both_at (pad_count count) count m front back < 10)

@@ -1,9 +1,8 @@
 -- Words as digits, and digits as words.
-use Rattle.std.proofs.Common.{◌≡◌, ℕ, zero, suc, ◌+◌, ◌-◌, ◌*◌, ◌/◌, ◌%◌, ◌^◌, ◌<◌, ◌≤◌, List, [], ◌∷◌, ◌++◌, length, get_or, take, drop, replicate, bit_and, add-zero, mul-zero, refl, sym, ap, ◌∙◌, inl, inr, arith}
+use Rattle.std.proofs.Common.{◌≡◌, ℕ, zero, suc, ◌+◌, ◌-◌, ◌*◌, ◌/◌, ◌%◌, ◌^◌, ◌<◌, ◌≤◌, List, [], ◌∷◌, ◌++◌, length, get_or, take, replicate, refl, sym, ap, ◌∙◌, inl, inr, arith}
 use Rattle.std.proofs.lemmas.Bool.{cases_eq}
 use Rattle.std.proofs.lemmas.List.{take_more, take_all, get_or-append_right}
-use Rattle.std.proofs.lemmas.Nat.{and_mask}
-use Rattle.std.proofs.lemmas.Simd.{length-zip2, get_or-zip2, get_or-replicate, Each1-zip2, Each1-get_or, Each2-all, get_or_narrower, get_or_wider}
+use Rattle.std.proofs.lemmas.Simd.{length-zip2, get_or-zip2, get_or-replicate, Each1-zip2, Each2-all, get_or_narrower}
 use lib.Lanes.{zip2, number_l, digits_l, Each1}
 use Rattle.cob_decimal.specs.Decimal.{IsDigits, number_of}
 use Rattle.cob_decimal.proofs.DecimalLemmas.{number_of-push}
@@ -214,43 +213,3 @@ made_value n fours front rest pairs first last made small e m =
     (λ i lt. at 0 i (omega arith) lt) (λ i lt. at 1 i (omega arith) lt) (λ i lt. at 2 i (omega arith) lt) (λ i lt. at 3 i (omega arith) lt)
 
 -- ---- digits as a word
-
--- two lanes as one number
-pub number_pair : (p : ℕ) (xs : List ℕ) (i : ℕ) → i + 1 < length xs → number_l p (take 2 (drop i xs)) ≡ get_or xs i 0 + p * get_or xs (i + 1) 0
-number_pair p [] i lt = absurd (omega arith)
-number_pair p (x ∷ []) i lt = absurd (omega arith)
-number_pair p (x ∷ y ∷ xs) zero lt = ap (λ z. x + p * (y + z)) (mul-zero p) ∙ ap (λ z. x + p * z) (add-zero y)
-number_pair p (x ∷ y ∷ xs) (suc i) lt =
-    let e : suc i + 1 ≡ suc (i + 1) = omega arith in
-    number_pair p (y ∷ xs) i (omega arith) ∙ sym (ap (λ k. get_or (y ∷ xs) i 0 + p * get_or (x ∷ y ∷ xs) k 0) e)
-
--- what is made of the number of two lanes
-pub pair_made : (x y z : ℕ) → x < 256 → y < 256 → z ≡ x + 256 * y → (bit_and z 255 * 10 % 65536 + z / 256) % 65536 ≡ (x * 10 + y) % 65536
-pair_made x y z small_x small_y e =
-    let low : bit_and z 255 ≡ z % 256 = and_mask z 8 in
-    let is : z % 256 ≡ x = omega arith in
-    let high : z / 256 ≡ y = omega arith in
-    let times_ten : x * 10 % 65536 ≡ x * 10 = omega arith in
-    ap (λ k. (k * 10 % 65536 + z / 256) % 65536) (low ∙ is) ∙ ap (λ k. (x * 10 % 65536 + k) % 65536) high ∙ ap (λ k. (k + y) % 65536) times_ten
-
-abbrev pub down : ℕ → ℕ → ℕ
-down a b = a / 2 ^ b
-
-pub pairs_at : (v : List ℕ) (i : ℕ) → length v ≡ 16 → Each1 (λ x. x < 256) v → i < 8
-    → get_or (zip2 plus (zip2 times (zip2 bit_and (digits_l 65536 8 (number_l 256 v)) (replicate 8 255)) (replicate 8 10)) (zip2 down (digits_l 65536 8 (number_l 256 v)) (replicate 8 8))) i 0 ≡ (get_or v (2 * i) 0 * 10 + get_or v (2 * i + 1) 0) % 65536
-pairs_at v i long small lt =
-    let both : List ℕ = digits_l 65536 8 (number_l 256 v) in
-    let masked : List ℕ = zip2 bit_and both (replicate 8 255) in
-    let raised : List ℕ = zip2 times masked (replicate 8 10) in
-    let lowered : List ℕ = zip2 down both (replicate 8 8) in
-    let many : length both ≡ 8 = refl in
-    let many_masked : length masked ≡ 8 = length_splat bit_and both 8 255 many in
-    let many_raised : length raised ≡ 8 = length_splat times masked 8 10 many_masked in
-    let many_lowered : length lowered ≡ 8 = length_splat down both 8 8 many in
-    let word : get_or both i 0 ≡ number_l 256 (take 2 (drop (2 * i) v)) = get_or_wider 256 2 65536 8 v i refl small lt in
-    let is : get_or both i 0 ≡ get_or v (2 * i) 0 + 256 * get_or v (2 * i + 1) 0 = word ∙ number_pair 256 v (2 * i) (omega arith) in
-    let a : get_or masked i 0 ≡ bit_and (get_or both i 0) 255 = at_splat bit_and both 8 255 i many lt in
-    let b : get_or raised i 0 ≡ times (bit_and (get_or both i 0) 255) 10 = at_splat times masked 8 10 i many_masked lt ∙ ap (λ x. times x 10) a in
-    let d : get_or lowered i 0 ≡ get_or both i 0 / 256 = at_splat down both 8 8 i many lt in
-    get_or-zip2 plus raised lowered i 0 0 0 (omega arith) (omega arith) ∙ ap (λ x. plus x (get_or lowered i 0)) b ∙ ap (plus (times (bit_and (get_or both i 0) 255) 10)) d
-    ∙ pair_made (get_or v (2 * i) 0) (get_or v (2 * i + 1) 0) (get_or both i 0) (Each1-get_or (λ x. x < 256) v (2 * i) 0 (omega arith) small) (Each1-get_or (λ x. x < 256) v (2 * i + 1) 0 (omega arith) small) is

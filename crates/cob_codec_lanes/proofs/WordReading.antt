@@ -29,7 +29,6 @@ half_in Four = 2 ^ 31
 half_in Eight = 2 ^ 63
 
 pub halved : (w : Width) → Halved (width_bytes w) (half_in w)
-unfolding half_in
 halved Two = record { low = refl; bits = refl; whole = refl }
 halved Four = record { low = refl; bits = refl; whole = refl }
 halved Eight = record { low = refl; bits = refl; whole = refl }
@@ -129,7 +128,6 @@ read_none count signed wanted shift r bytes kept minus magnitude is value nonzer
 -- ---- words of two's complement
 
 half_next : (w : Width) → half_in w ≡ greatest_plain true w + 1
-unfolding half_in
 half_next Two = refl
 half_next Four = refl
 half_next Eight = refl

@@ -19,7 +19,7 @@ use Rattle.cob_convert_stream.specs.Reasons.{is_write_cause, reason_of, write_re
 use Rattle.cob_convert_stream.specs.Whole.{IsWholeRecord, ReadsWhole}
 use Rattle.cob_convert.specs.Outcomes.{IsRejected}
 use Rattle.cob_convert.specs.Run.{ByEnd, ByRecord, Closes, CountsReads, InRead, IsConverted, IsOver, Ran, is_read_end, is_write_stop, limit_reason, most_records, outlet_behind, records_out}
-use Rattle.cob_convert.proofs.Outlets.{at_end, come_one, comes_of, emptied_behind, fits_behind, held_more, holds_none, none_pending, records_in_more, records_out_more, with_one_more, written_more}
+use Rattle.cob_convert.proofs.Outlets.{at_end, come_one, comes_of, emptied_behind, fits_behind, held_more, none_pending, records_in_more, records_out_more, with_one_more, written_more}
 use Rattle.cob_convert.proofs.Rejections.{stops_record}
 
 -- ---- a run so far
@@ -57,19 +57,6 @@ told_both None r1 r2 P Q S p q f = tt
 told_both (Some xs) None r2 P Q S p q f = absurd p
 told_both (Some xs) (Some mid) None P Q S p q f = absurd q
 told_both (Some xs) (Some mid) (Some rest) P Q S p q f = f xs mid rest p q
-
-pub start : (conversion : Conversion) (outlet : Outlet) (r w : Option (List ℕ)) → outlet ≡ outlet_of conversion.out_form
-    → Carried conversion 0 0 0 outlet r r w w
-start conversion outlet r w e = record {
-  pairs = [];
-  each = tt;
-  count = refl;
-  is = e;
-  few = rw (e, holds_none conversion.out_form) (omega arith);
-  sum = refl;
-  came = told_same conversion.in_form r;
-  appended = append_none w;
-}
 
 each_more : (conversion : Conversion) (pairs : List (List ℕ × List ℕ)) (pair : List ℕ × List ℕ) → AllByRecursion (IsConverted conversion) pairs
     → IsConverted conversion pair → AllByRecursion (IsConverted conversion) (pairs ++ pair ∷ [])

@@ -2,8 +2,7 @@
 use Rattle.std.proofs.Common.{◌≡◌, ℕ, List, ap, arith, refl, subst, sym}
 use Rattle.cob_copybook_tree.specs.Forests.{Forest}
 use Rattle.cob_copybook_tree.specs.Nodes.{Resolved}
-use Rattle.cob_copybook.specs.Books.{IsBookOf}
-use Rattle.cob_copybook.specs.declared.role.Role.TheVariants.{In, Out}
+use Rattle.cob_copybook.specs.declared.role.Role.TheVariants.{In}
 use Rattle.cob_move_deeds.specs.Deeds.{Deeds}
 use Rattle.cob_move_deeds.specs.Tests.{Past}
 use Rattle.cob_move.specs.Paragraphs.{IsParagraphOf, IsRefusalOf}
@@ -26,15 +25,6 @@ out_refused form (OutBook f) in_book out_book moves is refused = (is, refused)
 out_refused form (Moves f) in_book out_book moves is refused = absurd refused
 out_refused form (Block least) in_book out_book moves is refused = absurd refused
 out_refused form Memory in_book out_book moves is refused = tt
-
--- a refusal of the paragraph, where both copybooks are books
-pub moves_refused : (form : Form) (f : PrepareFault) (in_book out_book moves : List ℕ) (input output : Forest Resolved)
-    → IsBookOf In in_book input → IsBookOf Out out_book output → IsMovesRefusal f moves input output → IsPrepareRefusal form f in_book out_book moves
-moves_refused form (InBook f) in_book out_book moves input output from to refused = absurd refused
-moves_refused form (OutBook f) in_book out_book moves input output from to refused = absurd refused
-moves_refused form (Moves f) in_book out_book moves input output from to refused = (input, output, from, to, refused)
-moves_refused form (Block least) in_book out_book moves input output from to refused = absurd refused
-moves_refused form Memory in_book out_book moves input output from to refused = tt
 
 -- a refusal of blocks, where the texts say a conversion
 pub block_refused : (form : Form) (f : PrepareFault) (greatest : ℕ) (in_book out_book moves : List ℕ) (conversion : Conversion) → Means in_book out_book moves conversion

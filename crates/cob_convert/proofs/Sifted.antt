@@ -509,12 +509,6 @@ write_exit conversion most n rejected first written total opened after count mad
 
 -- ---- what the outlet held back
 
--- all of it went out
-pub closes_all : (o : Outlet) (t : Tally) (n first written total : ℕ) (why : AsideOutcome) (answer : Result Tally AsideFault) (w0 w1 : Option (List ℕ))
-    → Took w0 w1 (PutsCounted (pending_in o) (Ok tt) written total) → answer ≡ answer_over t n total why → Took w0 w1 (ClosesAside o t n first written why answer)
-closes_all o t n first written total why answer w0 w1 (part, puts, put) is =
-    (part, AllOut puts.puts (is ∙ ap (λ (w : ℕ). answer_over t n w why) puts.counts), put)
-
 -- a part of it went out
 pub closes_part : (o : Outlet) (t : Tally) (n first written total : ℕ) (why : AsideOutcome) (cause : RecordFault) (f : RunFault) (w0 w1 : Option (List ℕ))
     → Took w0 w1 (PutsCounted (pending_in o) (Err cause) written total) → f ≡ fault_at first (write_reason cause) total

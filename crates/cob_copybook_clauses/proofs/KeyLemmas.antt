@@ -77,9 +77,6 @@ ordered_goes words rest more so (k, key, is, names, ik, n1, n2, are, e) only = r
       ordered_left k rest (key ++ (is ++ (names ++ more))) more vs after ik e only first g kv;
 }
 
-pub ordered_begins : (words : List Lexeme) → OrderedSoFar words words
-ordered_begins words = record { found = λ ws more keys e. (ws, keys, e); only = λ ws more keys first e. (ws, keys, e) }
-
 pub indexed_found : (words rest more : List Lexeme) → OrderedSoFar words rest
     → (k : Lexeme) × (by names : List Lexeme) × (word_class k ≡ term.Indexed) × IsOptionalWord term.By by × AreNames names × (rest ≡ k ∷ (by ++ (names ++ more)))
     → (ws : List Lexeme) × AreKeys ws × (words ≡ ws ++ more)

@@ -210,19 +210,16 @@ literal_term : (w : Lexeme) → w.kind ≡ kind.Literal → word_class w ≡ ter
 literal_term w k = ap (λ k. term_of_kind k w.text) k
 
 figure_first : (t : WordClass) (f : Figurative) (text : List ℕ) (ws : List Lexeme) → figurative_of t ≡ Some f → first_read t text ws ≡ figure_read (figurative_of t) ws
-unfolding first_read
 figure_first term.Plain f text ws e = absurd cc
 figure_first term.Literal f text ws e = absurd cc
 figure_first term.All f text ws e = absurd cc
 figure_first _ f text ws e = refl
 
 figure_behind : (t : WordClass) (f : Figurative) (text : List ℕ) (ws : List Lexeme) → figurative_of t ≡ Some f → behind_all t text ws ≡ figure_read (figurative_of t) ws
-unfolding behind_all
 figure_behind term.Literal f text ws e = absurd cc
 figure_behind _ f text ws e = refl
 
 read_is : (c : WrittenValue) (n a : List Lexeme) → IsConstant c n → constant_read (n ++ a) ≡ Some (c, a)
-unfolding constant_read first_read all_read behind_all figure_read
 read_is (Word text) n a (w, free, e) = ap (λ x. constant_read (x ++ a)) e ∙ ap (λ t. first_read t w.text a) free.free ∙ ap (λ s. Some (Word s, a)) free.same
 read_is (Quoted text) n a (w, k, s, e) = ap (λ x. constant_read (x ++ a)) e ∙ ap (λ t. first_read t w.text a) (literal_term w k) ∙ ap (λ s. Some (Quoted s, a)) s
 read_is (Figure f) n a ([], w, i, is, e) = ap (λ x. constant_read (x ++ a)) e ∙ figure_first (word_class w) f w.text a is ∙ ap (λ o. figure_read o a) is

@@ -56,7 +56,6 @@ all_ascii [] e = tt
 all_ascii (c ∷ cs) e = search (rules, all_ascii cs)
 
 short_text : (text : List ℕ) → is_short text ≡ true → IsShort text
-unfolding is_short
 short_text text e = record { short = search rules; ascii = all_ascii text (search rules) }
 
 short_table : (ks : List Keyword) → are_short ks ≡ true → AreShort ks
@@ -81,7 +80,6 @@ by_words [] text short e = absurd cc
 by_words (k ∷ ks) text short e = usage_step (bytes_eq k.text text) k ks text refl short.0 (by_words ks text short.1) e
 
 short_usage : (text : List ℕ) → term_of_usage (usage_word text) ≡ term.LeftOut → IsShort text
-unfolding usage_word is_short
 short_usage text e = by_words usage_words text (short_words usage_words refl) e
 
 short_else : (text : List ℕ) (other : WordClass) → IsShort text ⊎ (other ≡ term.LeftOut) → (other ≡ term.LeftOut → IsShort text) → IsShort text
@@ -89,7 +87,6 @@ short_else text other (inl h) more = h
 short_else text other (inr e) more = more e
 
 pub short_word : (text : List ℕ) → term_of_word text ≡ term.LeftOut → IsShort text
-unfolding term_of_word is_short
 short_word text e = short_else text _ (by_table reserved_words text term.LeftOut _ (short_table reserved_words refl) e) (short_usage text)
 
 pub short_lexeme : (k : TokenKind) (text : List ℕ) → term_of_kind k text ≡ term.LeftOut → IsShort text

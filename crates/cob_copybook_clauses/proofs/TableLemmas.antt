@@ -28,9 +28,6 @@ pub record Named (words rest : List Lexeme) : Type 0 where
   pub words_are : words ≡ done ++ rest
   pub only : (names more : List Lexeme) → AllByRecursion IsNameWord names → NotFirstWord term.Plain more → words ≡ names ++ more → (left : List Lexeme) × AllByRecursion IsNameWord left × (rest ≡ left ++ more)
 
-pub named_begins : (words : List Lexeme) → Named words words
-named_begins words = record { done = []; are = tt; words_are = refl; only = λ names more all nf e. (names, all, e) }
-
 all_more : (xs : List Lexeme) (w : Lexeme) → AllByRecursion IsNameWord xs → IsNameWord w → AllByRecursion IsNameWord (xs ++ w ∷ [])
 all_more [] w all is = (is, tt)
 all_more (x ∷ xs) w all is = (all.0, all_more xs w all.1 is)

@@ -23,7 +23,6 @@ by_length (k ∷ ks) text other =
     by_step (bytes_eq k.text text) (length k.text == length text) k ks (filter (λ k. length k.text == length text) ks) text other refl refl (by_length ks text other)
 
 pub word_by_length : (text : List ℕ) → term_by (reserved_of_length (length text)) text (term_of_usage (usage_word text)) ≡ term_of_word text
-unfolding term_of_word
 word_by_length text = by_length reserved_words text (term_of_usage (usage_word text))
 
 -- the reserved words of the tables

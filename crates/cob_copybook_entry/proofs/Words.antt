@@ -21,7 +21,6 @@ by_length (k ∷ ks) text =
     by_step (bytes_eq k.text text) (length k.text == length text) k ks (filter (λ k. length k.text == length text) ks) text refl refl (by_length ks text)
 
 pub word_by_length : (text : List ℕ) → meaning_by (usage_words_of_length (length text)) text ≡ usage_word text
-unfolding usage_word
 word_by_length text = by_length usage_words text
 
 -- the words of the tables

@@ -57,10 +57,6 @@ IsDigits-before : (kept cut : List ℕ) → IsDigits (kept ++ cut) → IsDigits 
 IsDigits-before [] cut h = tt
 IsDigits-before (k ∷ ks) cut h = (h.0, IsDigits-before ks cut h.1)
 
-IsSignificant-before : (kept cut : List ℕ) → IsSignificant (kept ++ cut) → IsSignificant kept
-IsSignificant-before [] cut h = tt
-IsSignificant-before (k ∷ ks) cut h = h
-
 two_parts : (kept cut : List ℕ) (places : ℕ) → (0 < length kept → length cut ≡ places) → number_of (kept ++ cut) ≡ number_of kept * 10 ^ places + number_of cut
 two_parts [] cut places h = omega arith
 two_parts (k ∷ ks) cut places h = number_of-append (k ∷ ks) cut ∙ ap (λ n. number_of (k ∷ ks) * 10 ^ n + number_of cut) (h (omega arith))

@@ -4,12 +4,9 @@ use Rattle.cob_source.specs.Tokens.{Lexeme}
 use Rattle.cob_source_copies.specs.Laws.{OneExpansion}
 use Rattle.cob_source_copies.specs.Texts.{copied_text}
 use Rattle.cob_copybook_text.specs.Laws.{MeantWordsAreOne}
-use Rattle.cob_copybook_text.specs.Meant.{AreMeantWords, AreOfRecord, ComeTo}
-use Rattle.cob_copybook_text.specs.Refusals.{IsRecordTextRefusal, IsWant}
+use Rattle.cob_copybook_text.specs.Meant.{AreOfRecord, ComeTo}
 use Rattle.cob_copybook_text.specs.declared.copying.Copying.{Copying}
 use Rattle.cob_copybook_text.specs.declared.copying.Copying.TheVariants as copying
-use Rattle.cob_copybook_text.specs.declared.fault.RecordTextFault.{RecordTextFault}
-use Rattle.cob_copybook_text.specs.declared.fault.RecordTextFault.TheVariants as fault
 
 -- words come to one list
 pub one_coming : OneExpansion → (how : Copying) (ws a b : List Lexeme) → ComeTo how ws a → ComeTo how ws b → a ≡ b
@@ -29,10 +26,3 @@ pub meant_words_are_one : OneExpansion → MeantWordsAreOne
 meant_words_are_one one how name ws a b h k =
     let all = one_coming one how ws h.all k.all h.come k.come in
     one_record name k.all a b (subst (λ (v : List Lexeme). AreOfRecord name v a) all h.chosen) k.chosen
-
--- want of room or memory is told of words that are meant
-pub wanted : (f : RecordTextFault) (how : Copying) (name : Option (List ℕ)) (ws own : List Lexeme) → AreMeantWords how name ws own → IsWant f → IsRecordTextRefusal f how name ws
-wanted (fault.Copy g) how name ws own meant want = absurd want
-wanted (fault.Record why) how name ws own meant want = absurd want
-wanted fault.TooLong how name ws own meant want = (own, meant)
-wanted fault.Memory how name ws own meant want = tt

@@ -10,10 +10,6 @@ use Rattle.cob_copybook_tree.specs.Nodes.{Resolved, resolved_entry, node, node_s
 pub node_out : (n : Node) → node n ≡ record { top = resolved_entry (out-Node n); beneath = forest (out-Node n).children.items }
 node_out n = fold_out-Node (Tree Resolved) node_step n
 
--- a node beside others
-pub forest_out : (n : Node) (ns : List Node) → forest (n ∷ ns) ≡ AnEntry (resolved_entry (out-Node n)) (forest (out-Node n).children.items) (forest ns)
-forest_out n ns = ap (λ (t : Tree Resolved). AnEntry t.top t.beneath (forest ns)) (node_out n)
-
 -- the nodes from a place on
 pub forest_at : (ns : List Node) (i : ℕ) (n : Node) → i < length ns → n ≡ get_or ns i n → forest (drop i ns) ≡ forest (n ∷ drop (i + 1) ns)
 forest_at ns i n lt is = at_drop_more forest ns i n lt ∙ ap (λ (m : Node). forest (m ∷ drop (i + 1) ns)) (sym is)

@@ -1,13 +1,11 @@
 -- Elements that one count decides, and that only by whether they are there.
-use Rattle.std.proofs.Common.{◌≡◌, ℕ, ◌+◌, ◌-◌, ◌*◌, ◌<◌, ◌≤◌, ◌&&◌, nat_le, min, max, Bool, true, false, List, [], ◌∷◌, length, map, refl, sym, ap, subst, ◌∙◌, arith, inl, inr, Option, Some, None, Ok, Err, Result}
+use Rattle.std.proofs.Common.{◌≡◌, ℕ, ◌+◌, ◌-◌, ◌*◌, ◌<◌, ◌≤◌, ◌&&◌, nat_le, min, max, Bool, true, false, List, [], ◌∷◌, length, map, refl, sym, ap, subst, ◌∙◌, arith, inl, inr, Option, Some, None, Ok, Result}
 use Rattle.std.specs.Prelude.{◌==◌, if◌then◌else◌, slice_get, slice_index, slice_set, option_map}
 use Rattle.std.proofs.lemmas.Bool.Decides.{nat_tests}
 use Rattle.std.proofs.lemmas.Bool.{cases_lt}
 use Rattle.cob_copybook_tree.specs.Forests.{Forest, entries_in}
 use Rattle.cob_copybook_tree.specs.Nodes.{Resolved}
-use Rattle.cob_layout_places.specs.declared.counts.CountFault.{CountFault}
 use Rattle.cob_layout_places.specs.declared.places.Found.{Found}
-use Rattle.cob_layout_places.specs.declared.reference.Ref.{Ref}
 use Rattle.cob_layout_places.specs.declared.spots.Spot.{Spot}
 use Rattle.cob_layout_places.specs.declared.varying.Table.{Table}
 use Rattle.cob_layout_places.specs.Counts.{tables_of}
@@ -16,7 +14,6 @@ use Rattle.cob_layout_places.specs.Needs.{NeedsAreRead, is_needed, is_read, keep
 use Rattle.cob_layout_places.specs.Places.{place_of}
 use Rattle.cob_layout_places.specs.References.{Refers}
 use Rattle.cob_layout.specs.declared.counts.StoredCount.{StoredCount}
-use Rattle.cob_layout.specs.declared.elements.ElementPlace.{ElementPlace}
 use Rattle.cob_layout.specs.declared.fields.Place.{Place}
 use Rattle.cob_layout.specs.declared.keeping.Needed.{Needed}
 use Rattle.cob_layout.specs.declared.layout.PlaceFault.{PlaceFault}
@@ -24,21 +21,19 @@ use Rattle.cob_layout.specs.declared.shifts.Growth.{Growth}
 use Rattle.cob_layout.specs.declared.shifts.Shift.{Shift}
 use Rattle.cob_layout.specs.declared.ways.Way.{Way}
 use Rattle.cob_layout.specs.Counting.{greatest_counts}
-use Rattle.cob_layout.specs.Elements.{AllStay, IsElementPlace, IsThereBy, KeptPlaceElements, RestsOn, Stays, counts_with}
+use Rattle.cob_layout.specs.Elements.{AllStay, KeptPlaceElements, RestsOn, Stays, counts_with}
 use Rattle.cob_layout.specs.Footings.{shift_at}
-use Rattle.cob_layout.specs.Kept.{AreKept, AreKeptOf, IsKeptAs, IsStoredCount, KeptGiveNeeded, TakenAnew, TakenBy, counted, is_asked_by, kept_numbers}
+use Rattle.cob_layout.specs.Kept.{AreKept, IsKeptAs, IsStoredCount, KeptGiveNeeded, TakenAnew, TakenBy, counted, is_asked_by, kept_numbers}
 use Rattle.cob_layout.specs.Placed.{placed}
 use Rattle.cob_layout.specs.Shifts.{CanShift, FitsSums, all_shifted, shifted_spot, sums_of}
 use Rattle.cob_layout.specs.Sound.{IsSound}
-use Rattle.cob_layout.specs.Standing.{are_none}
 use Rattle.cob_layout.specs.Ways.{first_element, held, held_at, held_in, moved, moved_once, spot_at}
-use Rattle.cob_layout.proofs.FindLemmas.{and_both, two_ways}
-use Rattle.cob_layout.proofs.GreatestLemmas.{greatest_length}
+use Rattle.cob_layout.proofs.FindLemmas.{and_both}
 use Rattle.cob_layout.proofs.KeepingLemmas.{no_of, yes_of}
 use Rattle.cob_layout.proofs.NeedLemmas.{other_index, own_index, those_needed}
-use Rattle.cob_layout.proofs.ReferenceLemmas.{has_below, refers_has}
+use Rattle.cob_layout.proofs.ReferenceLemmas.{refers_has}
 use Rattle.cob_layout.proofs.RefreshLemmas.{numbers_kept}
-use Rattle.cob_layout.proofs.ShiftLemmas.{Growing, all_at, all_stand, as_many_shifts, can_shift, summed}
+use Rattle.cob_layout.proofs.ShiftLemmas.{Growing, all_at, all_stand, can_shift, summed}
 use Rattle.cob_layout.proofs.StandingLemmas.{element_is}
 use Rattle.cob_layout.proofs.SumLemmas.{none_shifted, shifted_there}
 
@@ -197,9 +192,6 @@ stands_still t u ways least shifts growths c r x v s ts subscripts p sound eq he
 
 -- ---- by the count that is kept
 
-abbrev counts_ok : List ℕ → Result (List ℕ) CountFault
-counts_ok c = Ok c
-
 none_kept : (b : Bool) (x : Table) (ys : List Table) → (if b then x ∷ ys else ys) ≡ [] → (b ≡ false) × (ys ≡ [])
 none_kept true x ys h = absurd (omega (arith, ap length h))
 none_kept false x ys h = (refl, h)
@@ -236,11 +228,6 @@ kept_places given needs t bytes ks r receiving e sound refers long kept is (k, j
     (d, (needed_tables t r.node receiving (tables_of t), those, given t bytes r.node receiving (kept_numbers ks) (Ok d) 0 sound numbers taken), is.stands k.number le most)
 
 -- ---- what is needed
-
--- none of the tables is kept
-pub none_are : (xs : List Table) → are_none xs ≡ true → xs ≡ []
-none_are [] h = refl
-none_are (x ∷ xs) h = absurd (cc)
 
 -- what stands first
 first_split : {A : Type 0} (xs ys : List A) (a : A) → xs ≡ ys → Some a ≡ slice_get xs 0 → (others : List A) × (ys ≡ a ∷ others)

@@ -26,7 +26,6 @@ use borrow.Table.Elements.{at, cut_app, join_app}
 -- ---- a slice of `elements`, which are front ++ middle ++ back, at cell `first` of the block; its middle begins at cell `start`
 module _ {M : Type 1} {𝓤 : Ura M} (𝓛 : Logic 𝓤) (ℓ : Lifetime) (κ : Lft) (share : Share) (block first : ℕ) (γ : GName) (R : RattleType)
     (elements front middle back : List R.Denot) (cut : elements ≡ front ++ (middle ++ back)) (start : ℕ) (begins : at first (mem R).size (length front) ≡ start) (room : Room R (length middle)) where
-  open 𝓛 use {H, A}
 
   -- where the back begins, after a middle of as many elements as `part`
   abbrev after : List R.Denot → ℕ

@@ -1,5 +1,5 @@
 -- Records with just one table that varies, whose count stands before it.
-use Rattle.std.proofs.Common.{◌≡◌, ℕ, ◌+◌, ◌<◌, ◌≤◌, ◌==◌, ◌&&◌, nat_le, Bool, true, false, List, [], ◌∷◌, length, map, get_or, Option, Some, None, refl, sym, ap, subst, ◌∙◌, arith, inl, inr, Ok, Err, Result}
+use Rattle.std.proofs.Common.{◌≡◌, ℕ, ◌<◌, ◌≤◌, ◌==◌, ◌&&◌, nat_le, Bool, true, false, List, [], ◌∷◌, length, map, Option, Some, None, refl, sym, ap, subst, ◌∙◌, arith, inl, inr, Ok, Err, Result}
 use Rattle.std.specs.Option.{is_some}
 use Rattle.std.specs.Prelude.{slice_index, slice_index_or, slice_set}
 use Rattle.cob_copybook_tree.specs.Forests.{Forest, entries_in}
@@ -14,7 +14,6 @@ use Rattle.cob_layout_places.specs.Lengths.{times}
 use Rattle.cob_layout_places.specs.Needs.{NeedsAreRead, is_needed, is_read, number_behind}
 use Rattle.cob_layout_places.specs.Places.{place_of}
 use Rattle.cob_layout_places.specs.References.{Refers}
-use Rattle.cob_layout.specs.declared.counts.KeptRange.{KeptRange}
 use Rattle.cob_layout.specs.declared.counts.StoredCount.{StoredCount}
 use Rattle.cob_layout.specs.declared.footings.Footing.{Footing}
 use Rattle.cob_layout.specs.declared.shifts.Shift.{Shift}
@@ -24,7 +23,6 @@ use Rattle.cob_layout.specs.Finding.{PlacesAlike, are_met, is_kept_as, is_met}
 use Rattle.cob_layout.specs.Footings.{footing_of}
 use Rattle.cob_layout.specs.Kept.{AreKeptOf, IsIn, IsKeptAs, IsReadOne, IsStoredCount, counted, TakenAnew, TakenBy, first_kept, kept_after, kept_numbers, others_kept}
 use Rattle.cob_layout.specs.Sound.{IsSound}
-use Rattle.cob_layout.specs.Standing.{LieWithin}
 use Rattle.cob_layout.specs.Ways.{end_of_table, held}
 use Rattle.cob_layout.proofs.FindLemmas.{MeetsBy, meets_by, two_ways}
 use Rattle.cob_layout.proofs.FootingLemmas.{Asks, asks}
@@ -92,12 +90,6 @@ lone_kept t bytes x k f lone lt is stands offset long =
           absurd (none_early t x z lone lt i (omega (arith, le, ap (λ (w : Table). w.count) same))));
     }
 
--- one that is kept, or none
-pub one_of : (ks : List (Option StoredCount)) (k : Option StoredCount) → length ks ≡ 1 → get_or ks 0 None ≡ k → ks ≡ k ∷ []
-one_of [] k e is = absurd (omega (arith, e))
-one_of (j ∷ []) k e is = ap (λ (i : Option StoredCount). i ∷ []) is
-one_of (j ∷ i ∷ ks) k e is = absurd (omega (arith, e))
-
 pub set_one : (ks : List (Option StoredCount)) (k : Option StoredCount) → length ks ≡ 1 → slice_set ks 0 k ≡ k ∷ []
 set_one [] k e = absurd (omega (arith, e))
 set_one (j ∷ []) k e = refl
@@ -112,10 +104,6 @@ unread_one t x ks long lone none = by ks (long ∙ ap length lone) none
     by (None ∷ []) e h = refl
     by (Some k ∷ []) e h = absurd (cc)
     by (j ∷ i ∷ js) e h = absurd (omega (arith, e))
-
--- it lies within its own range
-pub lone_within : (r : KeptRange) (k : StoredCount) (ks : List (Option StoredCount)) → ks ≡ Some k ∷ [] → r.from ≡ k.place.offset → r.end ≡ k.place.offset + k.place.length → LieWithin r ks
-lone_within r k ks is from end = subst (LieWithin r) (sym is) ((omega (arith, from), omega (arith, end)), tt)
 
 -- ---- what is taken of it
 

@@ -170,12 +170,6 @@ holds_first a b (AnEntry e children more) (inl h) = inl h.0
 holds_first a b (AnEntry e children more) (inr (inl h)) = inr (inl (holds_first a b children h))
 holds_first a b (AnEntry e children more) (inr (inr h)) = inr (inr (holds_first a b more h))
 
-holds_second : (a b : ℕ) (f : Forest Resolved) → Holds a b f → Has b f
-holds_second a b NoEntries h = h
-holds_second a b (AnEntry e children more) (inl h) = inr (inl h.1)
-holds_second a b (AnEntry e children more) (inr (inl h)) = inr (inl (holds_second a b children h))
-holds_second a b (AnEntry e children more) (inr (inr h)) = inr (inr (holds_second a b more h))
-
 -- what stands beneath an entry comes behind it
 holds_behind : (n a b : ℕ) (f : Forest Resolved) → AreNumbered n f → Holds a b f → a < b
 holds_behind n a b NoEntries num h = absurd h

@@ -34,10 +34,6 @@ length_least counts e b n k s en ek = omega (arith, length_is counts e b n k s e
 pub length_small : (counts : List ℕ) (e : Resolved) (b : Forest Resolved) (n k : ℕ) → IsSound (AnEntry e b NoEntries) → n ≡ times counts e → k ≡ element_length (times counts) e b → n * k ≤ 32752
 length_small counts e b n k s en ek = omega (arith, length_least counts e b n k s en ek, s.fit.small)
 
--- counts with a number for each entry are as many as the greatest ones
-pub as_many : (t u : Forest Resolved) (counts : List ℕ) (n : ℕ) → IsSound t → t ≡ u → counts ≡ greatest_counts t → n ≡ entries_in u → n ≡ length counts
-as_many t u counts n s e is all = all ∙ ap (λ (v : Forest Resolved). entries_in v) (sym e) ∙ sym (ap length is ∙ greatest_length t s.numbered)
-
 -- the greatest counts of a record, where its entries stand under them, and none that is kept
 pub new_places : (t u : Forest Resolved) (s : Standing) → t ≡ u → s.counts ≡ greatest_counts t → s.spots ≡ spots_of (times (greatest_counts t)) t 0 0 → ArePlaces u (greatest_counts u) s
 new_places t u s same counts spots =

@@ -4,7 +4,7 @@ use Rattle.std.specs.Prelude.{◌||◌, ◌&&◌, ◌==◌, nat_lt, if◌then◌
 use Rattle.std.proofs.lemmas.Bool.{cases_lt}
 use Rattle.std.proofs.lemmas.Bool.Decides.{nat_tests}
 use Rattle.std.proofs.Math.Seq.{take-append_seam}
-use Rattle.std.proofs.lemmas.List.{drop_more, drop_all, drop-set-lt, take_more, take_more_set, take-append-drop}
+use Rattle.std.proofs.lemmas.List.{drop_more, drop-set-lt, take_more, take_more_set, take-append-drop}
 use Rattle.cob_copybook_tree.specs.Forests.{Forest, entries_in}
 use Rattle.cob_copybook_tree.specs.Nodes.{Resolved}
 use Rattle.cob_layout_places.specs.declared.counts.CountFault.{CountFault}
@@ -54,11 +54,6 @@ none_kept t bytes ks e = record {
 pub unkept : (n : ℕ) → are_unkept (replicate n None) ≡ true
 unkept zero = refl
 unkept (suc n) = unkept n
-
--- where no table varies, none is
-pub unkept_none : (t : Forest Resolved) (ks : List (Option StoredCount)) → length ks ≡ length (tables_of t) → tables_of t ≡ [] → are_unkept ks ≡ true
-unkept_none t [] long none = refl
-unkept_none t (k ∷ ks) long none = absurd (omega (arith, long, ap length none))
 
 -- ---- what is kept behind a reading
 
@@ -205,10 +200,6 @@ kept_is t u r receiving behind last number tables d e spots places now ks same a
     let xs : tables ≡ tables_of u = all ∙ ap (λ (v : Forest Resolved). tables_of v) same in
     λ i. kept_read (is_needed (b i) (l i) (m i)) (same_counts i) (same_spots i) (xs i) (k i)
 
--- where the entries of a record stand, and the counts are these, and what was taken under the same
-pub spots_under : (t u : Forest Resolved) (d e : List ℕ) (spots : List Spot) → t ≡ u → d ≡ e → spots ≡ spots_of (times d) t 0 0 → spots ≡ spots_of (times e) u 0 0
-spots_under t u d e spots same counts is = is ∙ (λ i. spots_of (times (counts i)) (same i) 0 0)
-
 pub front_of : {A : Type 0} (n : ℕ) (xs ys : List A) → length xs ≡ n → take n (xs ++ ys) ≡ xs
 front_of n xs ys e = ap (λ (m : ℕ). take m (xs ++ ys)) (sym e) ∙ take-append_seam xs ys
 
@@ -354,15 +345,3 @@ kept_same read d spots xs ks i x before lt long skips is =
     ∙ ap (λ (zs : List Table). take i ks ++ kept_read read d spots zs (k ∷ drop (i + 1) ks)) (sym (drop_more xs i x lt))
     ∙ ap (λ (zs : List (Option StoredCount)). take i ks ++ kept_read read d spots (drop i xs) zs) (sym (drop_more ks i None here))
     ∙ is
-
-pub kept_all : (read : Table → Bool) (d : List ℕ) (spots : List Spot) (xs : List Table) (ks : List (Option StoredCount)) (i : ℕ) (before : List (Option StoredCount))
-    → length xs ≤ i → take i ks ++ kept_read read d spots (drop i xs) (drop i ks) ≡ before → ks ≡ before
-kept_all read d spots xs ks i before past is =
-    sym (take-append-drop i ks)
-    ∙ ap (λ (zs : List Table). take i ks ++ kept_read read d spots zs (drop i ks)) (sym (drop_all i xs past))
-    ∙ is
-
-pub as_many_read : (read : Table → Bool) (d : List ℕ) (spots : List Spot) (xs : List Table) (ks : List (Option StoredCount)) → length ks ≡ length xs → length (kept_read read d spots xs ks) ≡ length ks
-as_many_read read d spots [] ks e = refl
-as_many_read read d spots (x ∷ xs) [] e = refl
-as_many_read read d spots (x ∷ xs) (k ∷ ks) e = omega (arith, as_many_read read d spots xs ks (omega (arith, e)))

@@ -4,7 +4,7 @@ use Rattle.std.specs.Prelude.{slice_index, slice_set}
 use Rattle.std.specs.List.{AllByRecursion}
 use Rattle.std.proofs.Math.Seq.{set-append_seam}
 use Rattle.std.proofs.lemmas.Bool.{cases_lt}
-use Rattle.std.proofs.lemmas.List.{length-append, length-replicate, drop_more, drop_all, take_more_set, get_or_past, get_or_append_left, get_or-take, length-take-le}
+use Rattle.std.proofs.lemmas.List.{length-append, length-replicate, drop_more, take_more_set, get_or_past, get_or_append_left, get_or-take, length-take-le}
 use Rattle.cob_copybook_tree.specs.declared.node.Kind.{Kind}
 use Rattle.cob_copybook_tree.specs.declared.node.Kind.TheVariants.{Group, Item as ItemKind}
 use Rattle.cob_copybook_tree.specs.declared.node.Node.{Node}
@@ -475,20 +475,6 @@ all_at P [] k d lt h = absurd (omega (arith, lt))
 all_at P (x ∷ xs) zero d lt h = h.0
 all_at P (x ∷ xs) (suc k) d lt h = all_at P xs k d (omega (arith, lt)) h.1
 
--- the spot of the next entry was written
-pub shifted_more : (sums counts : List ℕ) (ss : List Shift) (ls xs : List Spot) (i : ℕ) (s : Shift) (d v : Spot) (all : List Spot) → i < length ss → i < length ls → i < length xs
-    → v ≡ shifted_spot sums (slice_index counts i) (get_or ss i s) (get_or ls i d)
-    → take i xs ++ all_shifted sums counts i (drop i ss) (drop i ls) ≡ all
-    → take (i + 1) (slice_set xs i v) ++ all_shifted sums counts (i + 1) (drop (i + 1) ss) (drop (i + 1) ls) ≡ all
-shifted_more sums counts ss ls xs i s d v all lt below here is so =
-    let rest = all_shifted sums counts (i + 1) (drop (i + 1) ss) (drop (i + 1) ls) in
-    ap (λ (zs : List Spot). zs ++ rest) (take_more_set xs i v here)
-    ∙ append_assoc (take i xs) (v ∷ []) rest
-    ∙ ap (λ (w : Spot). take i xs ++ w ∷ rest) is
-    ∙ ap (λ (zs : List Shift). take i xs ++ all_shifted sums counts i zs (get_or ls i d ∷ drop (i + 1) ls)) (sym (drop_more ss i s lt))
-    ∙ ap (λ (zs : List Spot). take i xs ++ all_shifted sums counts i (drop i ss) zs) (sym (drop_more ls i d below))
-    ∙ so
-
 -- the growth with this number can be added
 can_at : (counts sums : List ℕ) (gs : List Growth) (k i : ℕ) (g : Growth) → i < length gs → CanAllGrow counts sums k gs → CanGrow counts sums (k + i) (get_or gs i g)
 can_at counts sums [] k i g lt h = absurd (omega (arith, lt))
@@ -526,11 +512,6 @@ sums_more counts gs xs i g v all lt here before is so =
     ap (λ (zs : List ℕ). sums_by counts (drop (i + 1) gs) zs (i + 1)) (take_more_set xs (i + 1) v here ∙ ap (λ (n : ℕ). front ++ n ∷ []) value)
     ∙ ap (λ (ts : List Growth). sums_by counts ts front i) (sym (drop_more gs i g lt))
     ∙ so
-
--- behind the last growth, all sums are written
-pub sums_end : (counts : List ℕ) (gs : List Growth) (xs : List ℕ) (i : ℕ) (all : List ℕ) → length gs ≡ i → sums_by counts (drop i gs) (take (i + 1) xs) i ≡ all → take (length gs + 1) xs ≡ all
-sums_end counts gs xs i all past so =
-    ap (λ (n : ℕ). take (n + 1) xs) past ∙ ap (λ (ts : List Growth). sums_by counts ts (take (i + 1) xs) i) (sym (drop_all i gs (omega (arith, past)))) ∙ so
 
 -- ---- the shift of an entry, once those beneath it are known
 

@@ -1,6 +1,6 @@
 -- Elements that subscripts move.
 use Rattle.std.proofs.Common.{◌≡◌, ℕ, ◌+◌, ◌-◌, ◌*◌, ◌<◌, ◌≤◌, ◌&&◌, nat_le, List, [], ◌∷◌, length, get_or, drop, refl, ap, ◌∙◌, arith}
-use Rattle.std.proofs.lemmas.List.{drop_more, drop_all}
+use Rattle.std.proofs.lemmas.List.{drop_more}
 use Rattle.cob_layout_places.specs.declared.places.Found.{Found}
 use Rattle.cob_layout_places.specs.declared.spots.Spot.{Spot}
 use Rattle.cob_layout.specs.Ways.{moved, spot_at}
@@ -36,7 +36,3 @@ next_fits spots tables k d s rest subscripts f m lt is le =
     let on : moved spots (drop k tables) rest f ≡ moved spots (drop (k + 1) tables) subscripts (record { offset = f.offset + (s - 1) * table.length; length = f.length; within = f.within && nat_le s table.times })
     = ap (λ (ss : List ℕ). moved spots (drop k tables) ss f) is ∙ next_moved spots tables k d s subscripts f lt in
     omega (arith, ap (λ (g : Found). g.offset) on, le, no_less spots (drop (k + 1) tables) subscripts (record { offset = f.offset + (s - 1) * table.length; length = f.length; within = f.within && nat_le s table.times }))
-
--- and no table
-pub last_moved : (spots : List Spot) (tables : List ℕ) (k : ℕ) (subscripts : List ℕ) (f : Found) → length tables ≤ k → moved spots (drop k tables) subscripts f ≡ f
-last_moved spots tables k subscripts f le = ap (λ (ts : List ℕ). moved spots ts subscripts f) (drop_all k tables le)

@@ -1,7 +1,7 @@
 -- The counts of tables, one behind another.
 use Rattle.std.proofs.Common.{◌≡◌, ℕ, ◌+◌, ◌-◌, ◌*◌, ◌<◌, ◌≤◌, List, [], ◌∷◌, ◌++◌, length, get_or, take, drop, refl, sym, ap, subst, ◌∙◌, arith, Option, Some, None, Bool, true, false, Ok, Err, Result, inl, inr, ◌==◌, append-nil, append_assoc}
 use Rattle.std.specs.Prelude.{slice_set, IfOk, IfErr, IfNone}
-use Rattle.std.proofs.lemmas.List.{drop_more, drop_all, take_more, take-append-drop}
+use Rattle.std.proofs.lemmas.List.{drop_more, take_more, take-append-drop}
 use Rattle.cob_decimal.specs.Decimal.{number_of}
 use Rattle.cob_decimal.proofs.DecimalLemmas.{number_of-push}
 use Rattle.cob_copybook_tree.specs.declared.node.Item.{Item}
@@ -94,9 +94,6 @@ found_there o p i h e g =
 
 -- ---- the outcome is one
 
-abbrev IsValue : ℕ → List ℕ → Type 0
-IsValue v ds = v ≡ number_of ds
-
 pub one_count : (i : Item) (x : Table) (part : List ℕ) (v w : ℕ) → IsCountValue i x part v → IsCountValue i x part w → v ≡ w
 one_count i x part v w a b =
     let d = one_number i part false false a.digits b.digits a.represents b.represents in
@@ -167,9 +164,6 @@ next_taken t bytes xs k d c r v lt i more = subst (λ (ys : List Table). Taken t
 pub stops_here : (t : Forest Resolved) (bytes : List ℕ) (xs : List Table) (k : ℕ) (d : Table) (c : List ℕ) (e : CountFault) → k < length xs
     → IsCounted t bytes (get_or xs k d) c (Err e) → Taken t bytes (drop k xs) c (Err e)
 stops_here t bytes xs k d c e lt i = subst (λ (ys : List Table). Taken t bytes ys c (Err e)) (sym (drop_more xs k d lt)) (inr (e, i, refl))
-
-pub all_taken : (t : Forest Resolved) (bytes : List ℕ) (xs : List Table) (k : ℕ) (c : List ℕ) → length xs ≤ k → Taken t bytes (drop k xs) c (Ok c)
-all_taken t bytes xs k c h = subst (λ (ys : List Table). Taken t bytes ys c (Ok c)) (sym (drop_all k xs h)) refl
 
 pub part_same : (bytes : List ℕ) (start size : ℕ) → take (start + size - start) (drop start bytes) ≡ take size (drop start bytes)
 part_same bytes start size = ap (λ (n : ℕ). take n (drop start bytes)) (omega arith)

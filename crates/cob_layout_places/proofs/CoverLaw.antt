@@ -31,10 +31,6 @@ behind o a n h = grind (arith, nat_tests)
 abbrev count_at : ℕ → List Piece → ℕ
 count_at o ps = count_by (λ (p : Piece). holds o p.offset p.length) ps
 
-ends : (a z : ℕ) (ps : List Piece) → Tiles a ps z → a ≤ z
-ends a z [] h = omega (arith, h)
-ends a z (p ∷ ps) h = omega (arith, ends (a + p.length) z ps h.1)
-
 count-cons : {X : Type 0} (p : X → Bool) (x : X) (xs : List X) → count_by p (x ∷ xs) ≡ cond (p x) 1 0 + count_by p xs
 count-cons p x xs = sum_by-cons (λ y. cond (p y) 1 0) x xs
 
@@ -139,11 +135,6 @@ own_beneath (ItemKind item) c i beneath rest n at area k more ne re ke te le h =
 own_beneath Group c i beneath rest n at area k more ne re ke te le h =
     all_keep _ _ (λ p is. (here_deeper c i beneath rest p.who.number n at area k (more p.who.subscripts) p.who.subscripts p.offset p.length ne is.low re (ke _) (te _) (le _) is.is, omega (arith, is.low), omega (arith, is.high)))
     (pieces c beneath (at + k * element_length c i beneath)) h
-
--- the numbers and the place of p, where its subscripts begin with those of the table
-turned : (c : Resolved → ℕ) (i : Resolved) (beneath rest : Forest Resolved) (n at area : ℕ) (s : ℕ) (p : Piece)
-    → Own c i beneath rest n at area (λ l. s ∷ l) p → Own c i beneath rest n at area (λ l. l) (piece_under s p)
-turned c i beneath rest n at area s p h = h
 
 skips : (k n m : ℕ) → k < n → n ≤ m → min (k + 1 - 1) (m - 1) ≡ k
 skips k n m lt le = omega arith

@@ -6,12 +6,11 @@ use Rattle.cob_copybook_tree.specs.declared.node.Node.TheViews.{out-Node}
 use Rattle.cob_copybook_tree.specs.declared.node.Node.TheFolds.{fold_out-Node}
 use Rattle.cob_copybook_tree.specs.declared.node.Kind.{Kind}
 use Rattle.cob_copybook_tree.specs.declared.node.Kind.TheVariants.{Group, Item as ItemKind}
-use Rattle.cob_copybook_tree.specs.declared.node.Item.{Item}
 use Rattle.cob_copybook_tree.specs.declared.node.ResolvedOccurs.{ResolvedOccurs}
 use Rattle.cob_copybook_tree.specs.declared.node.ResolvedOccurs.TheVariants.{Once, Fixed, Varying}
 use Rattle.cob_copybook_tree.specs.Forests.{Forest, NoEntries, AnEntry, Tree}
 use Rattle.cob_copybook_tree.specs.Nodes.{Resolved, resolved_entry, node_step, node, forest, tree_of}
-use Rattle.cob_copybook_tree.specs.Lengths.{greatest_number, greatest_number_by, own_length, length_by_kind, sum_of, element_length, whole_length, item_size}
+use Rattle.cob_copybook_tree.specs.Lengths.{greatest_number, greatest_number_by, own_length, length_by_kind, sum_of, element_length, whole_length}
 use Rattle.cob_layout_places.specs.Lengths.{times, times_by, MayOccur, AreWithin}
 
 pub node_out : (n : Node) → node n ≡ record { top = resolved_entry (out-Node n); beneath = forest (out-Node n).children.items }
@@ -72,9 +71,6 @@ below_possible n h = subst MayOccur (below_is n) h.1
 
 pub element_out : (c : Resolved → ℕ) (n : Node) → element_length c (node n).top (node n).beneath ≡ length_by_kind (out-Node n).kind (sum_of c (below n))
 element_out c n = ap (λ (t : Tree Resolved). element_length c t.top t.beneath) (node_out n)
-
-pub element_item : (c : Resolved → ℕ) (n : Node) (i : Item) → (out-Node n).kind ≡ ItemKind i → element_length c (node n).top (node n).beneath ≡ item_size i
-element_item c n i e = element_out c n ∙ ap (λ (k : Kind). length_by_kind k (sum_of c (below n))) e
 
 pub element_group : (c : Resolved → ℕ) (n : Node) → (out-Node n).kind ≡ Group → element_length c (node n).top (node n).beneath ≡ sum_of c (below n)
 element_group c n e = element_out c n ∙ ap (λ (k : Kind). length_by_kind k (sum_of c (below n))) e

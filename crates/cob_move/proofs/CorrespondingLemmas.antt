@@ -1,12 +1,10 @@
 -- MOVE CORRESPONDING, pair by pair.
-use Rattle.std.proofs.Common.{◌≡◌, ℕ, ◌+◌, ◌<◌, Bool, true, false, List, [], ◌∷◌, ◌++◌, length, get_or, map, drop, refl, sym, ap, subst, ◌∙◌, inl, inr, ◌⊎◌, append_assoc}
+use Rattle.std.proofs.Common.{◌≡◌, ℕ, ◌+◌, ◌<◌, List, [], ◌∷◌, ◌++◌, length, get_or, map, drop, refl, sym, ap, subst, ◌∙◌, inl, inr, ◌⊎◌, append_assoc}
 use Rattle.std.specs.List.{AllByRecursion}
-use Rattle.std.specs.Prelude.{◌||◌}
 use Rattle.cob_codec.specs.declared.reading.Reading.TheVariants.{Pictured}
 use Rattle.cob_copybook_tree.specs.Forests.{Forest}
 use Rattle.cob_copybook_tree.specs.Nodes.{Resolved}
 use Rattle.cob_move_data.specs.declared.operands.Side.{Side}
-use Rattle.cob_move_data.specs.declared.operands.Side.TheVariants.{Out}
 use Rattle.cob_move_data.specs.declared.operands.Operand.{Operand}
 use Rattle.cob_move_data.specs.declared.operands.NumberedPair.{NumberedPair}
 use Rattle.cob_move_data.specs.declared.operands.PairMoves.{PairMoves}
@@ -16,42 +14,18 @@ use Rattle.cob_move_statements.specs.declared.fault.MoveRule.{MoveRule}
 use Rattle.cob_move_statements.specs.declared.fault.MoveRule.TheVariants as rule
 use Rattle.cob_move_statements.specs.Written.{WrittenReference, MoveCorresponding}
 use Rattle.cob_move_names.specs.Candidates.{Candidate}
-use Rattle.cob_move_names.specs.References.{BreaksReceiver, BreaksReference, NamesOperand}
 use Rattle.cob_move_names.specs.declared.pair.EntryPair.{EntryPair}
 use Rattle.cob_move_names.specs.Between.{PairEnds, ends, ends_of}
 use Rattle.cob_move_names.specs.Groups.{operand_below}
 use Rattle.cob_move_names.specs.Pairing.{IsTwice}
-use Rattle.cob_move_names.specs.Pairs.{AreOnce, Pair, is_elementary}
+use Rattle.cob_move_names.specs.Pairs.{AreOnce, Pair}
 use Rattle.cob_move.specs.declared.corresponding.TwoGroups.{TwoGroups}
 use Rattle.cob_move.specs.Meaning.{AreGroupsOf, AreMovesOf, IsAllowedMove, pair_move, pairs_of}
 use Rattle.cob_move_apply.specs.Some.{SomeOf}
-use Rattle.cob_move.specs.Refusals.{BreaksBetween, BreaksPair, BreaksStatement, LacksGroup}
+use Rattle.cob_move.specs.Refusals.{BreaksBetween, BreaksPair, BreaksStatement}
 use Rattle.cob_move.specs.Between.{MayMoveBetween, numbered, numbers_of}
 use Rattle.cob_move.proofs.OwnLemmas.{own_operand}
 use Rattle.cob_move.proofs.SomeLemmas.{next, none_of, some_here}
-
-pub sending_fault : (r : MoveRule) (all : List Candidate) (from to : WrittenReference) (input output : Forest Resolved)
-    → BreaksReference r all from → BreaksStatement r all input output (MoveCorresponding from to)
-sending_fault rule.Unknown all from to input output h = inl h
-sending_fault rule.Ambiguous all from to input output h = inl h
-sending_fault rule.Subscripts all from to input output h = inl h
-sending_fault r all from to input output h = absurd h
-
-pub receiving_fault : (r : MoveRule) (all : List Candidate) (from to : WrittenReference) (input output : Forest Resolved)
-    → BreaksReceiver r all to → BreaksStatement r all input output (MoveCorresponding from to)
-receiving_fault rule.Unknown all from to input output h = inr (inl h)
-receiving_fault rule.Ambiguous all from to input output h = inr (inl h)
-receiving_fault rule.Subscripts all from to input output h = inr (inl h)
-receiving_fault rule.Receiver all from to input output h = inl h
-receiving_fault r all from to input output h = absurd h
-
-one_true : (a b : Bool) → (a || b) ≡ true → (a ≡ true) ⊎ (b ≡ true)
-one_true true b e = inl refl
-one_true false b e = inr e
-
-pub groups_fault : (all : List Candidate) (from to : WrittenReference) (side : Side) (o p : Operand) → NamesOperand all from side o → NamesOperand all to Out p
-    → (is_elementary o.kind || is_elementary p.kind) ≡ true → LacksGroup all (MoveCorresponding from to)
-groups_fault all from to side o p h k e = elim (one_true (is_elementary o.kind) (is_elementary p.kind) e) [ inl x ↦ inl (side, o, h, x) | inr x ↦ inr (Out, p, k, x) ]
 
 -- a pair's rule is one of the statement
 pair_fault : (r : MoveRule) (all : List Candidate) (from to : WrittenReference) (input output : Forest Resolved) (g : TwoGroups) → AreGroupsOf all from to g

@@ -1,24 +1,20 @@
 -- Readers of paragraphs with loops.
 use Rattle.std.proofs.Common.{◌≡◌, ◌⊎◌, inl, inr, ℕ, ◌+◌, ◌<◌, ◌≤◌, List, [], ◌∷◌, ◌++◌, length, map, get_or, drop, take, Bool, true, false, refl, sym, ap, subst, ◌∙◌, append_assoc, append-nil, arith}
 use Rattle.std.proofs.lemmas.List.{drop_all, length-append, map-append, take_more}
-use Rattle.std.proofs.lemmas.Bool.Decides.{Decides-eqb}
 use Rattle.std.proofs.lemmas.Grind.{flat_map-append}
-use Rattle.std.specs.Prelude.{◌==◌, ◌↔◌}
+use Rattle.std.specs.Prelude.{◌↔◌}
 use Rattle.std.specs.List.{AllByRecursion}
-use Rattle.cob_source.specs.Tokens.{Lexeme, lexemes}
+use Rattle.cob_source.specs.Tokens.{Lexeme}
 use Rattle.cob_source.specs.declared.token.TokenKind.{TokenKind}
 use Rattle.cob_copybook_names.specs.Naming.{named}
-use Rattle.cob_copybook_tree.specs.Forests.{Forest}
-use Rattle.cob_copybook_tree.specs.Nodes.{Resolved}
 use Rattle.cob_move_loops.specs.Passages.{IsPassage, Passage, WrittenLoop}
 use Rattle.cob_move_loops.specs.Few.{Clashes, IsFew, IsShallow, loop_line, loops_of}
-use Rattle.cob_move_loops.specs.Laws.{NoTurn}
 use Rattle.cob_move_loops.specs.Reading.{ClashesIn, all_runs, counters, run_words}
 use Rattle.cob_move_loops.specs.declared.turn.Counter.{Counter}
 use Rattle.cob_move_loops.specs.declared.writing.Run.{Run}
-use Rattle.cob_move_loops.specs.Turns.{in_turn, words_by_turn}
+use Rattle.cob_move_loops.specs.Turns.{words_by_turn}
 use Rattle.cob_move_loops.specs.Words.{IsOther, IsPeriod, loop_word_of_kind}
-use Rattle.cob_move_names.specs.Candidates.{Candidate, all_entries}
+use Rattle.cob_move_names.specs.Candidates.{Candidate}
 use Rattle.cob_move_names.specs.References.{BreaksReference, NamesOperand}
 use Rattle.cob_move_apply.specs.Some.{SomeOf}
 use Rattle.cob_move_statements.specs.declared.fault.MoveFault.{MoveFault}
@@ -30,10 +26,9 @@ use Rattle.cob_move_data.specs.declared.operands.StatementMoves.{StatementMoves}
 use Rattle.cob_move_data.specs.Moves.{Move, moves, statement_moves}
 use Rattle.cob_move_data.specs.declared.operands.Operand.{Operand}
 use Rattle.cob_move_data.specs.declared.operands.Side.{Side}
-use Rattle.cob_source.specs.Words.{AreParagraphWordsOf}
 use Rattle.cob_move.specs.declared.entries.Entries.{Entries}
 use Rattle.cob_move.specs.Among.{AreMeaningsAmong, nameable}
-use Rattle.cob_move.specs.Entries.{AllMayBeNamed, records_of}
+use Rattle.cob_move.specs.Entries.{records_of}
 use Rattle.cob_move.specs.Meaning.{AreMeanings}
 use Rattle.cob_move.specs.Loops.{AddsRun, AreItsLoops, BodyRefused, BreaksAnywhere, HasChecked, HasJudged, IsClashOf, RunRefused, SayRuns, SaysBody}
 use Rattle.cob_move.specs.Bodies.{AreSpelled, BreaksCounters, BreaksFew, BreaksPassage, IsBodyIn, IsNoEntry, IsPassageRefusal, IsRunRefusal}
@@ -110,15 +105,6 @@ run_refused rule.TooMany line ws fault is = absurd is
 pub none_in : {A : Type 0} (xs : List A) → length xs ≡ 0 → xs ≡ []
 none_in {A} [] e = refl
 none_in {A} (x ∷ xs) e = absurd (omega (arith, e))
-
-pub plain_run : NoTurn → (r : Run) (turn : List Counter) (b : Bool) → turn ≡ r.turn.items → b ≡ (length turn == 0) → b ≡ true → lexemes r.words.now ≡ run_words r
-plain_run no_turn r turn b same e is =
-    let none : r.turn.items ≡ [] = sym same ∙ none_in turn ((Decides-eqb (length turn) 0).0 (sym e ∙ is)) in
-    sym (ap (λ (cs : List Counter). in_turn (counters cs) false 0 (lexemes r.words.now)) none ∙ no_turn (lexemes r.words.now))
-
--- and in a turn
-pub turned_run : (r : Run) (turn : List Counter) (ws : List Lexeme) → turn ≡ r.turn.items → ws ≡ in_turn (counters turn) false 0 (lexemes r.words.now) → ws ≡ run_words r
-turned_run r turn ws same are = are ∙ ap (λ (cs : List Counter). in_turn (counters cs) false 0 (lexemes r.words.now)) same
 
 -- one run more
 spelled_more : (runs : List (List Lexeme)) (ws : List Lexeme) (ss own : List WrittenStatement) → AreSpelled runs ss → Several IsEndedStatement own ws → AreSpelled (runs ++ ws ∷ []) (ss ++ own)

@@ -1,5 +1,5 @@
 -- What is made of a paragraph so far, and more of it.
-use Rattle.std.proofs.Common.{◌≡◌, ◌⊎◌, inl, inr, false, ℕ, ◌+◌, ◌<◌, ◌≤◌, List, [], ◌∷◌, ◌++◌, drop, length, take, refl, sym, ap, subst, ◌∙◌, append_assoc, append-nil, arith}
+use Rattle.std.proofs.Common.{◌≡◌, ◌⊎◌, inl, inr, false, ℕ, ◌+◌, ◌<◌, ◌≤◌, List, [], ◌∷◌, ◌++◌, length, take, refl, sym, ap, subst, ◌∙◌, append_assoc, append-nil, arith}
 use Rattle.std.proofs.lemmas.Grind.{flat_map-append}
 use Rattle.std.proofs.lemmas.List.{drop-append-le, length-append, take-append-le}
 use Rattle.std.proofs.Math.Seq.{take-length}
@@ -9,9 +9,9 @@ use Rattle.cob_move_data.specs.declared.operands.StatementMoves.{StatementMoves}
 use Rattle.cob_copybook.specs.Books.{IsRecordDescription}
 use Rattle.cob_move_data.specs.Moves.{AreMoves, IsMove, Move, Records, moves, statement_moves_by}
 use Rattle.cob_move_deeds.specs.Deeds.{Deeds, Moving, Nothing, both_deeds}
-use Rattle.cob_move_deeds.specs.Flows.{AreFlows, FlowSupport}
+use Rattle.cob_move_deeds.specs.Flows.{FlowSupport}
 use Rattle.cob_move_deeds.specs.Tests.{Past}
-use Rattle.cob_move_loops.specs.Passages.{IsRun, WrittenLoop}
+use Rattle.cob_move_loops.specs.Passages.{IsRun}
 use Rattle.cob_move_loops.specs.Turns.{Counted, in_turn}
 use Rattle.cob_move_statements.specs.declared.fault.MoveFault.{MoveFault}
 use Rattle.cob_move_statements.specs.declared.fault.MoveRule.{MoveRule}
@@ -24,9 +24,8 @@ use Rattle.cob_move.specs.declared.made.NotRead.{NotRead}
 use Rattle.cob_move.specs.declared.made.NotRead.TheVariants as why
 use Rattle.cob_move.specs.declared.made.Sizes.{Sizes}
 use Rattle.cob_move.specs.declared.entries.Entries.{Entries}
-use Rattle.cob_move.specs.Deeds.{IsRunMeant}
 use Rattle.cob_move.specs.Among.{nameable}
-use Rattle.cob_move.specs.DeedsRead.{AddsMoved, AreParted, IsNotBroken, LeavesFront, LoopRefused, MovedRefused, TurnRefused, HasGrown, IsFrontOf, IsMade, IsSizeOf, FirstInRun, MadeLists, all_deeds, forgotten, last_marked, made_deeds, open_deeds, open_statements, taken_back}
+use Rattle.cob_move.specs.DeedsRead.{AddsMoved, AreParted, IsNotBroken, LeavesFront, MovedRefused, HasGrown, IsFrontOf, IsMade, IsSizeOf, FirstInRun, MadeLists, all_deeds, forgotten, last_marked, made_deeds, open_deeds, open_statements, taken_back}
 use Rattle.cob_move.specs.Entries.{AllMayBeNamed, records_of}
 use Rattle.cob_move.specs.Joined.{joined_deeds}
 use Rattle.cob_move.specs.Loops.{AddsRun, RunRefused}
@@ -232,12 +231,6 @@ first_moved e ns ws old new named a = (
 
 -- ---- refused memory
 
-pub memory_turn : (n : NotRead) (e : Entries) (ns : List Counted) (words : List Lexeme) (m : MadeLists) → n ≡ why.Memory → TurnRefused n e ns words m
-memory_turn n e ns words m is = subst (λ (k : NotRead). TurnRefused k e ns words m) (sym is) (λ p says. tt)
-
-pub memory_loop : (n : NotRead) (e : Entries) (ns : List Counted) (l : WrittenLoop) (body : List Lexeme) (m : MadeLists) → n ≡ why.Memory → LoopRefused n e ns l body m
-memory_loop n e ns l body m is = subst (λ (k : NotRead). LoopRefused k e ns l body m) (sym is) (λ p says. tt)
-
 -- ---- words of MOVE statements that aren't read
 
 -- memory was refused, or not
@@ -286,9 +279,6 @@ pub leaves_unbroken : (n : NotRead) (a b : MadeLists) → IsNotBroken n → Leav
 leaves_unbroken why.Memory a b only = tt
 leaves_unbroken why.TooMany a b only = tt
 leaves_unbroken (why.Broken f) a b only = absurd only
-
-pub leaves_memory : (n : NotRead) (a b : MadeLists) → n ≡ why.Memory → LeavesFront n a b
-leaves_memory n a b is = subst (λ (k : NotRead). LeavesFront k a b) (sym is) tt
 
 pub leaves_list : (n : NotRead) (m : MadeLists) (new : List StatementMoves) → new ≡ m.list → LeavesFront n m (with_list m new m.read)
 leaves_list n m new same = subst (λ (xs : List StatementMoves). LeavesFront n m (with_list m xs m.read)) (sym same) (leaves_same n m)

@@ -22,11 +22,9 @@ use Rattle.cob_move_statements.specs.declared.fault.MoveRule.TheVariants as rule
 use Rattle.cob_move_statements.specs.Laws.{OneListOfEnded}
 use Rattle.cob_move_statements.specs.Statements.{IsEndedStatement, IsHeading, Several}
 use Rattle.cob_move_statements.specs.Written.{WrittenStatement}
-use Rattle.cob_move_apply.specs.Some.{SomeOf}
 use Rattle.cob_move_names.specs.Candidates.{Candidate}
-use Rattle.cob_move.specs.Meaning.{AreMeanings}
 use Rattle.cob_move.specs.MeaningLaws.{MeantBreakNoRule}
-use Rattle.cob_move.specs.Bodies.{AreCounters, AreSpelled, BreaksCounters, HasPassage, IsBodyIn, IsNoEntry, IsPassageRefusal, IsRunRefusal, RunIsRefused}
+use Rattle.cob_move.specs.Bodies.{AreCounters, BreaksCounters, HasPassage, IsBodyIn, IsNoEntry, IsPassageRefusal, IsRunRefusal}
 
 -- ---- the words behind the heading
 
@@ -87,24 +85,6 @@ body_of_passage words body p h is = body_behind words body h.heading h.body p is
 
 -- ---- runs that spell statements
 
-pub spelled_one : OneListOfEnded → (runs : List (List Lexeme)) (a b : List WrittenStatement) → AreSpelled runs a → AreSpelled runs b → a ≡ b
-spelled_one one [] a b p q = p ∙ sym q
-spelled_one one (ws ∷ runs) a b (own, rest, is, others, e) (nwo, tser, si, srehto, f) =
-    e ∙ ap (λ (t : List WrittenStatement). t ++ rest) (one ws own nwo is si) ∙ ap (λ (t : List WrittenStatement). nwo ++ t) (spelled_one one runs rest tser others srehto) ∙ sym f
-
--- what statements mean, in two parts
-pub record MeaningParts (all : List Candidate) (input output : Forest Resolved) (own rest : List WrittenStatement) (ms : List Move) : Type 0 where
-  pub first : List Move
-  pub behind : List Move
-  pub mean : AreMeanings all input output own first
-  pub mean_behind : AreMeanings all input output rest behind
-
-pub meaning_parts : (all : List Candidate) (input output : Forest Resolved) (own rest : List WrittenStatement) (ms : List Move) → AreMeanings all input output (own ++ rest) ms → MeaningParts all input output own rest ms
-meaning_parts all input output [] rest ms h = record { first = []; behind = ms; mean = refl; mean_behind = h }
-meaning_parts all input output (s ∷ own) rest ms (mine, more, is, others, e) =
-    let k = meaning_parts all input output own rest more others in
-    record { first = mine ++ k.first; behind = k.behind; mean = (mine, k.first, is, k.mean, refl); mean_behind = k.mean_behind }
-
 pub run_unbroken : OneListOfEnded → MeantBreakNoRule → (f : MoveFault) (r : MoveRule) (line : ℕ) (all : List Candidate) (input output : Forest Resolved) (ws : List Lexeme) (own : List WrittenStatement) (ms : List Move)
     → f.rule ≡ r → Several IsEndedStatement own ws → IsRunRefusal r line ws → f.rule ≡ rule.Memory
 run_unbroken one unbroken f rule.Grammar line all input output ws own ms same is broken = absurd (broken.none own is)
@@ -121,20 +101,6 @@ run_unbroken one unbroken f rule.TooLong line all input output ws own ms same is
 run_unbroken one unbroken f rule.Counter line all input output ws own ms same is broken = absurd broken
 run_unbroken one unbroken f rule.TooMany line all input output ws own ms same is broken = absurd broken
 run_unbroken one unbroken f rule.Memory line all input output ws own ms same is broken = same
-
--- runs that spell statements which mean moves are refused for want of memory alone
-pub runs_unbroken : OneListOfEnded → MeantBreakNoRule → (f : MoveFault) (all : List Candidate) (input output : Forest Resolved) (runs : List (List Lexeme)) (ss : List WrittenStatement) (ms : List Move)
-    → AreSpelled runs ss → AreMeanings all input output ss ms → SomeOf (RunIsRefused f all input output) runs → f.rule ≡ rule.Memory
-runs_unbroken one unbroken f all input output [] ss ms spelled mean refused = absurd refused
-runs_unbroken one unbroken f all input output (ws ∷ runs) ss ms (own, rest, is, others, e) mean (inl (inl broken)) =
-    run_unbroken one unbroken f f.rule f.line all input output ws own ms refl is broken
-runs_unbroken one unbroken f all input output (ws ∷ runs) ss ms (own, rest, is, others, e) mean (inl (inr (qs, si, broken))) =
-    let k = meaning_parts all input output own rest ms (subst (λ (t : List WrittenStatement). AreMeanings all input output t ms) e mean) in
-    let same : own ≡ qs = one ws own qs is si in
-    ap (λ (g : MoveFault). g.rule) (unbroken all input output qs k.first f (subst (λ (t : List WrittenStatement). AreMeanings all input output t k.first) same k.mean) broken)
-runs_unbroken one unbroken f all input output (ws ∷ runs) ss ms (own, rest, is, others, e) mean (inr refused) =
-    let k = meaning_parts all input output own rest ms (subst (λ (t : List WrittenStatement). AreMeanings all input output t ms) e mean) in
-    runs_unbroken one unbroken f all input output runs rest k.behind others k.mean_behind refused
 
 -- ---- loops that are apart do not clash
 

@@ -10,28 +10,13 @@ use Rattle.cob_move_data.specs.Moves.{Sender}
 use Rattle.cob_move_statements.specs.declared.fault.MoveRule.{MoveRule}
 use Rattle.cob_move_statements.specs.declared.fault.MoveRule.TheVariants as rule
 use Rattle.cob_move_statements.specs.declared.parts.Reference.{Reference}
-use Rattle.cob_move_statements.specs.Written.{WrittenReference, WrittenSender, SentReference, MoveTo, written_reference, written_references}
+use Rattle.cob_move_statements.specs.Written.{WrittenReference, WrittenSender, MoveTo, written_reference, written_references}
 use Rattle.cob_move_names.specs.Candidates.{Candidate}
 use Rattle.cob_move_names.specs.References.{NamesOperand, BreaksReference, BreaksReceiver}
 use Rattle.cob_move.specs.Meaning.{AreReceiversOf, IsSenderOf}
 use Rattle.cob_move_apply.specs.Some.{SomeOf}
-use Rattle.cob_move.specs.Refusals.{BreaksReceipt, BreaksReceiving, BreaksSender, BreaksStatement, sent_references}
-use Rattle.cob_move.proofs.SomeLemmas.{all_append, left, right, next, none_of, some_behind, some_front, some_map}
-
-pub sender_reference : (r : MoveRule) (all : List Candidate) (w : WrittenReference) → BreaksReference r all w → BreaksSender r all (SentReference w)
-sender_reference rule.Unknown all w h = inl h
-sender_reference rule.Ambiguous all w h = inl h
-sender_reference rule.Subscripts all w h = inl h
-sender_reference r all w h = absurd h
-
-pub sender_fault : (r : MoveRule) (all : List Candidate) (s : WrittenSender) (ws : List WrittenReference) (input output : Forest Resolved)
-    → BreaksSender r all s → BreaksStatement r all input output (MoveTo s ws)
-sender_fault rule.Grammar all s ws input output h = h
-sender_fault rule.Literal all s ws input output h = inl h
-sender_fault rule.Unknown all s ws input output h = some_front (BreaksReference rule.Unknown all) (sent_references s) ws h
-sender_fault rule.Ambiguous all s ws input output h = some_front (BreaksReference rule.Ambiguous all) (sent_references s) ws h
-sender_fault rule.Subscripts all s ws input output h = some_front (BreaksReference rule.Subscripts all) (sent_references s) ws h
-sender_fault r all s ws input output h = absurd h
+use Rattle.cob_move.specs.Refusals.{BreaksReceipt, BreaksReceiving, BreaksStatement, sent_references}
+use Rattle.cob_move.proofs.SomeLemmas.{all_append, left, right, next, none_of, some_behind, some_map}
 
 -- a rule on references alone
 reference_part : (r : MoveRule) (all : List Candidate) (s : WrittenSender) (m : Sender) (ws : List WrittenReference)

@@ -17,11 +17,6 @@ some_map P Q f [] h = h
 some_map P Q f (x ∷ xs) (inl p) = inl (f x p)
 some_map P Q f (x ∷ xs) (inr h) = inr (some_map P Q f xs h)
 
-pub some_front : {A : Type 0} (P : A → Type 0) (xs ys : List A) → SomeOf P xs → SomeOf P (xs ++ ys)
-some_front P [] ys h = absurd h
-some_front P (x ∷ xs) ys (inl p) = inl p
-some_front P (x ∷ xs) ys (inr h) = inr (some_front P xs ys h)
-
 pub some_behind : {A : Type 0} (P : A → Type 0) (xs ys : List A) → SomeOf P ys → SomeOf P (xs ++ ys)
 some_behind P [] ys h = h
 some_behind P (x ∷ xs) ys h = inr (some_behind P xs ys h)

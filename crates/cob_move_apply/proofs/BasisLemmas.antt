@@ -6,7 +6,7 @@ use Rattle.cob_copybook_tree.specs.Nodes.{Resolved}
 use Rattle.cob_move_data.specs.declared.operands.Operand.{Operand}
 use Rattle.cob_move_data.specs.Moves.{Move, Records}
 use Rattle.cob_move_apply.specs.declared.basis.Basis.{Basis}
-use Rattle.cob_move_apply.specs.Placed.{ArePlacedReceivers, IsPlaced, IsPlacedMove, IsPlacedSender}
+use Rattle.cob_move_apply.specs.Placed.{ArePlacedReceivers, IsPlaced, IsPlacedMove}
 use Rattle.cob_move_apply.proofs.ListLemmas.{next}
 
 -- ---- receivers
@@ -61,20 +61,6 @@ noted_all tree os i before now past so =
 
 -- ---- one move
 
--- its sender's basis was noted, and then its receivers'
-pub noted_move : (r : Records) (m : Move) (b : Basis) (before mid now : List Basis) → IsPlacedSender r m.sender b → mid ≡ before ++ b ∷ []
-    → Noted r.output m.receivers mid now → (own : List Basis) × (now ≡ before ++ own) × IsPlacedMove r m own
-noted_move r m b before mid now sender added (own, same, all) =
-    (b ∷ own, same ∙ ap (λ (xs : List Basis). xs ++ own) added ∙ append_assoc before (b ∷ []) own, (sender, all))
-
 pub of_move : (r : Records) (m : Move) (bs : List Basis) → IsPlacedMove r m bs → length bs ≡ length m.receivers + 1
 of_move r m [] h = absurd h
 of_move r m (b ∷ bs) h = omega (arith, as_many r.output m.receivers bs h.1)
-
-pub sender_first : (r : Records) (m : Move) (bs : List Basis) (d : Basis) → IsPlacedMove r m bs → IsPlacedSender r m.sender (get_or bs 0 d)
-sender_first r m [] d h = absurd h
-sender_first r m (b ∷ bs) d h = h.0
-
-pub receivers_behind : (r : Records) (m : Move) (bs : List Basis) → IsPlacedMove r m bs → ArePlacedReceivers r.output m.receivers (drop 1 bs)
-receivers_behind r m [] h = absurd h
-receivers_behind r m (b ∷ bs) h = h.1

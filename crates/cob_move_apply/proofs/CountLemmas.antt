@@ -1,19 +1,14 @@
 -- How many single moves there are.
 use Rattle.std.proofs.Common.{◌≡◌, ℕ, ◌+◌, ◌<◌, ◌≤◌, List, [], ◌∷◌, ◌++◌, length, get_or, drop, map, min, refl, sym, ap, ◌∙◌, arith}
-use Rattle.std.proofs.lemmas.List.{length-map}
 use Rattle.cob_codec.specs.declared.reading.Reading.{Reading}
-use Rattle.cob_move_data.specs.declared.operands.Move as code_move
 use Rattle.cob_move_data.specs.declared.operands.PairMoves.{PairMoves}
 use Rattle.cob_move_data.specs.declared.operands.StatementMoves.{StatementMoves}
 use Rattle.cob_move_data.specs.declared.operands.NumberedPair.{NumberedPair}
-use Rattle.cob_move_data.specs.Moves.{Move, Records, move_by, moves_by, numbered_move_by, operand_in, statement_moves_by}
+use Rattle.cob_move_data.specs.Moves.{Move, Records, moves_by, numbered_move_by, statement_moves_by}
 use Rattle.cob_move_apply.specs.Told.{single_moves}
 use Rattle.cob_move_apply.proofs.StatementLemmas.{cut_statement, none_left}
 
 -- ---- of one statement
-
-pub single_alone : (x : Reading) (r : Records) (m : code_move.Move) → single_moves (move_by x r m ∷ []) ≡ length m.receivers.items
-single_alone x r m = omega (arith, length-map m.receivers.items (operand_in r.output))
 
 pub pairs_alone : (x : Reading) (r : Records) (g : PairMoves) (ps : List NumberedPair) → single_moves (map (numbered_move_by x r g) ps) ≡ length ps
 pairs_alone x r g [] = refl

@@ -55,14 +55,6 @@ begun_none : (e : Option CopyEnds) → begun e None ≡ 1
 begun_none None = refl
 begun_none (Some e) = refl
 
--- a copy, joined or not
-pub more_copy : (r : Records) (s : Sender) (o : Operand) (c : MovePlaces) (a b : List Step) → Some c ≡ plain_copy r s o → counted_steps b ≡ counted_steps a + begun (last_step_ends a) (Some c) → last_step_ends b ≡ Some (copy_ends c)
-    → AreMore r (alone s o ∷ []) a b
-more_copy r s o c a b is count end = record {
-  counts = omega (arith, count, ap (λ (x : Option MovePlaces). begun (last_step_ends a) x) is);
-  last = end ∙ ap (λ (x : Option MovePlaces). option_map copy_ends x) is;
-}
-
 -- another step, which is counted once
 pub more_other : (r : Records) (s : Sender) (o : Operand) (t : Step) (a b : List Step) → None ≡ plain_copy r s o → b ≡ a ++ t ∷ [] → step_count t ≡ 1 → step_ends t ≡ None
     → AreMore r (alone s o ∷ []) a b

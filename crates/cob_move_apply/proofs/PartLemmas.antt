@@ -54,13 +54,6 @@ pub single_begins : (x : Reading) (r : Records) (given : List StatementMoves) (b
     → BeginsWith r (with_some x r s p.first p.count) (drop p.base bases)
 single_begins x r given bases p m s is at = subst (λ (n : Move). BeginsWith r n (drop p.base bases)) (the_move x r given bases p m (Single s) is at) is.placed
 
-pub single_sender : (x : Reading) (r : Records) (given : List StatementMoves) (bases : List Basis) (p : Part) (m : Move) (s : code_move.Move) (d : Basis) → IsMoveOfPart x r given bases p m → Single s ≡ get_or given p.statement (Single s)
-    → IsPlacedSender r (sender_by x r s.sender) (get_or (drop p.base bases) 0 d)
-single_sender x r given bases p m s d is at =
-    let le : p.first + p.count ≤ length s.receivers.items = has_part x r given bases p m (Single s) is at in
-    let (b, own, behind, cut, long, sends, receives) = front r (with_some x r s p.first p.count) (drop p.base bases) p.count (some_size x r s p.first p.count le) (single_begins x r given bases p m s is at) in
-    subst (λ (bs : List Basis). IsPlacedSender r (sender_by x r s.sender) (get_or bs 0 d)) (sym cut) sends
-
 pub single_receivers : (x : Reading) (r : Records) (given : List StatementMoves) (bases : List Basis) (p : Part) (m : Move) (s : code_move.Move) → IsMoveOfPart x r given bases p m → Single s ≡ get_or given p.statement (Single s)
     → ArePlacedReceivers r.output (map (operand_in r.output) (take p.count (drop p.first s.receivers.items))) (take p.count (drop 1 (drop p.base bases)))
 single_receivers x r given bases p m s is at =
@@ -154,7 +147,3 @@ part_there x r given q old own count base is count_is base_is placed = record {
 }
 
 -- ---- what it does
-
-pub part_moved : (x : Reading) (r : Records) (given : List StatementMoves) (bases : List Basis) (p : Part) (m : Move) (s : StatementMoves) (input before : List ℕ) (end : Ending) → IsMoveOfPart x r given bases p m → s ≡ get_or given p.statement s
-    → IsMoved r (part_of x r s p.first p.count) input before end → IsMoved r m input before end
-part_moved x r given bases p m s input before end is at h = subst (λ (n : Move). IsMoved r n input before end) (sym (the_move x r given bases p m s is at)) h

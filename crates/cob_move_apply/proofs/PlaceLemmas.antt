@@ -1,5 +1,5 @@
 -- Where operands stand.
-use Rattle.std.proofs.Common.{◌≡◌, ℕ, ◌+◌, ◌≤◌, ◌<◌, [], ◌==◌, Bool, true, false, List, refl, sym, ap, subst, ◌∙◌, length, arith, inl, inr, Option, Some, None, Ok, Err, Result}
+use Rattle.std.proofs.Common.{◌≡◌, ℕ, ◌+◌, ◌≤◌, [], ◌==◌, Bool, true, false, List, refl, sym, ap, subst, ◌∙◌, length, arith, inl, inr, Option, Some, None, Ok, Err, Result}
 use Rattle.std.specs.Prelude.{option_map, IfSome}
 use Rattle.cob_copybook_tree.specs.declared.node.Item.{Item}
 use Rattle.cob_copybook_tree.specs.declared.node.Kind.{Kind}
@@ -32,7 +32,7 @@ use Rattle.cob_move_apply.specs.declared.basis.Basis.TheVariants as basis
 use Rattle.cob_move_apply.specs.Located.{Located, StandsUnder, stop_of}
 use Rattle.cob_move_apply.specs.declared.stop.Stop.{Stop}
 use Rattle.cob_move_apply.specs.declared.basis.NotedPlace.{NotedPlace}
-use Rattle.cob_move_apply.specs.Placed.{IsBasis, IsFixed, IsNoted, IsNotedIn, StandsAsNoted, IsPlaced, element_of}
+use Rattle.cob_move_apply.specs.Placed.{IsFixed, IsNoted, IsNotedIn, StandsAsNoted, IsPlaced, element_of}
 use Rattle.cob_move_apply.specs.Surveyed.{IsSurvey}
 use Rattle.cob_move_apply.specs.declared.survey.Survey.{Survey}
 use Rattle.cob_layout.specs.Sound.{IsSound, IsStorableKind, AreStorable}
@@ -124,23 +124,6 @@ noted_there law side t receiving o bytes s n p sound operand survey same (inr th
 noted_ends : (t : Forest Resolved) (receiving : Bool) (o : Operand) (n : NotedPlace) (p : Place) → p ≡ n.place → IsNoted t receiving o n → p.offset + p.length ≤ greatest_length t
 noted_ends t receiving o n p same (inl is) = ends_as (greatest_length t) p n.place same is.within
 noted_ends t receiving o n p same (inr (some, is)) = ends_as (greatest_length t) p n.place same is.within
-
--- an element that is noted
-pub noted_element : (t : Forest Resolved) (receiving : Bool) (o : Operand) (e : ElementPlace) (least : ℕ) → least ≡ e.least → 0 < least → IsElementPlace t o.entry receiving e
-    → IsBasis t receiving o (basis.Noted (record { place = e.place; least = least }))
-noted_element t receiving o e least same some is =
-    inr (
-      λ none. omega (arith, none, some),
-      subst (λ (m : ℕ). IsElementPlace t o.entry receiving (record { place = e.place; least = m })) (sym same) (record {
-        table = is.table;
-        others = is.others;
-        first = is.first;
-        reads = is.reads;
-        alone = is.alone;
-        stands = is.stands;
-        within = is.within;
-      }),
-    )
 
 -- where the sums say
 pub by_sums : (t : Forest Resolved) (receiving : Bool) (r : Ref) (bytes : List ℕ) (found : Option Place) → IfSome found (λ p. IsFound t r receiving bytes (Ok p)) → IfSome found (λ p. p.offset + p.length ≤ greatest_length t)

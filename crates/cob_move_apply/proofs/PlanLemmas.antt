@@ -282,9 +282,6 @@ begin_there r m old own n is placed =
 
 -- ---- plans
 
-pub gains_none : (x : Reading) (r : Records) (given : List StatementMoves) (p : Plan) → Gains x r given [] p p
-gains_none x r given p = (grows_same (support_of p), λ parts are. subst (λ (ps : List Move). AreSteps x r given (support_of p) p.steps.items ps) (sym (append-nil parts)) are)
-
 pub gains_both : (x : Reading) (r : Records) (given : List StatementMoves) (ms ns : List Move) (a b c : Plan) → Gains x r given ms a b → Gains x r given ns b c → Gains x r given (ms ++ ns) a c
 gains_both x r given ms ns a b c f g = (
   grows_both (support_of a) (support_of b) (support_of c) f.0 g.0,

@@ -9,7 +9,7 @@ use Rattle.cob_move_data.specs.Moves.{Move, Records}
 use Rattle.cob_move_apply.specs.Met.{HaveMet}
 use Rattle.cob_move_apply.specs.Reads.{ReadsFor, ReadsOfMoves, kept_among}
 use Rattle.cob_move_apply.specs.Room.{RoomForMoves, Scratching, room_of}
-use Rattle.cob_move_apply.specs.Spent.{MovesSpend, Spends, kept_of}
+use Rattle.cob_move_apply.specs.Spent.{MovesSpend, kept_of}
 use Rattle.cob_move_apply.specs.Surveyed.{IsWorkspace, room_in_space}
 use Rattle.cob_move_apply.specs.declared.stop.Stop.{Stop}
 use Rattle.cob_move_apply.specs.declared.survey.Survey.{Survey}
@@ -44,12 +44,6 @@ most_kept_among tree counts = kept_below (tables_of tree) (kept_numbers counts)
 pub of_input_reads : {A : Type 0} (tree : Forest Resolved) (result : Result A Stop) (old new : Scratching) → new.reads ≡ old.reads → new.kept_output ≡ old.kept_output → ReadsFor tree 0 result old new
 of_input_reads tree (Ok a) old new reads kept = omega (arith, reads, ap (kept_among tree) kept, allowed_none tree)
 of_input_reads tree (Err stop) old new reads kept = omega (arith, reads, most_kept_among tree old.kept_output, allowed_none tree)
-
--- what a survey of it says
-pub kept_reads : {A : Type 0} (tree : Forest Resolved) (result : Result A Stop) (s t : Survey) (old new : Scratching) → old.reads ≡ s.reads → kept_among tree old.kept_output ≡ kept_of tree s → new.reads ≡ t.reads → kept_among tree new.kept_output ≡ kept_of tree t
-    → Spends tree 0 result s t → ReadsFor tree 0 result old new
-kept_reads tree (Ok a) s t old new a_reads a_kept b_reads b_kept spent = omega (arith, a_reads, a_kept, b_reads, b_kept, spent.most)
-kept_reads tree (Err stop) s t old new a_reads a_kept b_reads b_kept spent = omega (arith, a_reads, a_kept, b_reads, b_kept, spent.most)
 
 -- ---- what is kept of both storages, as contracts see it
 

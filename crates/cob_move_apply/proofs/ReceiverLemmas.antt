@@ -17,7 +17,7 @@ use Rattle.cob_move_apply.specs.declared.stop.Stop.{Stop}
 use Rattle.cob_move_data.specs.declared.operands.Side.{Side}
 use Rattle.cob_move_receive.specs.Sent as sent
 use Rattle.cob_move_receive.specs.Sent.{Occupies}
-use Rattle.cob_move_data.specs.Moves.{Sender, Entry, Move, Records, record_of}
+use Rattle.cob_move_data.specs.Moves.{Entry, Records, record_of}
 use Rattle.cob_move_apply.proofs.ListLemmas.{next}
 use Rattle.cob_move_apply.specs.Located.{Located, stop_at}
 use Rattle.cob_move_apply.specs.Applied.{IsMoved, storage_of, AllGet, Content, Ending, Gets, done, stopped}
@@ -93,10 +93,3 @@ moved r side x o os input before bytes p end at taken h =
       (p, at, refl),
       subst (λ (xs : List ℕ). AllGet r.output (content xs) os before end) taken h,
     )
-
--- a move is known by its sender and its receivers
-pub moved_as : (r : Records) (m : Move) (s : Sender) (os : List Operand) (input before : List ℕ) (end : Ending) → m.sender ≡ s → os ≡ m.receivers
-    → IsMoved r (record { sender = s; receivers = os }) input before end → IsMoved r m input before end
-moved_as r m s os input before end is all h =
-    subst (λ (x : Sender). IsMoved r (record { sender = x; receivers = m.receivers }) input before end) (sym is)
-    (subst (λ (xs : List Operand). IsMoved r (record { sender = s; receivers = xs }) input before end) all h)

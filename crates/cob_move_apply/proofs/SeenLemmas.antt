@@ -1,33 +1,20 @@
 -- Entries of a record, and what they describe.
-use Rattle.std.proofs.Common.{◌≡◌, ◌<◌, ℕ, List, [], ◌∷◌, map, ap, subst, arith, Option, Some, None}
+use Rattle.std.proofs.Common.{◌≡◌, ◌<◌, ℕ, List, [], ◌∷◌, map, subst, arith}
 use Rattle.cob_codec.specs.declared.reading.Reading.{Reading}
-use Rattle.cob_copybook_tree.specs.declared.node.Kind.{Kind}
 use Rattle.cob_copybook_tree.specs.Forests.{Forest, entries_in}
 use Rattle.cob_copybook_tree.specs.Nodes.{Resolved}
-use Rattle.cob_layout_places.specs.Counts.{kind_in}
 use Rattle.cob_layout_places.specs.Cover.{AreNumbered}
 use Rattle.cob_layout_places.specs.declared.reference.Ref.{Ref}
 use Rattle.cob_layout.proofs.ReferenceLemmas.{has_below, refers_has}
 use Rattle.cob_move_data.specs.declared.operands.Operand.{Operand}
 use Rattle.cob_move_data.specs.declared.operands.PairMoves.{PairMoves}
 use Rattle.cob_move_data.specs.declared.operands.NumberedPair.{NumberedPair}
-use Rattle.cob_move_data.specs.Moves.{Entry, IsOperand, Records, entry_below, numbered_move_by, operand_in, or_group, record_of}
+use Rattle.cob_move_data.specs.Moves.{Entry, IsOperand, Records, entry_below, numbered_move_by, operand_in, record_of}
 use Rattle.cob_move_apply.specs.Applied.{Ending, IsMoved}
 
 -- the entry of an operand is one of the record's
 pub there : (tree : Forest Resolved) (o : Operand) → AreNumbered 0 tree → IsOperand tree o → o.entry.node < entries_in tree
 there tree o h is = omega (arith, has_below 0 o.entry.node tree h (refers_has o.entry.node o.entry.subscripts.items tree is.refers))
-
-some_kind : (o : Option Kind) (k : Kind) → o ≡ Some k → k ≡ or_group o
-some_kind None k e = cc
-some_kind (Some x) k e = cc
-
-abbrev the_operand : Ref → Kind → Operand
-the_operand r k = record { entry = r; kind = k }
-
--- an entry with what it describes in the record is that operand
-pub seen : (tree : Forest Resolved) (r : Ref) (k : Kind) → kind_in r.node tree ≡ Some k → the_operand r k ≡ operand_in tree r
-seen tree r k is = ap (λ (x : Kind). the_operand r x) (some_kind (kind_in r.node tree) k is)
 
 -- the move of a pair is known by the entries of its two numbers
 pub pair_moved : (x : Reading) (r : Records) (g : PairMoves) (pair : NumberedPair) (from to : Ref) (tos : List Ref) (input before : List ℕ) (end : Ending) → from ≡ entry_below g.from pair.from

@@ -143,9 +143,6 @@ pub copy_reads : (x : Reading) (r : Records) (given : List StatementMoves) (on :
     → IsStep x r given on (step.Copy c) own → IsStorage r.input input → c.from.offset + c.from.length ≤ length input
 copy_reads x r given on c own input copied is = copied.reads input is
 
-pub copy_within : (x : Reading) (r : Records) (given : List StatementMoves) (on : Support) (c : MovePlaces) (own : List Move) → IsStep x r given on (step.Copy c) own → c.to.offset + c.to.length ≤ greatest_length r.output
-copy_within x r given on c own copied = copied.are.within
-
 pub made_copy : (x : Reading) (r : Records) (given : List StatementMoves) (on : Support) (c : MovePlaces) (own : List Move) (input now after : List ℕ)
     → IsStorage r.input input → length now ≡ greatest_length r.output → after ≡ with_field now c.to (field_of c.from input) → IsStep x r given on (step.Copy c) own → Applied r own input now (done after)
 made_copy x r given on c own input now after is size written copied = subst (λ (s : List ℕ). Applied r own input now (done s)) (sym written) (applied_of r own input now (done (with_field now c.to (field_of c.from input))) (copied.are.written input now is size))

@@ -144,12 +144,6 @@ with_nothing judged r d input before end x = ended (λ e. Carried judged r d inp
 
 -- ---- a choice with nothing behind it, whose branches have what was behind it
 
-pub choice_in : {T : Type 0} (judged : Judging T) (r : Records) (t : T) (holding lacking more : Deeds T) (input before : List ℕ) (end : Ending)
-    → Carried judged r (Choice t (both_deeds holding more) (both_deeds lacking more) Nothing) input before end → Carried judged r (Choice t holding lacking more) input before end
-choice_in judged r t holding lacking more input before end (inl (is, x)) = inl (is, both_apart judged r holding more input before end (to_nothing judged r (both_deeds holding more) input before end x))
-choice_in judged r t holding lacking more input before end (inr (inl (is, x))) = inr (inl (is, both_apart judged r lacking more input before end (to_nothing judged r (both_deeds lacking more) input before end x)))
-choice_in judged r t holding lacking more input before end (inr (inr stops)) = inr (inr stops)
-
 -- ---- what is done without a test
 
 pub straight_there : {T : Type 0} (judged : Judging T) (r : Records) (d : Deeds T) (input before : List ℕ) (end : Ending) → IsStraight d

@@ -1,5 +1,5 @@
 -- What a bound gives behind moves that leave it alone.
-use Rattle.std.proofs.Common.{◌≡◌, ◌⊎◌, ℕ, zero, suc, ◌+◌, ◌<◌, ◌≤◌, false, List, [], ◌∷◌, ◌++◌, length, map, replicate, set, refl, sym, ap, subst, ◌∙◌, arith, inl, inr, Ok, Option, Some, None}
+use Rattle.std.proofs.Common.{◌≡◌, ◌⊎◌, ℕ, zero, suc, ◌+◌, ◌<◌, ◌≤◌, false, List, [], ◌∷◌, ◌++◌, length, map, set, refl, sym, ap, subst, ◌∙◌, arith, inl, inr, Ok, Option, Some, None}
 use Rattle.std.specs.Prelude.{IfSome, slice_index_or}
 use Rattle.std.specs.List.{AllByRecursion, slice_get}
 use Rattle.std.proofs.lemmas.Option.{same_Some}
@@ -17,7 +17,7 @@ use Rattle.cob_move_data.specs.declared.operands.Side.TheVariants.{In, Out}
 use Rattle.cob_move_data.specs.Moves.{Move, Records, operand_in, read_by, record_of}
 use Rattle.cob_move_apply.specs.Applied.{Applied, done, storage_of}
 use Rattle.cob_move_apply.specs.Located.{Located}
-use Rattle.cob_move_apply.specs.Marked.{AreMarkedPrepared, ends_of_marks, moves_between_marks}
+use Rattle.cob_move_apply.specs.Marked.{AreMarkedPrepared, moves_between_marks}
 use Rattle.cob_move_apply.specs.Placed.{IsFixed}
 use Rattle.cob_move_apply.specs.Spared.{AllBeginFrom, BeginsFrom, SpareEntry}
 use Rattle.cob_move_apply.specs.declared.marked.MarkedMoves.{MarkedMoves}
@@ -174,11 +174,6 @@ at_set (y ∷ ys) (suc n) (suc k) a x h = elim (at_set ys n k a x h) [
   | inr there ↦ inr there
 ]
 
-at_replicate : {A : Type 0} (n k : ℕ) (a x : A) → slice_get (replicate n a) k ≡ Some x → a ≡ x
-at_replicate zero k a x h = absurd (cc)
-at_replicate (suc n) zero a x h = same_Some a x h
-at_replicate (suc n) (suc k) a x h = at_replicate n k a x h
-
 -- what is noted of a bound
 pub there_noted : (noted : List (Option Stretch)) (n : ℕ) (s : Stretch) → Some s ≡ slice_index_or noted n None → slice_get noted n ≡ Some (Some s)
 there_noted [] n s h = let no : ◌≡◌ {A = Option Stretch} (Some s) None = h in absurd (cc)
@@ -188,12 +183,6 @@ there_noted (x ∷ xs) (suc n) s h = there_noted xs n s h
 pub noted_steady : {V : Type 0} (items : V → List (Option Stretch)) (r : Records) (m : MarkedMoves) (bounds : List Bound) (noted : Option V) (v : V) → noted ≡ Some v → IfSome noted (λ w. AreSteady r m bounds (items w))
     → AreSteady r m bounds (items v)
 noted_steady items r m bounds noted v is steady = subst (λ o. IfSome o (λ w. AreSteady r m bounds (items w))) is steady
-
--- where nothing is noted of any bound
-pub none_noted : (r : Records) (m : MarkedMoves) (bounds : List Bound) (n : ℕ) → AreSteady r m bounds (replicate n None)
-none_noted r m bounds n number b s at is =
-    let no : ◌≡◌ {A = Option Stretch} None (Some s) = at_replicate n number None (Some s) is in
-    absurd (cc)
 
 -- and where it is noted of one
 pub one_noted : (r : Records) (m : MarkedMoves) (bounds : List Bound) (noted : List (Option Stretch)) (bound : ℕ) (s : Stretch) → AreSteady r m bounds noted → ((b : Bound) → slice_get bounds bound ≡ Some b → IsSteady r m b s)

@@ -29,7 +29,7 @@ use Rattle.cob_move_apply.specs.Applied.{storage_of}
 use Rattle.cob_move_apply.proofs.OneLemmas.{ok_is, ok_not, one_place}
 use Rattle.cob_move_deeds.proofs.DeedLemmas.{err_is}
 use Rattle.cob_move_deeds.specs.Deeds.{IsDetermined}
-use Rattle.cob_move_deeds.specs.Tests.{BoundGives, BoundSays, BoundSaysIn, Judged, JudgedIn, Past, SaysOfBound, there, up_to, with_number}
+use Rattle.cob_move_deeds.specs.Tests.{BoundGives, BoundSays, Judged, JudgedIn, Past, SaysOfBound, there, up_to, with_number}
 
 -- ---- a place, or a stop (as in cob_move_apply, where these are private)
 
@@ -119,11 +119,6 @@ says_of_input r t input before v in_ (p, i, located, kind, says) s j =
     )
 
 -- ---- a bound that is read
-
-pub says_from : (r : Records) (t : Past) (input output : List ℕ) (p : Place) (answer : Result ℕ Stop) → Located t.side (record_of r t.side) false t.bound (storage_of t.side input output) (Ok p)
-    → BoundSaysIn t p (storage_of t.side input output) answer → BoundSays r t input output answer
-says_from r t input output p (Ok v) at (i, kind, says) = (p, i, at, kind, says)
-says_from r t input output p (Err stop) at (i, kind, says) = inr (p, i, at, kind, says)
 
 pub nowhere_says : (r : Records) (t : Past) (input output : List ℕ) (stop : Stop) → Located t.side (record_of r t.side) false t.bound (storage_of t.side input output) (Err stop)
     → BoundSays r t input output (Err stop)

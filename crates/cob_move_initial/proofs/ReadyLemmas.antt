@@ -1,10 +1,8 @@
 -- Entries that have a storage before the first move.
-use Rattle.std.proofs.Common.{◌≡◌, ℕ, ◌*◌, ◌≤◌, List, Option, None, Some, is_some, true, false, refl, arith}
-use Rattle.cob_copybook_tree.specs.declared.node.Kind.TheVariants.{Group}
+use Rattle.std.proofs.Common.{◌≡◌, ℕ, List, Option, None, Some, is_some, true, false, refl, arith}
 use Rattle.cob_copybook_tree.specs.Forests.{Forest, AnEntry}
 use Rattle.cob_copybook_tree.specs.Nodes.{Resolved}
-use Rattle.cob_copybook_tree.specs.Lengths.{greatest_number, own_length, sum_of, whole_length}
-use Rattle.cob_layout.proofs.ForestLemmas.{factor_le}
+use Rattle.cob_copybook_tree.specs.Lengths.{greatest_number, own_length, whole_length}
 use Rattle.cob_move_initial.specs.Ready.{HaveInitialStorage, HasInitialStorage}
 
 -- an entry takes its length, and a redefinition nothing
@@ -33,9 +31,3 @@ ready_first e children more own ready =
 -- those behind it
 pub ready_more : (e : Resolved) (children more : Forest Resolved) → HaveInitialStorage (AnEntry e children more) → HaveInitialStorage more
 ready_more e children more ready = record { possible = ready.possible.2; storable = ready.storable.2; values = ready.values.2; short = omega (arith, ready.short) }
-
--- those beneath a group without a value
-pub ready_beneath : (e : Resolved) (children : Forest Resolved) → e.kind ≡ Group → e.value ≡ None → HasInitialStorage e children → HaveInitialStorage children
-ready_beneath e children group none ready =
-    let all : greatest_number e * sum_of greatest_number children ≤ 32752 = rw group at ready.short in
-    record { possible = ready.possible; storable = ready.beneath; values = rw none at ready.values; short = factor_le _ _ _ ready.occurs all }

@@ -4,9 +4,7 @@ use Rattle.std.specs.Prelude.{IfNone, max}
 use Rattle.std.proofs.Math.Nat.{suc-mul}
 use Rattle.cob_source.specs.Tokens.{Lexeme}
 use Rattle.cob_copybook_clauses.specs.Terms.{word_class}
-use Rattle.cob_move_loops.specs.declared.words.LoopWord.{LoopWord}
-use Rattle.cob_move_loops.specs.declared.words.LoopWord.TheVariants as loop
-use Rattle.cob_move_loops.specs.Few.{deepest, loop_line, loop_line_at, looped_of, statements_by, statements_in, statements_of}
+use Rattle.cob_move_loops.specs.Few.{deepest, looped_of, statements_by, statements_in, statements_of}
 use Rattle.cob_limits.specs.Limits.{most_open}
 use Rattle.cob_move_loops.specs.Passages.{ALoop, ARun, APause, PassageFront, FrontStands, IsPassage, IsRun, Looped, Moves, NoMore, Passage, Pause, open_by}
 use Rattle.cob_move_loops.specs.Reading.{Within, looped_front, statements_front}
@@ -130,9 +128,6 @@ pub record LeftToOpen (words rest : List Lexeme) (depth : ℕ) : Type 0 where
   pub must : deepest (Some 0) words ≤ most_open → deepest (Some depth) rest ≤ most_open
   pub low : depth ≤ most_open
 
-pub open_first : (words : List Lexeme) → LeftToOpen words words 0
-open_first words = record { yes = λ h. h; must = λ h. h; low = omega arith }
-
 at_least : (n : ℕ) (ws : List Lexeme) → n ≤ deepest (Some n) ws
 at_least n [] = omega arith
 at_least n (w ∷ ws) = omega arith
@@ -147,15 +142,6 @@ open_word : (rest more : List Lexeme) (w : Lexeme) (depth : ℕ) (next : Option 
     → deepest (Some depth) rest ≡ max depth (deepest next more)
 open_word rest more w depth next e step =
     ap (λ (ws : List Lexeme). deepest (Some depth) ws) e ∙ ap (λ (d : Option ℕ). max depth (deepest d more)) (sym step)
-
-pub open_more : (words rest more : List Lexeme) (w : Lexeme) (depth next : ℕ) → LeftToOpen words rest depth → rest ≡ w ∷ more → Some next ≡ open_by (loop_word w) (Some depth)
-    → next ≤ most_open → LeftToOpen words more next
-open_more words rest more w depth next so e step few =
-    let both = open_word rest more w depth (Some next) e step in record {
-      yes = λ h. so.yes (omega (arith, both, h, so.low));
-      must = λ h. let all = so.must h in omega (arith, both, all);
-      low = few;
-    }
 
 pub too_deep : (words rest more : List Lexeme) (w : Lexeme) (depth next : ℕ) → LeftToOpen words rest depth → rest ≡ w ∷ more → Some next ≡ open_by (loop_word w) (Some depth)
     → most_open < next → deepest (Some 0) words ≤ most_open → ⊥
@@ -172,21 +158,4 @@ open_none words rest more w depth so e step =
     let none = none_open more in
     so.yes (omega (arith, both, none, so.low))
 
-pub open_end : (words rest : List Lexeme) (depth : ℕ) → LeftToOpen words rest depth → rest ≡ [] → deepest (Some 0) words ≤ most_open
-open_end words rest depth so none =
-    let last : deepest (Some depth) rest ≡ depth = ap (λ (ws : List Lexeme). deepest (Some depth) ws) none in
-    so.yes (omega (arith, last, so.low))
-
 -- ---- the first loop
-
-line_behind : (o : Option LoopWord) (line others : ℕ) → (o ≡ Some loop.Perform → ⊥) → loop_line_at o line others ≡ others
-line_behind None line others none = refl
-line_behind (Some loop.Perform) line others none = absurd (none refl)
-line_behind (Some loop.EndPerform) line others none = refl
-line_behind (Some loop.Continue) line others none = refl
-
-pub line_more : (words rest more : List Lexeme) (w : Lexeme) → loop_line rest ≡ loop_line words → rest ≡ w ∷ more → (loop_word w ≡ Some loop.Perform → ⊥) → loop_line more ≡ loop_line words
-line_more words rest more w so e none = sym (line_behind (loop_word w) w.line (loop_line more) none) ∙ sym (ap loop_line e) ∙ so
-
-pub line_found : (words rest more : List Lexeme) (w : Lexeme) → loop_line rest ≡ loop_line words → rest ≡ w ∷ more → loop_word w ≡ Some loop.Perform → w.line ≡ loop_line words
-line_found words rest more w so e is = sym (ap (λ (o : Option LoopWord). loop_line_at o w.line (loop_line more)) is) ∙ sym (ap loop_line e) ∙ so

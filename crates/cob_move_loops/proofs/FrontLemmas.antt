@@ -41,9 +41,6 @@ pub record Opened (words rest : List Lexeme) (depth : ℕ) : Type 0 where
   pub opened : open_behind (Some 0) done ≡ Some depth
   pub room : depth + length rest ≤ length words
 
-pub opened_first : (words : List Lexeme) → Opened words words 0
-opened_first words = record { done = []; words_are = refl; opened = refl; room = omega arith }
-
 pub opened_more : (words rest more : List Lexeme) (w : Lexeme) (depth next : ℕ) → Opened words rest depth → rest ≡ w ∷ more → Some next ≡ open_by (loop_word w) (Some depth) → next ≤ depth + 1
     → Opened words more next
 opened_more words rest more w depth next so e step most = record {

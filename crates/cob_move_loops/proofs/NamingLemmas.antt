@@ -1,12 +1,12 @@
 -- The loops of passages.
-use Rattle.std.proofs.Common.{◌≡◌, inl, inr, ℕ, ◌<◌, List, [], ◌∷◌, ◌++◌, length, refl, sym, ap, subst, ◌∙◌, append_assoc, append-nil}
+use Rattle.std.proofs.Common.{◌≡◌, inl, inr, ℕ, ◌<◌, List, ◌++◌, length, refl, sym, ap, subst, ◌∙◌, append_assoc, append-nil}
 use Rattle.cob_source.specs.Tokens.{Lexeme}
 use Rattle.cob_move_loops.specs.declared.naming.LoopFault.{LoopFault}
 use Rattle.cob_move_loops.specs.declared.naming.LoopFault.TheVariants as fault
 use Rattle.cob_move_loops.specs.declared.parts.Loop.{Loop}
 use Rattle.cob_move_loops.specs.Few.{AreLoopsApart, Clashes, loops_of}
 use Rattle.cob_move_loops.specs.Passages.{ARun, APause, PassageFront, FrontStands, IsPassage, Looped, NoMore, Passage, WrittenLoop}
-use Rattle.cob_move_loops.specs.Reading.{ApartFront, ClashesFront, IsClash, Within, loops_front, written_loop, written_loops}
+use Rattle.cob_move_loops.specs.Reading.{ApartFront, ClashesFront, IsClash, Within, loops_front, written_loops}
 use Rattle.cob_move_loops.proofs.PassageLemmas.{IsOnlyFront, Parted, joined, nothing_left, parted}
 
 loops_joined : (f : PassageFront) (body more : Passage) → loops_of (joined f body more) ≡ loops_front f body ++ loops_of more
@@ -74,15 +74,6 @@ loops_end around words rest start now left none p is =
       so.apart (subst (λ (d : Passage). AreLoopsApart around d) (sym nothing) tt),
       sym (append-nil (written_loops now)) ∙ ap (λ (d : Passage). written_loops now ++ loops_of d) (sym nothing) ∙ so.loops,
     )
-
-pub written_more : (ls : List Loop) (l : Loop) → written_loops (ls ++ l ∷ []) ≡ written_loops ls ++ written_loop l ∷ []
-written_more [] l = refl
-written_more (k ∷ ls) l = ap (λ (xs : List WrittenLoop). written_loop k ∷ xs) (written_more ls l)
-
-pub loop_named : (out pushed after : List Loop) (l : Loop) (all : List WrittenLoop) → pushed ≡ out ++ l ∷ [] → written_loops after ≡ written_loops pushed ++ all
-    → written_loops after ≡ written_loops out ++ written_loop l ∷ all
-loop_named out pushed after l all push made =
-    made ∙ ap (λ (xs : List Loop). written_loops xs ++ all) push ∙ ap (λ (xs : List WrittenLoop). xs ++ all) (written_more out l) ∙ append_assoc (written_loops out) (written_loop l ∷ []) all
 
 pub clash_weaker : (P Q : ℕ → Type 0) (f : LoopFault) → ((line : ℕ) → P line → Q line) → IsClash P f → IsClash Q f
 clash_weaker P Q fault.Memory more is = tt

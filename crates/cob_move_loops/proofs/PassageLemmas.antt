@@ -138,10 +138,6 @@ broken_within words rest more (ARun own) line so stands broken = absurd broken
 broken_within words rest more APause line so stands broken = absurd broken
 broken_within words rest more (Looped l own) line so stands broken = so.broken line (breaks_within rest own more l line stands broken)
 
-pub none_is : (ws : List Lexeme) → length ws ≡ 0 → ws ≡ []
-none_is [] e = refl
-none_is (w ∷ ws) e = absurd (omega (arith, e))
-
 pub checked_all : (words rest : List Lexeme) → Checked words rest → rest ≡ [] → (p : Passage) × IsPassage p words
 checked_all words rest so none = so.passage NoMore none
 

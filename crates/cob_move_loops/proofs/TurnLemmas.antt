@@ -1,5 +1,5 @@
 -- Words in a turn.
-use Rattle.std.proofs.Common.{◌≡◌, ℕ, zero, suc, List, [], ◌∷◌, ◌++◌, drop, refl, sym, ap, ◌∙◌, append_assoc, Bool, false, None}
+use Rattle.std.proofs.Common.{◌≡◌, ℕ, zero, suc, List, [], ◌∷◌, drop, refl, ap, ◌∙◌, Bool, false, None}
 use Rattle.cob_source.specs.Tokens.{Lexeme}
 use Rattle.cob_source.specs.declared.token.TokenKind.{TokenKind}
 use Rattle.cob_source.specs.declared.token.TokenKind.TheVariants as kind
@@ -29,16 +29,3 @@ passed ns inside zero [] = refl
 passed ns inside (suc k) [] = refl
 passed ns inside zero (w ∷ ws) = refl
 passed ns inside (suc k) (w ∷ ws) = passed ns inside k ws
-
--- what is left of words, in a turn, behind what is written
-pub left_words : (ns : List Counted) (inside : Bool) (w word : Lexeme) (more behind out after : List Lexeme) (all : List Lexeme)
-    → word ≡ word_by inside w more (counted_number ns w) → behind ≡ drop (passed_by inside more (counted_number ns w)) more
-    → after ≡ out ++ word ∷ [] → out ++ in_turn ns inside 0 (w ∷ more) ≡ all → after ++ in_turn ns (open_by inside (word_class w)) 0 behind ≡ all
-left_words ns inside w word more behind out after all is rest made so =
-    ap (λ (t : List Lexeme). t ++ in_turn ns (open_by inside (word_class w)) 0 behind) made
-    ∙ append_assoc out (word ∷ []) (in_turn ns (open_by inside (word_class w)) 0 behind)
-    ∙ ap (λ (v : Lexeme). out ++ v ∷ in_turn ns (open_by inside (word_class w)) 0 behind) is
-    ∙ ap (λ (t : List Lexeme). out ++ word_by inside w more (counted_number ns w) ∷ in_turn ns (open_by inside (word_class w)) 0 t) rest
-    ∙ ap (λ (t : List Lexeme). out ++ word_by inside w more (counted_number ns w) ∷ t)
-    (sym (passed ns (open_by inside (word_class w)) (passed_by inside more (counted_number ns w)) more))
-    ∙ so

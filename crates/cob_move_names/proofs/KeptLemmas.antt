@@ -1,5 +1,5 @@
 -- What is kept by the numbers of two groups.
-use Rattle.std.proofs.Common.{◌≡◌, ℕ, Bool, true, false, List, [], map, refl, sym, ap, subst, ◌∙◌, Option, Some, Bor}
+use Rattle.std.proofs.Common.{◌≡◌, ℕ, Bool, true, false, List, [], refl, sym, ap, subst, ◌∙◌, Option, Some, Bor}
 use Rattle.std.specs.Prelude.{◌&&◌, nat_eq, cond, Result, Ok, Err, OnOk, OnErr}
 use Rattle.std.specs.Option.{ForSome}
 use Rattle.std.specs.Map.{lookup}
@@ -7,10 +7,10 @@ use Rattle.indexmap.specs.IndexMap.{IndexMap, get_by, IsUnchanged, Updates}
 use Rattle.cob_copybook_tree.specs.Forests.{Forest}
 use Rattle.cob_copybook_tree.specs.declared.node.Node.{Node}
 use Rattle.cob_copybook_tree.specs.Nodes.{Resolved, tree_of}
-use Rattle.cob_move_names.specs.Between.{AreFoundPairs, ends, ends_of, pairs_below}
+use Rattle.cob_move_names.specs.Between.{AreFoundPairs, pairs_below}
 use Rattle.cob_move_names.specs.Groups.{entries_below}
 use Rattle.cob_move_names.specs.Keys.{same_groups}
-use Rattle.cob_move_names.specs.Pairs.{AreOnce, Pair, Subordinate, pairs_among, subordinates}
+use Rattle.cob_move_names.specs.Pairs.{Subordinate, pairs_among, subordinates}
 use Rattle.cob_move_names.specs.declared.group_numbers.GroupNumbers.{GroupNumbers}
 use Rattle.cob_move_names.specs.declared.pair.EntryPair.{EntryPair}
 use Rattle.cob_move_names.proofs.OnceLemmas.{same_number}
@@ -40,10 +40,6 @@ module _ {V : Type 0} (P : ℕ → ℕ → V → Type 0) where
       → ((a b : ℕ) → ForSome (get_by (same_groups a b) m) (P a b)) → (a b : ℕ) → ForSome (get_by (same_groups a b) n) (P a b)
   kept_on m n from to v (Ok y) u e p others = all_kept from to v (λ a b. get_by (same_groups a b) m) (λ a b. get_by (same_groups a b) n) (λ a b. u.0 (record { from = a; to = b })) p others
   kept_on m n from to v (Err y) u e p others = λ a b x is. others a b x (ap (λ es. lookup (same_groups a b) es) (sym e) ∙ is)
-
--- pairs that were found are those of the definition
-pub are_found : (ps qs : List Pair) (list : List EntryPair) → qs ≡ ps → AreOnce qs → map ends list ≡ map ends_of qs → AreFoundPairs ps list
-are_found ps qs list e once same = record { pairs = same ∙ ap (λ (xs : List Pair). map ends_of xs) e; once = subst (λ (xs : List Pair). AreOnce xs) e once }
 
 -- what is so of two records is so of the same ones under other names
 pub moved : (F : Forest Resolved → Forest Resolved → Type 0) (a c b d : Forest Resolved) → a ≡ c → b ≡ d → F a b → F c d

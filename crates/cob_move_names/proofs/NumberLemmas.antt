@@ -1,9 +1,9 @@
 -- Sets of numbers, and what is in a pair.
-use Rattle.std.proofs.Common.{◌≡◌, ℕ, zero, suc, ◌+◌, ◌<◌, Bool, true, false, List, [], ◌∷◌, ◌++◌, length, get_or, refl, sym, ap, ◌∙◌, arith, get_or-set_other, get_or-set_same}
-use Rattle.std.specs.Prelude.{◌==◌, ◌||◌, nat_lt, slice_set}
+use Rattle.std.proofs.Common.{◌≡◌, ℕ, zero, suc, ◌+◌, ◌<◌, Bool, true, false, List, [], ◌∷◌, ◌++◌, get_or, refl, sym, ap, ◌∙◌, arith}
+use Rattle.std.specs.Prelude.{◌==◌, ◌||◌, nat_lt}
 use Rattle.std.proofs.lemmas.Bool.Decides.{nat_tests}
 use Rattle.cob_move_names.specs.Pairs.{Pair, receives, sends}
-use Rattle.cob_move_names.proofs.OnceLemmas.{one_if, receives_more, same_number, sends_more}
+use Rattle.cob_move_names.proofs.OnceLemmas.{one_if, receives_more, sends_more}
 
 -- a flag that isn't set, behind the others, says of no number that it is in the set
 pub room_same : (flags : List Bool) (n : ℕ) → get_or (flags ++ false ∷ []) n false ≡ get_or flags n false
@@ -12,19 +12,8 @@ room_same [] (suc n) = refl
 room_same (f ∷ flags) zero = refl
 room_same (f ∷ flags) (suc n) = room_same flags n
 
-other : (a b : ℕ) → (a == b) ≡ false → a ≡ b → ⊥
-other a b e same = grind (arith, nat_tests)
-
--- a number that is put in
-pub put_in : (flags : List Bool) (number n : ℕ) (t : Bool) → (number == n) ≡ t → number < length flags → get_or (slice_set flags number true) n false ≡ (t || get_or flags n false)
-put_in flags number n true e lt = rw (sym (same_number number n e)) (get_or-set_same flags number true false lt)
-put_in flags number n false e lt = get_or-set_other flags number n true false (λ same. other number n e (sym same))
-
 pub some_in : (k : ℕ) → nat_lt 0 k ≡ true → 0 < k
 some_in k e = grind (arith, nat_tests)
-
-pub none_in : (k : ℕ) → nat_lt 0 k ≡ false → k ≡ 0
-none_in k e = grind (arith, nat_tests)
 
 above : (m k : ℕ) → m ≡ k + 1 → nat_lt 0 m ≡ true
 above m k e = grind (arith, nat_tests)

@@ -87,10 +87,6 @@ pub walk_twice : (all front : List Subordinate) (c : Subordinate) (found : Optio
 walk_twice all front c None some h = absurd cc
 walk_twice all front c (Some d) some h = omega (arith, ap length h, length-append front (c ∷ subordinate d.now ∷ []))
 
--- the end
-pub walk_end : (x : Subordinate) (all : List Subordinate) (place : Option ℕ) (found : List Subordinate) → place ≡ None → partners all x ≡ partners (take (entries_up_to place) all) x ++ found → partners all x ≡ found
-walk_end x all place found e h = h ∙ ap (λ (o : Option ℕ). partners (take (entries_up_to o) all) x ++ found) e
-
 -- the name at a place is that of the entry there
 pub name_at : (cs : List Listed) (i : ℕ) (c : Listed) → i < length cs → c ≡ get_or cs i c → get_or (names_listed (subordinates_listed cs)) i None ≡ Some (subordinate c).name
 name_at [] i c lt is = absurd (omega (arith, lt))

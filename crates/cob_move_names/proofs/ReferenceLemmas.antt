@@ -16,12 +16,9 @@ use Rattle.cob_move_data.specs.declared.operands.Side.{Side}
 use Rattle.cob_move_data.specs.declared.operands.Side.TheVariants.{In, Out}
 use Rattle.cob_move_data.specs.declared.operands.Operand.{Operand}
 use Rattle.cob_move_data.specs.Moves.{IsOperand, Records, record_of}
-use Rattle.cob_move_statements.specs.declared.fault.MoveRule.{MoveRule}
-use Rattle.cob_move_statements.specs.declared.fault.MoveRule.TheVariants as rule
-use Rattle.cob_move_statements.specs.Written.{WrittenReference}
 use Rattle.cob_move_names.specs.Candidates.{Candidate, all_entries, candidate, candidates, with_table}
 use Rattle.cob_move_names.specs.Laws.{NamedAreOperands}
-use Rattle.cob_move_names.specs.References.{AreSubscriptsOf, BreaksName, BreaksReceiver, BreaksReference, operand, subscript_numbers}
+use Rattle.cob_move_names.specs.References.{AreSubscriptsOf, operand, subscript_numbers}
 
 -- ---- entries of a list
 
@@ -177,13 +174,3 @@ are_operands sound records r side o input output h =
     ]
 
 -- ---- rules
-
--- a name that breaks a rule makes a reference break it
-pub of_name : (x : MoveRule) (all : List Candidate) (r : WrittenReference) → BreaksName x (named r.name r.qualifiers all) → BreaksReference x all r
-of_name rule.Subscripts all r h = absurd h
-of_name x all r h = h
-
--- a reference that breaks a rule makes a receiver break it
-pub of_reference : (x : MoveRule) (all : List Candidate) (r : WrittenReference) → BreaksReference x all r → BreaksReceiver x all r
-of_reference rule.Receiver all r h = absurd h
-of_reference x all r h = h

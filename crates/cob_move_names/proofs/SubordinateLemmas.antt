@@ -1,16 +1,10 @@
 -- The entries beneath a group.
-use Rattle.std.proofs.Common.{◌≡◌, ℕ, Bool, true, false, List, [], ◌∷◌, ◌++◌, ◌==◌, length, refl, sym, ap, ◌∙◌, append_assoc, arith, Bor}
+use Rattle.std.proofs.Common.{◌≡◌, ℕ, Bool, true, false, List, [], ◌++◌, refl, sym, ap, ◌∙◌, append_assoc}
 use Rattle.std.specs.Prelude.{if◌then◌else◌}
-use Rattle.std.proofs.lemmas.Bool.Decides.{nat_tests}
 use Rattle.cob_copybook_names.specs.Naming.{with_name}
-use Rattle.cob_copybook_names.specs.Listed.{texts}
 use Rattle.cob_copybook_tree.specs.Forests.{Forest, AnEntry}
 use Rattle.cob_copybook_tree.specs.Nodes.{Resolved}
-use Rattle.cob_move_names.specs.Pairs.{Subordinate, subordinates, is_left_out, own_subordinate, same_names}
-
-if_true : {A : Type 0} (t : Bool) (a b : A) → t ≡ true → (if t then a else b) ≡ a
-if_true true a b e = refl
-if_true false a b e = cc
+use Rattle.cob_move_names.specs.Pairs.{Subordinate, subordinates, is_left_out, own_subordinate}
 
 if_false : {A : Type 0} (t : Bool) (a b : A) → t ≡ false → (if t then a else b) ≡ b
 if_false true a b e = cc
@@ -29,14 +23,3 @@ step_kept all m m1 m2 path beneath e children more start kept names f g =
     ∙ ap (λ (p : List (List ℕ)). ((m ++ own_subordinate e.name path e) ++ subordinates p children) ++ subordinates path more) (sym names)
     ∙ ap (λ (t : List Subordinate). (t ++ subordinates beneath children) ++ subordinates path more) (sym f)
     ∙ ap (λ (t : List Subordinate). t ++ subordinates path more) (sym g)
-
--- or are left out
-pub step_left : (all m : List Subordinate) (path : List (List ℕ)) (e : Resolved) (children more : Forest Resolved)
-    → all ≡ m ++ subordinates path (AnEntry e children more) → is_left_out e ≡ true → all ≡ m ++ subordinates path more
-step_left all m path e children more start left =
-    start ∙ ap (λ (t : List Subordinate). m ++ (t ++ subordinates path more)) (if_true (is_left_out e) [] (own_subordinate e.name path e ++ subordinates (with_name e.name path) children) left)
-
--- no text is left
-pub none_left : (bs : List (Bor (List ℕ))) → (length bs == 0) ≡ same_names [] (texts bs)
-none_left [] = refl
-none_left (b ∷ bs) = grind (arith, nat_tests)

@@ -26,9 +26,6 @@ same_statement x line action a b = λ i. record { line = a i; action = b i }
 stop_term : (w : Lexeme) → IsPeriod w → word_class w ≡ term.Stop
 stop_term w is = ap (λ k. term_of_kind k w.text) is
 
-pub ended_cut : (words own stops behind more : List Lexeme) → words ≡ own ++ behind → behind ≡ stops ++ more → words ≡ (own ++ stops) ++ more
-ended_cut words own stops behind more e f = e ∙ ap (λ (t : List Lexeme). own ++ t) f ∙ sym (append_assoc own stops more)
-
 pub ended_split : (words ws own stops more : List Lexeme) → words ≡ ws ++ more → ws ≡ own ++ stops → words ≡ own ++ (stops ++ more)
 ended_split words ws own stops more e same = e ∙ ap (λ (t : List Lexeme). t ++ more) same ∙ append_assoc own stops more
 
@@ -132,10 +129,6 @@ none_more words rest done so some none ss several =
     some (ends_only IsEndedStatement FollowsStatements IsEnd statements_run words rest done so (λ u ws more is fit e. none u more (ended_standing u ws rest more is fit e)) ss words [] several refl (sym (append-nil words))).1
 
 -- ---- a paragraph
-
-pub some_statements : (ss : List WrittenStatement) (ws : List Lexeme) → Several IsEndedStatement ss ws → (ws ≡ [] → ⊥) → 0 < length ss
-some_statements [] ws several some = absurd (some several)
-some_statements (s ∷ ss) ws several some = omega arith
 
 pub statements_first : (ss : List WrittenStatement) (ws : List Lexeme) → 0 < length ss → Several IsEndedStatement ss ws → (w : Lexeme) × (behind : List Lexeme) × (word_class w ≡ term.Move) × (ws ≡ w ∷ behind)
 statements_first [] ws some several = absurd (omega (arith, some))

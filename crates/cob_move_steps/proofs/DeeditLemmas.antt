@@ -35,10 +35,6 @@ use Rattle.cob_move_steps.proofs.TextLemmas.{led_digits}
 
 -- ---- the digits that are taken out
 
--- what a byte shows
-pub shown_same : (b : ℕ) → shown_digit b ≡ digit_shown b
-shown_same b = refl
-
 pub digit_small : (b : ℕ) → digit_shown b < 10
 digit_small b = grind (arith, nat_tests)
 

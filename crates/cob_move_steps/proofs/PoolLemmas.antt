@@ -1,33 +1,24 @@
 -- Steps of single moves among those that were made ready.
-use Rattle.std.proofs.Common.{◌≡◌, ◌≤◌, ℕ, false, List, [], ◌∷◌, ◌++◌, length, get_or, sym, ap, subst, ◌∙◌, arith, Option, Some, length-append, append-nil}
+use Rattle.std.proofs.Common.{◌≡◌, ◌≤◌, ℕ, List, [], ◌∷◌, ◌++◌, length, get_or, sym, ap, subst, ◌∙◌, arith, Option, Some, length-append, append-nil}
 use Rattle.std.proofs.lemmas.List.{get_or_append_left, get_or_push, get_or_read}
 use Rattle.cob_codec.specs.Binary.{binary_length}
 use Rattle.cob_codec.specs.declared.reading.Reading.{Reading}
 use Rattle.cob_copybook_tree.specs.declared.node.Item.{Item}
 use Rattle.cob_copybook_tree.specs.declared.node.Kind.{Kind}
 use Rattle.cob_copybook_tree.specs.declared.node.Kind.TheVariants.{Group, Item as ItemKind}
-use Rattle.cob_copybook_tree.specs.Items.{storage_kind}
 use Rattle.cob_copybook_tree.specs.Lengths.{item_size}
-use Rattle.cob_copybook_tree.specs.Storage.{is_read_whole}
 use Rattle.cob_codec_lanes.specs.Windows.{last_bytes}
 use Rattle.cob_move_receive.specs.Received.{Received}
 use Rattle.cob_move_receive.specs.Sent.{Entry, Occupies}
 use Rattle.cob_move_steps.specs.Copies.{AreCharactersCarriedOut, IsCharactersStep}
-use Rattle.cob_move_steps.specs.Ends.{IsOwnWriter, SuitsReading, item_digits}
-use Rattle.cob_move_steps.specs.Deedits.{IsReceiverWriterFor, IsTextCarriedOut}
-use Rattle.cob_move_steps.specs.Long.{IsLongCarriedOut}
-use Rattle.cob_move_steps.specs.Numerals.{IsNumeralsCarriedOut}
-use Rattle.cob_move_steps.specs.Pool.{AreOccupied, BetweenItems, IsReceived, IsStepAt, IsStepBetween, KeepsSteps, MoveKinds, MovesLong, MovesNumber, MovesAnyNumber, MovesToEdited, MovesText, MovesToNumerals, MovesToWideEdited, MovesWide}
-use Rattle.cob_move_steps.specs.Running.{IsAnyNumberCarriedOut, IsCarriedOut, IsEditCarriedOut, IsWideEditCarriedOut}
-use Rattle.cob_move_steps.specs.Wide.{IsWideCarriedOut}
+use Rattle.cob_move_steps.specs.Ends.{IsOwnWriter, item_digits}
+use Rattle.cob_move_steps.specs.Pool.{BetweenItems, IsReceived, IsStepAt, IsStepBetween, KeepsSteps, MoveKinds, MovesLong, MovesNumber, MovesAnyNumber, MovesToEdited, MovesText, MovesToNumerals, MovesToWideEdited, MovesWide}
 use Rattle.cob_move_steps.specs.declared.any_number_step.AnyNumberStep.{AnyNumberStep}
 use Rattle.cob_move_steps.specs.declared.characters_step.CharactersStep.{CharactersStep}
 use Rattle.cob_move_steps.specs.declared.edit_step.EditStep.{EditStep}
 use Rattle.cob_move_steps.specs.declared.long_step.LongStep.{LongStep}
 use Rattle.cob_move_steps.specs.declared.number_ends.NumberWriter.{NumberWriter}
 use Rattle.cob_move_steps.specs.declared.number_ends.NumberWriter.TheVariants as writer
-use Rattle.cob_move_steps.specs.declared.number_ends.ReceiverWriter.{ReceiverWriter}
-use Rattle.cob_move_steps.specs.declared.number_ends.ReceiverWriter.TheVariants as receiver
 use Rattle.cob_move_steps.specs.declared.numerals_step.NumeralsStep.{NumeralsStep}
 use Rattle.cob_move_steps.specs.declared.pool.MoveStep.{MoveStep}
 use Rattle.cob_move_steps.specs.declared.pool.MoveStep.TheVariants as move_step
@@ -87,44 +78,12 @@ steps_kept before now numbers wides any_numbers edits wide_edits numerals texts 
 
 -- ---- a step carried out
 
-pub fits_between : (most : ℕ) (holds : Item → Item → Type 0) (s r : Kind) (received : ℕ) → ((from to : Item) → holds from to → item_size to ≤ most) → Occupies r received → BetweenItems holds s r → received ≤ most
-fits_between most holds Group r received fits occupied between = absurd between
-fits_between most holds (ItemKind i) Group received fits occupied between = absurd between
-fits_between most holds (ItemKind i) (ItemKind j) received fits occupied between = omega (arith, occupied.0, fits i j between)
-
-pub few_between : (holds : Item → Item → Type 0) (s r : Kind) (received : ℕ) → ((from to : Item) → holds from to → item_size to ≤ 16) → Occupies r received → BetweenItems holds s r → received ≤ 16
-few_between holds s r received fits occupied between = fits_between 16 holds s r received fits occupied between
-
 word_length : (n : ℕ) → binary_length n ≤ 16
 word_length n = grind arith
 
 pub writer_fits : (to : Item) (w : NumberWriter) → IsOwnWriter to w → item_size to ≤ 16
 writer_fits to (writer.Lanes w) own = own.fits
 writer_fits to (writer.Binary w) own = omega (arith, size_is to own.binary, word_length (item_digits to))
-
-pub few_numbers : (k : MoveKinds) (step : NumberStep) (size : ℕ) → AreOccupied k → BetweenItems (MovesNumber step) k.sender k.receiver → size ≡ k.received → size ≤ 16
-few_numbers k step size occupied between same = omega (arith, same, few_between (MovesNumber step) k.sender k.receiver k.received (λ from to is. is.writer.fits) occupied.receiver between)
-
-pub few_wides : (k : MoveKinds) (step : WideStep) (size : ℕ) → AreOccupied k → BetweenItems (MovesWide step) k.sender k.receiver → size ≡ k.received → size ≤ 16
-few_wides k step size occupied between same = omega (arith, same, few_between (MovesWide step) k.sender k.receiver k.received (λ from to is. is.writer.fits) occupied.receiver between)
-
-pub few_any_numbers : (k : MoveKinds) (step : AnyNumberStep) (size : ℕ) → AreOccupied k → BetweenItems (MovesAnyNumber step) k.sender k.receiver → size ≡ k.received → size ≤ 16
-few_any_numbers k step size occupied between same =
-    omega (arith, same, few_between (MovesAnyNumber step) k.sender k.receiver k.received (λ from to is. writer_fits to step.writer is.1.writer.own) occupied.receiver between)
-
-pub few_edited : (k : MoveKinds) (step : EditStep) (size : ℕ) → AreOccupied k → BetweenItems (MovesToEdited step) k.sender k.receiver → size ≡ k.received → size ≤ 16
-few_edited k step size occupied between same = omega (arith, same, few_between (MovesToEdited step) k.sender k.receiver k.received (λ from to is. is.1.fits) occupied.receiver between)
-
-pub few_wide_edited : (k : MoveKinds) (step : WideEditStep) (size : ℕ) → AreOccupied k → BetweenItems (MovesToWideEdited step) k.sender k.receiver → size ≡ k.received → size ≤ 32
-few_wide_edited k step size occupied between same = omega (arith, same, fits_between 32 (MovesToWideEdited step) k.sender k.receiver k.received (λ from to is. is.1.writer.fits) occupied.receiver between)
-
-receiver_fits : (to : Item) (w : ReceiverWriter) → IsReceiverWriterFor to w → item_size to ≤ 32
-receiver_fits to (receiver.Number w) is = omega (arith, writer_fits to w is.own)
-receiver_fits to (receiver.Text w) is = is.fits
-
-pub few_texts : (k : MoveKinds) (step : TextStep) (size : ℕ) → AreOccupied k → BetweenItems (MovesText step) k.sender k.receiver → size ≡ k.received → size ≤ 32
-few_texts k step size occupied between same =
-    omega (arith, same, fits_between 32 (MovesText step) k.sender k.receiver k.received (λ from to is. receiver_fits to step.writer is.writer) occupied.receiver between)
 
 -- what two items get of one another is what their kinds get, where these have just their bytes
 abbrev pub ItemsReceive : (Item → Item → Type 0) → List ℕ → ℕ → Option (List ℕ) → Reading → Type 0
@@ -139,56 +98,6 @@ carried holds (ItemKind i) Group sent received bytes outcome reading sends recei
 carried holds (ItemKind i) (ItemKind j) sent received bytes outcome reading sends receives between within h =
     subst (λ (n : ℕ). Received (Entry (ItemKind i) (last_bytes n bytes) reading) (ItemKind j) received outcome) (sym sends.0)
     (h i j between (omega (arith, within, sends.0)) receives.0)
-
-received_by : (holds : Item → Item → Type 0) (k : MoveKinds) (size : ℕ) (bytes : List ℕ) (outcome : Option (List ℕ)) → AreOccupied k → BetweenItems holds k.sender k.receiver → k.sent ≤ length bytes
-    → size ≡ k.received → ((reading : Reading) → ItemsReceive holds bytes size outcome reading) → IsReceived k bytes outcome
-received_by holds k size bytes outcome occupied between within same h reading =
-    carried holds k.sender k.receiver k.sent k.received bytes outcome reading occupied.sender occupied.receiver between within
-    (subst (λ (m : ℕ). ItemsReceive holds bytes m outcome reading) same (h reading))
-
-pub number_received : (k : MoveKinds) (step : NumberStep) (size : ℕ) (bytes : List ℕ) (outcome : Option (List ℕ)) → AreOccupied k → BetweenItems (MovesNumber step) k.sender k.receiver → k.sent ≤ length bytes
-    → size ≡ k.received → IsCarriedOut step bytes size outcome → IsReceived k bytes outcome
-number_received k step size bytes outcome occupied between within same h =
-    received_by (MovesNumber step) k size bytes outcome occupied between within same (λ reading from to is fits long. h from to is fits long reading)
-
-pub wide_received : (k : MoveKinds) (step : WideStep) (size : ℕ) (bytes : List ℕ) (outcome : Option (List ℕ)) → AreOccupied k → BetweenItems (MovesWide step) k.sender k.receiver → k.sent ≤ length bytes
-    → size ≡ k.received → IsWideCarriedOut step bytes size outcome → IsReceived k bytes outcome
-wide_received k step size bytes outcome occupied between within same h =
-    received_by (MovesWide step) k size bytes outcome occupied between within same (λ reading from to is fits long. h from to is fits long reading)
-
--- an item that is read in one way suits any reading
-suits : (from : Item) (reading : Reading) → is_read_whole (storage_kind from) ≡ false → SuitsReading from reading
-suits from reading other is = absurd (cc)
-
-pub any_number_received : (k : MoveKinds) (step : AnyNumberStep) (size : ℕ) (bytes : List ℕ) (outcome : Option (List ℕ)) → AreOccupied k → BetweenItems (MovesAnyNumber step) k.sender k.receiver → k.sent ≤ length bytes
-    → size ≡ k.received → IsAnyNumberCarriedOut step bytes size outcome → IsReceived k bytes outcome
-any_number_received k step size bytes outcome occupied between within same h =
-    received_by (MovesAnyNumber step) k size bytes outcome occupied between within same (λ reading from to is fits long. h from to is.1 fits long reading (suits from reading is.0))
-
-pub edited_received : (k : MoveKinds) (step : EditStep) (size : ℕ) (bytes : List ℕ) (outcome : Option (List ℕ)) → AreOccupied k → BetweenItems (MovesToEdited step) k.sender k.receiver → k.sent ≤ length bytes
-    → size ≡ k.received → IsEditCarriedOut step bytes size outcome → IsReceived k bytes outcome
-edited_received k step size bytes outcome occupied between within same h =
-    received_by (MovesToEdited step) k size bytes outcome occupied between within same (λ reading from to is fits long. h from to is.1 fits long reading (suits from reading is.0))
-
-pub wide_edited_received : (k : MoveKinds) (step : WideEditStep) (size : ℕ) (bytes : List ℕ) (outcome : Option (List ℕ)) → AreOccupied k → BetweenItems (MovesToWideEdited step) k.sender k.receiver → k.sent ≤ length bytes
-    → size ≡ k.received → IsWideEditCarriedOut step bytes size outcome → IsReceived k bytes outcome
-wide_edited_received k step size bytes outcome occupied between within same h =
-    received_by (MovesToWideEdited step) k size bytes outcome occupied between within same (λ reading from to is fits long. h from to is.1 fits long reading (suits from reading is.0))
-
-pub numerals_received : (k : MoveKinds) (step : NumeralsStep) (size : ℕ) (bytes : List ℕ) (outcome : Option (List ℕ)) → AreOccupied k → BetweenItems (MovesToNumerals step) k.sender k.receiver → k.sent ≤ length bytes
-    → size ≡ k.received → IsNumeralsCarriedOut step bytes size outcome → IsReceived k bytes outcome
-numerals_received k step size bytes outcome occupied between within same h =
-    received_by (MovesToNumerals step) k size bytes outcome occupied between within same (λ reading from to is fits long. h from to is.1 fits long reading (suits from reading is.0))
-
-pub long_received : (k : MoveKinds) (step : LongStep) (size : ℕ) (bytes : List ℕ) (outcome : Option (List ℕ)) → AreOccupied k → BetweenItems (MovesLong step) k.sender k.receiver → k.sent ≤ length bytes
-    → size ≡ k.received → IsLongCarriedOut step bytes size outcome → IsReceived k bytes outcome
-long_received k step size bytes outcome occupied between within same h =
-    received_by (MovesLong step) k size bytes outcome occupied between within same (λ reading from to is fits long. h from to is.1 fits long reading (suits from reading is.0))
-
-pub text_received : (k : MoveKinds) (step : TextStep) (size : ℕ) (bytes : List ℕ) (outcome : Option (List ℕ)) → AreOccupied k → BetweenItems (MovesText step) k.sender k.receiver → k.sent ≤ length bytes
-    → size ≡ k.received → IsTextCarriedOut step bytes size outcome → IsReceived k bytes outcome
-text_received k step size bytes outcome occupied between within same h =
-    received_by (MovesText step) k size bytes outcome occupied between within same (λ reading from to is fits long. h from to is fits long reading)
 
 pub characters_received : (k : MoveKinds) (step : CharactersStep) (size : ℕ) (bytes written : List ℕ) → IsCharactersStep k.sender k.sent k.receiver step → size ≡ k.received
     → AreCharactersCarriedOut step bytes size written → IsReceived k bytes (Some written)

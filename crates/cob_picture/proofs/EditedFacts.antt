@@ -1,5 +1,5 @@
 -- What stands in no numeric edited picture, so that it is of no other category.
-use Rattle.std.proofs.Common.{◌≡◌, ℕ, zero, suc, ◌+◌, ◌<◌, ◌≤◌, Bool, true, false, ◌||◌, not, List, [], ◌∷◌, ◌++◌, length, replicate, take, get_or, Option, Some, None, refl, sym, ap, subst, ◌∙◌, arith}
+use Rattle.std.proofs.Common.{◌≡◌, ℕ, zero, suc, ◌+◌, ◌<◌, ◌≤◌, Bool, true, false, not, List, [], ◌∷◌, ◌++◌, length, replicate, take, get_or, Option, Some, None, refl, sym, ap, subst, ◌∙◌, arith}
 use Rattle.std.specs.Prelude.{IsTrue, nat_le, if◌then◌else◌}
 use Rattle.std.proofs.lemmas.List.Concat.{flat_map-append}
 use Rattle.std.proofs.lemmas.List.{append-nil, take_more}
@@ -22,10 +22,6 @@ use Rattle.cob_picture.proofs.Times.{is_other, is_same, times-append, times-repl
 use Rattle.cob_picture.proofs.Placed.{one_if}
 
 -- ---- the run's symbol
-
--- a symbol that is never the run's
-abbrev pub never_runs : Symbol → Bool
-never_runs s = not (is Dollar s || (is Plus s || (is Minus s || (is Z s || is Star s))))
 
 chosen_not : (a b d e f : Bool) (s : Symbol) → is Dollar s ≡ false → is Plus s ≡ false → is Minus s ≡ false → is Z s ≡ false → is Star s ≡ false
     → is_that (if a then Some Dollar else (if b then Some Plus else (if d then Some Minus else (if e then Some Z else (if f then Some Star else None))))) s ≡ false
@@ -190,10 +186,6 @@ pub kept_too : (kept : List Run) (r : Run) → (r.symbol ≡ P → ⊥) → writ
 kept_too kept r ne =
     flat_map-append (λ (r : Run). replicate r.count r.symbol) kept (r ∷ [])
     ∙ ap (λ (t : List Symbol). written_out kept ++ t) (append-nil (replicate r.count r.symbol) ∙ sym (unscaled-others r.count r.symbol (is_other P r.symbol ne)))
-
-pub kept_positive : (kept : List Run) (r : Run) → ArePositive kept → 0 < r.count → ArePositive (kept ++ r ∷ [])
-kept_positive [] r pos lt = (lt, tt)
-kept_positive (k ∷ kept) r pos lt = (pos.0, kept_positive kept r pos.1 lt)
 
 pub positive_at : (runs : List Run) (i : ℕ) (d : Run) → i < length runs → ArePositive runs → 0 < (get_or runs i d).count
 positive_at [] i d lt pos = absurd (omega arith)

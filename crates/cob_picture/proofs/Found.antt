@@ -1,12 +1,12 @@
 -- From the runs of a text to its picture.
-use Rattle.std.proofs.Common.{◌≡◌, ℕ, ◌<◌, ◌≤◌, min, List, [], ◌∷◌, ◌++◌, length, map, refl, sym, ap, subst, ◌∙◌, arith, inl, inr}
+use Rattle.std.proofs.Common.{◌≡◌, ℕ, ◌<◌, ◌≤◌, min, List, [], ◌∷◌, ◌++◌, length, map, refl, sym, ap, subst, ◌∙◌, arith, inr}
 use Rattle.std.specs.List.{AllByRecursion, flat_map}
 use Rattle.cob_picture.specs.declared.symbol.Symbol.{Symbol}
 use Rattle.cob_picture.specs.declared.symbol.Run.{Run}
 use Rattle.cob_picture.specs.declared.category.Category.{Category}
 use Rattle.cob_picture.specs.declared.fault.PictureFault.{PictureFault}
 use Rattle.cob_picture.specs.declared.fault.PictureFault.TheVariants.{Empty, UnknownSymbol, BadRepeat, Order, Digits, TooLong, LeftOut}
-use Rattle.cob_picture.specs.WrittenOut.{SpelledSymbol, Once, Times, IsItem, SpellsItems, run_of, symbols_in, counted_in, times_in, symbol_in, IsBrokenAfter}
+use Rattle.cob_picture.specs.WrittenOut.{SpelledSymbol, Once, Times, IsItem, SpellsItems, run_of, symbols_in, counted_in, times_in, symbol_in}
 use Rattle.cob_picture.specs.Positions.{PlainPicture, symbol_count, written_out, positions}
 use Rattle.cob_picture.specs.Runs.{ArePositive}
 use Rattle.cob_picture.specs.Pictures.{IsPicture, IsPictureOf, IsMisplaced, IsMisplacedIn, BreaksPictureRule}
@@ -96,12 +96,3 @@ broken_order Empty text runs h m = absurd m
 broken_order UnknownSymbol text runs h m = absurd m
 broken_order BadRepeat text runs h m = absurd m
 broken_order LeftOut text runs h m = inr (misplaced_in LeftOut text runs h m)
-
-pub broken_item : (f : PictureFault) (text : List ℕ) → IsBrokenAfter f text → BreaksPictureRule f text
-broken_item UnknownSymbol text h = h
-broken_item BadRepeat text h = h
-broken_item LeftOut text h = inl h
-broken_item Empty text (items, rest, front, some, h) = absurd h
-broken_item Order text (items, rest, front, some, h) = absurd h
-broken_item Digits text (items, rest, front, some, h) = absurd h
-broken_item TooLong text (items, rest, front, some, h) = absurd h

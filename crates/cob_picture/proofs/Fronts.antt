@@ -14,9 +14,6 @@ pub record Fronts (runs : List Run) (s : Symbol) (count i : ℕ) : Type 0 where
   pub positive : ArePositive (drop i runs)
   pub bound : count ≤ 65535 * i
 
-pub fronts_begin : (runs : List Run) (s : Symbol) → ArePositive runs → Fronts runs s 0 0
-fronts_begin runs s pos = record { parts = refl; positive = pos; bound = omega arith }
-
 pub fronts_step : (runs : List Run) (s : Symbol) (count i : ℕ) (d : Run) → i < length runs → (get_or runs i d).count < 2 ^ 16 → (get_or runs i d).symbol ≡ s → Fronts runs s count i → Fronts runs s (count + (get_or runs i d).count) (i + 1)
 fronts_step runs s count i d lt fits same f =
     let r = get_or runs i d in
@@ -91,12 +88,6 @@ pub record Peeled (ps : List Symbol) (n : NumericParts) (rest : List Symbol) : T
   pub not5 : NotFirstSymbol P p5
   pub not6 : NotFirstSymbol V p6
   pub not7 : NotFirstSymbol Nine rest
-
-pub peeled_written : (ps : List Symbol) (n : NumericParts) → Peeled ps n [] → ps ≡ numeric_symbols n
-peeled_written ps n p =
-    p.signs ∙ ap (λ (t : List Symbol). replicate n.signs S ++ t) (p.points ∙ ap (λ (t : List Symbol). replicate n.points V ++ t) (p.left ∙ ap (λ (t : List Symbol). replicate n.left P ++ t)
-    (p.nines ∙ ap (λ (t : List Symbol). replicate n.nines Nine ++ t) (p.right ∙ ap (λ (t : List Symbol). replicate n.right P ++ t) (p.after ∙ ap (λ (t : List Symbol). replicate n.after V ++ t)
-    (p.fraction ∙ append-nil (replicate n.fraction Nine)))))))
 
 not_nine : (e f g : ℕ) → (0 < e → g ≡ 0) → (f ≡ 0 → g ≡ 0) → NotFirstSymbol Nine (replicate e P ++ (replicate f V ++ replicate g Nine))
 not_nine (suc e) f g h k = λ e. cc

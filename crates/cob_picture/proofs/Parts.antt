@@ -16,7 +16,7 @@ use Rattle.cob_picture.specs.Positions.{written_out, symbol_count}
 use Rattle.cob_picture.specs.Runs.{ArePositive}
 use Rattle.cob_picture.specs.Edited.{symbol_kind, belongs, AreOf, Stops, Edited, edited_symbols, HasKinds, counts_in, AreAllowed, run_symbol, IsNumericEdited, ends_in_mark}
 use Rattle.cob_picture.proofs.Times.{one_more}
-use Rattle.cob_picture.specs.Parted.{IsSplit, edited_of, HaveFewRuns}
+use Rattle.cob_picture.specs.Parted.{IsSplit, edited_of}
 
 -- ---- which kinds stand in one part and not in another
 
@@ -237,18 +237,6 @@ split_written q xs lead currency front whole point fraction trail rest s none =
     s.p1.parts ∙ ap (λ (t : List Symbol). written_out lead ++ t) (s.p2.parts ∙ ap (λ (t : List Symbol). written_out currency ++ t) (s.p3.parts ∙ ap (λ (t : List Symbol). written_out front ++ t)
     (s.p4.parts ∙ ap (λ (t : List Symbol). written_out whole ++ t) (s.p5.parts ∙ ap (λ (t : List Symbol). written_out point ++ t) (s.p6.parts ∙ ap (λ (t : List Symbol). written_out fraction ++ t)
     (s.p7.parts ∙ ap (λ (t : List Symbol). written_out trail ++ t) none ∙ append-nil (written_out trail)))))))
-
-pub split_short : (q : Option Symbol) (xs : List Symbol) (lead currency front whole point fraction trail rest : List Run) → IsSplit q xs lead currency front whole point fraction trail rest
-    → HaveFewRuns lead currency front whole point fraction trail
-split_short q xs lead currency front whole point fraction trail rest s = record {
-  r1 = (s.p1.short, s.p1.positive);
-  r2 = (s.p2.short, s.p2.positive);
-  r3 = (s.p3.short, s.p3.positive);
-  r4 = (s.p4.short, s.p4.positive);
-  r5 = (s.p5.short, s.p5.positive);
-  r6 = (s.p6.short, s.p6.positive);
-  r7 = (s.p7.short, s.p7.positive);
-}
 
 -- what the tests over runs decide
 pub edited_yes : (xs : List Symbol) (q : Option Symbol) (lead currency front whole point fraction trail rest : List Run) → q ≡ run_symbol xs → IsSplit q xs lead currency front whole point fraction trail rest → written_out rest ≡ []

@@ -1,8 +1,8 @@
 -- How often a symbol stands in a list.
-use Rattle.std.proofs.Common.{◌≡◌, ℕ, zero, suc, ◌+◌, ◌<◌, ◌≤◌, Bool, true, false, List, [], ◌∷◌, ◌++◌, length, get_or, take, replicate, Some, refl, sym, ap, ◌∙◌, arith}
+use Rattle.std.proofs.Common.{◌≡◌, ℕ, zero, suc, ◌+◌, ◌<◌, true, false, List, [], ◌∷◌, ◌++◌, length, get_or, take, replicate, Some, refl, sym, ap, ◌∙◌, arith}
 use Rattle.std.proofs.lemmas.List.{take_more, append-nil, length-append, length-replicate}
 use Rattle.std.proofs.lemmas.List.Concat.{flat_map-append}
-use Rattle.std.proofs.lemmas.Bool.{eqb-true, eq-eqb, ne_eqb}
+use Rattle.std.proofs.lemmas.Bool.{eq-eqb, ne_eqb}
 use Rattle.cob_picture.specs.declared.symbol.Symbol.{Symbol}
 use Rattle.cob_picture.specs.declared.symbol.Symbol.TheVariants.{A, X, Nine, S, V, P, B, Zero, Slash, Comma, Point, Z, Star, Dollar, Plus, Minus, Credit, Debit}
 use Rattle.cob_picture.specs.declared.symbol.Run.{Run}
@@ -75,16 +75,6 @@ length_more runs i d lt =
     let r = get_or runs i d in
     omega (arith, ap (length {A = Symbol}) (one_more runs i d lt), length-append (written_out (take i runs)) (replicate r.count r.symbol), length-replicate r.count r.symbol)
 
-pub two_times : (s t : Symbol) (ps : List Symbol) → (s ≡ t → ⊥) → symbol_count s ps + symbol_count t ps ≤ length ps
-two_times s t [] ne = omega arith
-two_times s t (p ∷ ps) ne = step (is s p) (is t p) refl refl (two_times s t ps ne)
-  where
-    step : (a b : Bool) → is s p ≡ a → is t p ≡ b → symbol_count s ps + symbol_count t ps ≤ length ps → symbol_count s (p ∷ ps) + symbol_count t (p ∷ ps) ≤ length (p ∷ ps)
-    step true true x y ih = absurd (ne (first_one s t (sym (eqb-true _ _ x) ∙ eqb-true _ _ y)))
-    step true false x y ih = rw (x, y) (omega arith)
-    step false true x y ih = rw (x, y) (omega arith)
-    step false false x y ih = rw (x, y) (omega arith)
-
 -- the counts of a numeric picture
 pub times_written : (s : Symbol) (n : NumericParts) → (S ≡ s → ⊥) → (V ≡ s → ⊥) → (P ≡ s → ⊥) → (Nine ≡ s → ⊥) → symbol_count s (numeric_symbols n) ≡ 0
 times_written s n a b c d =
@@ -109,23 +99,6 @@ times_written s n a b c d =
       times-replicate_other s P n.right c,
       times-replicate_other s V n.after b,
       times-replicate_other s Nine n.fraction d,
-    )
-
-pub nines_written : (n : NumericParts) → n.nines ≤ symbol_count Nine (numeric_symbols n)
-nines_written n =
-    let t6 = replicate n.fraction Nine in
-    let t5 = replicate n.after V ++ t6 in
-    let t4 = replicate n.right P ++ t5 in
-    let t3 = replicate n.nines Nine ++ t4 in
-    let t2 = replicate n.left P ++ t3 in
-    let t1 = replicate n.points V ++ t2 in
-    omega (
-      arith,
-      times-append Nine (replicate n.signs S) t1,
-      times-append Nine (replicate n.points V) t2,
-      times-append Nine (replicate n.left P) t3,
-      times-append Nine (replicate n.nines Nine) t4,
-      times-replicate Nine Nine n.nines refl,
     )
 
 -- the S and the Vs of a numeric picture

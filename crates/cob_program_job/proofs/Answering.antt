@@ -26,12 +26,11 @@ use Rattle.cob_convert.specs.declared.fault.PrepareFault.TheVariants as prepare
 use Rattle.cob_program_job.specs.declared.fault.JobFault.{JobFault}
 use Rattle.cob_program_job.specs.declared.fault.JobFault.TheVariants.{CannotRead, Malformed, Refused, Stopped, Memory}
 use Rattle.cob_convert.specs.declared.status.Status.{Status}
-use Rattle.cob_convert.specs.declared.status.Status.TheVariants as status
-use Rattle.cob_program_job.specs.JobAnswers.{PutsEnd, ComesTo, InData, InText, InRun, IsOutcome, PrintsOutput, HasEnded, IsDone, IsJobPrinted, IsUnreadFault, PrintsAnswer, job_ends, sink_state, job_text, output_line}
+use Rattle.cob_program_job.specs.JobAnswers.{ComesTo, InData, InText, InRun, IsOutcome, PrintsOutput, HasEnded, IsDone, IsJobPrinted, IsUnreadFault, PrintsAnswer, job_ends, sink_state, job_text, output_line}
 use Rattle.cob_convert.specs.Statuses.{code_of, printed_status}
 use Rattle.cob_program_job.specs.JobData.{IsData, IsRefusedBy}
 use Rattle.cob_program_job.specs.Jobs.{TellsAnswer, begun_end, data_refusal, end_text, is_output_stop, is_unread, is_unread_fault, run_answer, status_of_answer, text_refusal}
-use Rattle.cob_program_job.specs.Marks.{IsJobOf, IsNoJob, Parts, first_line_of}
+use Rattle.cob_program_job.specs.Marks.{IsNoJob, Parts}
 use Rattle.cob_program_job.specs.Printed.{IsBegunBy, IsTextBehind, bytes_behind, bytes_in, due_text, known_or_none, owes_begun, says_some, with_due}
 use Rattle.cob_program_job.proofs.Digits.{ends}
 
@@ -87,11 +86,6 @@ pub job_refused : (text : List ℕ) (answer : Result ℕ JobFault) (told : Told)
     → answer ≡ Err (Malformed number) → Took told told (IsOutcome text answer)
 job_refused text answer told number refused e =
     ([], inl (record { number = number; refused = refused; answer_is = e; nothing = refl }), nothing_sent told)
-
-pub job_comes : (text : List ℕ) (parts : Parts) (first : ℕ) (answer : Result ℕ JobFault) (before now : Told) → IsJobOf text parts → first ≡ first_line_of text parts.digits
-    → Took before now (ComesTo parts first answer) → Took before now (IsOutcome text answer)
-job_comes text parts first answer before now is e (sent, comes, took) =
-    (sent, inr (parts, is, subst (λ (n : ℕ). ComesTo parts n answer sent) e comes), took)
 
 -- ---- what is printed
 
@@ -272,21 +266,6 @@ output_run (Ok done) = refl
 output_run (Err stopped) = refl
 
 -- ---- the end of a job
-
-pub ended_stopped : (answer : Result ℕ JobFault) (due : Option ℕ) (begun : Bool) (told : Told) (failed : ℕ) → is_output_stop answer ≡ true
-    → HasEnded answer due begun (sink_state told failed) (sink_state told failed) status.Device
-ended_stopped answer due begun told failed stop = record {
-  stopped = λ s. (refl, refl);
-  printed = λ runs. absurd (both_ways (is_output_stop answer) runs stop);
-}
-
-pub ended_put : (answer : Result ℕ JobFault) (put : Result (Unit {0}) RecordFault) (due : Option ℕ) (begun : Bool) (told now : Told) (failed failed_now : ℕ) (end : Status)
-    → is_output_stop answer ≡ false → PutsEnd answer due begun put told now → failed_now ≡ counted (is_err put) failed → end ≡ printed_status put (status_of_answer answer)
-    → HasEnded answer due begun (sink_state told failed) (sink_state now failed_now) end
-ended_put answer put due begun told now failed failed_now end runs puts count is = record {
-  stopped = λ stop. absurd (both_ways (is_output_stop answer) runs stop);
-  printed = λ r. (put, puts, count, is);
-}
 
 -- ---- a whole job
 

@@ -20,10 +20,6 @@ length-hex_text : (xs : List ℕ) → length (hex_text xs) ≡ 2 * length xs
 length-hex_text [] = refl
 length-hex_text (x ∷ xs) = omega (arith, length-hex_text xs)
 
--- one more byte
-pub hex_text-more : (xs : List ℕ) (x : ℕ) → hex_text (xs ++ x ∷ []) ≡ hex_text xs ++ byte_text x
-hex_text-more xs x = flat_map-append byte_text xs (x ∷ [])
-
 -- the text of the front, and then that of what follows
 hex_text-split : (n : ℕ) (xs : List ℕ) → hex_text xs ≡ hex_text (take n xs) ++ hex_text (drop n xs)
 hex_text-split n xs = ap (λ ys. hex_text ys) (sym (take-append-drop n xs)) ∙ flat_map-append byte_text (take n xs) (drop n xs)

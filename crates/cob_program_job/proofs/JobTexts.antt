@@ -13,7 +13,7 @@ use Rattle.cob_records.specs.declared.records.Form.TheVariants.{Fixed, Variable,
 use Rattle.cob_source.specs.Lines.{lines, led_by}
 use Rattle.std.proofs.lemmas.Bool.{eqb-true}
 use Rattle.cob_program_job.specs.JobData.{line_number_behind}
-use Rattle.cob_program_job.specs.Marks.{IsInMark, IsOutMark, SaysForm, SaysSize, moves_mark, data_mark, begins_mark, IsLineEnd, IsEndBefore, has_whole_lines, IsPart, IsSection, Parts, IsJobOf, IsMarkBehind, BeginsJob, IsNoJob, first_line_of, behind_line, from_mark, IsNextLine, IsOtherLine, IsPartBefore}
+use Rattle.cob_program_job.specs.Marks.{IsInMark, IsOutMark, SaysForm, SaysSize, moves_mark, data_mark, begins_mark, IsLineEnd, IsEndBefore, has_whole_lines, IsPart, IsSection, Parts, IsJobOf, IsMarkBehind, BeginsJob, IsNoJob, behind_line, from_mark, IsNextLine, IsOtherLine, IsPartBefore}
 use Rattle.cob_program_job.proofs.MarkLemmas.{Bytes, heads, not_none, first_line, lines-append, before_mark, parted, ends_at_mark, no_mark_before, mark_behind}
 
 -- ---- what is read
@@ -212,13 +212,6 @@ refuse count text rest n told IsWanted so_far few wants (inr (line, more, is, ot
 })
 
 -- ---- a job that was read
-
--- the data's first line
-pub number_found : (text rest digits : Bytes) (n m : ℕ) → Reached 3 text rest n → IsNextLine rest n data_mark digits m → m ≡ first_line_of text digits
-number_found text rest digits n m so_far next =
-    let all : length (lines text) ≡ length so_far.before + length {A = Bytes} (data_mark ∷ lines digits)
-    = ap (length {A = Bytes}) (so_far.lines_are ∙ ap (λ (ls : List Bytes). so_far.before ++ ls) next.lines_are) ∙ length-append so_far.before (data_mark ∷ lines digits) in
-    omega (arith, all, so_far.number_is, next.number_is)
 
 pub job_found : (text r1 p1 r2 r3 p2 r4 r5 p3 r6 digits : Bytes) (f g : Form) (m1 m2 : Bytes) (n1 n2 n3 n4 n5 n6 n7 : ℕ) → IsInMark f m1 → IsOutMark g m2 → IsNextLine text 1 m1 r1 n1
     → IsPartBefore r1 n1 p1 r2 n2 → IsNextLine r2 n2 m2 r3 n3 → IsPartBefore r3 n3 p2 r4 n4 → IsNextLine r4 n4 moves_mark r5 n5 → IsPartBefore r5 n5 p3 r6 n6 → IsNextLine r6 n6 data_mark digits n7

@@ -11,9 +11,6 @@ Bytes = List ℕ
 pub heads : (a b : Bytes) (u v : List Bytes) → a ∷ u ≡ b ∷ v → a ≡ b
 heads a b u v e = cc
 
-pub tails : (a b : Bytes) (u v : List Bytes) → a ∷ u ≡ b ∷ v → u ≡ v
-tails a b u v e = cc
-
 pub not_none : (l : Bytes) (ls : List Bytes) → l ∷ ls ≡ [] → ⊥
 not_none l ls e = omega (arith, ap (length {A = Bytes}) e)
 

@@ -1,5 +1,5 @@
 -- A word that says a number, digit by digit.
-use Rattle.std.proofs.Common.{◌≡◌, ℕ, ◌+◌, ◌-◌, ◌*◌, true, List, ◌∷◌, min, refl, arith}
+use Rattle.std.proofs.Common.{◌≡◌, ℕ, ◌+◌, ◌-◌, ◌*◌, true, List, ◌∷◌, min, arith}
 use Rattle.std.specs.Char.{is_ascii_digit}
 use Rattle.cob_records.specs.BlockSize.{SpellsBehind}
 use Rattle.cob_records.specs.Device.{greatest_count}
@@ -10,9 +10,6 @@ pub record ReadSoFar (word rest : List ℕ) (number : ℕ) : Type 0 where
   pub kept : number ≡ min m greatest_count
   pub from : (n : ℕ) → SpellsBehind m rest n → SpellsBehind 0 word n
   pub to : (n : ℕ) → SpellsBehind 0 word n → SpellsBehind m rest n
-
-pub none_read : (word : List ℕ) → ReadSoFar word word 0
-none_read word = record { m = 0; kept = refl; from = λ n h. h; to = λ n h. h }
 
 pub digit_read : (word rest : List ℕ) (c number next : ℕ) → ReadSoFar word (c ∷ rest) number → is_ascii_digit c ≡ true
     → next ≡ min (min (number * 10) greatest_count + (c - 48)) greatest_count → ReadSoFar word rest next

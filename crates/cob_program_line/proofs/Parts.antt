@@ -14,11 +14,6 @@ both_parts None name_of rows_of name rows n r = absurd (true≢false (sym (ap is
 both_parts (Some x) name_of rows_of name rows n r =
     ap₂ (λ (a : Text) (b : List Row). Some (a, b)) (ap (λ o. unwrap_or o name) n) (ap (λ o. unwrap_or o rows) r)
 
--- an option without a first part has no second
-pub no_parts : {X Y Z : Type 0} (found : Option X) (f : X → Y) (g : X → Z) (z : Z) → option_map f found ≡ None → option_map g found ≡ Some z → ⊥
-no_parts None f g z none some = true≢false (sym (ap is_some some))
-no_parts (Some x) f g z none some = true≢false (ap is_some none)
-
 -- no words are a job
 pub none_said : {X : Type 0} (text : X → Text) (words : List X) (said : CommandLine) → said.line ≡ line.Job → said.explain ≡ false → HandsNothing said.handing
     → (length words == 0) ≡ true → IsCommandLineOf (map text words) said

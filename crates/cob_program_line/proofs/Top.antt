@@ -4,14 +4,13 @@ use Rattle.std.specs.Prelude.{if◌then◌else◌, slice_get}
 use Rattle.std.specs.Option.{option_map_or}
 use Rattle.std.specs.Str.{bytes_eq, chars}
 use Rattle.clap.specs.Lexer.{long_of, short_of}
-use Rattle.clap.specs.Walk.{Held, Names, Rule, Text, Walk, answers_to, bundle_met, finished, nothing_held, rows_after, settled, walk, walk_from, walked}
-use Rattle.clap.specs.Simple.{Shape, built, entered, filled, help_rule, version_rule, label_of, names_of, rows_at, subcommand_of}
+use Rattle.clap.specs.Walk.{Held, Names, Rule, Text, Walk, answers_to, finished, nothing_held, rows_after, settled, walk, walk_from, walked}
+use Rattle.clap.specs.Simple.{Shape, built, entered, filled, help_rule, version_rule, label_of, rows_at, subcommand_of}
 use Rattle.clap.specs.Kinds.{Kinds, or_else}
 use Rattle.clap.specs.Faults.{check_fault, defaults_fault, entered_fault, bundle_fault, bundle_step_fault, fault_of, flag_word_fault, other_fault, flags_fault, level_fault, long_fault, short_fault, settle_fault, turn_fault, walk_fault}
 use Rattle.clap.specs.declared.error.kind.ErrorKind.TheVariants.{DisplayHelp, DisplayVersion, InvalidSubcommand, MissingSubcommand, TooManyValues, UnknownArgument}
 use Rattle.clap.proofs.FaultLemmas.{stopped_fault}
 use Rattle.clap.proofs.WalkLemmas.{walk_stopped}
-use Rattle.clap.proofs.OnLiterals.{clap_on_literals}
 use Rattle.cob_program_options.specs.Options.{Options, found_at}
 use Rattle.cob_program_options.specs.Commands.{Commands, commands}
 use Rattle.cob_program_options.specs.Program.{program_app}
@@ -30,12 +29,6 @@ names_from (o ∷ cs) = (o.0, []) ∷ names_from cs
 -- the program without its commands, as it is built
 abbrev top : Shape
 top = (built program_app).top
-
-subs_are : (built program_app).subs ≡ subs_from commands
-subs_are = refl
-
-names_are : names_of (built program_app) ≡ names_from commands
-names_are = refl
 
 -- a word that names a command is met as that
 name_met : (cs : Commands) (w : Text) → find (answers_to w) (names_from cs) ≡ option_map (λ os. (w, [])) (found_at w cs)
@@ -82,7 +75,6 @@ module _ (w : Text) (os : Options) (is : found_at w commands ≡ Some os) where
   sub = sub_met commands w ∙ ap (option_map (leaf_shape w)) is
 
   first_walked : walked top.rules (names_from commands) (walk_from nothing_held) w ≡ record (walk_from nothing_held) { stopped = Some (w, []) }
-  unfolding walked
   first_walked = rw met refl
 
   all_walked : (rest : List Text) → walk top.rules (names_from commands) nothing_held (w ∷ rest) ≡ record (walk_from nothing_held) { stopped = Some (w, rest) }
@@ -92,7 +84,6 @@ module _ (w : Text) (os : Options) (is : found_at w commands ≡ Some os) where
   first_turn = rw (met, no_help w os is) refl
 
   first_fault : (rest : List Text) → walk_fault top (names_from commands) (walk_from nothing_held) (w ∷ rest) ≡ []
-  unfolding walk_fault
   first_fault rest = ap₂ or_else first_turn
       (ap (λ v. walk_fault top (names_from commands) v rest) first_walked ∙ stopped_fault top (names_from commands) (walk_from nothing_held) (w, []) rest)
 
@@ -106,7 +97,6 @@ module _ (w : Text) (os : Options) (is : found_at w commands ≡ Some os) where
 
   stopped_faults : (rest : List Text) → rest_by (record (walk_from nothing_held) { stopped = Some (w, rest) })
       ≡ or_else (level_fault (leaf_shape w os) [] nothing_held rest false []) []
-  unfolding defaults_fault
   stopped_faults rest = ap (λ (found : Option Shape). or_else (option_map_or (λ s. level_fault s [] nothing_held rest false []) found [])
       (check_fault top [] (is_some (option_map (λ s. rows_at s rest) found)))) sub
 
@@ -116,15 +106,12 @@ module _ (w : Text) (os : Options) (is : found_at w commands ≡ Some os) where
       ∙ (stopped_faults rest ∙ or_else_nil (level_fault (leaf_shape w os) [] nothing_held rest false []))
 
 only_hyphens : fault_of program_app (dashes ∷ []) ≡ MissingSubcommand ∷ []
-unfolding clap_on_literals
 only_hyphens = refl
 
 hyphens_walked : walked top.rules all_names (walk_from nothing_held) dashes ≡ record (walk_from nothing_held) { is_trailing = true }
-unfolding walked
 hyphens_walked = refl
 
 behind_hyphens : (x : Text) (xs : List Text) → walk_fault top all_names (record (walk_from nothing_held) { is_trailing = true }) (x ∷ xs) ≡ [] → ⊥
-unfolding walk_fault
 behind_hyphens x xs e = not_nil UnknownArgument (InvalidSubcommand ∷ []) e
 
 -- help and the version are no command lines
@@ -154,11 +141,9 @@ module _ (w : Text) (rest : List Text) (is : found_at w commands ≡ None) (pass
   walk_passes = or_else_first (walk_fault top all_names (walk_from nothing_held) (w ∷ rest)) (rest_by (walk top.rules all_names nothing_held (w ∷ rest))) passed
 
   first_passes : turn_fault top all_names (walk_from nothing_held) w ≡ []
-  unfolding walk_fault
   first_passes = or_else_first (turn_fault top all_names (walk_from nothing_held) w) (walk_fault top all_names (walked top.rules all_names (walk_from nothing_held) w) rest) walk_passes
 
   later_passes : walk_fault top all_names (walked top.rules all_names (walk_from nothing_held) w) rest ≡ []
-  unfolding walk_fault
   later_passes = or_else_next (turn_fault top all_names (walk_from nothing_held) w) (walk_fault top all_names (walked top.rules all_names (walk_from nothing_held) w) rest) walk_passes
 
   flag_passes : bytes_eq w dashes ≡ false → flag_word_fault top.rules false (long_of w) w nothing_held ≡ []
@@ -171,12 +156,10 @@ module _ (w : Text) (rest : List Text) (is : found_at w commands ≡ None) (pass
 
   stray_letters : (f : ℕ) (flags : Text) → bytes_eq w dashes ≡ false → long_of w ≡ None → short_of w ≡ Some (f ∷ flags) → slice_get (chars (f ∷ flags)) 0 ≡ None
       → turn_fault top all_names (walk_from nothing_held) w ≡ UnknownArgument ∷ InvalidSubcommand ∷ []
-  unfolding flags_fault bundle_met
   stray_letters f flags other long short letter = rw (missed, other, long, short, letter) refl
 
   -- a first word that names no command is refused
   pub unknown : ⊥
-  unfolding flags_fault
   unknown = go w refl (form_of w)
     where
       only : (rest : List Text) → w ≡ dashes → walk_fault top all_names (walked top.rules all_names (walk_from nothing_held) w) rest ≡ [] → fault_of program_app (w ∷ rest) ≡ [] → ⊥

@@ -98,7 +98,6 @@ some_length : (x : ℕ) (xs : List ℕ) → (length (x ∷ xs) == 0) ≡ false
 some_length x xs = grind (arith, nat_tests)
 
 hyphens_no_value : (xs : Text) → is_value (45 ∷ 45 ∷ xs) ≡ false
-unfolding chars
 hyphens_no_value [] = refl
 hyphens_no_value (x ∷ xs) = ap (λ b. not (true && not b)) (some_length 45 _)
 
@@ -122,7 +121,6 @@ letters_form y ys ne = go (chars (y ∷ ys)) refl
         (ap (λ (cs : List ℕ). not (true && not (length cs == 0))) e ∙ ap (λ b. not (true && not b)) (some_length x xs))
 
 pub form_of : (word : Text) → Form word
-unfolding chars
 form_of [] = value [] (record { other = refl; long = refl; short = inl refl }) refl
 form_of (x ∷ xs) = first (x == 45) refl xs
   where

@@ -210,7 +210,6 @@ nothing_lacks all (o ∷ os) given there = go o.0 o.1 there.0 (nothing_lacks all
     go n Request is later = later
 
 defaults_pass : (os : Options) (rows : List Row) → defaults_fault rows (rules_from os) ≡ []
-unfolding defaults_fault
 defaults_pass [] rows = refl
 defaults_pass (o ∷ os) rows = ap₂ or_else (one o.0 o.1 (has_row o.0 rows) refl) (defaults_pass os (with_default rows (rule_from o.0 o.1)))
   where
@@ -225,10 +224,6 @@ defaults_pass (o ∷ os) rows = ap₂ or_else (one o.0 o.1 (has_row o.0 rows) re
     one n Alone false e = rw e refl
     one n Request true e = rw e refl
     one n Request false e = rw e refl
-
-or_else_nil : (x : Kinds) → or_else x [] ≡ x
-or_else_nil [] = refl
-or_else_nil (k ∷ ks) = refl
 
 -- the faults behind the words of a command
 abbrev rest_fault : Text → Options → List Text → Kinds

@@ -4,7 +4,7 @@ use Rattle.std.specs.Prelude.{if◌then◌else◌, slice_get}
 use Rattle.std.specs.Option.{option_map_or}
 use Rattle.std.specs.Str.{bytes_eq, chars}
 use Rattle.clap.specs.Lexer.{long_of, short_of}
-use Rattle.clap.specs.Walk.{Held, Row, Rule, Text, Waiting, Walk, arg_by_short, bundle_met, idle, option, settled_rows, used, walk_from, walked}
+use Rattle.clap.specs.Walk.{Held, Row, Rule, Text, Waiting, Walk, arg_by_short, idle, option, settled_rows, used, walk_from, walked}
 use Rattle.clap.specs.Simple.{Shape, new_shape}
 use Rattle.clap.specs.Kinds.{Kinds, or_else}
 use Rattle.clap.specs.Faults.{bundle_fault, bundle_step_fault, flag_word_fault, flags_fault, long_fault, react_fault, settle_fault, short_fault, turn_fault}
@@ -74,7 +74,6 @@ module _ (command : Text) (os : Options) where
 
   pub named_walk : (rows : List Row) (p : Option (Text × List Text)) (word n : Text) → bytes_eq word dashes ≡ false → long_of word ≡ Some (n, None)
       → takes_value (found_at n os) ≡ true → walked c [] (at (hold rows p)) word ≡ waits n (hold (settled_rows c p rows) (Some (n, [])))
-  unfolding walked
   named_walk rows p word n other long takes = go (found_at n os) refl takes
     where
       go : (found : Option OptionKind) → found_at n os ≡ found → takes_value found ≡ true
@@ -92,7 +91,6 @@ module _ (command : Text) (os : Options) where
       → (required : Bool) × (defaults : List Text)
       × (turn_fault s [] (at (hold rows p)) word ≡ or_else (react_fault c false (valued_rule n required defaults) (value ∷ []) (hold rows p)) [])
       × (walked c [] (at (hold rows p)) word ≡ at (hold (used (valued_rule n required defaults) (value ∷ []) (settled_rows c p rows)) None))
-  unfolding walked
   joined_turn rows p word n value other long takes = go (found_at n os) refl takes
     where
       go : (found : Option OptionKind) → found_at n os ≡ found → takes_value found ≡ true
@@ -111,7 +109,6 @@ module _ (command : Text) (os : Options) where
       → stands_alone (found_at n os) ≡ true
       → (turn_fault s [] (at (hold rows p)) word ≡ or_else (react_fault c false (flag_rule n) [] (hold rows p)) [])
       × (walked c [] (at (hold rows p)) word ≡ at (hold (used (flag_rule n) [] (settled_rows c p rows)) None))
-  unfolding walked
   alone_turn rows p word n other long alone = go (found_at n os) refl alone
     where
       go : (found : Option OptionKind) → found_at n os ≡ found → stands_alone found ≡ true
@@ -152,7 +149,6 @@ module _ (command : Text) (os : Options) where
   -- a hyphen with a character behind it is refused
   pub letter_refused : (h : Held) (word : Text) (f : ℕ) (flags : Text) (x : ℕ) → h.skip ≡ 0 → long_of word ≡ None → short_of word ≡ Some (f ∷ flags)
       → slice_get (chars (f ∷ flags)) 0 ≡ Some x → flag_word_fault c false (long_of word) word h ≡ [] → ⊥
-  unfolding flags_fault
   letter_refused h word f flags x zero_skip long short letter passed = refused _ _ (arg_by_short c x) (by_short os x)
       (sym (ap (λ o. bundle_step_fault c false o (f ∷ flags) 0 (record h { skip = 0 }) (flags_fault c false (length flags))) letter)
       ∙ (sym (ap (λ n. flags_fault c false (length (f ∷ flags)) (f ∷ flags) n (record h { skip = 0 })) zero_skip)
@@ -170,14 +166,12 @@ module _ (command : Text) (os : Options) where
 
   pub stray_letters_refused : (rows : List Row) (p : Option (Text × List Text)) (word : Text) (f : ℕ) (flags : Text) → bytes_eq word dashes ≡ false → long_of word ≡ None
       → short_of word ≡ Some (f ∷ flags) → slice_get (chars (f ∷ flags)) 0 ≡ None → turn_fault s [] (at (hold rows p)) word ≡ [] → ⊥
-  unfolding flags_fault bundle_met
   stray_letters_refused rows p word f flags other long short letter passed =
       not_nil UnknownArgument [] (sym (rw (other, long, short, letter, by_index os 1) refl) ∙ passed)
 
   -- a plain word is the value of the option that waits
   pub value_turn : (rows : List Row) (n : Text) (word : Text) → takes_value (found_at n os) ≡ true → bytes_eq word dashes ≡ false → long_of word ≡ None → short_of word ≡ None
       → (turn_fault s [] (waits n (hold rows (Some (n, [])))) word ≡ []) × (walked c [] (waits n (hold rows (Some (n, [])))) word ≡ at (hold rows (Some (n, word ∷ []))))
-  unfolding walked
   value_turn rows n word takes other long short = go (found_at n os) refl takes
     where
       go : (found : Option OptionKind) → found_at n os ≡ found → takes_value found ≡ true
@@ -192,7 +186,6 @@ module _ (command : Text) (os : Options) where
   pub value_letters_turn : (rows : List Row) (n : Text) (word : Text) (f : ℕ) (flags : Text) → takes_value (found_at n os) ≡ true → bytes_eq word dashes ≡ false → long_of word ≡ None
       → short_of word ≡ Some (f ∷ flags) → slice_get (chars (f ∷ flags)) 0 ≡ None
       → (turn_fault s [] (waits n (hold rows (Some (n, [])))) word ≡ []) × (walked c [] (waits n (hold rows (Some (n, [])))) word ≡ at (hold rows (Some (n, word ∷ []))))
-  unfolding walked flags_fault bundle_met
   value_letters_turn rows n word f flags takes other long short letter = go (found_at n os) refl takes
     where
       go : (found : Option OptionKind) → found_at n os ≡ found → takes_value found ≡ true
@@ -221,9 +214,7 @@ module _ (command : Text) (os : Options) where
   past_refused waiting h word passed = not_nil UnknownArgument [] (sym (rw (by_index os 1) refl) ∙ passed)
 
   pub dashes_turn : (rows : List Row) (p : Option (Text × List Text)) → (turn_fault s [] (at (hold rows p)) dashes ≡ []) × (walked c [] (at (hold rows p)) dashes ≡ past idle (hold rows p))
-  unfolding walked
   dashes_turn rows p = (refl, refl)
 
   pub waiting_dashes_turn : (n : Text) (rows : List Row) (p : Option (Text × List Text)) → walked c [] (waits n (hold rows p)) dashes ≡ past (option n) (hold rows p)
-  unfolding walked
   waiting_dashes_turn n rows p = refl

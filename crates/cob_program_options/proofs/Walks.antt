@@ -84,23 +84,18 @@ module _ (command : Text) (os : Options) where
 
   -- a word passes, and those behind it
   first_passes : (w : Walk) (word : Text) (words : List Text) → ends w (word ∷ words) ≡ [] → turn_fault s [] w word ≡ []
-  unfolding walk_fault
   first_passes w word words e = or_else_first _ _ (or_else_first _ _ e)
 
   later_pass : (w : Walk) (word : Text) (words : List Text) → ends w (word ∷ words) ≡ [] → ends (walked c [] w word) words ≡ []
-  unfolding walk_fault
   later_pass w word words e = or_else_next (turn_fault s [] w word) _ (sym (or_else_assoc (turn_fault s [] w word) _ _) ∙ e)
 
   all_pass : (w : Walk) (word : Text) (words : List Text) → turn_fault s [] w word ≡ [] → ends (walked c [] w word) words ≡ [] → ends w (word ∷ words) ≡ []
-  unfolding walk_fault
   all_pass w word words first later = or_else_assoc (turn_fault s [] w word) _ _ ∙ (ap (λ x. or_else x (ends (walked c [] w word) words)) first ∙ later)
 
   settles : (w : Walk) → ends w [] ≡ [] → settle_fault c false w.held ≡ []
-  unfolding walk_fault
   settles w e = e
 
   no_words : (w : Walk) → settle_fault c false w.held ≡ [] → ends w [] ≡ []
-  unfolding walk_fault
   no_words w e = e
 
   -- what words come to that pass: they are options, not given before, and each leaves a row

@@ -1,5 +1,5 @@
 -- Frames in blocks, read in two steps: the block's descriptor where one begins, and the frame.
-use Rattle.std.proofs.Common.{◌≡◌, ℕ, zero, suc, ◌+◌, ◌<◌, ◌≤◌, List, [], ◌++◌, length, take, refl, sym, ap, ◌∙◌, append_assoc, arith, inl, inr, None, Some, Option, Ok, Err}
+use Rattle.std.proofs.Common.{◌≡◌, ℕ, zero, suc, ◌+◌, ◌<◌, ◌≤◌, List, [], ◌++◌, length, take, refl, sym, ap, ◌∙◌, append_assoc, arith, inr, None, Some, Option, Ok, Err}
 use Rattle.std.proofs.lemmas.Grind.{common_steps}
 use Rattle.std.proofs.Math.ListN.{length-append}
 use Rattle.std.specs.Io.KnownBytes.{prepend_known}
@@ -84,14 +84,6 @@ at_later most greatest (suc n) slice Length bytes rest low (head, four, size, re
 at_later most greatest (suc n) slice ReadFailed bytes rest low (four, (read, same, cut)) = (refl, (read, same, inr (suc n, [], read, (refl, refl), four, refl, cut)))
 at_later most greatest (suc n) slice _ bytes rest low reads = absurd reads
 
--- a fault of a block's descriptor
-at_block : (most greatest : ℕ) (slice : List ℕ) (fault : RecordFault) (bytes rest : List ℕ) → OpensBlock most (Err fault) bytes rest
-    → ReadsInBlock most greatest 0 slice (Err fault) 0 bytes rest
-at_block most greatest slice (Truncated seen) bytes rest (some, few, size, end) = (refl, λ _. some, size, inl (refl, omega (arith, few, size)), end)
-at_block most greatest slice BlockDescriptor bytes rest (head, size, refused, is) = (refl, refl, (head, size, refused, is))
-at_block most greatest slice ReadFailed bytes rest (read, few, is) = (refl, (read, is, inl (refl, few)))
-at_block most greatest slice _ bytes rest reads = absurd reads
-
 pub first_fault : (most greatest room : ℕ) (slice : List ℕ) (fault told : RecordFault) (r0 r1 r2 : Option (List ℕ)) → told ≡ behind_block fault
     → Told r0 r1 (OpensBlock most (Ok (Some room))) → Told r1 r2 (ReadsFrame greatest room slice (Err fault))
     → Told r0 r2 (ReadsInBlock most greatest 0 slice (Err told) 0)
@@ -108,29 +100,10 @@ first_record most greatest room count after slice r0 r1 r2 e t u =
     let size : length (take count slice) ≡ count = grind (arith, common_steps) in
     (q.0, q.1, (room, descriptor room, (refl, p.0, p.1), p.2 ∙ ap (λ xs. descriptor room ++ xs) q.2, omega (arith, e, size))))
 
-pub later_record : (most greatest left count after : ℕ) (slice : List ℕ) (r0 r1 : Option (List ℕ)) → 0 < left → left ≡ 4 + count + after
-    → Told r0 r1 (ReadsFrame greatest left slice (Ok count)) → Told r0 r1 (ReadsInBlock most greatest left slice (Ok (Some count)) after)
-later_record most greatest zero count after slice r0 r1 low e t = absurd (omega (arith, low))
-later_record most greatest (suc n) count after slice r0 r1 low e t =
-    told_as r0 r1 (ReadsFrame greatest (suc n) slice (Ok count)) (ReadsInBlock most greatest (suc n) slice (Ok (Some count)) after) t
-    (λ bytes rest q.
-    let size : length (take count slice) ≡ count = grind (arith, common_steps) in
-    (q.0, q.1, (suc n, [], (refl, refl), q.2, omega (arith, e, size))))
-
 pub later_fault : (most greatest left : ℕ) (slice : List ℕ) (fault : RecordFault) (r0 r1 : Option (List ℕ)) → 0 < left
     → Told r0 r1 (ReadsFrame greatest left slice (Err fault)) → Told r0 r1 (ReadsInBlock most greatest left slice (Err fault) 0)
 later_fault most greatest left slice fault r0 r1 low t =
     told_as r0 r1 (ReadsFrame greatest left slice (Err fault)) (ReadsInBlock most greatest left slice (Err fault) 0) t (λ bytes rest q. at_later most greatest left slice fault bytes rest low q)
-
-pub block_fault : (most greatest : ℕ) (slice : List ℕ) (fault : RecordFault) (r0 r1 : Option (List ℕ))
-    → Told r0 r1 (OpensBlock most (Err fault)) → Told r0 r1 (ReadsInBlock most greatest 0 slice (Err fault) 0)
-block_fault most greatest slice fault r0 r1 t =
-    told_as r0 r1 (OpensBlock most (Err fault)) (ReadsInBlock most greatest 0 slice (Err fault) 0) t (λ bytes rest q. at_block most greatest slice fault bytes rest q)
-
-pub block_end : (most greatest : ℕ) (slice : List ℕ) (r0 r1 : Option (List ℕ))
-    → Told r0 r1 (OpensBlock most (Ok None)) → Told r0 r1 (ReadsInBlock most greatest 0 slice (Ok None) 0)
-block_end most greatest slice r0 r1 t =
-    told_as r0 r1 (OpensBlock most (Ok None)) (ReadsInBlock most greatest 0 slice (Ok None) 0) t (λ bytes rest q. (refl, refl, q.0, q.1))
 
 -- ---- what F1 counts
 

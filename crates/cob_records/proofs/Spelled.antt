@@ -1,5 +1,5 @@
 -- A word that says a size of blocks, digit by digit.
-use Rattle.std.proofs.Common.{◌≡◌, ℕ, ◌+◌, ◌-◌, ◌*◌, true, List, ◌∷◌, min, refl, arith}
+use Rattle.std.proofs.Common.{◌≡◌, ℕ, ◌+◌, ◌-◌, ◌*◌, true, List, ◌∷◌, min, arith}
 use Rattle.std.specs.Char.{is_ascii_digit}
 use Rattle.cob_records.specs.BlockSize.{SpellsBehind}
 
@@ -9,9 +9,6 @@ pub record SpelledSoFar (word rest : List ℕ) (number : ℕ) : Type 0 where
   pub kept : number ≡ min m 65535
   pub from : (n : ℕ) → SpellsBehind m rest n → SpellsBehind 0 word n
   pub to : (n : ℕ) → SpellsBehind 0 word n → SpellsBehind m rest n
-
-pub none_spelled : (word : List ℕ) → SpelledSoFar word word 0
-none_spelled word = record { m = 0; kept = refl; from = λ n h. h; to = λ n h. h }
 
 pub digit_spelled : (word rest : List ℕ) (c number next : ℕ) → SpelledSoFar word (c ∷ rest) number → is_ascii_digit c ≡ true
     → next ≡ min (min (number * 10) 65535 + (c - 48)) 65535 → SpelledSoFar word rest next

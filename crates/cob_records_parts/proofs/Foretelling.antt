@@ -1,7 +1,6 @@
 -- What is still given of the chosen records of a stream, by one record more.
 use Rattle.std.proofs.Common.{◌≡◌, ◌∙◌, ℕ, zero, suc, ◌+◌, ◌-◌, ◌<◌, ◌≤◌, false, List, [], ◌++◌, length, take, drop, refl, sym, ap, arith, None, Some, Option, Ok, Err}
 use Rattle.std.proofs.lemmas.Grind.{common_steps}
-use Rattle.std.specs.Prelude.{option_map}
 use Rattle.cob_limits.specs.Limits.{longest_record}
 use Rattle.cob_records.specs.Alone.{framed_alone}
 use Rattle.cob_records.specs.Device.{Told}
@@ -10,9 +9,9 @@ use Rattle.cob_records.specs.Frame.{is_read_failure}
 use Rattle.cob_records.specs.declared.records.Form.{Form}
 use Rattle.cob_records.specs.declared.records.RecordFault.{RecordFault}
 use Rattle.cob_records_parts.specs.Firsts.{First}
-use Rattle.cob_records_parts.specs.StillGiven.{given_by, given_of, fault_mark, one_given, told_by}
+use Rattle.cob_records_parts.specs.StillGiven.{given_by, given_of, fault_mark, one_given}
 use Rattle.cob_records_parts.proofs.FirstLaw.{first_is}
-use Rattle.cob_records_parts.proofs.Stepping.{at_end, told_then}
+use Rattle.cob_records_parts.proofs.Stepping.{at_end}
 
 -- what is given where this stands first
 abbrev pub given_at : Form → (greatest over most : ℕ) → First → List ℕ
@@ -85,23 +84,6 @@ told_mark form greatest skip last number left after fault slice r0 r1 block low 
 
 -- ---- one behind another
 
-pub gives_then : (r0 r1 r2 : Option (List ℕ)) (a b c : List ℕ → List ℕ) (part : List ℕ) → Told r0 r1 (λ bytes rest. a bytes ≡ [] ++ b rest)
-    → Told r1 r2 (λ bytes rest. b bytes ≡ part ++ c rest) → Told r0 r2 (λ bytes rest. a bytes ≡ part ++ c rest)
-gives_then r0 r1 r2 a b c part first then = told_then r0 r1 r2 _ _ _ first then (λ bytes mid rest p q. p ∙ q)
-
-pub is_then : (r0 r1 r2 : Option (List ℕ)) (a b : List ℕ → List ℕ) (all : List ℕ) → Told r0 r1 (λ bytes rest. a bytes ≡ [] ++ b rest)
-    → Told r1 r2 (λ bytes rest. b bytes ≡ all) → Told r0 r2 (λ bytes rest. a bytes ≡ all)
-is_then r0 r1 r2 a b all first then = told_then r0 r1 r2 _ _ _ first then (λ bytes mid rest p q. p ∙ q)
-
-pub still_given : (r : Option (List ℕ)) (a : List ℕ → List ℕ) → Told r r (λ bytes rest. a bytes ≡ [] ++ a rest)
-still_given None a = tt
-still_given (Some bytes) a = refl
-
-pub given_no_more : (r : Option (List ℕ)) (form : Form) (greatest over most left : ℕ) → most ≡ 0
-    → Told r r (λ bytes rest. given_of form greatest over most left bytes ≡ [])
-given_no_more None form greatest over most left none = tt
-given_no_more (Some bytes) form greatest over most left none = ap (λ (n : ℕ). given_of form greatest over n left bytes) none
-
 -- ---- from the front
 
 -- nothing is held
@@ -110,15 +92,3 @@ spent_none at from end front items long e f =
     let given : drop at front ≡ [] = grind (arith, common_steps) in
     let no_more : end - from ≡ 0 = omega (arith, f) in
     rw (given, no_more) refl
-
--- what comes of a source that holds nothing, behind the records that are passed over, is what is given of all that was to come
-pub comes_of : (form : Form) (greatest skip last : ℕ) (held : List ℕ) (behind : List ℕ → List ℕ) (r0 r1 : Option (List ℕ)) → held ≡ []
-    → Told r0 r1 (λ bytes rest. given_of form greatest (skip - 0) (last - 0) 0 bytes ≡ [] ++ behind rest)
-    → told_by None r0 (option_map (λ bytes. held ++ behind bytes) r1) ≡ option_map (given_of form greatest skip last 0) r0
-comes_of form greatest skip last held behind None r1 none told = refl
-comes_of form greatest skip last held behind (Some bytes) None none told = absurd told
-comes_of form greatest skip last held behind (Some bytes) (Some rest) none told =
-    let over : skip - 0 ≡ skip = omega arith in
-    let most : last - 0 ≡ last = omega arith in
-    ap (λ (xs : List ℕ). Some (xs ++ behind rest)) none ∙ ap Some (sym told)
-    ∙ ap (λ (n : ℕ). Some (given_of form greatest n (last - 0) 0 bytes)) over ∙ ap (λ (n : ℕ). Some (given_of form greatest skip n 0 bytes)) most

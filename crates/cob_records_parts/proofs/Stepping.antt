@@ -1,5 +1,5 @@
 -- One more record of a stream, of which some are chosen.
-use Rattle.std.proofs.Common.{◌≡◌, ◌∙◌, ℕ, ◌+◌, ◌<◌, ◌≤◌, List, [], ◌∷◌, ◌++◌, length, take, drop, refl, sym, ap, subst, append_assoc, append-nil, arith, None, Some, Option, Ok, Err}
+use Rattle.std.proofs.Common.{◌≡◌, ◌∙◌, ℕ, ◌+◌, ◌<◌, ◌≤◌, List, [], ◌∷◌, ◌++◌, length, take, drop, refl, sym, ap, subst, append_assoc, append-nil, arith, None, Some, Option, Ok}
 use Rattle.std.proofs.Math.ListN.{length-append}
 use Rattle.std.proofs.lemmas.Grind.{common_steps}
 use Rattle.std.proofs.lemmas.List.{drop-append-le}
@@ -10,8 +10,7 @@ use Rattle.cob_records.specs.Forms.{Come, ComesFirst, ReadsInForm}
 use Rattle.cob_records.specs.Frame.{IsRecord}
 use Rattle.cob_records.specs.declared.records.Form.{Form}
 use Rattle.cob_records.specs.declared.records.Form.TheVariants.{Fixed, Variable, Blocked}
-use Rattle.cob_records_parts.specs.declared.choice.Stopped.{Stopped}
-use Rattle.cob_records_parts.specs.Choices.{HasCome, HasStopped, all_alone}
+use Rattle.cob_records_parts.specs.Choices.{HasCome, all_alone}
 
 -- ---- lists
 
@@ -102,30 +101,3 @@ told_taken form greatest skip number left after count next slice r1 r2 behind is
     told_then r0 r1 r2 _ _ _ come reads (λ bytes mid rest p q. let (one, first) = read_one form greatest left slice count after mid rest q in
     subst (λ (n : ℕ). HasCome form greatest skip n after (chosen ++ framed_alone form (take count slice)) bytes rest) (sym is)
     (taken_more form greatest skip number left after chosen (take count slice) bytes mid rest p behind one first))
-
-pub told_end : (form : Form) (greatest skip number left after : ℕ) (slice : List ℕ) (r1 r2 : Option (List ℕ))
-    → Told r1 r2 (ReadsInForm form greatest left slice (Ok None) after) → (r0 : Option (List ℕ)) (chosen : List ℕ)
-    → Told r0 r1 (HasCome form greatest skip number left chosen) → Told r0 r2 (λ bytes rest. HasCome form greatest skip number after chosen bytes rest × (rest ≡ []))
-told_end form greatest skip number left after slice r1 r2 reads r0 chosen come =
-    told_then r0 r1 r2 _ _ _ come reads (λ bytes mid rest p q. let (same, still, end) = at_end form greatest left slice after mid rest q in (
-      subst (λ (k : ℕ). HasCome form greatest skip number k chosen bytes rest) (sym same)
-          (subst (λ (xs : List ℕ). HasCome form greatest skip number left chosen bytes xs) (sym still) p),
-      end,
-    ))
-
-pub told_stopped : (form : Form) (greatest skip number left after : ℕ) (stop : Stopped) (slice : List ℕ) (r1 r2 : Option (List ℕ)) → stop.number ≡ number + 1
-    → Told r1 r2 (ReadsInForm form greatest left slice (Err stop.fault) after) → (r0 : Option (List ℕ)) (chosen : List ℕ)
-    → Told r0 r1 (HasCome form greatest skip number left chosen) → Told r0 r2 (HasStopped form greatest skip stop chosen)
-told_stopped form greatest skip number left after stop slice r1 r2 is reads r0 chosen come =
-    told_then r0 r1 r2 _ _ _ come reads (λ bytes mid rest p q. record {
-      bodies = p.bodies;
-      opened = left;
-      left = mid;
-      slice = slice;
-      after = after;
-      each = p.each;
-      come = p.come;
-      next = is ∙ ap (λ (n : ℕ). n + 1) (sym p.many);
-      reads = q;
-      those = p.those;
-    })

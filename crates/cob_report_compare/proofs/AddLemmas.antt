@@ -61,9 +61,6 @@ added_none d a b full items count = (
 pub adds_none : (is : List PlainDifference → Type 0) (a : FirstDifferences) → is [] → AddsDifference is a a
 adds_none is a none = ([], none, λ all first. subst (λ (ds : List PlainDifference). AreFirstOf ds a) (sym (append-nil all)) first)
 
-pub adds_as : (is so : List PlainDifference → Type 0) (a b : FirstDifferences) → ((added : List PlainDifference) → is added → so added) → AddsDifference is a b → AddsDifference so a b
-adds_as is so a b become (added, one, first) = (added, become added one, first)
-
 pub one_turn : (is : ℕ → List PlainDifference → Type 0) (n : ℕ) (a b c : FirstDifferences) → AddsDifference (AreToldInTurn is n) a b → AddsDifference (is (suc n)) b c → AddsDifference (AreToldInTurn is (n + 1)) a c
 one_turn is n a b c (front, turns, first) (last, one, next) =
     let more : suc n ≡ n + 1 = omega arith in (
@@ -83,13 +80,6 @@ pub record ItemsSoFar (l r : Printed) (all left : List NamedItem) (a b : FirstDi
   pub whole : (rest : List PlainDifference) → AreItemsTold l r left rest → AreItemsTold l r all (added ++ rest)
   pub first : (ds : List PlainDifference) → AreFirstOf ds a → AreFirstOf (ds ++ added) b
 
-pub no_item : (l r : Printed) (all : List NamedItem) (a : FirstDifferences) → ItemsSoFar l r all all a a
-no_item l r all a = record {
-  added = [];
-  whole = λ rest are. are;
-  first = λ ds before. subst (λ (es : List PlainDifference). AreFirstOf es a) (sym (append-nil ds)) before;
-}
-
 pub one_item : (l r : Printed) (all left further : List NamedItem) (x : NamedItem) (a b c : FirstDifferences) → ItemsSoFar l r all left a b → left ≡ x ∷ further
     → AddsDifference (AreElementsTold l r x (shared_times l r x.tables) []) b c → ItemsSoFar l r all further a c
 one_item l r all left further x a b c so_far is (p, one, next) = record {
@@ -107,12 +97,6 @@ all_items l r all left a b so_far none = (
 )
 
 -- ---- the tables of an item
-
--- where no table is left, what is added is the element
-pub alone_adds : (l r : Printed) (x : NamedItem) (tables subscripts : List ℕ) (a b : FirstDifferences) → length tables ≡ 0 → AddsDifference (IsElementTold l r x subscripts) a b
-    → AddsDifference (AreElementsTold l r x (shared_times l r tables) subscripts) a b
-alone_adds l r x [] subscripts a b none one = one
-alone_adds l r x (t ∷ tables) subscripts a b none one = absurd (omega (arith, none))
 
 -- and else those of the elements of the first table in turn, as often as both records have it
 pub table_adds : (l r : Printed) (x : NamedItem) (tables inner subscripts : List ℕ) (table n : ℕ) (a b : FirstDifferences)

@@ -1,9 +1,9 @@
 -- The differences of two records can be printed.
-use Rattle.std.proofs.Common.{◌≡◌, ℕ, zero, suc, Bool, true, false, true≢false, List, [], ◌∷◌, ◌++◌, map, take, sym, subst, inl, inr}
+use Rattle.std.proofs.Common.{ℕ, zero, suc, List, [], ◌∷◌, ◌++◌, map, take, sym, subst, inl, inr}
 use Rattle.cob_report_show.specs.Elements.{NamedItem, Printed}
 use Rattle.cob_report_show.proofs.ElementLemmas.{all_append}
 use Rattle.cob_report_compare.specs.Bytes.{most_told}
-use Rattle.cob_report_compare.specs.Differences.{AreElementsTold, AreFirstDifferences, AreItemsTold, AreToldInTurn, IsBytesComparison, IsComparison, IsDifference, IsElementTold, IsMeasured, PlainDifference, plain_difference, shared_times}
+use Rattle.cob_report_compare.specs.Differences.{AreElementsTold, AreFirstDifferences, AreItemsTold, AreToldInTurn, IsComparison, IsDifference, IsElementTold, PlainDifference, plain_difference, shared_times}
 use Rattle.cob_report_compare.specs.Printable.{ArePrintable, IsPrintable, IsTellable}
 use Rattle.cob_report_compare.specs.declared.records.Comparison.{Comparison}
 use Rattle.cob_report_compare.specs.declared.records.Comparison.TheVariants.{Same, Equal, Differ, Unlike}
@@ -54,20 +54,6 @@ first_printable l r xs told (all, are, first) =
     subst (ArePrintable l.bytes r.bytes) (sym first.first) (taken_printable l.bytes r.bytes most_told all (items_printable l r xs all are))
 
 -- ---- comparisons
-
-pub measured_bytes : (by_bytes : Bool) (xs : List NamedItem) (l r : Printed) (c : Comparison) → by_bytes ≡ true → IsBytesComparison l.bytes r.bytes c → IsMeasured by_bytes xs l r c
-measured_bytes true xs l r c is compared = compared
-measured_bytes false xs l r c is compared = absurd (true≢false (sym is))
-
-pub measured_values : (by_bytes : Bool) (xs : List NamedItem) (l r : Printed) (c : Comparison) → by_bytes ≡ false → IsComparison xs l r c → IsMeasured by_bytes xs l r c
-measured_values true xs l r c is compared = absurd (true≢false is)
-measured_values false xs l r c is compared = compared
-
-pub bytes_tellable : (l r : List ℕ) (c : Comparison) → IsBytesComparison l r c → IsTellable l r c
-bytes_tellable l r Same is = tt
-bytes_tellable l r Equal is = absurd is
-bytes_tellable l r (Differ told) is = absurd is
-bytes_tellable l r (Unlike told) is = tt
 
 pub values_tellable : (xs : List NamedItem) (l r : Printed) (c : Comparison) → IsComparison xs l r c → IsTellable l.bytes r.bytes c
 values_tellable xs l r Same is = tt

@@ -6,7 +6,6 @@ use Rattle.cob_codec.specs.declared.reading.Reading.{Reading}
 use Rattle.cob_copybook_tree.specs.Forests.{Forest}
 use Rattle.cob_copybook_tree.specs.Nodes.{Resolved}
 use Rattle.cob_move_data.specs.declared.operands.Operand.{Operand}
-use Rattle.cob_move_data.specs.declared.operands.Side.{Side}
 use Rattle.cob_layout_places.specs.declared.reference.Ref.{Ref}
 use Rattle.cob_move_data.specs.declared.operands.NumberedPair.{NumberedPair}
 use Rattle.cob_move_data.specs.declared.operands.PairMoves.{PairMoves}
@@ -15,19 +14,18 @@ use Rattle.cob_move_data.specs.declared.operands.StatementMoves.{StatementMoves}
 use Rattle.cob_move_data.specs.declared.operands.StatementMoves.TheVariants.{Single as SingleMoves}
 use Rattle.cob_move_data.specs.declared.operands.Sender as code
 use Rattle.cob_move_data.specs.declared.operands.Sender.TheVariants as code_sender
-use Rattle.cob_move_data.specs.Moves.{IsMove, IsOperand, IsSender, Records, Sender, Entry, entry_below, numbered_move_by, operand_in, record_of, sender_by}
+use Rattle.cob_move_data.specs.Moves.{Records, Sender, Entry, entry_below, operand_in}
 use Rattle.cob_layout.specs.declared.fields.Place.{Place}
 use Rattle.cob_layout.specs.Fields.{field_of}
 use Rattle.cob_copybook_tree.specs.declared.node.Kind.{Kind}
 use Rattle.cob_move_data.specs.declared.operands.Side.TheVariants.{Out}
 use borrow.Rule.Slice.PartMut.{put_mid}
 use Rattle.cob_move_receive.specs.Received.{Received, outcome}
-use Rattle.cob_move_receive.specs.Sent as sent
 use Rattle.cob_move_receive.specs.Sent.{Occupies}
 use Rattle.cob_move_apply.specs.declared.stop.StopCause.TheVariants.{NoValue}
 use Rattle.cob_move_apply.proofs.ReceiverLemmas.{complete, put_is}
 use Rattle.cob_move_apply.specs.declared.stop.Stop.{Stop}
-use Rattle.cob_move_apply.specs.Applied.{Content, Gives, storage_of}
+use Rattle.cob_move_apply.specs.Applied.{Content, Gives}
 use Rattle.cob_move_apply.specs.Located.{Located, stop_at}
 use Rattle.cob_move_apply.proofs.ListLemmas.{next}
 use Rattle.cob_report_explain.specs.declared.single.Asked.TheVariants as asked
@@ -135,23 +133,6 @@ pub sender_lacks : (s : Sender) (r : Records) (m : NumberedMove) (input before :
     → e ≡ single_stop m 0 (asked_stop asked.Sender stop) → Sees old old (λ ones. AreSentBy s r m input before ones (stopped_at e before))
 sender_lacks s r m input before old stop e gives named = ([], seen_none old, inr (stop, gives, refl, ap (λ (x : MoveStop). stopped_at x before) named))
 
--- the sender's bytes were taken, and its receivers got them
-pub given_bytes : (r : Records) (side : Side) (x : Reading) (o : Operand) (k : Kind) (m : NumberedMove) (input before bytes : List ℕ) (p : Place) (old new : Option (List Single)) (end : EachEnding)
-    → Located side (record_of r side) false o (storage_of side input before) (Ok p) → k ≡ o.kind → bytes ≡ field_of p (storage_of side input before)
-    → Sees old new (λ ones. AreSingles r.output m (record { sent = sent.Entry k bytes x; side = side; offset = p.offset }) 0 m.receivers before ones end)
-    → Sees old new (λ ones. AreSentBy (Entry side x o) r m input before ones end)
-given_bytes r side x o k m input before bytes p old new end at is taken (ones, grown, h) =
-    let content : Kind → List ℕ → Content = λ (y : Kind) (taken : List ℕ). record { sent = sent.Entry y taken x; side = side; offset = p.offset } in (
-      ones,
-      grown,
-      inl (
-        content o.kind (field_of p (storage_of side input before)),
-        (p, at, refl),
-        subst (λ (y : Kind). AreSingles r.output m (content y (field_of p (storage_of side input before))) 0 m.receivers before ones end) is
-            (subst (λ (xs : List ℕ). AreSingles r.output m (content k xs) 0 m.receivers before ones end) taken h),
-      ),
-    )
-
 -- the bytes of a place within a storage are as many as an entry of this kind has
 pub complete_by : (k l : Kind) (p : Place) (storage bytes : List ℕ) → k ≡ l → Occupies l p.length → p.offset + p.length ≤ length storage → bytes ≡ field_of p storage → Occupies k (length bytes)
 complete_by k l p storage bytes same filled within is = subst (λ (x : Kind). Occupies x (length bytes)) (sym same) (complete l p storage bytes filled within is)
@@ -240,15 +221,6 @@ pair_seen x r n k g p from to tos input before old new end from_is to_is one (on
     ap (λ (f : Ref). of_parts n k (code_sender.Entry g.side f) tos) from_is
     ∙ ap (of_parts n k (code_sender.Entry g.side (entry_below g.from p.from))) (one ∙ ap (λ (t : Ref). t ∷ []) to_is) in
     (ones, seen, subst (λ (m : NumberedMove). AreOfMove x r m input before ones end) whole h)
-
-pub pair_sender : (x : Reading) (r : Records) (g : PairMoves) (p : NumberedPair) (from : Ref) → from ≡ entry_below g.from p.from → IsMove r (numbered_move_by x r g p)
-    → IsSender r (sender_by x r (code_sender.Entry g.side from))
-pair_sender x r g p from is legal = subst (λ (f : Ref). IsSender r (sender_by x r (code_sender.Entry g.side f))) (sym is) legal.sender
-
-pub pair_receivers : (x : Reading) (r : Records) (g : PairMoves) (p : NumberedPair) (to : Ref) (tos : List Ref) → to ≡ entry_below g.to p.to → tos ≡ to ∷ [] → IsMove r (numbered_move_by x r g p)
-    → AllByRecursion (IsOperand r.output) (map (operand_in r.output) tos)
-pair_receivers x r g p to tos is one legal =
-    subst (λ (ts : List Ref). AllByRecursion (IsOperand r.output) (map (operand_in r.output) ts)) (sym (one ∙ ap (λ (t : Ref). t ∷ []) is)) legal.receivers
 
 pub single_seen : (x : Reading) (r : Records) (n : ℕ) (s : code.Sender) (qs items : List Ref) (input before : List ℕ) (old new : Option (List Single)) (end : EachEnding) → qs ≡ items
     → Sees old new (λ ones. AreOfMoves x r (of_parts n 0 s qs ∷ []) input before ones end) → Sees old new (λ ones. AreOfMoves x r (of_parts n 0 s items ∷ []) input before ones end)

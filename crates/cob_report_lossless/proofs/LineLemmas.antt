@@ -1,5 +1,5 @@
 -- Lines of statements, run by run.
-use Rattle.std.proofs.Common.{◌≡◌, ◌⊎◌, ℕ, ◌+◌, ◌<◌, ◌≤◌, List, [], ◌∷◌, ◌++◌, length, get_or, drop, map, take, Bool, true, false, refl, sym, ap, subst, ◌∙◌, append_assoc, append-nil, arith, inl, inr}
+use Rattle.std.proofs.Common.{◌≡◌, ℕ, ◌+◌, ◌<◌, ◌≤◌, List, [], ◌∷◌, ◌++◌, length, get_or, drop, take, Bool, true, false, refl, sym, ap, subst, ◌∙◌, append_assoc, append-nil, arith}
 use Rattle.std.proofs.lemmas.List.{drop_all, drop_more, map-append, take_more}
 use Rattle.std.proofs.lemmas.Bool.Decides.{Decides-eqb}
 use Rattle.std.specs.Prelude.{◌==◌}
@@ -18,11 +18,8 @@ use Rattle.cob_move_loops.specs.declared.turn.Counter.{Counter}
 use Rattle.cob_move_loops.specs.Words.{IsLoopWord, IsPeriod}
 use Rattle.cob_move_loops.specs.declared.words.LoopWord.TheVariants as loop
 use Rattle.cob_move_loops.specs.declared.writing.Run.{Run}
-use Rattle.cob_move_statements.specs.Statements.{IsBody, IsEndedStatement, IsHeading, Several}
-use Rattle.cob_move_statements.specs.Written.{WrittenStatement}
-use Rattle.cob_move_statements.specs.declared.fault.MoveFault.{MoveFault}
-use Rattle.cob_move_statements.specs.declared.fault.MoveRule.TheVariants as rule
-use Rattle.cob_report_lossless.specs.Lines.{AreLinesOf, AreRunLines, AreStatementLines, HasBody, line_of}
+use Rattle.cob_move_statements.specs.Statements.{IsBody, IsHeading}
+use Rattle.cob_report_lossless.specs.Lines.{AreLinesOf, AreRunLines, AreStatementLines, HasBody}
 
 none_in : {A : Type 0} (xs : List A) → length xs ≡ 0 → xs ≡ []
 none_in {A} [] e = refl
@@ -64,22 +61,9 @@ lines_said text words body runs lines are h out l = record {
 
 -- ---- which lines words have, where they have some
 
--- words that have lines are refused for want of memory alone
-pub lacks_memory : (f : MoveFault) (ws : List Lexeme) (lines : List ℕ) → AreStatementLines ws lines → (f.rule ≡ rule.Memory) ⊎ ((f.rule ≡ rule.Grammar) × ((ss : List WrittenStatement) → Several IsEndedStatement ss ws → ⊥))
-    → f.rule ≡ rule.Memory
-lacks_memory f ws lines are (inl memory) = memory
-lacks_memory f ws lines are (inr (grammar, none)) = absurd (none are.statements are.spelled)
-
--- the lines of the statements that were read are theirs
-pub same_lines : (ws : List Lexeme) (lines own : List ℕ) (read : List WrittenStatement) → (a : AreStatementLines ws lines) → ((ss : List WrittenStatement) → Several IsEndedStatement ss ws → read ≡ ss) → own ≡ map line_of read → own ≡ lines
-same_lines ws lines own read a only is = is ∙ ap (map line_of) (only a.statements a.spelled) ∙ sym a.lines_are
-
 -- behind the lines of some runs those of the others are left
 abbrev pub LinesLeft : List Run → ℕ → List ℕ → List ℕ → Type 0
 LinesLeft runs i done lines = (rest : List ℕ) × AreRunLines (all_runs (drop i runs)) rest × (lines ≡ done ++ rest)
-
-pub all_left : (runs : List Run) (lines : List ℕ) → AreRunLines (all_runs runs) lines → LinesLeft runs 0 [] lines
-all_left runs lines are = (lines, are, refl)
 
 -- the lines of the next run, and those behind them
 pub left_split : (runs : List Run) (i : ℕ) (r : Run) (done lines : List ℕ) → i < length runs → r ≡ get_or runs i r → LinesLeft runs i done lines

@@ -1,13 +1,12 @@
 -- What is told of a passage, front by front and turn by turn.
-use Rattle.std.proofs.Common.{◌≡◌, ◌⊎◌, ℕ, zero, suc, ◌+◌, ◌-◌, ◌<◌, ◌≤◌, List, [], ◌∷◌, ◌++◌, length, map, replicate, slice_set, refl, sym, ap, subst, ◌∙◌, arith, false, Option, Some, None}
+use Rattle.std.proofs.Common.{◌≡◌, ℕ, zero, suc, ◌+◌, ◌-◌, ◌<◌, List, [], ◌∷◌, length, map, replicate, slice_set, refl, sym, ap, subst, ◌∙◌, arith, Option, Some, None}
 use Rattle.cob_source.specs.Tokens.{Lexeme}
 use Rattle.cob_move_deeds.specs.declared.flow.Flow.{Flow}
-use Rattle.cob_move_loops.specs.Few.{statements_of}
-use Rattle.cob_move_loops.specs.Passages.{ALoop, APause, ARun, FrontStands, IsPassage, Looped, Moves, NoMore, Passage, PassageFront, Pause, WrittenLoop}
+use Rattle.cob_move_loops.specs.Passages.{APause, ARun, FrontStands, IsPassage, Looped, Passage, PassageFront, WrittenLoop}
 use Rattle.cob_move_loops.specs.Reading.{Within}
-use Rattle.cob_move_loops.specs.Turns.{Counted, counter_at, in_turn, turns_of}
+use Rattle.cob_move_loops.specs.Turns.{Counted}
 use Rattle.cob_move_loops.proofs.PassageLemmas.{IsOnlyFront, Parted, joined, nothing_left, parted}
-use Rattle.cob_report_lossless.specs.Turned.{FoundTest, TellFront, TellLast, TellPassage, TellTested, TellTests, TellTurned, TellTurns, Telling, ToldLines, ToldLoop, first_test, told_loop, unknown_lines, unknown_loop, with_loop, with_statements}
+use Rattle.cob_report_lossless.specs.Turned.{FoundTest, TellFront, TellLast, TellPassage, TellTested, TellTests, TellTurns, Telling, ToldLines, ToldLoop, first_test, told_loop, unknown_lines, unknown_loop, with_loop, with_statements}
 use Rattle.cob_report_lossless.specs.declared.turned.LoopLine.{LoopLine}
 
 -- ---- fronts
@@ -25,9 +24,6 @@ tell_joined ns (Looped l own) body more fs rest left before between after told n
 abbrev pub LeftToTell : List Counted → (words rest : List Lexeme) → (fs left : List Flow) → (start now : ToldLines) → Type 0
 LeftToTell ns words rest fs left start now = (p : Passage) → IsPassage p words
     → (q : Passage) × IsPassage q rest × ((end : List Flow) (after : ToldLines) → TellPassage ns q left now end after → TellPassage ns p fs start end after)
-
-pub tell_first : (ns : List Counted) (words : List Lexeme) (fs : List Flow) (start : ToldLines) → LeftToTell ns words words fs fs start start
-tell_first ns words fs start p is = (p, is, λ end after told. told)
 
 pub tell_more : (ns : List Counted) (words rest more : List Lexeme) (f : PassageFront) (fs left next : List Flow) (start now after : ToldLines) → LeftToTell ns words rest fs left start now → 0 < length rest → IsOnlyFront f rest more
     → ((body : Passage) → Within f body → TellFront ns f body left now next after) → LeftToTell ns words more fs next start after
@@ -62,18 +58,10 @@ one_more one by zero number fs rest end before between after some told next = ab
 one_more one by (suc n) number fs rest end before between after some told next =
     (rest, between, told, subst (λ (k : ℕ). TellTurns one by k (number + by) rest between end after) (less_one n) next)
 
-pub turns_first : (one : ℕ → Telling) (by turns from : ℕ) (fs : List Flow) (start : ToldLines) → TurnsToTell one by turns from turns from fs fs start start
-turns_first one by turns from fs start end after told = told
-
 pub turns_more : (one : ℕ → Telling) (by turns from count number next : ℕ) (fs left rest : List Flow) (start now after : ToldLines) → 0 < count → next ≡ number + by → TurnsToTell one by turns from count number fs left start now
     → one number left now rest after → TurnsToTell one by turns from (count - 1) next fs rest start after
 turns_more one by turns from count number next fs left rest start now after some grows so told end last behind =
     so end last (one_more one by count number left rest end now after last some told (subst (λ (k : ℕ). TellTurns one by (count - 1) k rest after end last) grows behind))
-
-pub turns_told : (one : ℕ → Telling) (l : WrittenLoop) (body : Passage) (turns count number : ℕ) (fs left : List Flow) (start now : ToldLines)
-    → (turns ≡ turns_of l) ⊎ ((turns ≡ 0) × (statements_of body ≡ 0)) → count ≡ 0 → TurnsToTell one l.by turns l.from count number fs left start now → TellTurned one l body fs start left now
-turns_told one l body turns count number fs left start now all none so =
-    (turns, all, so left now (subst (λ (k : ℕ). TellTurns one l.by k number left now left now) (sym none) (refl, refl)))
 
 -- ---- turns of a loop to an item
 
@@ -81,9 +69,6 @@ turns_told one l body turns count number fs left start now all none so =
 abbrev pub TestsToTell : (one : ℕ → Telling) → WrittenLoop → (number : ℕ) → (fs left : List Flow) → (start now : ToldLines) → Type 0
 TestsToTell one l number fs left start now =
     (n : ℕ) (end : List Flow) (after : ToldLines) → TellTests one l n number left now end after → TellTested one l fs start end after
-
-pub tests_first : (one : ℕ → Telling) (l : WrittenLoop) (number : ℕ) (fs : List Flow) (start : ToldLines) → number ≡ l.from → TestsToTell one l number fs fs start start
-tests_first one l number fs start same n end after told = (n, subst (λ (k : ℕ). TellTests one l n k fs start end after) same told)
 
 pub tests_more : (one : ℕ → Telling) (l : WrittenLoop) (number next : ℕ) (test : FoundTest) (fs left rest : List Flow) (start now after : ToldLines) → first_test left ≡ Some test → 0 < test.skip → next ≡ number + l.by
     → TestsToTell one l number fs left start now → one number test.behind now rest after → TestsToTell one l next fs rest start after
@@ -114,8 +99,3 @@ pub set_told : (ls : List LoopLine) (bound : ℕ) (one : LoopLine) → map told_
 set_told [] bound one = refl
 set_told (l ∷ ls) zero one = refl
 set_told (l ∷ ls) (suc n) one = ap (λ (ts : List ToldLoop). told_loop l ∷ ts) (set_told ls n one)
-
--- one more that is not known
-pub replicate_more : {A : Type 0} (n : ℕ) (a : A) → replicate n a ++ a ∷ [] ≡ replicate (suc n) a
-replicate_more zero a = refl
-replicate_more {A} (suc n) a = ap (λ (xs : List A). a ∷ xs) (replicate_more n a)

@@ -1,12 +1,11 @@
 -- Names that entries have.
-use Rattle.std.proofs.Common.{◌≡◌, ◌+◌, ℕ, Bool, true, false, ◌||◌, List, [], ◌∷◌, ◌++◌, map, refl, sym, ap, subst, ◌∙◌, arith, inl, inr}
-use Rattle.std.proofs.lemmas.Bool.Decides.{eqb_tells}
+use Rattle.std.proofs.Common.{◌≡◌, ◌+◌, ℕ, Bool, true, false, ◌||◌, List, [], ◌∷◌, ◌++◌, map, refl, ap, ◌∙◌}
 use Rattle.std.specs.List.{list_any}
 use Rattle.cob_copybook_names.specs.declared.bearer.Bearer.{Bearer as Listed}
 use Rattle.cob_copybook_names.specs.Listed.{name_text}
-use Rattle.cob_copybook_names.specs.Naming.{Bearer, has_name}
-use Rattle.cob_report_partners.specs.Counters.{AreCountersTaken, counter_text, is_taken}
-use Rattle.cob_report_partners.specs.Entries.{DraftEntry, listed_bearer}
+use Rattle.cob_copybook_names.specs.Naming.{has_name}
+use Rattle.cob_report_partners.specs.Counters.{is_taken}
+use Rattle.cob_report_partners.specs.Entries.{listed_bearer}
 use Rattle.cob_report_partners.specs.declared.entries.DraftEntry.{DraftEntry as ListedEntry}
 
 either : (a b c : Bool) → (a || (b || c)) ≡ ((a || b) || c)
@@ -32,10 +31,3 @@ taken_first name xs ys is = taken_both name xs ys ∙ ap (λ t. t || is_listed n
 
 pub taken_rest : (name : List ℕ) (xs ys : List (Listed ListedEntry)) → is_listed name xs ≡ false → is_taken (map listed_bearer xs ++ map listed_bearer ys) name ≡ is_listed name ys
 taken_rest name xs ys is = taken_both name xs ys ∙ ap (λ t. t || is_listed name ys) is
-
--- names that entries have, with the next one
-pub taken_more : (all : List (Bearer DraftEntry)) (letter n : ℕ) → AreCountersTaken all letter n → is_taken all (counter_text letter n) ≡ true → AreCountersTaken all letter (n + 1)
-taken_more all letter n before now = λ k lt. elim (eqb_tells k n) [
-  | inl told ↦ subst (λ (m : ℕ). is_taken all (counter_text letter m) ≡ true) (sym told.1) now
-  | inr told ↦ before k (omega (arith, lt, told.1))
-]

@@ -30,13 +30,6 @@ lines_of_entry : (tree : Forest Resolved) (e : Resolved) (children more : Forest
     → lines_among tree (AnEntry e children more) ≡ entry_line tree e ++ (lines_among tree children ++ lines_among tree more)
 lines_of_entry tree e children more = ap (λ (xs : List ℕ). entry_line tree e ++ xs) (flat_map-append (entry_line tree) (flat children) (flat more))
 
--- the line of an entry, and those beneath it
-pub lines_beneath : (tree : Forest Resolved) (n : Node) → lines_among tree (tree_of n) ≡ entry_line tree (node n).top ++ lines_among tree (below n)
-lines_beneath tree n =
-    lines_of_entry tree (node n).top (node n).beneath NoEntries
-    ∙ ap (λ (xs : List ℕ). entry_line tree (node n).top ++ xs) (append-nil (lines_among tree (node n).beneath))
-    ∙ ap (λ (f : Forest Resolved). entry_line tree (node n).top ++ lines_among tree f) (below_is n)
-
 -- the lines of the next entry with those beneath it, and those of the entries behind it
 pub lines_left : (tree : Forest Resolved) (children : List Node) (k : ℕ) (n : Node) → k < length children → n ≡ get_or children k n
     → lines_among tree (left children k) ≡ lines_among tree (tree_of n) ++ lines_among tree (left children (k + 1))
@@ -251,10 +244,6 @@ pub entries_left : (children : List Node) (k : ℕ) (n : Node) → k < length ch
     → entries_in (left children k) ≡ entries_in (tree_of n) + entries_in (left children (k + 1))
 entries_left children k n low is =
     let cut = ap (λ (f : Forest Resolved). entries_in f) (left_is children k n low is) in omega (arith, cut)
-
--- an entry, and those beneath it
-pub entries_beneath : (n : Node) → entries_in (tree_of n) ≡ 1 + entries_in (below n)
-entries_beneath n = let inner = ap (λ (f : Forest Resolved). entries_in f) (below_is n) in omega (arith, inner)
 
 -- where the lines could not all be written, the bytes that went out were counted
 pub lists_part : (tree root : Forest Resolved) (fault told : RecordFault) (sent : ℕ) (w0 w1 : Option (List ℕ)) → root ≡ tree

@@ -1,10 +1,10 @@
 -- A text that goes out part by part.
-use Rattle.std.proofs.Common.{◌≡◌, ℕ, List, [], ◌++◌, Option, refl, sym, ap, subst, ◌∙◌, append_assoc, append-nil, Ok, Err}
+use Rattle.std.proofs.Common.{◌≡◌, ℕ, List, ◌++◌, Option, sym, ap, subst, ◌∙◌, append_assoc, Ok, Err}
 use Rattle.std.specs.Io.KnownBytes.{append_known}
 use Rattle.cob_records.specs.declared.records.RecordFault.{RecordFault}
 use Rattle.cob_records.specs.Device.{Took}
 use Rattle.cob_report_show.specs.Sent.{CountsSent, IsBeginning, SendsText}
-use Rattle.cob_report_show.proofs.SentLemmas.{append_none, append_twice, begins_within, none_sent, sent_twice}
+use Rattle.cob_report_show.proofs.SentLemmas.{append_twice, begins_within, sent_twice}
 
 -- a part of the whole text went out, and the rest is left
 pub record TextSoFar (whole rest : List ℕ) (before sent : ℕ) (w0 w : Option (List ℕ)) : Type 0 where
@@ -12,9 +12,6 @@ pub record TextSoFar (whole rest : List ℕ) (before sent : ℕ) (w0 w : Option 
   pub is : part ++ rest ≡ whole
   pub sum : CountsSent before sent part
   pub took : w ≡ append_known w0 part
-
-pub no_text : (whole : List ℕ) (before : ℕ) (w : Option (List ℕ)) → TextSoFar whole whole before before w w
-no_text whole before w = record { part = []; is = refl; sum = none_sent before; took = append_none w }
 
 pub more_text : (whole rest text left : List ℕ) (before sent after : ℕ) (w0 w w1 : Option (List ℕ)) → TextSoFar whole rest before sent w0 w
     → rest ≡ text ++ left → Took w w1 (SendsText text sent after (Ok tt)) → TextSoFar whole left before after w0 w1
@@ -36,8 +33,3 @@ cut_text whole rest text left before sent after fault w0 w w1 so_far cut (p, (be
   ),
   append_twice so_far.part p w0 w w1 so_far.took took,
 )
-
-pub all_text : (whole rest : List ℕ) (before sent : ℕ) (w0 w : Option (List ℕ)) → TextSoFar whole rest before sent w0 w → rest ≡ []
-    → Took w0 w (SendsText whole before sent (Ok tt))
-all_text whole rest before sent w0 w so_far end =
-    (so_far.part, (sym (append-nil so_far.part) ∙ ap (λ (xs : List ℕ). so_far.part ++ xs) (sym end) ∙ so_far.is, so_far.sum), so_far.took)

@@ -12,7 +12,7 @@ use Rattle.cob_report_show.specs.Elements.{NamedItem, Printed, ElementStandsAt, 
 use Rattle.cob_report_show.specs.Lines.{AreBegunInTurn, AreElementLines, AreInTurn, AreItemLines, BeginElementLines, BeginItemLines, IsElementLine, IsLineWith, front_text}
 use Rattle.cob_report_show.specs.Sent.{CountsSent, BeginsOne, Sends}
 use Rattle.cob_report_show.specs.Values.{IsValueShown}
-use Rattle.cob_report_show.proofs.SentLemmas.{append_none, append_twice, none_sent, sent_twice}
+use Rattle.cob_report_show.proofs.SentLemmas.{append_twice, sent_twice}
 use Rattle.cob_report_show.proofs.PieceLemmas.{sends_as, begins_as}
 
 -- ---- one element
@@ -41,9 +41,6 @@ pub record InTurnSoFar (is : ℕ → List ℕ → Type 0) (n before sent : ℕ) 
   pub turns : AreInTurn is n part
   pub sum : CountsSent before sent part
   pub took : w ≡ append_known w0 part
-
-pub no_turn : (is : ℕ → List ℕ → Type 0) (before : ℕ) (w : Option (List ℕ)) → InTurnSoFar is 0 before before w w
-no_turn is before w = record { part = []; turns = refl; sum = none_sent before; took = append_none w }
 
 pub one_turn : (is : ℕ → List ℕ → Type 0) (other : List ℕ → Type 0) (n before sent after : ℕ) (w0 w w1 : Option (List ℕ)) → InTurnSoFar is n before sent w0 w
     → Took w w1 (Sends (is (suc n)) other sent after (Ok tt)) → InTurnSoFar is (n + 1) before after w0 w1
@@ -79,9 +76,6 @@ pub record ItemsSoFar (r : Printed) (all left : List NamedItem) (before sent : �
   pub begun : (rest : List ℕ) → BeginItemLines r left rest → BeginItemLines r all (part ++ rest)
   pub sum : CountsSent before sent part
   pub took : w ≡ append_known w0 part
-
-pub no_item : (r : Printed) (all : List NamedItem) (before : ℕ) (w : Option (List ℕ)) → ItemsSoFar r all all before before w w
-no_item r all before w = record { part = []; whole = λ rest are. are; begun = λ rest are. are; sum = none_sent before; took = append_none w }
 
 pub one_item : (r : Printed) (all left further : List NamedItem) (x : NamedItem) (other : List ℕ → Type 0) (before sent after : ℕ) (w0 w w1 : Option (List ℕ))
     → ItemsSoFar r all left before sent w0 w → left ≡ x ∷ further
@@ -128,13 +122,6 @@ pub no_items_left : (items : List ListedItem) (i : ℕ) → length items ≤ i �
 no_items_left items i end = ap (map named_item) (drop_all i items end)
 
 -- ---- the tables of an item
-
--- where no table is left, the lines are that of the element
-pub alone_sends : (r : Printed) (x : NamedItem) (tables subscripts : List ℕ) (before after : ℕ) (answer : Result (Unit {0}) RecordFault) (w0 w1 : Option (List ℕ)) → length tables ≡ 0
-    → Took w0 w1 (Sends (IsElementLine r x subscripts) (BeginsOne (IsElementLine r x subscripts)) before after answer)
-    → Took w0 w1 (Sends (AreElementLines r x (table_times r tables) subscripts) (BeginElementLines r x (table_times r tables) subscripts) before after answer)
-alone_sends r x [] subscripts before after answer w0 w1 none took = took
-alone_sends r x (t ∷ tables) subscripts before after answer w0 w1 none took = absurd (omega (arith, none))
 
 -- and else those of the elements of the first table in turn
 abbrev pub inner_lines : Printed → NamedItem → List ℕ → List ℕ → ℕ → List ℕ → Type 0

@@ -13,9 +13,6 @@ use Rattle.cob_source.specs.Cuts.{Piece, is_quote, is_gap, is_plain, IsPlain, ce
 abbrev pub SoFar : Cutting → List Cell → List Cell → List Lexeme → List Lexeme → Type 0
 SoFar m cells rest old now = (ts : List Lexeme) → Cuts m rest ts → (all : List Lexeme) × Cuts m cells all × (old ++ all ≡ now ++ ts)
 
-pub begins : (m : Cutting) (cells : List Cell) (old : List Lexeme) → SoFar m cells cells old old
-begins m cells old = λ ts c. (ts, c, refl)
-
 pub goes_on : (m : Cutting) (cells rest : List Cell) (old now next : List Lexeme) (p : Piece) (after : List Cell) → SoFar m cells rest old now → IsPiece p → Follows p after → rest ≡ cells_of_piece p ++ after → next ≡ now ++ lexemes_of m p after → SoFar m cells after old next
 goes_on m cells rest old now next p after so ip fp e n = λ ts c.
     let f = so (lexemes_of m p after ++ ts) (Then p ip fp e refl c) in

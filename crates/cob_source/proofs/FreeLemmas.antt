@@ -40,15 +40,6 @@ none_open (Some b) e = absurd cc
 pub closed_line : (line : List ℕ) (n : ℕ) → FitsFree line → open_quote (cells_from n 1 (free_text line)) ≡ None
 closed_line line n fits = open_cells None n 1 (free_text line) ∙ none_open _ (fits OpenLiteral)
 
-pub line_refused : (rule : SourceRule) (number : ℕ) (line : List ℕ) → breaks_free rule line ≡ true → FreeLineRefused rule number number line
-line_refused NotAscii number line b = (b, refl)
-line_refused Tab number line b = (b, refl)
-line_refused OpenLiteral number line b = (b, refl)
-line_refused BadContinuation number line b = (b, refl)
-line_refused TooLong number line b = (b, refl)
-line_refused UnknownIndicator number line b = (b, refl)
-line_refused Memory number line b = absurd cc
-
 -- one line more
 pub line_cut : (n : ℕ) (line : List ℕ) (more : List (List ℕ)) (old here new behind : List Lexeme) (P : List Lexeme → Type 0) → FitsFree line → Cuts Whole (cells_from n 1 (free_text line)) here → AreFreeFrom (n + 1) more behind → old ++ here ≡ new
     → (AreFreeFrom n (line ∷ more) (here ++ behind) → P (old ++ (here ++ behind))) → P (new ++ behind)

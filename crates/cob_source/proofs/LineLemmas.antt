@@ -59,9 +59,6 @@ only_line text n w e some =
     let all : text ≡ take n text = sym (take-append-drop n text) ∙ ap (λ (t : List ℕ). take n text ++ t) e ∙ append-nil (take n text) in
     whole_line text (take n text) all w some ∙ ap (λ (t : List ℕ). take n text ∷ lines t) (sym e)
 
-pub cut_return-none : (xs : List ℕ) → xs ≡ [] → xs ≡ cut_return xs
-cut_return-none xs e = e ∙ ap cut_return (sym e)
-
 pub cut_return-return : (xs : List ℕ) → cut_return (xs ++ 13 ∷ []) ≡ xs
 cut_return-return [] = refl
 cut_return-return (x ∷ []) = go (x == 13) refl

@@ -2,7 +2,7 @@
 use Rattle.std.proofs.Common.{◌≡◌, ◌≢◌, ℕ, zero, suc, ◌<◌, Bool, true, false, List, [], ◌∷◌, ◌++◌, take, drop, refl, sym, ap, ◌∙◌, arith}
 use Rattle.std.specs.Prelude.{◌==◌}
 use Rattle.std.specs.List.{AllByRecursion}
-use Rattle.std.proofs.lemmas.Bool.{eq-eqb, ne_eqb}
+use Rattle.std.proofs.lemmas.Bool.{ne_eqb}
 use Rattle.std.proofs.lemmas.List.{take-append-drop}
 use Rattle.cob_source.specs.declared.token.Cell.{Cell}
 use Rattle.cob_source.specs.Pieces.{is_bracket, is_cut, cut_first, led_by, piece_before, pieces}
@@ -36,9 +36,6 @@ pieces-run : (c : Cell) (a rest : List Cell) → AllByRecursion (λ c. is_cut c.
 pieces-run c [] rest all f = before_end c rest (pieces rest) all.0 f
 pieces-run c (d ∷ a) rest all f =
     before_run c (d ∷ (a ++ rest)) (pieces (d ∷ (a ++ rest))) all.0 all.1.0 ∙ ap (led_by c) (pieces-run d a rest all.1 f)
-
-pub pieces-comma : (c : Cell) (rest : List Cell) → c.byte ≡ 44 → pieces (c ∷ rest) ≡ pieces rest
-pieces-comma c rest e = let h : (c.byte == 44) ≡ true = eq-eqb _ _ e in rw h refl
 
 not_comma : (b : ℕ) → b ≢ 44 → (b == 44) ≡ false
 not_comma b ne = ne_eqb _ _ ne

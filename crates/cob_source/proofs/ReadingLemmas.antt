@@ -12,7 +12,7 @@ use Rattle.cob_limits.specs.Limits.{longest_text}
 use Rattle.cob_source.specs.Tokens.{Lexeme}
 use Rattle.cob_source.specs.Cuts.{is_quote, is_gap, open_from, open_quote, Cuts, End}
 use Rattle.cob_source.specs.Lines.{lines, program_text, behind_spaces, is_nil, is_options, kind_of_line, kind_with, kind_behind, line_end, cells_behind, trim_end, continued_text, left_out, continued, join, join_by, joined_from, joined_of, last_by, last_from, last_joined}
-use Rattle.cob_source.specs.Words.{breaks, BreaksAlone, KeepsCharacters, BreaksAt, NoContinuation, IsLeftOpen, BreaksSourceRule, IsSourceRefusal, AreCutsOf, FitsLine, AllFit, is_bad_continuation, is_misfit, ends_quoted, first_character}
+use Rattle.cob_source.specs.Words.{breaks, KeepsCharacters, BreaksAt, NoContinuation, IsLeftOpen, BreaksSourceRule, IsSourceRefusal, AreCutsOf, FitsLine, AllFit, is_bad_continuation, is_misfit, ends_quoted, first_character}
 use Rattle.cob_source.specs.Reading.{Begins, LeavesOutSpaces, HasRead, EndRefused, ContinuationRefused, IsContinued, LineRefused}
 use Rattle.cob_source.proofs.Opens.{open_from-append}
 use Rattle.cob_source.proofs.CutOnce.{GapFirst, cut_both, cut_once}
@@ -275,15 +275,6 @@ finishes text {m} {before} {cells} {q} {last} {words} ts words' r e short none c
     breaks_none all closed Memory n b = b
 
 -- ---- refusals
-
-pub character_refused : (rule : SourceRule) (n : ℕ) (before : List (List ℕ)) (line : List ℕ) → n ≡ length before + 1 → BreaksAlone rule line → LineRefused rule n before line
-character_refused NotAscii n before line num b = (b, num)
-character_refused Tab n before line num b = (b, num)
-character_refused OpenLiteral n before line num b = absurd b
-character_refused BadContinuation n before line num b = absurd b
-character_refused TooLong n before line num b = b
-character_refused UnknownIndicator n before line num b = (b, num)
-character_refused Memory n before line num b = absurd b
 
 pub open_refused : {m : Cutting} {before : List (List ℕ)} {cells : List Cell} {q : Option ℕ} {last : ℕ} {words : List Lexeme} (rule : SourceRule) (n : ℕ) (line : List ℕ) → HasRead m before cells q last words → kind_of_line line ≡ Plain → EndRefused rule n q last → LineRefused rule n before line
 open_refused NotAscii n line r e b = absurd b

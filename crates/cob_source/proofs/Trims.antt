@@ -1,7 +1,7 @@
 -- Spaces at the ends, and cells with their columns.
 use Rattle.std.proofs.Common.{◌≡◌, ◌≢◌, ℕ, suc, ◌+◌, ◌-◌, ◌<◌, ◌≤◌, Bool, true, false, eqb, List, [], ◌∷◌, ◌++◌, length, get_or, take, drop, replicate, refl, sym, ap, ◌∙◌, arith}
 use Rattle.std.specs.Prelude.{◌&&◌, ◌==◌}
-use Rattle.std.proofs.lemmas.List.{take_more, get_or_append_left, get_or-append_right, get_or-replicate, get_or-drop, length-append, length-replicate, length-drop}
+use Rattle.std.proofs.lemmas.List.{take_more, get_or-drop, length-append, length-replicate, length-drop}
 use Rattle.std.proofs.lemmas.Grind.{common_steps}
 use Rattle.std.proofs.lemmas.Bool.{ne_eqb, eq-eqb}
 use Rattle.cob_source.specs.declared.token.Cell.{Cell}
@@ -46,14 +46,6 @@ take_other xs n d some le e = ap trim_end (front_last xs n d some le) ∙ trim_o
 
 pub length-filled : (area : List ℕ) → 65 ≤ length (filled area)
 length-filled area = omega (arith, length-append area (replicate (65 - length area) 32), length-replicate {A = ℕ} (65 - length area) 32)
-
--- a written column, and one that is filled
-pub filled_written : (area : List ℕ) (i : ℕ) → i < length area → get_or area i 0 ≡ get_or (filled area) i 0
-filled_written area i lt = sym (get_or_append_left area (replicate (65 - length area) 32) 0 i lt)
-
-pub filled_space : (area : List ℕ) (i : ℕ) → length area ≤ i → i < 65 → 32 ≡ get_or (filled area) i 0
-filled_space area i le lt =
-    sym (get_or-append_right area (replicate (65 - length area) 32) (length area) i 0 refl le ∙ get_or-replicate (65 - length area) (i - length area) 32 0 (omega arith))
 
 -- one more column
 pub columns_more : (n : ℕ) (skipped i : ℕ) (area : List ℕ) (column : ℕ) → skipped ≤ i → i < 65 → column ≡ i + 8

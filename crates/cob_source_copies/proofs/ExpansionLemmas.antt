@@ -21,9 +21,6 @@ pub record SoFar (texts : List CopiedText) (ws rest : List Lexeme) (room : ℕ) 
   pub room_is : room + length (flat_map (put_by_copy texts) parts) ≡ most_copied_words
   pub out_is : out ≡ flat_map (part_put texts) parts
 
-pub so_first : (texts : List CopiedText) (ws : List Lexeme) (out : List Lexeme) → out ≡ [] → SoFar texts ws ws most_copied_words out
-so_first texts ws out e = record { parts = []; begin = refl; may_copy = tt; room_is = refl; out_is = e }
-
 pub so_stays : (texts : List CopiedText) (ws rest more : List Lexeme) (room : ℕ) (out next : List Lexeme) (w : Lexeme) → SoFar texts ws rest room out → rest ≡ w ∷ more → is_copy w ≡ false → next ≡ out ++ w ∷ []
     → SoFar texts ws more room next
 so_stays texts ws rest more room out next w so e other is =
@@ -74,7 +71,6 @@ reached texts ws rest behind room out w so e is = record {
 
 pub refused : (r : CopyRule) (texts : List CopiedText) (ws rest behind : List Lexeme) (room : ℕ) (out : List Lexeme) (w : Lexeme) (line : ℕ) → SoFar texts ws rest room out → rest ≡ w ∷ behind → is_copy w ≡ true
     → IsCarryRefusal r texts behind room → (r ≡ rule.Memory → line ≡ 0) → ((r ≡ rule.Memory → ⊥) → line ≡ w.line) → IsCopyRefusal r line texts ws
-unfolding reached
 refused rule.Memory texts ws rest behind room out w line so e copies why zero on = zero refl
 refused rule.Statement texts ws rest behind room out w line so e copies why zero on =
     let same : line ≡ w.line = on (λ h. absurd cc) in

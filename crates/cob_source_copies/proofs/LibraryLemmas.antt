@@ -33,9 +33,6 @@ pub record NamesSoFar (ws rest : List Lexeme) (names : List WrittenTextName) : T
   pub begin : BeginWithParts parts ws rest
   pub names_are : names ≡ flat_map names_in_part parts
 
-pub names_first : (ws : List Lexeme) → NamesSoFar ws ws []
-names_first ws = record { parts = []; begin = refl; names_are = refl }
-
 pub names_stay : (ws rest more : List Lexeme) (names : List WrittenTextName) (w : Lexeme) → NamesSoFar ws rest names → rest ≡ w ∷ more → is_copy w ≡ false → NamesSoFar ws more names
 names_stay ws rest more names w so e other = record {
   parts = so.parts ++ Stays w ∷ [];
