@@ -128,15 +128,32 @@ fn told_entry<'a>(layout: &'a Layout, side: Side) -> Option<ToldLoss<'a>> {
     })
 }
 
+/// The moves of one direction.
+#[derive(Clone, Copy)]
+struct OneWay<'s, 'a> {
+    moves: &'s MovesBetween<'a>,
+    /// Their single moves.
+    singles: &'s [LinedSingle<'a>],
+    way: Direction,
+}
+
+/// The moves of this direction.
+fn of_way<'s, 'a>(there: OneWay<'s, 'a>, back: OneWay<'s, 'a>, way: Direction) -> OneWay<'s, 'a> {
+    match way {
+        Direction::There => there,
+        Direction::Back => back,
+    }
+}
+
 /// Why the records of moves don't stand in one way. The input of the moves back is the output of those there.
-fn told_storage<'a>(moves: &MovesBetween<'a>, way: Direction) -> Option<ToldLoss<'a>> {
-    let (first, second) = match way {
+fn told_storage<'a>(one: OneWay<'_, 'a>) -> Option<ToldLoss<'a>> {
+    let (first, second) = match one.way {
         Direction::There => (Side::In, Side::Out),
         Direction::Back => (Side::Out, Side::In),
     };
-    match told_entry(moves.layouts.input, first) {
+    match told_entry(one.moves.layouts.input, first) {
         Some(told) => Some(told),
-        None => told_entry(moves.layouts.output, second),
+        None => told_entry(one.moves.layouts.output, second),
     }
 }
 
@@ -211,37 +228,28 @@ enum AskedAbout {
 }
 
 /// Why the first of these single moves fails that isn't as is asked.
-fn told_single<'a>(
-    asked: AskedAbout,
-    moves: &MovesBetween<'a>,
-    singles: &[LinedSingle<'a>],
-    way: Direction,
-) -> Option<ToldLoss<'a>> {
-    for single in singles {
+fn told_single<'a>(asked: AskedAbout, one: OneWay<'_, 'a>) -> Option<ToldLoss<'a>> {
+    for single in one.singles {
         let reason = match asked {
-            AskedAbout::Elementary => told_operand(moves, single),
-            AskedAbout::Pictured => told_reading(moves, single),
-            AskedAbout::Named => told_name(moves, single),
+            AskedAbout::Elementary => told_operand(one.moves, single),
+            AskedAbout::Pictured => told_reading(one.moves, single),
+            AskedAbout::Named => told_name(one.moves, single),
         };
         if let Some(reason) = reason {
-            return Some(told_on(reason, way, single.line));
+            return Some(told_on(reason, one.way, single.line));
         }
     }
     None
 }
 
 /// Which occurrence receives twice in these single moves.
-fn told_twice<'a>(
-    moves: &MovesBetween<'a>,
-    singles: &[LinedSingle<'a>],
-    way: Direction,
-) -> Option<ToldLoss<'a>> {
-    let (first, again) = twice(singles)?;
+fn told_twice<'a>(one: OneWay<'_, 'a>) -> Option<ToldLoss<'a>> {
+    let (first, again) = twice(one.singles)?;
     let reason = LossReason::Twice {
-        receiver: named_in(moves.layouts.output, again.receiver),
+        receiver: named_in(one.moves.layouts.output, again.receiver),
         first: first.line,
     };
-    Some(told_on(reason, way, again.line))
+    Some(told_on(reason, one.way, again.line))
 }
 
 /// What an occurrence receives from elsewhere.
@@ -313,20 +321,39 @@ fn told_stay<'a>(
 
 /// Why the first occurrence of an item doesn't come back that doesn't.
 fn told_item<'a>(
-    moves: &MovesBetween<'a>,
-    there: &[LinedSingle<'a>],
-    back: &[LinedSingle<'a>],
+    there: OneWay<'_, 'a>,
+    back: OneWay<'_, 'a>,
     number: usize,
 ) -> Option<ToldLoss<'a>> {
-    let root: &'a Node = moves.layouts.input.root();
+    let root: &'a Node = there.moves.layouts.input.root();
     let ways = Ways {
-        there,
-        back,
-        output: moves.layouts.output.root(),
+        there: there.singles,
+        back: back.singles,
+        output: there.moves.layouts.output.root(),
     };
     let (subscripts, stay) = first_stay(&ways, root, number)?;
     let item = NamedOccurrence::new(root, number, subscripts.as_slice());
-    told_stay(moves, item, stay)
+    told_stay(there.moves, item, stay)
+}
+
+/// What is to be told of such a point, by the moves there and those back.
+fn told_between<'a>(
+    there: OneWay<'_, 'a>,
+    back: OneWay<'_, 'a>,
+    loss: Loss,
+) -> Option<ToldLoss<'a>> {
+    match loss {
+        Loss::Records => Some(ToldLoss {
+            reason: LossReason::Records,
+            position: LossPosition::Nowhere,
+        }),
+        Loss::Storage(way) => told_storage(of_way(there, back, way)),
+        Loss::Operand(way) => told_single(AskedAbout::Elementary, of_way(there, back, way)),
+        Loss::Reading(way) => told_single(AskedAbout::Pictured, of_way(there, back, way)),
+        Loss::Receiver(way) => told_twice(of_way(there, back, way)),
+        Loss::Name => told_single(AskedAbout::Named, back),
+        Loss::Item(number) => told_item(there, back, number),
+    }
 }
 
 /// What is to be told of a point in which moves there and back may lose something; nothing where the point doesn't fail.
@@ -342,44 +369,17 @@ pub fn told_loss<'a>(
 ) -> Result<Option<ToldLoss<'a>>, AllocError> {
     let forth = singles_of(alloc, there.moves.statements, there.lines)?;
     let home = singles_of(alloc, back.moves.statements, back.lines)?;
-    let (to, from) = (&there.moves, &back.moves);
-    let told = match loss {
-        Loss::Records => Some(ToldLoss {
-            reason: LossReason::Records,
-            position: LossPosition::Nowhere,
-        }),
-        Loss::Storage(Direction::There) => told_storage(to, Direction::There),
-        Loss::Storage(Direction::Back) => told_storage(from, Direction::Back),
-        Loss::Operand(Direction::There) => told_single(
-            AskedAbout::Elementary,
-            to,
-            &forth,
-            Direction::There,
-        ),
-        Loss::Operand(Direction::Back) => told_single(
-            AskedAbout::Elementary,
-            from,
-            &home,
-            Direction::Back,
-        ),
-        Loss::Reading(Direction::There) => told_single(
-            AskedAbout::Pictured,
-            to,
-            &forth,
-            Direction::There,
-        ),
-        Loss::Reading(Direction::Back) => told_single(
-            AskedAbout::Pictured,
-            from,
-            &home,
-            Direction::Back,
-        ),
-        Loss::Receiver(Direction::There) => told_twice(to, &forth, Direction::There),
-        Loss::Receiver(Direction::Back) => told_twice(from, &home, Direction::Back),
-        Loss::Name => told_single(AskedAbout::Named, from, &home, Direction::Back),
-        Loss::Item(number) => told_item(to, &forth, &home, number),
+    let to = OneWay {
+        moves: &there.moves,
+        singles: forth.as_slice(),
+        way: Direction::There,
     };
-    Ok(told)
+    let from = OneWay {
+        moves: &back.moves,
+        singles: home.as_slice(),
+        way: Direction::Back,
+    };
+    Ok(told_between(to, from, loss))
 }
 
 /// The number of the bound of the first test.
