@@ -135,6 +135,22 @@ fn stopped_at(
     Ok(StoppedRecord { fault, words })
 }
 
+/// What is told of a record whose single moves were told: that it converts, or where it stops.
+fn explanation_of(
+    alloc: Global,
+    scene: &Scene<'_>,
+    number: u64,
+    stop: Option<RecordStop>,
+) -> Result<Explanation, AllocError>
+    ensures { IfOk result IsExplanation }
+{
+    let Some(stop) = stop else {
+        return Ok(Explanation::Converts);
+    };
+    let stopped = stopped_at(alloc, scene, number, stop)?;
+    Ok(Explanation::Stops(stopped))
+}
+
 /// Explains a record of the layout. The output holds the storage before the first move.
 fn explained<T: Teller>(
     alloc: Global,
@@ -151,9 +167,7 @@ fn explained<T: Teller>(
     ensures { IfOk result IsExplanation }
 {
     let mut room = WalkRoom::new(alloc, conversion)?;
-    let Some(stop) = tell_moves(conversion, lines, input, output, &mut room, teller) else {
-        return Ok(Explanation::Converts);
-    };
+    let stop = tell_moves(conversion, lines, input, output, &mut room, teller);
     let scene = Scene {
         conversion,
         records: records_of(conversion),
@@ -162,8 +176,7 @@ fn explained<T: Teller>(
         output,
         content: room.content(),
     };
-    let stopped = stopped_at(alloc, &scene, number, stop)?;
-    Ok(Explanation::Stops(stopped))
+    explanation_of(alloc, &scene, number, stop)
 }
 
 /// What is wrong with a record that is refused, in words. It stands at the front of these bytes.
