@@ -105,7 +105,6 @@ pub(crate) fn judge_kept(
             scratch.forget_input();
             Ok(())
         }
-        Form::Variable => judge_current(layout, input, scratch),
-        Form::Blocked(_) => judge_current(layout, input, scratch),
+        Form::Variable | Form::Blocked(_) => judge_current(layout, input, scratch),
     }
 }

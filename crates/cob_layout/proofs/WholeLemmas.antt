@@ -28,7 +28,7 @@ use Rattle.cob_layout.specs.declared.fields.Place.{Place}
 use Rattle.cob_layout.specs.declared.layout.PlaceFault.{PlaceFault}
 use Rattle.cob_layout.specs.Counting.{greatest_counts, AreThose, CountsOf, IsRead, NeededOf}
 use Rattle.cob_layout.specs.Kept.{IsIn, all_kept, first_kept, kept_after, kept_numbers, others_kept}
-use Rattle.cob_layout.specs.Placed.{placed, placed_under}
+use Rattle.cob_layout.specs.Placed.{element_under, placed, placed_under}
 use Rattle.cob_layout.specs.Sound.{IsSound}
 use Rattle.cob_layout.specs.Standing.{IsRoomFor, Standing}
 use Rattle.cob_layout.proofs.NeedLemmas.{known, table_has}
@@ -127,6 +127,16 @@ whole_long t c r p is s own none at =
     let w : Whole t c = whole t c s (occurs_once t is) in
     sym (ap (λ (q : Place). q.length) (one_place (record { offset = w.found.offset; length = w.found.length }) p (answer_is t c r (Ok p) w own none at))) ∙ w.long
 
+one_found : (a b : Found) → Some a ≡ Some b → a ≡ b
+one_found a b e = cc
+
+-- where it is found, it is as long as the record
+pub found_long : (t : Forest Resolved) (c : List ℕ) (r : Ref) (f : Found) → IsRecordDescription t → IsSound t → r.node ≡ 0 → r.subscripts.items ≡ [] → element_under c t r ≡ Some f → f.length ≡ sum_of (times c) t
+found_long t c r f is s own none at =
+    let w : Whole t c = whole t c s (occurs_once t is) in
+    let stands : element_under c t r ≡ Some w.found = (λ i. place_of (times c) (own i) t 0 0 (none i)) ∙ w.stands in
+    sym (ap (λ (q : Found). q.length) (one_found w.found f (sym stands ∙ at))) ∙ w.long
+
 -- ---- it needs all counts
 
 not_receiving : false ≡ true → ⊥
@@ -178,8 +188,16 @@ has_first : (t : Forest Resolved) → IsSound t → Has 0 t
 has_first NoEntries s = absurd s.first
 has_first (AnEntry e children more) s = inl s.numbered.0
 
-pub keeps_all : NeedsAreRead → (t : Forest Resolved) (r : ℕ) (d : List ℕ) (ks : List (Option ℕ)) → IsSound t → r ≡ 0 → kept_after (is_read t r false) d (tables_of t) ks ≡ all_kept d (tables_of t)
-keeps_all read t r d ks s own = kept_each (is_read t r false) d (tables_of t) ks (λ x i.
+-- the record reads each
+pub reads_whole : NeedsAreRead → (t : Forest Resolved) (r : ℕ) (x : Table) → IsSound t → r ≡ 0 → IsIn x (tables_of t) → is_read t r false x ≡ true
+reads_whole read t r x s own i =
     let there = table_has t x s.numbered i in
     subst (λ (k : ℕ). is_read t k false x ≡ true) (sym own)
-    ((read t 0 false x s.numbered (has_first t s) there (known t x s i).has).1 (needs_each t x.number s there, λ e spared. not_receiving e)))
+    ((read t 0 false x s.numbered (has_first t s) there (known t x s i).has).1 (needs_each t x.number s there, λ e spared. not_receiving e))
+
+pub keeps_all : NeedsAreRead → (t : Forest Resolved) (r : ℕ) (d : List ℕ) (ks : List (Option ℕ)) → IsSound t → r ≡ 0 → kept_after (is_read t r false) d (tables_of t) ks ≡ all_kept d (tables_of t)
+keeps_all read t r d ks s own = kept_each (is_read t r false) d (tables_of t) ks (λ x i. reads_whole read t r x s own i)
+
+-- so it reads the only one
+pub reads_lone : NeedsAreRead → (t : Forest Resolved) (r : ℕ) (x : Table) → IsSound t → r ≡ 0 → tables_of t ≡ x ∷ [] → is_read t r false x ≡ true
+reads_lone read t r x s own only = reads_whole read t r x s own (subst (λ (xs : List Table). IsIn x xs) (sym only) (inl refl))

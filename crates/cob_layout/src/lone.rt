@@ -121,6 +121,19 @@ fn range_at(place: Place) -> KeptRange
 }
 
 impl Layout {
+    /// The record's lone table, where it has one, whose count isn't kept.
+    #[inline(always)]
+    pub(crate) fn lone_not_kept(&self, kept: &[Option<StoredCount>]) -> Option<&LoneTable>
+        requires as_many { length kept.now ≡ length (tables_of self.now) }
+        ensures lone { IfSome result (λ l. IsLoneIn self.now l.now) }
+        ensures unread { IfSome result (λ _. kept.now ≡ None ∷ []) }
+    {
+        match &self.lone {
+            Some(lone) if kept[0].is_none() => Some(lone),
+            _ => None,
+        }
+    }
+
     /// The record's lone table, where it has one, whose count isn't kept, and the reference reads it.
     #[inline(always)]
     pub(crate) fn lone_unread(
@@ -255,7 +268,7 @@ impl Layout {
     ///
     /// The first count that is read and that gives no number within its table's bounds, or that ends past the bytes. The counts are as they were then.
     #[inline(always)]
-    fn found_lone(
+    pub(crate) fn found_lone(
         &self,
         reference: &Ref,
         receiving: bool,

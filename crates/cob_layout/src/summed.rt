@@ -148,20 +148,21 @@ fn summed_by(footing: Footing, further: u32) -> Option<SummedPlace>
 
 /// Whether counts that reach so far are those that the reference needs.
 #[inline(always)]
-fn are_within(summed: SummedPlace, reach: usize) -> bool
-    ensures { IsTrue result → summed.behind ≤ reach }
+fn are_within(summed: &SummedPlace, reach: usize) -> bool
+    ensures { IsTrue result → summed.now.behind ≤ reach }
 {
     usize::from(summed.behind) <= reach
 }
 
 /// Where a reference stands by these sums.
 #[inline(always)]
-fn summed_to(summed: SummedPlace, sums: &[u32]) -> Found
-    requires before { summed.before < length sums.now }
-    requires through { summed.through < length sums.now }
-    requires rises { slice_index sums.now summed.before ≤ slice_index sums.now summed.through }
+fn summed_to(summed: &SummedPlace, sums: &[u32]) -> Found
+    requires before { summed.now.before < length sums.now }
+    requires through { summed.now.through < length sums.now }
+    requires rises { slice_index sums.now summed.now.before
+        ≤ slice_index sums.now summed.now.through }
     requires low { (k : ℕ) → slice_index sums.now k ≤ longest_record }
-    ensures { result ≡ summed_to summed sums.now }
+    ensures { result ≡ summed_to summed.now sums.now }
 {
     let before = sums[usize::from(summed.before)];
     let through = sums[usize::from(summed.through)];
@@ -216,13 +217,13 @@ impl Layout {
         reference: &Ref,
         receiving: bool,
         bytes: &[u8],
-        summed: SummedPlace,
+        summed: &SummedPlace,
         counts: &Counts,
     ) -> Option<Place>
         requires refers { Refers reference.now.node reference.now.subscripts.items self.now }
         requires room { IsRoomFor self.now counts.now }
         requires kept { KeepsOf self.now bytes.now counts.now }
-        requires summed { IsSummedPlace self.now reference.now receiving summed }
+        requires summed { IsSummedPlace self.now reference.now receiving summed.now }
         ensures found { IfSome result
             (λ p. IsFound self.now reference.now receiving bytes.now (Ok p)) }
         ensures fits { IfSome result (λ p. p.offset + p.length ≤ sum_of greatest_number self.now) }

@@ -131,6 +131,15 @@ readied r m now moves_made loops d is same put =
       ends = ap (λ (t : MarkedMoves). ends_of_marks t) k.same ∙ k.ends;
     }
 
+-- and it stays so where the same is carried out
+pub still_readied : (r : Records) (m : MadeLists) (d e : ReadyDeeds) → IsReadied r m d → e.moves ≡ d.moves → deeds_of r e ≡ deeds_of r d → (AreDeedsPrepared r d → AreDeedsPrepared r e) → IsReadied r m e
+still_readied r m d e is same deeds prepared = record {
+  prepared = prepared is.prepared;
+  comes = λ own so. deeds ∙ is.comes own so;
+  moves = ap (λ (t : MarkedMoves). moves_of r t.moves) same ∙ is.moves;
+  ends = ap (λ (t : MarkedMoves). ends_of_marks t) same ∙ is.ends;
+}
+
 pub now_moves : (r : Records) (m now : MadeLists) → IsMade r m → now ≡ closed m → AreMoves r (moves r now.list)
 now_moves r m now is same = subst (λ (t : MadeLists). AreMoves r (moves r t.list)) (sym same) (body_moves r m is)
 

@@ -98,7 +98,8 @@ fn ready_deeds(
     let moves = MarkedMoves::new(alloc, list, ends.as_slice(), input, output)?;
     let loops = Vec::new(alloc);
     let deeds = ReadyDeeds::new(moves, bounds, loops, flows);
-    Ok(deeds)
+    let steady = deeds.with_steady_bounds(alloc, output)?;
+    Ok(steady)
 }
 
 /// Moves in order, and no test among them, ready to be carried out.

@@ -30,3 +30,4 @@ pub mod SpendingLemmas
 pub mod WithinLemmas
 pub use Rattle.cob_layout.proofs.EntryNoRule
 pub use Rattle.cob_layout.proofs.EntryOneList
+pub mod SpareLemmas

@@ -22,3 +22,4 @@ pub mod Promised
 pub mod Marked
 pub mod Reads
 pub mod Entries
+pub mod Spared

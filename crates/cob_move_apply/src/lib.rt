@@ -17,7 +17,8 @@
 //!   another, and [`MarkedMoves::apply_all`] all of them (`applied`), by counts that are kept before and behind (`kept_input`, `kept_output`); both say how
 //!   many they read (`reads`, by `ReadsOfMoves` of specs/Reads.antt).
 //! - [`PlacedEntry::new`] keeps an entry that is read between moves, and [`PlacedEntry::place`] finds where it stands as the storages then are (`located`),
-//!   or the first thing missing.
+//!   or the first thing missing. Where [`MarkedMoves::spare`] says so, the moves from one mark to another leave its bytes as they are (`SpareEntry` of
+//!   specs/Spared.antt).
 //!
 //! The moves are carried out by steps that stand for them (`StandFor` of specs/Steps.antt), each chosen when they are made ready. Single moves that are
 //! plain copies, each beginning on both sides where the one before ends, are one copy (`AreCopied` of specs/Written.antt); a single move between two
@@ -47,8 +48,8 @@
 //! The clauses `applied` and `reads` of `Moves::apply` (the latter bounds how many counts of the output record are read, by `HaveMet`), those of
 //! `Moves::with_reading`, `Moves::statements` and `Moves::reading`; the clauses of `Moves::apply_kept`, `Scratch::input_length`, `Scratch::output_length`,
 //! `Scratch::forget_output` and `Scratch::forget_input`: the same by counts that are kept from the length of the input on to that of the output (`keeps`, by
-//! `AreKeptOf`); the clauses of `MarkedMoves::new`, `with_reading`, `statements`, `reading`, `single_moves`, `steps`, `marks`, `apply_all` and
-//! `apply_between`, and of `PlacedEntry::new`, `side`, `entry` and `place`; which stop the fault of a place is (`stop_of`); the law `one_ending`.
+//! `AreKeptOf`); the clauses of `MarkedMoves::new`, `with_reading`, `statements`, `reading`, `single_moves`, `steps`, `marks`, `apply_all`,
+//! `apply_between` and `spare`, and of `PlacedEntry::new`, `side`, `entry` and `place`; which stop the fault of a place is (`stop_of`); the law `one_ending`.
 #![tactic(auto)]
 
 mod application;
@@ -76,6 +77,7 @@ mod rule;
 mod running;
 mod scratch;
 mod senders;
+mod spared;
 mod step;
 mod stop;
 mod survey;

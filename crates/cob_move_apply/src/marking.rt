@@ -11,6 +11,7 @@ use crate::step::{Plan, Step};
 use cob_layout::Layout;
 use cob_move_data::StatementMoves;
 use std::alloc::{AllocError, Global};
+use std::mem::swap;
 
 /// Where statements are parted, and the steps for their moves.
 #[derive(Clone, Copy)]
@@ -55,6 +56,24 @@ fn push_some(
     Ok(())
 }
 
+/// Puts these steps behind those so far, and leaves none of them. Where there are none so far they stay where they are in memory, so that the steps of a
+/// paragraph without tests, which one mark ends, stand there once.
+///
+/// # Errors
+///
+/// Where no memory is left.
+fn take_steps(steps: &mut Vec<Step>, added: &mut Vec<Step>) -> Result<(), AllocError>
+    ensures taken { OnOk result (steps.new.items ≡ steps.old.items ++ added.old.items) }
+    ensures none { OnOk result (added.new.items ≡ []) }
+{
+    if steps.is_empty() {
+        swap(steps, added);
+        return Ok(());
+    }
+    steps.append(added)?;
+    Ok(())
+}
+
 /// Puts the steps for the moves of the statements behind the last mark, up to a number, behind those so far, and a mark behind them. The plan has none of
 /// the steps itself, so that no copy is joined over a mark.
 ///
@@ -86,7 +105,7 @@ fn push_marked(
         ≡ map statement_of marks.old.items ++ end ∷ []) }
 {
     push_some(given, begin, end, both, plan)?;
-    steps.append(&mut plan.steps)?;
+    take_steps(steps, &mut plan.steps)?;
     let mark = Mark {
         statement: end,
         step: steps.len(),

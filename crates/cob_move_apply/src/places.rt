@@ -121,13 +121,14 @@ fn place_by_sums(
     stored: &Stored<'_>,
     entry: &Ref,
     receiving: bool,
-    summed: Option<SummedPlace>,
+    summed: &Option<SummedPlace>,
     counts: &Counts,
 ) -> Option<Place>
     requires refers { Refers entry.now.node entry.now.subscripts.items stored.now.layout.now }
     requires room { IsRoomFor stored.now.layout.now counts.now }
     requires kept { KeepsOf stored.now.layout.now stored.now.bytes.now counts.now }
-    requires summed { IfSome summed (IsSummedPlace stored.now.layout.now entry.now receiving) }
+    requires summed { IfSome summed.now
+        (IsSummedPlace stored.now.layout.now entry.now receiving) }
     ensures { IfSome result (λ p. IsFound stored.now.layout.now entry.now receiving
         stored.now.bytes.now (Ok p) × (p.offset + p.length ≤ greatest_length stored.now.layout.now)) }
 {
@@ -157,7 +158,7 @@ fn noted_place(
     let counts = &survey.counts;
     match placed.basis {
         Basis::Noted(noted) => place_if_kept(noted, counts),
-        Basis::Counted(summed) => place_by_sums(stored, placed.entry, receiving, *summed, counts),
+        Basis::Counted(summed) => place_by_sums(stored, placed.entry, receiving, summed, counts),
     }
 }
 

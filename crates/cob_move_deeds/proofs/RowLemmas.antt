@@ -23,7 +23,7 @@ use Rattle.cob_move_deeds.specs.declared.flow.Flow.{Flow}
 use Rattle.cob_move_deeds.specs.declared.flow.Flow.TheVariants as flow
 use Rattle.cob_move_deeds.specs.Carrying.{FlowSpends, FlowSpendsAtStop, LeavesFlows, MeetFlows, MetFlows, StopsFlows, carried_from}
 use Rattle.cob_move_deeds.specs.Flows.{FlowSupport}
-use Rattle.cob_move_deeds.specs.Known.{Gives}
+use Rattle.cob_move_deeds.specs.Known.{Gives, StillGives}
 use Rattle.cob_move_deeds.specs.Met.{DeedsHaveMet, ReadsOfDeeds}
 use Rattle.cob_move_deeds.specs.Rows.{IsRow, row_begins, row_moves, row_goes_on, row_ends}
 use Rattle.cob_move_deeds.specs.Tests.{BoundGives, Past, past_bound, there, up_to}
@@ -35,26 +35,6 @@ use Rattle.cob_move_deeds.proofs.ReadLemmas.{meet_first, meet_moves, meet_on, me
 use Rattle.cob_move_deeds.proofs.TurnLemmas.{past_is, past_not}
 
 -- ---- what is known of the bound
-
--- a bound of the input record gives the same, whatever the output record holds
-pub gives_still : (r : Records) (t : Past) (input before now : List ℕ) (v : ℕ) → t.side ≡ In → BoundGives r t input before v → BoundGives r t input now v
-gives_still r t input before now v in_ (p, i, located, kind, says) =
-    let same : storage_of t.side input before ≡ storage_of t.side input now = ap (λ (d : Side). storage_of d input before) in_ ∙ sym (ap (λ (d : Side). storage_of d input now) in_) in (
-      p,
-      i,
-      subst (λ (b : List ℕ). Located t.side (record_of r t.side) false t.bound b (Ok p)) same located,
-      kind,
-      subst (λ (b : List ℕ). SaysOfTable i (up_to t.most) (there p) b (Ok v)) same says,
-    )
-
--- what it gives is the same in another storage of the output record
-pub still : (r : Records) (on : FlowSupport) (bound last : ℕ) (input before now : List ℕ) → Gives r on bound last input before → Gives r on bound last input now
-still r on bound last input before now g = record {
-  given = g.given;
-  at = g.at;
-  of_input = g.of_input;
-  gives = gives_still r (past_bound r g.given 0) input before now last g.of_input g.gives;
-}
 
 -- a bound with this number gives what is known of it
 pub known_gives : (r : Records) (on : FlowSupport) (bound last : ℕ) (input before : List ℕ) (b : Bound) → Gives r on bound last input before → slice_get on.bounds bound ≡ Some b → BoundGives r (past_bound r b 0) input before last
@@ -96,50 +76,53 @@ met_parted r on first at to input before m prepared le is within x =
 below : (at to n : ℕ) → to ≡ at + 1 → to < n → at < n
 below at to n is lt = omega (arith, is, lt)
 
+nearer : (at to end : ℕ) → to ≡ at + 1 → to ≤ end → at ≤ end
+nearer at to end is le = omega (arith, is, le)
+
 -- ---- what a row makes
 
-pub row_leaves : (r : Records) (on : FlowSupport) (bound last first : ℕ) (fs : List Flow) (to : ℕ) (left : List Flow) (input before after : List ℕ) → AreMarkedPrepared r on.moves → Gives r on bound last input before → IsRow bound last first fs to left
-    → to < length on.moves.marks.items → Applied r (moves_between_marks r on.moves first to) input before (done after) → LeavesFlows r on fs left input before after
-row_leaves r on bound last first fs to left input before after prepared g (row_begins _ _ is same) within x =
+pub row_leaves : (r : Records) (on : FlowSupport) (bound last first end : ℕ) (fs : List Flow) (to : ℕ) (left : List Flow) (input before after : List ℕ) → AreMarkedPrepared r on.moves → StillGives r on bound last first end input before → IsRow bound last first fs to left
+    → to ≤ end → to < length on.moves.marks.items → Applied r (moves_between_marks r on.moves first to) input before (done after) → LeavesFlows r on fs left input before after
+row_leaves r on bound last first end fs to left input before after prepared g (row_begins _ _ is same) near within x =
     let none : done after ≡ done before = subst (λ (ms : List Move). Applied r ms input before (done after)) (none_here r on first to is) x in
     subst (λ (s : List ℕ). LeavesFlows r on fs left input before s) (sym (ap (λ (e : Ending). e.storage) none))
     (subst (λ (gs : List Flow). LeavesFlows r on fs gs input before before) (sym same) (leaves_first r on fs input before))
-row_leaves r on bound last first fs to left input before after prepared g (row_moves at _ _ row is) within x =
+row_leaves r on bound last first end fs to left input before after prepared g (row_moves at _ _ row is) near within x =
     let le : first ≤ at = row_rises bound last first fs at (flow.Moves at ∷ left) row in
     elim (moves_apart r (moves_between_marks r on.moves first at) (moves_between_marks r on.moves at (at + 1)) input before (done after) (applied_apart r on first at to input before (done after) prepared le is within x)) [
       | inl (mid, y, z) ↦ leaves_on r on fs (flow.Moves at ∷ left) left input before mid after
-          (row_leaves r on bound last first fs at (flow.Moves at ∷ left) input before mid prepared g row (below at to (length on.moves.marks.items) is within) y) (moves_leave r on at left input mid after z)
+          (row_leaves r on bound last first end fs at (flow.Moves at ∷ left) input before mid prepared g row (nearer at to end is near) (below at to (length on.moves.marks.items) is within) y) (moves_leave r on at left input mid after z)
       | inr (stop, mid, y, e) ↦ absurd (stop_of after mid stop e)
     ]
-row_leaves r on bound last first fs to left input before after prepared g (row_goes_on _ number skip _ row le) within x =
-    let now : Gives r on bound last input after = still r on bound last input before after g in
+row_leaves r on bound last first end fs to left input before after prepared g (row_goes_on _ number skip _ row le) near within x =
+    let now : Gives r on bound last input after = g to after (row_rises bound last first fs to (flow.Until bound number skip ∷ left) row) near within x in
     leaves_on r on fs (flow.Until bound number skip ∷ left) left input before after after
-    (row_leaves r on bound last first fs to (flow.Until bound number skip ∷ left) input before after prepared g row within x)
+    (row_leaves r on bound last first end fs to (flow.Until bound number skip ∷ left) input before after prepared g row near within x)
     (not_past_leaves r on bound number skip left now.given input after last now.at now.gives (past_not last number le))
-row_leaves r on bound last first fs to left input before after prepared g (row_ends _ number skip more _ row lt same) within x =
-    let now : Gives r on bound last input after = still r on bound last input before after g in
+row_leaves r on bound last first end fs to left input before after prepared g (row_ends _ number skip more _ row lt same) near within x =
+    let now : Gives r on bound last input after = g to after (row_rises bound last first fs to (flow.Until bound number skip ∷ more) row) near within x in
     leaves_on r on fs (flow.Until bound number skip ∷ more) left input before after after
-    (row_leaves r on bound last first fs to (flow.Until bound number skip ∷ more) input before after prepared g row within x)
+    (row_leaves r on bound last first end fs to (flow.Until bound number skip ∷ more) input before after prepared g row near within x)
     (past_leaves r on bound number skip more left now.given input after last now.at now.gives (past_is last number lt) same)
 
-pub row_stops : (r : Records) (on : FlowSupport) (bound last first : ℕ) (fs : List Flow) (to : ℕ) (left : List Flow) (input before after : List ℕ) (stop : Stop) → AreMarkedPrepared r on.moves → Gives r on bound last input before → IsRow bound last first fs to left
-    → to < length on.moves.marks.items → Applied r (moves_between_marks r on.moves first to) input before (stopped stop after) → StopsFlows r on fs input before stop after
-row_stops r on bound last first fs to left input before after stop prepared g (row_begins _ _ is same) within x =
+pub row_stops : (r : Records) (on : FlowSupport) (bound last first end : ℕ) (fs : List Flow) (to : ℕ) (left : List Flow) (input before after : List ℕ) (stop : Stop) → AreMarkedPrepared r on.moves → StillGives r on bound last first end input before → IsRow bound last first fs to left
+    → to ≤ end → to < length on.moves.marks.items → Applied r (moves_between_marks r on.moves first to) input before (stopped stop after) → StopsFlows r on fs input before stop after
+row_stops r on bound last first end fs to left input before after stop prepared g (row_begins _ _ is same) near within x =
     let none : stopped stop after ≡ done before = subst (λ (ms : List Move). Applied r ms input before (stopped stop after)) (none_here r on first to is) x in
     absurd (stop_of before after stop (sym none))
-row_stops r on bound last first fs to left input before after stop prepared g (row_moves at _ _ row is) within x =
+row_stops r on bound last first end fs to left input before after stop prepared g (row_moves at _ _ row is) near within x =
     let le : first ≤ at = row_rises bound last first fs at (flow.Moves at ∷ left) row in
     let front : at < length on.moves.marks.items = below at to (length on.moves.marks.items) is within in
     elim (moves_apart r (moves_between_marks r on.moves first at) (moves_between_marks r on.moves at (at + 1)) input before (stopped stop after) (applied_apart r on first at to input before (stopped stop after) prepared le is within x)) [
-      | inl (mid, y, z) ↦ stops_on r on fs (flow.Moves at ∷ left) input before mid after stop (row_leaves r on bound last first fs at (flow.Moves at ∷ left) input before mid prepared g row front y)
+      | inl (mid, y, z) ↦ stops_on r on fs (flow.Moves at ∷ left) input before mid after stop (row_leaves r on bound last first end fs at (flow.Moves at ∷ left) input before mid prepared g row (nearer at to end is near) front y)
           (moves_stop r on at left input mid after stop z)
-      | inr (other, mid, y, e) ↦ row_stops r on bound last first fs at (flow.Moves at ∷ left) input before after stop prepared g row front
+      | inr (other, mid, y, e) ↦ row_stops r on bound last first end fs at (flow.Moves at ∷ left) input before after stop prepared g row (nearer at to end is near) front
           (subst (λ (k : Ending). Applied r (moves_between_marks r on.moves first at) input before k) (sym e) y)
     ]
-row_stops r on bound last first fs to left input before after stop prepared g (row_goes_on _ number skip _ row le) within x =
-    row_stops r on bound last first fs to (flow.Until bound number skip ∷ left) input before after stop prepared g row within x
-row_stops r on bound last first fs to left input before after stop prepared g (row_ends _ number skip more _ row lt same) within x =
-    row_stops r on bound last first fs to (flow.Until bound number skip ∷ more) input before after stop prepared g row within x
+row_stops r on bound last first end fs to left input before after stop prepared g (row_goes_on _ number skip _ row le) near within x =
+    row_stops r on bound last first end fs to (flow.Until bound number skip ∷ left) input before after stop prepared g row near within x
+row_stops r on bound last first end fs to left input before after stop prepared g (row_ends _ number skip more _ row lt same) near within x =
+    row_stops r on bound last first end fs to (flow.Until bound number skip ∷ more) input before after stop prepared g row near within x
 
 -- ---- what met in it
 
@@ -154,16 +137,16 @@ pub met_on : (r : Records) (on : FlowSupport) (fs left : List Flow) (input befor
 met_on r on fs left input before mid own rest n is so one =
     subst (λ (c : ℕ). MetFlows r on fs input before c) (sym is) (λ j within. let (i, fewer, came) = so j within in came rest (one i fewer))
 
-pub row_meets : OneEnding → (r : Records) (on : FlowSupport) (bound last first : ℕ) (fs : List Flow) (to : ℕ) (left : List Flow) (input before after : List ℕ) (m : ℕ) → AreMarkedPrepared r on.moves → Gives r on bound last input before → IsRow bound last first fs to left
-    → to < length on.moves.marks.items → Applied r (moves_between_marks r on.moves first to) input before (done after) → HaveMet r (moves_between_marks r on.moves first to) input before m
+pub row_meets : OneEnding → (r : Records) (on : FlowSupport) (bound last first end : ℕ) (fs : List Flow) (to : ℕ) (left : List Flow) (input before after : List ℕ) (m : ℕ) → AreMarkedPrepared r on.moves → StillGives r on bound last first end input before → IsRow bound last first fs to left
+    → to ≤ end → to < length on.moves.marks.items → Applied r (moves_between_marks r on.moves first to) input before (done after) → HaveMet r (moves_between_marks r on.moves first to) input before m
     → MeetFlows r on fs left input before after m
-row_meets law r on bound last first fs to left input before after m prepared g (row_begins _ _ is same) within x h =
+row_meets law r on bound last first end fs to left input before after m prepared g (row_begins _ _ is same) near within x h =
     let none : done after ≡ done before = subst (λ (ms : List Move). Applied r ms input before (done after)) (none_here r on first to is) x in
     let no : m ≡ 0 = subst (λ (ms : List Move). HaveMet r ms input before m) (none_here r on first to is) h in
     meet_all r on fs left input before after 0 m (sym no)
     (subst (λ (s : List ℕ). MeetFlows r on fs left input before s 0) (sym (ap (λ (e : Ending). e.storage) none))
     (subst (λ (gs : List Flow). MeetFlows r on fs gs input before before 0) (sym same) (meet_first r on fs input before)))
-row_meets law r on bound last first fs to left input before after m prepared g (row_moves at _ _ row is) within x h =
+row_meets law r on bound last first end fs to left input before after m prepared g (row_moves at _ _ row is) near within x h =
     let le : first ≤ at = row_rises bound last first fs at (flow.Moves at ∷ left) row in
     let front : at < length on.moves.marks.items = below at to (length on.moves.marks.items) is within in
     let ms : List Move = moves_between_marks r on.moves first at in
@@ -171,59 +154,59 @@ row_meets law r on bound last first fs to left input before after m prepared g (
     elim (moves_apart r ms ns input before (done after) (applied_apart r on first at to input before (done after) prepared le is within x)) [
       | inl (mid, y, z) ↦ elim (moves_met r ms ns input before m (met_parted r on first at to input before m prepared le is within h)) [
         | inl own ↦ meet_all r on fs left input before after (m + 0) m (none_more m) (meet_on r on fs (flow.Moves at ∷ left) left input before mid after m 0
-            (row_meets law r on bound last first fs at (flow.Moves at ∷ left) input before mid m prepared g row front y own) (meet_moves r on at left input mid after 0 z (none_met r ns input mid)))
+            (row_meets law r on bound last first end fs at (flow.Moves at ∷ left) input before mid m prepared g row (nearer at to end is near) front y own) (meet_moves r on at left input mid after 0 z (none_met r ns input mid)))
         | inr (other, own, rest, sum, go, u, w) ↦
             let same : other ≡ mid = ap (λ (e : Ending). e.storage) (law r ms input before (done other) (done mid) go y) in
             meet_all r on fs left input before after (own + rest) m (sym sum) (meet_on r on fs (flow.Moves at ∷ left) left input before mid after own rest
-            (row_meets law r on bound last first fs at (flow.Moves at ∷ left) input before mid own prepared g row front y u)
+            (row_meets law r on bound last first end fs at (flow.Moves at ∷ left) input before mid own prepared g row (nearer at to end is near) front y u)
             (meet_moves r on at left input mid after rest z (subst (λ (s : List ℕ). HaveMet r ns input s rest) same w)))
       ]
       | inr (stop, mid, y, e) ↦ absurd (stop_of after mid stop e)
     ]
-row_meets law r on bound last first fs to left input before after m prepared g (row_goes_on _ number skip _ row le) within x h =
-    let now : Gives r on bound last input after = still r on bound last input before after g in
+row_meets law r on bound last first end fs to left input before after m prepared g (row_goes_on _ number skip _ row le) near within x h =
+    let now : Gives r on bound last input after = g to after (row_rises bound last first fs to (flow.Until bound number skip ∷ left) row) near within x in
     meet_all r on fs left input before after (m + 0) m (none_more m) (meet_on r on fs (flow.Until bound number skip ∷ left) left input before after after m 0
-    (row_meets law r on bound last first fs to (flow.Until bound number skip ∷ left) input before after m prepared g row within x h)
+    (row_meets law r on bound last first end fs to (flow.Until bound number skip ∷ left) input before after m prepared g row near within x h)
     (meet_within r on bound number skip left now.given input after last now.at now.gives (past_not last number le)))
-row_meets law r on bound last first fs to left input before after m prepared g (row_ends _ number skip more _ row lt same) within x h =
-    let now : Gives r on bound last input after = still r on bound last input before after g in
+row_meets law r on bound last first end fs to left input before after m prepared g (row_ends _ number skip more _ row lt same) near within x h =
+    let now : Gives r on bound last input after = g to after (row_rises bound last first fs to (flow.Until bound number skip ∷ more) row) near within x in
     meet_all r on fs left input before after (m + 0) m (none_more m) (meet_on r on fs (flow.Until bound number skip ∷ more) left input before after after m 0
-    (row_meets law r on bound last first fs to (flow.Until bound number skip ∷ more) input before after m prepared g row within x h)
+    (row_meets law r on bound last first end fs to (flow.Until bound number skip ∷ more) input before after m prepared g row near within x h)
     (meet_past r on bound number skip more left now.given input after last now.at now.gives (past_is last number lt) same))
 
-pub row_met : OneEnding → (r : Records) (on : FlowSupport) (bound last first : ℕ) (fs : List Flow) (to : ℕ) (left : List Flow) (input before : List ℕ) (m : ℕ) → AreMarkedPrepared r on.moves → Gives r on bound last input before → IsRow bound last first fs to left
-    → to < length on.moves.marks.items → HaveMet r (moves_between_marks r on.moves first to) input before m → MetFlows r on fs input before m
-row_met law r on bound last first fs to left input before m prepared g (row_begins _ _ is same) within h =
+pub row_met : OneEnding → (r : Records) (on : FlowSupport) (bound last first end : ℕ) (fs : List Flow) (to : ℕ) (left : List Flow) (input before : List ℕ) (m : ℕ) → AreMarkedPrepared r on.moves → StillGives r on bound last first end input before → IsRow bound last first fs to left
+    → to ≤ end → to < length on.moves.marks.items → HaveMet r (moves_between_marks r on.moves first to) input before m → MetFlows r on fs input before m
+row_met law r on bound last first end fs to left input before m prepared g (row_begins _ _ is same) near within h =
     let no : m ≡ 0 = subst (λ (ms : List Move). HaveMet r ms input before m) (none_here r on first to is) h in
     subst (λ (k : ℕ). MetFlows r on fs input before k) (sym no) (none_met_flows r on fs input before)
-row_met law r on bound last first fs to left input before m prepared g (row_moves at _ _ row is) within h =
+row_met law r on bound last first end fs to left input before m prepared g (row_moves at _ _ row is) near within h =
     let le : first ≤ at = row_rises bound last first fs at (flow.Moves at ∷ left) row in
     let front : at < length on.moves.marks.items = below at to (length on.moves.marks.items) is within in
     let ms : List Move = moves_between_marks r on.moves first at in
     let ns : List Move = moves_between_marks r on.moves at (at + 1) in
     elim (moves_met r ms ns input before m (met_parted r on first at to input before m prepared le is within h)) [
-      | inl own ↦ row_met law r on bound last first fs at (flow.Moves at ∷ left) input before m prepared g row front own
+      | inl own ↦ row_met law r on bound last first end fs at (flow.Moves at ∷ left) input before m prepared g row (nearer at to end is near) front own
       | inr (mid, own, rest, sum, go, u, w) ↦ met_on r on fs (flow.Moves at ∷ left) input before mid own rest m sum
-          (row_meets law r on bound last first fs at (flow.Moves at ∷ left) input before mid own prepared g row front go u) (met_moves r on at left input mid rest w)
+          (row_meets law r on bound last first end fs at (flow.Moves at ∷ left) input before mid own prepared g row (nearer at to end is near) front go u) (met_moves r on at left input mid rest w)
     ]
-row_met law r on bound last first fs to left input before m prepared g (row_goes_on _ number skip _ row le) within h =
-    row_met law r on bound last first fs to (flow.Until bound number skip ∷ left) input before m prepared g row within h
-row_met law r on bound last first fs to left input before m prepared g (row_ends _ number skip more _ row lt same) within h =
-    row_met law r on bound last first fs to (flow.Until bound number skip ∷ more) input before m prepared g row within h
+row_met law r on bound last first end fs to left input before m prepared g (row_goes_on _ number skip _ row le) near within h =
+    row_met law r on bound last first end fs to (flow.Until bound number skip ∷ left) input before m prepared g row near within h
+row_met law r on bound last first end fs to left input before m prepared g (row_ends _ number skip more _ row lt same) near within h =
+    row_met law r on bound last first end fs to (flow.Until bound number skip ∷ more) input before m prepared g row near within h
 
 -- ---- what is read at it
 
-pub row_spends : OneEnding → (r : Records) (on : FlowSupport) (bound last first : ℕ) (fs : List Flow) (to : ℕ) (left : List Flow) (input before after : List ℕ) (old new : Scratching) → AreMarkedPrepared r on.moves → Gives r on bound last input before
-    → IsRow bound last first fs to left → to < length on.moves.marks.items → Applied r (moves_between_marks r on.moves first to) input before (done after)
+pub row_spends : OneEnding → (r : Records) (on : FlowSupport) (bound last first end : ℕ) (fs : List Flow) (to : ℕ) (left : List Flow) (input before after : List ℕ) (old new : Scratching) → AreMarkedPrepared r on.moves → StillGives r on bound last first end input before
+    → IsRow bound last first fs to left → to ≤ end → to < length on.moves.marks.items → Applied r (moves_between_marks r on.moves first to) input before (done after)
     → ReadsOfMoves {A = Unit {0}} r (moves_between_marks r on.moves first to) input before (Ok tt) old new → FlowSpends r on fs left input before after old new
-row_spends law r on bound last first fs to left input before after old new prepared g row within x (met, own, spent) =
-    (met, row_meets law r on bound last first fs to left input before after met prepared g row within x own, spent)
+row_spends law r on bound last first end fs to left input before after old new prepared g row near within x (met, own, spent) =
+    (met, row_meets law r on bound last first end fs to left input before after met prepared g row near within x own, spent)
 
-pub row_stop_reads : OneEnding → (r : Records) (on : FlowSupport) (bound last first : ℕ) (fs : List Flow) (to : ℕ) (left : List Flow) (input before : List ℕ) (stop : Stop) (old new : Scratching) → AreMarkedPrepared r on.moves → Gives r on bound last input before
-    → IsRow bound last first fs to left → to < length on.moves.marks.items → ReadsOfMoves {A = Unit {0}} r (moves_between_marks r on.moves first to) input before (Err stop) old new
+pub row_stop_reads : OneEnding → (r : Records) (on : FlowSupport) (bound last first end : ℕ) (fs : List Flow) (to : ℕ) (left : List Flow) (input before : List ℕ) (stop : Stop) (old new : Scratching) → AreMarkedPrepared r on.moves → StillGives r on bound last first end input before
+    → IsRow bound last first fs to left → to ≤ end → to < length on.moves.marks.items → ReadsOfMoves {A = Unit {0}} r (moves_between_marks r on.moves first to) input before (Err stop) old new
     → FlowSpendsAtStop r on fs input before old new
-row_stop_reads law r on bound last first fs to left input before stop old new prepared g row within (met, own, spent) =
-    (met, row_met law r on bound last first fs to left input before met prepared g row within own, spent)
+row_stop_reads law r on bound last first end fs to left input before stop old new prepared g row near within (met, own, spent) =
+    (met, row_met law r on bound last first end fs to left input before met prepared g row near within own, spent)
 
 -- what was read where some flows are left, and then up to a stop
 pub stop_on : (r : Records) (on : FlowSupport) (all left : List Flow) (input before now : List ℕ) (old mid new : Scratching) → FlowSpends r on all left input before now old mid → FlowSpendsAtStop r on left input now mid new

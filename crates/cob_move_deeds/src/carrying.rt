@@ -1,12 +1,11 @@
 //! Flows carried out, one behind another.
 
-ghost use Rattle.std.specs.Prelude.{◌≡◌, ◌<◌, ◌≤◌, ◌∷◌, length, IfErr, IfOk, IsTrue, OnErr, Some};
+ghost use Rattle.std.specs.Prelude.{◌≡◌, ◌<◌, ◌≤◌, ◌∷◌, length, IfErr, IfOk, OnErr, Some};
 ghost use Rattle.std.specs.List.{AllByRecursion, slice_get};
 ghost use Rattle.cob_layout.specs.Storage.{greatest_length, IsStorage};
 ghost use Rattle.cob_move_apply.specs.Applied.{Applied, ending};
 ghost use Rattle.cob_move_apply.specs.Marked.{moves_between_marks};
 ghost use Rattle.cob_move_apply.specs.Reads.{ReadsFor, ReadsOfMoves};
-ghost use Rattle.cob_move_data.specs.declared.operands.Side.TheVariants.{In};
 ghost use Rattle.cob_move_loops.specs.Turns.{turns_between};
 ghost use Rattle.cob_move_deeds.specs.Carrying.{FlowSpends, FlowSpendsAtStop, HasKept, LeavesFlows, StopsFlows, carried_from, records_of_sides};
 ghost use Rattle.cob_move_deeds.specs.Deeds.{Carried};
@@ -19,13 +18,12 @@ ghost use Rattle.cob_move_deeds.specs.Tests.{BoundGives, BoundSays, Judged, past
 
 use crate::bound::number_of;
 use crate::flow::{CountedLoop, Flow};
-use crate::known::KnownBounds;
+use crate::known::{KnownBound, KnownBounds};
 use crate::ready::ReadyDeeds;
 use crate::row::{behind, first_moves};
 use crate::sides::Sides;
 use cob_layout::one_outcome_of_counts;
 use cob_move_apply::{Scratch, Stop, one_ending};
-use cob_move_data::Side;
 
 /// How many turns a loop has up to a number.
 fn turns_up_to(one: &CountedLoop, number: u32) -> usize
@@ -105,16 +103,6 @@ fn read_bound(
     number_of(bound, sides, output, scratch)
 }
 
-/// Whether a bound stands in the input record.
-fn is_of_input(deeds: &ReadyDeeds, number: usize) -> bool
-    requires within { number < length deeds.now.bounds.items }
-    ensures { IsTrue result → (b : Bound) → slice_get deeds.now.bounds.items number ≡ Some b
-        → b.item.side ≡ In }
-{
-    let bound = &deeds.bounds[number];
-    matches!(bound.item.side(), Side::In)
-}
-
 /// What the bound with this number gives: what is known of it, and else what is read.
 ///
 /// # Errors
@@ -133,7 +121,7 @@ fn bound_now(
     requires kept { HasKept (records_of_sides sides.now) sides.now.input.now output.now
         scratch.old }
     requires known { AreKnown (records_of_sides sides.now) (flow_support deeds.now)
-        sides.now.input.now known.old }
+        sides.now.input.now output.now known.old }
     ensures says { (b : Bound) → slice_get deeds.now.bounds.items number ≡ Some b
         → BoundSays (records_of_sides sides.now) (past_bound (records_of_sides sides.now) b 0)
         sides.now.input.now output.now result }
@@ -141,15 +129,17 @@ fn bound_now(
         scratch.new }
     ensures reads { ReadsFor sides.now.output_layout.now 0 result scratch.old scratch.new }
     ensures known { AreKnown (records_of_sides sides.now) (flow_support deeds.now)
-        sides.now.input.now known.new }
+        sides.now.input.now output.now known.new }
 {
     if let Some(gave) = known.number_of(number) {
         return Ok(gave);
     }
     let gave = read_bound(deeds, number, sides, output, scratch)?;
-    if is_of_input(deeds, number) {
-        known.keep(number, gave);
-    }
+    known.keep(KnownBound {
+        bound: number,
+        gave,
+        steady: deeds.stretch_of(number),
+    });
     Ok(gave)
 }
 
@@ -186,8 +176,8 @@ fn make_turns(
     make_moves(deeds, one.first, one.first + turns, sides, output, scratch)
 }
 
-/// Carries out the turns in a row that stand in front, behind a test whose bound gave this number, and answers the flows that are left then. Where the bound
-/// stands in the output record there are none: each turn may change it.
+/// Carries out the turns in a row that stand in front, behind a test whose bound gave this number, and answers the flows that are left then. Where moves may
+/// change what the bound gives there are none.
 ///
 /// # Errors
 ///
@@ -200,6 +190,7 @@ fn make_row<'a>(
     sides: &Sides<'_>,
     output: &mut [u8],
     scratch: &mut Scratch,
+    known: &mut KnownBounds,
 ) -> Result<&'a [Flow], Stop>
     requires prepared { AreDeedsPrepared (records_of_sides sides.now) deeds.now }
     requires gives { (b : Bound) × (slice_get deeds.now.bounds.items bound ≡ Some b)
@@ -210,6 +201,8 @@ fn make_row<'a>(
     requires output { length output.old ≡ greatest_length sides.now.output_layout.now }
     requires kept { HasKept (records_of_sides sides.now) sides.now.input.now output.old
         scratch.old }
+    requires known { AreKnown (records_of_sides sides.now) (flow_support deeds.now)
+        sides.now.input.now output.old known.old }
     ensures leaves { IfOk result (λ left. LeavesFlows (records_of_sides sides.now)
         (flow_support deeds.now) flows.now left.now sides.now.input.now output.old output.new) }
     ensures stops { IfErr result (λ stop. StopsFlows (records_of_sides sides.now)
@@ -223,17 +216,25 @@ fn make_row<'a>(
         scratch.old scratch.new) }
     ensures spent { OnErr result (FlowSpendsAtStop (records_of_sides sides.now)
         (flow_support deeds.now) flows.now sides.now.input.now output.old scratch.old scratch.new) }
+    ensures known { IfOk result (λ left. AreKnown (records_of_sides sides.now)
+        (flow_support deeds.now) sides.now.input.now output.new known.new) }
 {
-    // For `spends`: moves end in one way.
+    // What a bound gives rests on its bytes alone, where no count decides its place; and moves end in one way.
+    one_outcome_of_counts();
     one_ending();
-    if !is_of_input(deeds, bound) {
-        return Ok(flows);
-    }
     let Some(first) = first_moves(flows) else {
         return Ok(flows);
     };
+    let steady = deeds.stretch_of(bound);
+    if !steady.holds(first, first) {
+        return Ok(flows);
+    }
     let row = deeds.row_from(first, bound, last, flows);
+    if !steady.holds(first, row.to) {
+        return Ok(flows);
+    }
     make_moves(deeds, first, row.to, sides, output, scratch)?;
+    known.leave(first, row.to);
     Ok(row.left)
 }
 
@@ -258,7 +259,7 @@ fn next<'a>(
     requires kept { HasKept (records_of_sides sides.now) sides.now.input.now output.old
         scratch.old }
     requires known { AreKnown (records_of_sides sides.now) (flow_support deeds.now)
-        sides.now.input.now known.old }
+        sides.now.input.now output.old known.old }
     ensures leaves { IfOk result (λ left. LeavesFlows (records_of_sides sides.now)
         (flow_support deeds.now) (flow.now ∷ more.now) left.now sides.now.input.now output.old
         output.new) }
@@ -275,8 +276,8 @@ fn next<'a>(
     ensures spent { OnErr result (FlowSpendsAtStop (records_of_sides sides.now)
         (flow_support deeds.now) (flow.now ∷ more.now) sides.now.input.now output.old scratch.old
         scratch.new) }
-    ensures known { AreKnown (records_of_sides sides.now) (flow_support deeds.now)
-        sides.now.input.now known.new }
+    ensures known { IfOk result (λ left. AreKnown (records_of_sides sides.now)
+        (flow_support deeds.now) sides.now.input.now output.new known.new) }
 {
     // For `spends`: what is done ends in one way.
     one_outcome_of_counts();
@@ -284,10 +285,12 @@ fn next<'a>(
     match *flow {
         Flow::Moves(number) => {
             make_moves(deeds, number, number + 1, sides, output, scratch)?;
+            known.leave(number, number + 1);
             Ok(more)
         }
         Flow::Turns(number) => {
             make_turns(deeds, &deeds.loops[number], sides, output, scratch)?;
+            *known = KnownBounds::new();
             Ok(more)
         }
         Flow::Until {
@@ -299,7 +302,7 @@ fn next<'a>(
             if last < number {
                 return Ok(behind(more, skip));
             }
-            let left = make_row(deeds, bound, last, more, sides, output, scratch)?;
+            let left = make_row(deeds, bound, last, more, sides, output, scratch, known)?;
             Ok(left)
         }
     }

@@ -13,6 +13,8 @@
 //!   that is noted beforehand.
 //! - [`ReadyDeeds::new`] puts them together (`deeds`), and they may be carried out where the moves were made ready, the bounds are whole numbers, and the
 //!   flows name what is there (`prepared`); [`ReadyDeeds::with_reading`] are the same with their binary senders read otherwise.
+//!   [`ReadyDeeds::with_steady_bounds`] are the same too (`deeds`, `moves`), and where the moves of a loop leave its bound alone in the output record, it is
+//!   read once (`IsSteady` of specs/Steady.antt), as one of the input record is.
 //! - For who tells what is done: [`ReadyDeeds::flows`], with their bounds and loops, and the statements between marks; [`ReadyDeeds::is_straight`] says whether
 //!   there is no test, and [`ReadyDeeds::bound_number`] what a bound gives in two storages.
 //! - Laws: what is done without a test is what its moves come to ([`straight_is_applied`]), and ends in one way ([`one_carried`]); a loop to the number
@@ -22,8 +24,8 @@
 //!
 //! # Where it is proved
 //!
-//! The clause `carried` of `ReadyDeeds::apply_kept`, the clauses of `ReadyDeeds::with_reading`; the laws `straight_is_applied`, `one_carried`,
-//! `loop_is_its_turns`, `literal_loop_is_its_moves`, `bound_of_input_is_kept`.
+//! The clause `carried` of `ReadyDeeds::apply_kept`, the clauses of `ReadyDeeds::with_reading` and `ReadyDeeds::with_steady_bounds`; the laws
+//! `straight_is_applied`, `one_carried`, `loop_is_its_turns`, `literal_loop_is_its_moves`, `bound_of_input_is_kept`.
 #![tactic(auto)]
 
 mod at_once;
@@ -35,6 +37,7 @@ mod laws;
 mod ready;
 mod row;
 mod sides;
+mod steady;
 mod told;
 
 pub use flow::{Bound, CountedLoop, Flow};

@@ -21,6 +21,7 @@ use crate::at_once::carry_all;
 use crate::carrying::carry_out;
 use crate::flow::{Bound, CountedLoop, Flow};
 use crate::sides::Sides;
+use crate::steady::Stretch;
 use cob_layout::{Layout, one_outcome_of_counts};
 use cob_move_apply::{MarkedMoves, Reading, Scratch, Stop, one_ending};
 use cob_move_data::StatementMoves;
@@ -47,6 +48,8 @@ pub struct ReadyDeeds {
     pub(crate) bounds: Vec<Bound>,
     pub(crate) loops: Vec<CountedLoop>,
     pub(crate) flows: Vec<Flow>,
+    /// Between which marks moves leave each bound alone, by its number, where that was looked at.
+    pub(crate) steady: Option<Vec<Option<Stretch>>>,
     /// Whether the flows carry out all of the moves at once, which is found out before the first record comes.
     pub(crate) at_once: bool,
     pub(crate) ghost told: { at_once ≡ are_all_moves (length moves.marks.items) flows.items },
@@ -77,6 +80,7 @@ impl ReadyDeeds {
             bounds,
             loops,
             flows,
+            steady: None,
             at_once,
         }
     }
@@ -93,6 +97,7 @@ impl ReadyDeeds {
             bounds: self.bounds,
             loops: self.loops,
             flows: self.flows,
+            steady: self.steady,
             at_once: self.at_once,
         }
     }

@@ -1,6 +1,6 @@
 //! Turns in a row.
 
-ghost use Rattle.std.specs.Prelude.{◌≡◌, ◌<◌, ◌≤◌, ◌∷◌, ℕ, List, [], drop, length, IfSome};
+ghost use Rattle.std.specs.Prelude.{◌≡◌, ◌<◌, ◌≤◌, ◌∷◌, ℕ, List, [], drop, length, take, IfSome};
 ghost use Rattle.std.specs.List.{AllByRecursion};
 ghost use Rattle.cob_move_deeds.specs.Flows.{IsFlow};
 ghost use Rattle.cob_move_deeds.specs.Prepared.{flow_support};
@@ -27,6 +27,14 @@ pub(crate) fn behind(flows: &[Flow], count: usize) -> &[Flow]
     &flows[count..]
 }
 
+/// So many of them that stand in front.
+pub(crate) fn front(flows: &[Flow], count: usize) -> &[Flow]
+    ensures { result.now ≡ take count flows.now }
+{
+    let count = count.min(flows.len());
+    &flows[..count]
+}
+
 /// The first mark of moves that stand in front.
 pub(crate) fn first_moves(flows: &[Flow]) -> Option<usize>
     ensures { IfSome result
@@ -38,21 +46,9 @@ pub(crate) fn first_moves(flows: &[Flow]) -> Option<usize>
     }
 }
 
-/// What is left behind a test whose bound gives this number.
-fn behind_test(more: &[Flow], last: u32, number: u32, skip: usize) -> &[Flow]
-    ensures within { number ≤ last → result.now ≡ more.now }
-    ensures past { last < number → result.now ≡ drop skip more.now }
-    ensures rest { (count : ℕ) × (result.now ≡ drop count more.now) }
-    ensures fewer { length result.now ≤ length more.now }
-{
-    if last < number {
-        return behind(more, skip);
-    }
-    more
-}
-
 impl ReadyDeeds {
-    /// The turns in a row that these flows begin with, behind the first mark, where the bound with this number gives this.
+    /// The turns in a row that these flows begin with, behind the first mark, where the bound with this number gives this: up to the first test that it
+    /// is past.
     pub(crate) fn row_from<'a>(
         &self,
         first: usize,
@@ -86,7 +82,11 @@ impl ReadyDeeds {
                     if own != bound {
                         return Row { to, left };
                     }
-                    left = behind_test(more, last, number, skip);
+                    if last < number {
+                        let left = behind(more, skip);
+                        return Row { to, left };
+                    }
+                    left = more;
                 }
                 Flow::Turns(_) => return Row { to, left },
             }

@@ -56,7 +56,7 @@ loop-flow-init c =
       output = refl;
       reads = subst (λ (gs : List Flow). FlowSpends r on all gs c.args.sides.now.input.now c.args.output.now c.args.output.now c.args.scratch.now c.args.scratch.now) (sym same) (spends_first r on all c.args.sides.now.input.now c.args.output.now c.args.scratch.now);
       kept = c.requires.kept;
-      known = c.new-known.ensures r on c.args.sides.now.input.now;
+      known = c.new-known.ensures r on c.args.sides.now.input.now c.args.output.now;
     }
 
 pub loop-flow-preserved : goal.loop-flow-preserved

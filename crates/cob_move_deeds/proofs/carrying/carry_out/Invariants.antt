@@ -13,7 +13,7 @@ invariant-loop-flow l = record {
   output : length l.output ≡ length l.fn.output;
   reads : FlowSpends (records_of_sides l.sides) (flow_support l.deeds) l.deeds.flows.items l.rest l.sides.input.now l.fn.output l.output l.fn.scratch l.scratch;
   kept : HasKept (records_of_sides l.sides) l.sides.input.now l.output l.scratch;
-  known : AreKnown (records_of_sides l.sides) (flow_support l.deeds) l.sides.input.now l.known;
+  known : AreKnown (records_of_sides l.sides) (flow_support l.deeds) l.sides.input.now l.output l.known;
 }
 
 abbrev pub decreases-loop-flow : goal.decreases-loop-flow

@@ -176,3 +176,13 @@ returns-in_ok-left-in-Until-clause-spends c =
     subst (λ (f : Flow). FlowSpends r on (f ∷ more) left c.args.sides.now.input.now c.args.output.now c.make_row.new.output c.args.scratch.now c.make_row.new.scratch) (sym c.in-Until.is)
     (spends_on r on (flow.Until c.in-Until.bound c.in-Until.number c.in-Until.skip ∷ more) more left c.args.sides.now.input.now c.args.output.now c.args.output.now c.make_row.new.output c.args.scratch.now c.bound_now.new.scratch c.make_row.new.scratch first
     c.in_ok-left-in-Until.ensures.spends)
+
+pub returns-in_ok-make_moves-in-Moves-clause-known : goal.returns-in_ok-make_moves-in-Moves-clause-known
+returns-in_ok-make_moves-in-Moves-clause-known c =
+    let on : FlowSupport = flow_support c.args.deeds.now in
+    c.leave.ensures (records_of_sides c.args.sides.now) on c.args.sides.now.input.now c.args.output.now c.make_moves.new.output c.requires.known c.requires.output
+    (subst (λ (f : Flow). IsFlow on f) c.in-Moves.is c.requires.each.0) c.in_ok-make_moves-in-Moves.ensures.applied
+
+pub returns-in_ok-make_turns-in-Turns-clause-known : goal.returns-in_ok-make_turns-in-Turns-clause-known
+returns-in_ok-make_turns-in-Turns-clause-known c =
+    c.new.ensures (records_of_sides c.args.sides.now) (flow_support c.args.deeds.now) c.args.sides.now.input.now c.make_turns.new.output

@@ -18,7 +18,7 @@ summed_to-found-requires-clause-before c =
     let e = c.counts.inside.next.items in
     let reach = c.counts.inside.reach in
     let known = reach_in u _ c.args.counts.now reach _ _ e c.deref.result.now c.counts.view_is c.requires.room refl c.deref.ensures.value c.counts.invariant.3 in
-    let are = c.own_sums.ensures ∙ sums_within c.needs_are_read.ensures u r c.args.receiving c.args.summed reach e c.deref.result.now c.args.counts.now.kept sound c.requires.refers c.requires.summed (c.if-not-are_within.ensures refl) known in
+    let are = c.own_sums.ensures ∙ sums_within c.needs_are_read.ensures u r c.args.receiving c.args.summed.now reach e c.deref.result.now c.args.counts.now.kept sound c.requires.refers c.requires.summed (c.if-not-are_within.ensures refl) known in
     omega (arith, c.requires.summed.before, ap length are, (summed u e sound).long)
 
 pub summed_to-found-requires-clause-through : goal.summed_to-found-requires-clause-through
@@ -29,7 +29,7 @@ summed_to-found-requires-clause-through c =
     let e = c.counts.inside.next.items in
     let reach = c.counts.inside.reach in
     let known = reach_in u _ c.args.counts.now reach _ _ e c.deref.result.now c.counts.view_is c.requires.room refl c.deref.ensures.value c.counts.invariant.3 in
-    let are = c.own_sums.ensures ∙ sums_within c.needs_are_read.ensures u r c.args.receiving c.args.summed reach e c.deref.result.now c.args.counts.now.kept sound c.requires.refers c.requires.summed (c.if-not-are_within.ensures refl) known in
+    let are = c.own_sums.ensures ∙ sums_within c.needs_are_read.ensures u r c.args.receiving c.args.summed.now reach e c.deref.result.now c.args.counts.now.kept sound c.requires.refers c.requires.summed (c.if-not-are_within.ensures refl) known in
     omega (arith, c.requires.summed.through, ap length are, (summed u e sound).long)
 
 pub summed_to-found-requires-clause-rises : goal.summed_to-found-requires-clause-rises
@@ -40,7 +40,7 @@ summed_to-found-requires-clause-rises c =
     let e = c.counts.inside.next.items in
     let reach = c.counts.inside.reach in
     let known = reach_in u _ c.args.counts.now reach _ _ e c.deref.result.now c.counts.view_is c.requires.room refl c.deref.ensures.value c.counts.invariant.3 in
-    let are = c.own_sums.ensures ∙ sums_within c.needs_are_read.ensures u r c.args.receiving c.args.summed reach e c.deref.result.now c.args.counts.now.kept sound c.requires.refers c.requires.summed (c.if-not-are_within.ensures refl) known in
+    let are = c.own_sums.ensures ∙ sums_within c.needs_are_read.ensures u r c.args.receiving c.args.summed.now reach e c.deref.result.now c.args.counts.now.kept sound c.requires.refers c.requires.summed (c.if-not-are_within.ensures refl) known in
     rw are (c.requires.summed.rises e)
 
 pub summed_to-found-requires-clause-low : goal.summed_to-found-requires-clause-low
@@ -51,7 +51,7 @@ summed_to-found-requires-clause-low c =
     let e = c.counts.inside.next.items in
     let reach = c.counts.inside.reach in
     let known = reach_in u _ c.args.counts.now reach _ _ e c.deref.result.now c.counts.view_is c.requires.room refl c.deref.ensures.value c.counts.invariant.3 in
-    let are = c.own_sums.ensures ∙ sums_within c.needs_are_read.ensures u r c.args.receiving c.args.summed reach e c.deref.result.now c.args.counts.now.kept sound c.requires.refers c.requires.summed (c.if-not-are_within.ensures refl) known in
+    let are = c.own_sums.ensures ∙ sums_within c.needs_are_read.ensures u r c.args.receiving c.args.summed.now reach e c.deref.result.now c.args.counts.now.kept sound c.requires.refers c.requires.summed (c.if-not-are_within.ensures refl) known in
     rw are (summed u e sound).low
 
 pub returns-clause-found : goal.returns-clause-found
@@ -62,10 +62,10 @@ returns-clause-found c =
     let e = c.counts.inside.next.items in
     let reach = c.counts.inside.reach in
     let known = reach_in u _ c.args.counts.now reach _ _ e c.deref.result.now c.counts.view_is c.requires.room refl c.deref.ensures.value c.counts.invariant.3 in
-    let are = c.own_sums.ensures ∙ sums_within c.needs_are_read.ensures u r c.args.receiving c.args.summed reach e c.deref.result.now c.args.counts.now.kept sound c.requires.refers c.requires.summed (c.if-not-are_within.ensures refl) known in
+    let are = c.own_sums.ensures ∙ sums_within c.needs_are_read.ensures u r c.args.receiving c.args.summed.now reach e c.deref.result.now c.args.counts.now.kept sound c.requires.refers c.requires.summed (c.if-not-are_within.ensures refl) known in
     let long = ap (λ (x : RoomForCounts). x.tables) c.requires.room in
-    let found = found_by_sums c.needs_are_read.ensures c.one_place.ensures u r c.args.receiving c.args.bytes.now c.args.summed reach e c.deref.result.now c.args.counts.now.kept sound c.requires.refers long c.requires.kept c.requires.summed (c.if-not-are_within.ensures refl) known in
-    let is : c.summed_to-found.result ≡ summed_to c.args.summed _ = c.summed_to-found.ensures ∙ ap (summed_to c.args.summed) are in
+    let found = found_by_sums c.needs_are_read.ensures c.one_place.ensures u r c.args.receiving c.args.bytes.now c.args.summed.now reach e c.deref.result.now c.args.counts.now.kept sound c.requires.refers long c.requires.kept c.requires.summed (c.if-not-are_within.ensures refl) known in
+    let is : c.summed_to-found.result ≡ summed_to c.args.summed.now _ = c.summed_to-found.ensures ∙ ap (summed_to c.args.summed.now) are in
     let at : element_under found.0 u r ≡ Some c.summed_to-found.result = found.2 ∙ ap (λ (f : Found). Some f) (sym is) in
     (found.0, found.1, answer (element_under found.0 u r) c.summed_to-found.result _ at (place_of_found c.summed_to-found.result (ap (λ (f : Found). f.within) is)))
 
@@ -77,9 +77,9 @@ returns-clause-fits c =
     let e = c.counts.inside.next.items in
     let reach = c.counts.inside.reach in
     let known = reach_in u _ c.args.counts.now reach _ _ e c.deref.result.now c.counts.view_is c.requires.room refl c.deref.ensures.value c.counts.invariant.3 in
-    let are = c.own_sums.ensures ∙ sums_within c.needs_are_read.ensures u r c.args.receiving c.args.summed reach e c.deref.result.now c.args.counts.now.kept sound c.requires.refers c.requires.summed (c.if-not-are_within.ensures refl) known in
+    let are = c.own_sums.ensures ∙ sums_within c.needs_are_read.ensures u r c.args.receiving c.args.summed.now reach e c.deref.result.now c.args.counts.now.kept sound c.requires.refers c.requires.summed (c.if-not-are_within.ensures refl) known in
     let long = ap (λ (x : RoomForCounts). x.tables) c.requires.room in
-    let found = found_by_sums c.needs_are_read.ensures c.one_place.ensures u r c.args.receiving c.args.bytes.now c.args.summed reach e c.deref.result.now c.args.counts.now.kept sound c.requires.refers long c.requires.kept c.requires.summed (c.if-not-are_within.ensures refl) known in
-    let is : c.summed_to-found.result ≡ summed_to c.args.summed _ = c.summed_to-found.ensures ∙ ap (summed_to c.args.summed) are in
+    let found = found_by_sums c.needs_are_read.ensures c.one_place.ensures u r c.args.receiving c.args.bytes.now c.args.summed.now reach e c.deref.result.now c.args.counts.now.kept sound c.requires.refers long c.requires.kept c.requires.summed (c.if-not-are_within.ensures refl) known in
+    let is : c.summed_to-found.result ≡ summed_to c.args.summed.now _ = c.summed_to-found.ensures ∙ ap (summed_to c.args.summed.now) are in
     let at : element_under found.0 u r ≡ Some c.summed_to-found.result = found.2 ∙ ap (λ (f : Found). Some f) (sym is) in
     answer_fits c.places_end_in_length.ensures u u found.0 r.node r.subscripts.items c.summed_to-found.result _ c.greatest.ensures.record refl c.requires.refers at (place_of_found c.summed_to-found.result (ap (λ (f : Found). f.within) is))

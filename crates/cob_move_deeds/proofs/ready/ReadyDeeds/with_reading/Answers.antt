@@ -5,6 +5,7 @@ use Rattle.cob_move_deeds.specs.Deeds.{Deeds, moves_of_deeds}
 use Rattle.cob_move_deeds.specs.Prepared.{deeds_of, flow_support}
 use Rattle.cob_move_deeds.specs.Tests.{Past}
 use Rattle.cob_move_deeds.proofs.ReadingLemmas.{flows_read, flows_still, moves_read, same_marks}
+use Rattle.cob_move_deeds.proofs.SteadyLemmas.{steady_noted_read}
 use Rattle.cob_move_deeds.proofs.ready.ReadyDeeds.with_reading.Goals as goal
 
 pub returns-clause-deeds : goal.returns-clause-deeds
@@ -16,6 +17,8 @@ returns-clause-prepared c r prepared = record {
   moves = c.with_reading.ensures.prepared r prepared.moves;
   bounds = prepared.bounds;
   flows = record { each = flows_still (flow_support c.args.self) c.with_reading.result c.with_reading.ensures.ends c.args.self.flows.items prepared.flows.each; nested = prepared.flows.nested };
+  steady = steady_noted_read (λ noted. noted.items) c.args.reading r c.args.self.moves c.with_reading.result c.args.self.bounds.items c.args.self.steady (λ from to. c.with_reading.ensures.between r from to)
+      (same_marks c.args.self.moves c.with_reading.result c.with_reading.ensures.ends) prepared.steady;
 }
 
 pub returns-clause-whole : goal.returns-clause-whole
