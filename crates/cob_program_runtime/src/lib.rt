@@ -51,7 +51,7 @@
 //! each write, so that it does not matter who else writes to it. Where such a stream stands before the end, as behind `1<>`, a write may be refused too
 //! early; where it stands behind the end, the signal may come.
 //!
-//! Calls that a runtime may leave out, as those on links, are left out.
+//! Calls that a runtime may leave out, as those on links, are those of the runtime inside.
 //!
 //! # Where it is proved
 //!
