@@ -3,7 +3,7 @@
 ghost use Rattle.std.specs.Prelude.{◌≡◌, length, IfOk};
 ghost use Rattle.cob_layout.specs.Standing.{IsRoomFor};
 
-use crate::books::{book_of, reference_of};
+use crate::books::reference_of;
 use crate::counted::{Counted, counts_for, legal, take};
 use crate::refusal::Refusal;
 use cob_layout::{Counts, Layout, Place, PlaceFault};
@@ -13,40 +13,36 @@ use std::alloc::Global;
 
 /// What a row asks about: a reference to an element of a record, and the counts under which it stands.
 #[derive(Drop)]
-pub(crate) struct Asked {
-    pub(crate) layout: Layout,
+pub(crate) struct Asked<'a> {
+    pub(crate) layout: &'a Layout,
     pub(crate) reference: Ref,
     pub(crate) counts: Counts,
 }
 
-/// The layout of a row's record, and the reference to its element that this field is.
-fn element(alloc: Global, row: &Row, place: usize) -> Result<(Layout, Ref), RowFault> {
-    let book = book_of(alloc, row)?;
-    let reference = reference_of(&book, row.field(place)?)?;
-    Ok((Layout::of(alloc, &book)?, reference))
-}
-
-/// The question of a row about the element that this field names, under counts that are taken so.
-pub(crate) fn question(
+/// The question of a row about the element of a record that this field names, under counts that are taken so.
+pub(crate) fn question<'a>(
     alloc: Global,
+    layout: &'a Layout,
     row: &Row,
     place: usize,
     counted: &Counted,
-) -> Result<Asked, Refusal>
-    ensures room { IfOk result (λ a. IsRoomFor a.layout a.counts) }
+) -> Result<Asked<'a>, Refusal>
+    ensures room { IfOk result (λ a. IsRoomFor a.layout.now a.counts) }
 {
-    let (layout, reference) = element(alloc, row, place)?;
-    let counts = counts_for(alloc, &layout, Some(&reference), counted)?;
-    Ok(Asked {
-        layout,
-        reference,
-        counts,
-    })
+    let reference = reference_of(layout.root(), row.field(place)?)?;
+    match counts_for(alloc, layout, Some(&reference), counted) {
+        Ok(counts) => Ok(Asked {
+            layout,
+            reference,
+            counts,
+        }),
+        Err(refusal) => Err(refusal),
+    }
 }
 
 /// Takes counts anew.
-pub(crate) fn take_again(asked: &mut Asked, counted: &Counted) -> Result<(), Refusal>
-    requires room { IsRoomFor asked.old.layout asked.old.counts }
+pub(crate) fn take_again(asked: &mut Asked<'_>, counted: &Counted) -> Result<(), Refusal>
+    requires room { IsRoomFor asked.old.layout.now asked.old.counts }
 {
     let Asked {
         layout,
@@ -57,7 +53,7 @@ pub(crate) fn take_again(asked: &mut Asked, counted: &Counted) -> Result<(), Ref
 }
 
 /// Where the element stands, or where it would begin that there isn't.
-pub(crate) fn placed(asked: &Asked) -> Result<Result<Place, PlaceFault>, RowFault> {
-    let legal = legal(&asked.layout, &asked.reference)?;
+pub(crate) fn placed(asked: &Asked<'_>) -> Result<Result<Place, PlaceFault>, RowFault> {
+    let legal = legal(asked.layout, &asked.reference)?;
     Ok(asked.layout.place(&legal, &asked.counts))
 }

@@ -96,10 +96,10 @@ fn parts_of(written: &str) -> Result<(&str, Subscripts), RowFault> {
     }
 }
 
-/// The reference that is written so, be it legal or not.
-pub(crate) fn reference_of(book: &Book, written: &str) -> Result<Ref, RowFault> {
+/// The reference to an entry of a record with this root that is written so, be it legal or not.
+pub(crate) fn reference_of(root: &Node, written: &str) -> Result<Ref, RowFault> {
     let (name, subscripts) = parts_of(written)?;
-    match entry_named(book.root(), name) {
+    match entry_named(root, name) {
         Some(entry) => Ok(Ref {
             node: entry.number,
             subscripts,

@@ -36,7 +36,7 @@ fn push_past(out: &mut String, fault: PlaceFault) -> Result<(), AllocError> {
 }
 
 /// Writes the place of an element as offset and length, or `past` and where it would begin that there isn't.
-fn push_place(out: &mut String, asked: &Asked) -> Result<(), RowFault> {
+fn push_place(out: &mut String, asked: &Asked<'_>) -> Result<(), RowFault> {
     match placed(asked)? {
         Ok(place) => write!(out, "{} {}", place.offset, place.length)?,
         Err(fault) => push_past(out, fault)?,
@@ -50,40 +50,40 @@ fn push_length(out: &mut String, layout: &Layout, counts: &Counts) -> Result<(),
 }
 
 /// The record's greatest length, and its length under the greatest counts.
-fn greatest(alloc: Global, row: &Row, out: &mut String) -> Result<(), Refusal> {
-    let layout = layout_of(alloc, row)?;
+fn greatest(layout: &Layout, out: &mut String) -> Result<(), AllocError> {
     write!(out, "{} ", layout.greatest())?;
-    Ok(push_length(out, &layout, layout.greatest_counts())?)
+    push_length(out, layout, layout.greatest_counts())
 }
 
 /// The record's length under counts that no place says.
-fn length(alloc: Global, row: &Row, out: &mut String) -> Result<(), Refusal> {
-    let layout = layout_of(alloc, row)?;
+fn length(alloc: Global, layout: &Layout, row: &Row, out: &mut String) -> Result<(), Refusal> {
     let counted = counted_of(alloc, row, 2)?;
-    let counts = counts_for(alloc, &layout, None, &counted)?;
-    Ok(push_length(out, &layout, &counts)?)
+    match counts_for(alloc, layout, None, &counted) {
+        Ok(counts) => Ok(push_length(out, layout, &counts)?),
+        Err(refusal) => Err(refusal),
+    }
 }
 
 /// The question of a row about the element and the counts that it says.
-fn asked_under(alloc: Global, row: &Row) -> Result<Asked, Refusal> {
+fn asked_under<'a>(alloc: Global, layout: &'a Layout, row: &Row) -> Result<Asked<'a>, Refusal> {
     let counted = counted_of(alloc, row, 2)?;
-    question(alloc, row, 3, &counted)
+    question(alloc, layout, row, 3, &counted)
 }
 
 /// The record's length under those counts that a place needs.
-fn length_for(alloc: Global, row: &Row, out: &mut String) -> Result<(), Refusal> {
-    let asked = asked_under(alloc, row)?;
-    Ok(push_length(out, &asked.layout, &asked.counts)?)
+fn length_for(alloc: Global, layout: &Layout, row: &Row, out: &mut String) -> Result<(), Refusal> {
+    let asked = asked_under(alloc, layout, row)?;
+    Ok(push_length(out, layout, &asked.counts)?)
 }
 
 /// The place of an entry under counts.
-fn place(alloc: Global, row: &Row, out: &mut String) -> Result<(), Refusal> {
-    let asked = asked_under(alloc, row)?;
+fn place(alloc: Global, layout: &Layout, row: &Row, out: &mut String) -> Result<(), Refusal> {
+    let asked = asked_under(alloc, layout, row)?;
     Ok(push_place(out, &asked)?)
 }
 
 /// Writes the bytes of an element, or where it would begin that there isn't.
-fn push_element(out: &mut String, asked: &Asked, record: &[u8]) -> Result<(), RowFault> {
+fn push_element(out: &mut String, asked: &Asked<'_>, record: &[u8]) -> Result<(), RowFault> {
     match placed(asked)? {
         Ok(place) if place.offset as usize + place.length as usize <= record.len() => {
             Ok(push_digits(out, field(record, place))?)
@@ -93,14 +93,25 @@ fn push_element(out: &mut String, asked: &Asked, record: &[u8]) -> Result<(), Ro
     }
 }
 
+/// Writes the bytes of an element in the record that gives its counts.
+fn push_counted(
+    alloc: Global,
+    layout: &Layout,
+    row: &Row,
+    counted: &Counted,
+    out: &mut String,
+) -> Result<(), Refusal> {
+    let asked = question(alloc, layout, row, 3, counted)?;
+    Ok(push_element(out, &asked, counted.bytes.as_slice())?)
+}
+
 /// The bytes of an entry in a record, which gives the counts that it needs as a sender.
-fn bytes(alloc: Global, row: &Row, out: &mut String) -> Result<(), Refusal> {
+fn bytes(alloc: Global, layout: &Layout, row: &Row, out: &mut String) -> Result<(), Refusal> {
     let counted = Counted {
         which: Which::Sender,
         bytes: row.bytes(alloc, 2)?,
     };
-    let asked = question(alloc, row, 3, &counted)?;
-    Ok(push_element(out, &asked, counted.bytes.as_slice())?)
+    push_counted(alloc, layout, row, &counted, out)
 }
 
 /// Writes whether counts were taken, or the fault of the first that wasn't.
@@ -114,51 +125,75 @@ fn push_taken(out: &mut String, taken: Result<(), Refusal>) -> Result<(), RowFau
 }
 
 /// Writes the record's length and the place of an element under the counts that hold.
-fn push_kept(out: &mut String, asked: &Asked) -> Result<(), RowFault> {
+fn push_kept(out: &mut String, asked: &Asked<'_>) -> Result<(), RowFault> {
     out.push_str(", then length ")?;
-    push_length(out, &asked.layout, &asked.counts)?;
+    push_length(out, asked.layout, &asked.counts)?;
     out.push_str(" and place ")?;
     push_place(out, asked)
 }
 
 /// The question of a row about the element that its last field names, under the counts of a first record.
-fn asked_first(alloc: Global, row: &Row) -> Result<Asked, Refusal>
-    ensures room { IfOk result (λ a. IsRoomFor a.layout a.counts) }
+fn asked_first<'a>(alloc: Global, layout: &'a Layout, row: &Row) -> Result<Asked<'a>, Refusal>
+    ensures room { IfOk result (λ a. IsRoomFor a.layout.now a.counts) }
 {
     let first = Counted {
         which: Which::All,
         bytes: row.bytes(alloc, 2)?,
     };
-    question(alloc, row, 4, &first)
+    question(alloc, layout, row, 4, &first)
+}
+
+/// Takes counts anew, and writes what is refused then, and the record's length and the place of an entry under the counts that then hold.
+fn push_again(
+    alloc: Global,
+    asked: &mut Asked<'_>,
+    row: &Row,
+    out: &mut String,
+) -> Result<(), Refusal>
+    requires room { IsRoomFor asked.old.layout.now asked.old.counts }
+{
+    let counted = counted_of(alloc, row, 3)?;
+    push_taken(out, take_again(asked, &counted))?;
+    Ok(push_kept(out, asked)?)
 }
 
 /// What is refused when counts are taken after those of a first record, and the record's length and the place of an entry under the counts
 /// that then hold.
-fn kept(alloc: Global, row: &Row, out: &mut String) -> Result<(), Refusal> {
-    let mut asked = asked_first(alloc, row)?;
-    let counted = counted_of(alloc, row, 3)?;
-    push_taken(out, take_again(&mut asked, &counted))?;
-    Ok(push_kept(out, &asked)?)
+fn kept(alloc: Global, layout: &Layout, row: &Row, out: &mut String) -> Result<(), Refusal> {
+    let mut asked = asked_first(alloc, layout, row)?;
+    push_again(alloc, &mut asked, row, out)
 }
 
 /// Writes the answer to a row's question about a record under counts.
-fn under_counts(alloc: Global, row: &Row, out: &mut String) -> Result<(), Refusal> {
+fn under_counts(
+    alloc: Global,
+    layout: &Layout,
+    row: &Row,
+    out: &mut String,
+) -> Result<(), Refusal> {
     match row.field(0)? {
-        "greatest" => greatest(alloc, row, out),
-        "length" => length(alloc, row, out),
-        "length for" => length_for(alloc, row, out),
-        "place" => place(alloc, row, out),
-        "bytes" => bytes(alloc, row, out),
-        "kept" => kept(alloc, row, out),
+        "greatest" => Ok(greatest(layout, out)?),
+        "length" => length(alloc, layout, row, out),
+        "length for" => length_for(alloc, layout, row, out),
+        "place" => place(alloc, layout, row, out),
+        "bytes" => bytes(alloc, layout, row, out),
+        "kept" => kept(alloc, layout, row, out),
         _ => Err(Refusal::Row(RowFault::BadRow)),
+    }
+}
+
+/// Writes the fault of the count that isn't valid, where a question was refused for it.
+fn push_refused(out: &mut String, answered: Result<(), Refusal>) -> Result<(), RowFault> {
+    match answered {
+        Ok(()) => Ok(()),
+        Err(Refusal::Count(fault)) => Ok(push_count_fault(out, fault)?),
+        Err(Refusal::Row(fault)) => Err(fault),
     }
 }
 
 /// Writes the answer to a row's question about a record under counts, or the fault of the count that isn't valid.
 pub(crate) fn answer(alloc: Global, row: &Row, out: &mut String) -> Result<(), RowFault> {
-    match under_counts(alloc, row, out) {
-        Ok(()) => Ok(()),
-        Err(Refusal::Count(fault)) => Ok(push_count_fault(out, fault)?),
-        Err(Refusal::Row(fault)) => Err(fault),
-    }
+    let layout = layout_of(alloc, row)?;
+    let answered = under_counts(alloc, &layout, row, out);
+    push_refused(out, answered)
 }

@@ -4,6 +4,7 @@
 //! - `times`, record, name, counts by number: how often the entry occurs.
 
 use crate::books::{book_of, entry_named};
+use cob_copybook::Node;
 use cob_layout_places::{Table, tables, times_of};
 use cob_test_rows::{Row, RowFault};
 use std::alloc::{AllocError, Global};
@@ -24,11 +25,16 @@ fn push_tables(out: &mut String, tables: &[Table]) -> Result<(), AllocError> {
     Ok(())
 }
 
+/// Writes the tables that vary, of a record with this root.
+fn push_varying(alloc: Global, root: &Node, out: &mut String) -> Result<(), AllocError> {
+    let tables = tables(alloc, root)?;
+    push_tables(out, tables.as_slice())
+}
+
 /// The tables that vary.
 fn tables_in_order(alloc: Global, row: &Row, out: &mut String) -> Result<(), RowFault> {
     let book = book_of(alloc, row)?;
-    let tables = tables(alloc, book.root())?;
-    Ok(push_tables(out, tables.as_slice())?)
+    Ok(push_varying(alloc, book.root(), out)?)
 }
 
 /// The counts of a text, by the numbers of entries: spaces part them, and `none` says that there are none.
@@ -46,14 +52,19 @@ fn counts_of(alloc: Global, written: &str) -> Result<Vec<u32>, RowFault> {
     Ok(counts)
 }
 
-/// How often an entry occurs under counts.
-fn times(alloc: Global, row: &Row, out: &mut String) -> Result<(), RowFault> {
-    let book = book_of(alloc, row)?;
-    let Some(entry) = entry_named(book.root(), row.field(2)?) else {
+/// Writes how often the entry of a row occurs under its counts, in a record with this root.
+fn push_times(alloc: Global, root: &Node, row: &Row, out: &mut String) -> Result<(), RowFault> {
+    let Some(entry) = entry_named(root, row.field(2)?) else {
         return Err(RowFault::BadRow);
     };
     let counts = counts_of(alloc, row.field(3)?)?;
     Ok(write!(out, "{}", times_of(entry, counts.as_slice()))?)
+}
+
+/// How often an entry occurs under counts.
+fn times(alloc: Global, row: &Row, out: &mut String) -> Result<(), RowFault> {
+    let book = book_of(alloc, row)?;
+    push_times(alloc, book.root(), row, out)
 }
 
 /// Writes the answer to a row's question about a record's tables.
