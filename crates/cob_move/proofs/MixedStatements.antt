@@ -1,5 +1,5 @@
 -- Mixed words that spell statements spell the same statements, but for their numbers.
-use Rattle.std.proofs.Common.{◌≡◌, ◌≢◌, ◌⊎◌, inl, inr, ℕ, ◌+◌, ◌-◌, ◌<◌, ◌≤◌, ◌||◌, Bool, true, false, List, [], ◌∷◌, ◌++◌, length, Option, Some, None, refl, sym, ap, subst, ◌∙◌, append-nil, arith}
+use Rattle.std.proofs.Common.{◌≡◌, ◌≢◌, ◌⊎◌, inl, inr, ℕ, suc, ◌+◌, ◌-◌, ◌<◌, ◌≤◌, ◌||◌, Bool, true, false, List, [], ◌∷◌, ◌++◌, length, Option, Some, None, refl, sym, ap, subst, ◌∙◌, append-nil, arith}
 use Rattle.std.specs.List.{AllByRecursion, list_any}
 use Rattle.cob_decimal.specs.Decimal.{IsDigits}
 use Rattle.cob_decimal.specs.Literals.{AreDigits, Literal, characters, digits_in}
@@ -197,14 +197,16 @@ few_digits (c ∷ cs) are = (omega (arith, are.0.0, are.0.1), few_digits cs are.
 
 digits_long : (text : List ℕ) → length (digits_in text) ≡ length text
 digits_long [] = refl
-digits_long (c ∷ cs) = ap (λ (n : ℕ). n + 1) (digits_long cs)
+digits_long (c ∷ cs) = ap suc (digits_long cs)
 
 -- a word of digits is a numeric literal
 number_literal : (w : Lexeme) → IsNumberWord w → (l : Literal) × IsLiteralOf l w.text
 number_literal w n = (
   record { sign = None; whole = digits_in w.text; fraction = [] },
-  record { whole = few_digits w.text n.digits; fraction = tt; some = omega (arith, n.some, digits_long w.text) },
-  sym (append-nil (characters (digits_in w.text)) ∙ spelled_digits w.text n.digits),
+  (
+    record { whole = few_digits w.text n.digits; fraction = tt; some = omega (arith, n.some, digits_long w.text) },
+    sym (append-nil (characters (digits_in w.text)) ∙ spelled_digits w.text n.digits),
+  ),
 )
 
 -- a word of digits as a sender
@@ -264,23 +266,23 @@ figure_kept w o is some n = some (sym is ∙ ap figurative_of n.plain)
 
 mixed_sender : (s : WrittenSender) (vs us ws : List Lexeme) → IsWrittenSender s vs → AreMixed us vs ws → SpelledSender s us ws
 mixed_sender (SentReference s) vs us ws is m = let (r, t, first, third, mixed) = mixed_reference s vs us ws is m in (SentReference r, SentReference t, first, third, mixed)
-mixed_sender (SentConstant (Word text)) vs us ws ((v, free, words), rest) m =
+mixed_sender (SentConstant (Word text)) vs us ws ((v, free, words), literal, none) m =
     let (u, w, r, q, e, f, word, more) = mixed_head v [] us ws (subst (λ (x : List Lexeme). AreMixed us x ws) words m) in
     let (nil, lin) = mixed_nil r q more in
-    word_sender text u v w vs us ws ((v, free, words), rest) free words (e ∙ ap (λ (t : List Lexeme). u ∷ t) nil) (f ∙ ap (λ (t : List Lexeme). w ∷ t) lin) word
-mixed_sender (SentConstant (Quoted text)) vs us ws ((v, literal, text_is, words), rest) m =
+    word_sender text u v w vs us ws ((v, free, words), literal, none) free words (e ∙ ap (λ (t : List Lexeme). u ∷ t) nil) (f ∙ ap (λ (t : List Lexeme). w ∷ t) lin) word
+mixed_sender (SentConstant (Quoted text)) vs us ws ((v, literal, text_is, words), any, none) m =
     let (first, third) = one_kept v us ws (no_literal v literal) (subst (λ (x : List Lexeme). AreMixed us x ws) words m) in
-    same_sender (Quoted text) vs us ws ((v, literal, text_is, words), rest) (first ∙ sym words) (third ∙ sym words)
-mixed_sender (SentConstant (Figure g)) vs us ws (([], v, noise, figure, words), rest) m =
+    same_sender (Quoted text) vs us ws ((v, literal, text_is, words), any, none) (first ∙ sym words) (third ∙ sym words)
+mixed_sender (SentConstant (Figure g)) vs us ws (([], v, noise, figure, words), any, none) m =
     let (first, third) = one_kept v us ws (figure_kept v (Some g) figure (λ k. cc)) (subst (λ (x : List Lexeme). AreMixed us x ws) words m) in
-    same_sender (Figure g) vs us ws (([], v, noise, figure, words), rest) (first ∙ sym words) (third ∙ sym words)
-mixed_sender (SentConstant (Figure g)) vs us ws ((a ∷ [], v, noise, figure, words), rest) m =
+    same_sender (Figure g) vs us ws (([], v, noise, figure, words), any, none) (first ∙ sym words) (third ∙ sym words)
+mixed_sender (SentConstant (Figure g)) vs us ws ((a ∷ [], v, noise, figure, words), any, none) m =
     let (first, third) = two_kept a v us ws (no_other term.All a (λ k. cc) noise) (figure_kept v (Some g) figure (λ k. cc)) (subst (λ (x : List Lexeme). AreMixed us x ws) words m) in
-    same_sender (Figure g) vs us ws ((a ∷ [], v, noise, figure, words), rest) (first ∙ sym words) (third ∙ sym words)
-mixed_sender (SentConstant (Figure g)) vs us ws ((a ∷ b ∷ more, v, noise, figure, words), rest) m = absurd noise
-mixed_sender (SentConstant (Repeated text)) vs us ws ((a, v, is, literal, text_is, words), rest) m =
+    same_sender (Figure g) vs us ws ((a ∷ [], v, noise, figure, words), any, none) (first ∙ sym words) (third ∙ sym words)
+mixed_sender (SentConstant (Figure g)) vs us ws ((a ∷ b ∷ more, v, noise, figure, words), any, none) m = absurd noise
+mixed_sender (SentConstant (Repeated text)) vs us ws ((a, v, is, literal, text_is, words), any, none) m =
     let (first, third) = two_kept a v us ws (no_other term.All a (λ k. cc) is) (no_literal v literal) (subst (λ (x : List Lexeme). AreMixed us x ws) words m) in
-    same_sender (Repeated text) vs us ws ((a, v, is, literal, text_is, words), rest) (first ∙ sym words) (third ∙ sym words)
+    same_sender (Repeated text) vs us ws ((a, v, is, literal, text_is, words), any, none) (first ∙ sym words) (third ∙ sym words)
 
 -- ---- pieces one behind another
 
