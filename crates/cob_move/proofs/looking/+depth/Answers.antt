@@ -21,10 +21,10 @@ depth-loop-item-preserved t c =
     let size = words_smaller f rest more c.in-Some.ensures.found in
     let both : max c.loop-item.most c.depth_of_item.result ≤ length (lexemes c.args.words.now) =
     max-le c.loop-item.invariant.small (omega (arith, c.depth_of_item.ensures.small, size, c.loop-item.invariant.fewer)) in record {
-      left = deep_more c.loop-item.most c.depth_of_item.result c.max.result (lexemes c.args.words.now) rest more f c.loop-item.invariant.left (omega (arith, less)) c.in-Some.ensures.only c.depth_of_item.ensures.deep
-          (omega (arith, c.max.ensures, le-max_left c.loop-item.most c.depth_of_item.result)) (omega (arith, c.max.ensures, le-max_right c.loop-item.most c.depth_of_item.result));
+      left = deep_more c.loop-item.most c.depth_of_item.result c.max-most.result (lexemes c.args.words.now) rest more f c.loop-item.invariant.left (omega (arith, less)) c.in-Some.ensures.only c.depth_of_item.ensures.deep
+          (omega (arith, c.max-most.ensures, le-max_left c.loop-item.most c.depth_of_item.result)) (omega (arith, c.max-most.ensures, le-max_right c.loop-item.most c.depth_of_item.result));
       fewer = omega (arith, c.loop-item.invariant.fewer, less);
-      small = omega (arith, c.max.ensures, both);
+      small = omega (arith, c.max-most.ensures, both);
     }
 
 pub depth-loop-item-smaller : goal.depth-loop-item-smaller

@@ -60,8 +60,8 @@ look_at_first-returns-in_err-inner-clause-stops t c =
     let p = err_from_is_err_and c.from_residual.result c.from_residual.ensures.1 in
     rw (p.1, p.2) (λ p is. tt)
 
-pub look_at_loop-returns-in-Number-clause-stops : goal.look_at_loop-returns-in-Number-clause-stops
-look_at_loop-returns-in-Number-clause-stops t c =
+pub look_at_loop-returns-else-most-head-clause-stops : goal.look_at_loop-returns-else-most-head-clause-stops
+look_at_loop-returns-else-most-head-clause-stops t c =
     let e = c.args.entries.now in
     let ns = counters c.args.turn.now in
     let l = written_loop c.args.head.now in
@@ -69,20 +69,20 @@ look_at_loop-returns-in-Number-clause-stops t c =
     IfErr-weaker c.look_at_first.result (λ n. WordsStop n e (in_its_turn ns l c.args.head.now.from) body) (λ n. LoopStops n e ns l body)
     (λ n stop. loop_stops n e ns l c.in-Number.most body (ap written_bound c.in-Number.is) (omega (arith, c.if-most-head.false)) stop) c.look_at_first.ensures.stops
 
-pub look_at_loop-returns-in_err-read_bound-clause-stops : goal.look_at_loop-returns-in_err-read_bound-clause-stops
-look_at_loop-returns-in_err-read_bound-clause-stops t c =
+pub look_at_loop-returns-in_err-read_bound-in-Item-clause-stops : goal.look_at_loop-returns-in_err-read_bound-in-Item-clause-stops
+look_at_loop-returns-in_err-read_bound-in-Item-clause-stops t c =
     let p = err_from_is_err_and c.from_residual.result c.from_residual.ensures.1 in
-    rw (p.1, p.2) (bound_stops c.in_err-read_bound.field-0.0 c.args.entries.now (counters c.args.turn.now) (written_loop c.args.head.now) (lexemes c.in-Item.words.now) (lexemes c.args.body.now)
-    (ap written_bound c.in-Item.is) c.in_err-read_bound.ensures.fault)
+    rw (p.1, p.2) (bound_stops c.in_err-read_bound-in-Item.field-0.0 c.args.entries.now (counters c.args.turn.now) (written_loop c.args.head.now) (lexemes c.in-Item.words.now) (lexemes c.args.body.now)
+    (ap written_bound c.in-Item.is) c.in_err-read_bound-in-Item.ensures.fault)
 
-pub look_at_loop-returns-in-Item-clause-stops : goal.look_at_loop-returns-in-Item-clause-stops
-look_at_loop-returns-in-Item-clause-stops t c =
+pub look_at_loop-returns-in_ok-read_bound-in-Item-clause-stops : goal.look_at_loop-returns-in_ok-read_bound-in-Item-clause-stops
+look_at_loop-returns-in_ok-read_bound-in-Item-clause-stops t c =
     let e = c.args.entries.now in
     let ns = counters c.args.turn.now in
     let l = written_loop c.args.head.now in
     let body = lexemes c.args.body.now in
-    IfErr-weaker c.look_at_first.result (λ n. WordsStop n e (in_its_turn ns l c.args.head.now.from) body) (λ n. LoopStops n e ns l body)
-    (λ n stop. item_stops n e ns l (lexemes c.in-Item.words.now) body (ap written_bound c.in-Item.is) stop) c.look_at_first.ensures.stops
+    IfErr-weaker c.look_at_first-in-Item.result (λ n. WordsStop n e (in_its_turn ns l c.args.head.now.from) body) (λ n. LoopStops n e ns l body)
+    (λ n stop. item_stops n e ns l (lexemes c.in-Item.words.now) body (ap written_bound c.in-Item.is) stop) c.look_at_first-in-Item.ensures.stops
 
 pub look_at_item-look_at_loop-requires : goal.look_at_item-look_at_loop-requires
 look_at_item-look_at_loop-requires t c =
