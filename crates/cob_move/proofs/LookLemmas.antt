@@ -1,11 +1,11 @@
 -- Turns that are looked at before they are read.
-use Rattle.std.proofs.Common.{◌≡◌, ◌⊎◌, inl, inr, ℕ, suc, ◌+◌, ◌-◌, ◌*◌, ◌/◌, ◌<◌, ◌≤◌, max, List, ◌∷◌, [], ◌++◌, length, nat_eq, Bool, true, false, refl, sym, ap, subst, ◌∙◌, arith}
-use Rattle.std.proofs.Math.Nat.{div-mul-le_self, max-le}
+use Rattle.std.proofs.Common.{◌≡◌, ◌⊎◌, inl, inr, ℕ, suc, ◌+◌, ◌-◌, ◌*◌, ◌<◌, ◌≤◌, List, length, nat_eq, Bool, true, false, refl, sym, ap, subst, ◌∙◌, arith}
+use Rattle.std.proofs.Math.Nat.{max-le}
 use Rattle.cob_limits.specs.Limits.{most_written_out}
 use Rattle.cob_source.specs.Tokens.{Lexeme}
 use Rattle.cob_move_deeds.specs.Deeds.{Deeds}
 use Rattle.cob_move_deeds.specs.Tests.{Past}
-use Rattle.cob_move_loops.specs.Passages.{APause, ARun, FrontStands, IsPassage, Looped, NoMore, Passage, PassageFront, ToItem, ToNumber, WrittenBound, WrittenLoop}
+use Rattle.cob_move_loops.specs.Passages.{APause, ARun, FrontStands, IsPassage, Looped, Passage, PassageFront, ToItem, ToNumber, WrittenBound, WrittenLoop}
 use Rattle.cob_move_loops.specs.Reading.{Within}
 use Rattle.cob_move_loops.specs.Turns.{Counted, in_turn, turns_between}
 use Rattle.cob_move_loops.proofs.FrontLemmas.{front_smaller}
@@ -20,9 +20,9 @@ use Rattle.cob_move.specs.declared.entries.Entries.{Entries}
 use Rattle.cob_move.specs.Among.{nameable}
 use Rattle.cob_move.specs.Deeds.{IsLoopRefused}
 use Rattle.cob_move.specs.DeedsLaws.{OneDeeds}
-use Rattle.cob_move.specs.DeedsRead.{AddsDeeds, BoundNotRead, BreaksInTurn, FirstIn, FrontStops, IsRefusedIn, IsSure, LoopStops, MadeLists, PassageComesTo, RunRefusedIn, StopsAt, WordsStop, closed, closed_where, deep, deep_front, in_its_turn, last_marked, taken_back, without_flows, words_in_front}
+use Rattle.cob_move.specs.DeedsRead.{AddsDeeds, BoundNotRead, BreaksInTurn, FrontStops, IsRefusedIn, IsSure, LoopStops, MadeLists, PassageComesTo, RunRefusedIn, StopsAt, WordsStop, closed, closed_where, deep, deep_front, in_its_turn, last_marked, taken_back, without_flows, words_in_front}
 use Rattle.cob_move.specs.Loops.{RunRefused}
-use Rattle.cob_move.proofs.DeedsLemmas.{either_side, mul_within, up_to_some}
+use Rattle.cob_move.proofs.DeedsLemmas.{either_side, up_to_some}
 use Rattle.cob_move.proofs.FewLemmas.{refused_joined}
 use Rattle.cob_move.proofs.MadeLemmas.{either_memory, told_refused}
 use Rattle.cob_move.proofs.MixedTurns.{late_within}
@@ -127,10 +127,6 @@ words_smaller (Looped l own) ws more stands = front_smaller (Looped l own) ws mo
 
 -- ---- a turn that is sure to come to few
 
--- so many are no more than so many times fit
-pub fits_times : (read before times left most : ℕ) → read + left ≡ most → before ≤ left / times → read + before * times ≤ most
-fits_times read before times left most whole few = omega (arith, whole, mul_within before (left / times) times few, div-mul-le_self left times)
-
 closed_reads : (m : MadeLists) → (closed m).read ≡ m.read
 closed_reads m = by_test (nat_eq (length m.list) (last_marked 0 m.ends)) m
   where
@@ -148,15 +144,15 @@ reads_same number next size mid after kept passed = elim (either_side number nex
   ]
 ]
 
-pub next_sure : OneDeeds → OneListOfEnded → OneReference → (e : Entries) (ns : List Counted) (l : WrittenLoop) (body : List Lexeme) (step number next deepest : ℕ) (size : Sizes) (now mid after : MadeLists) → number ≡ l.from + step
-    → AddsDeeds e (in_its_turn ns l number) body now mid → ((p : Passage) → IsPassage p body → deep p ≤ deepest) → mid.read + (mid.read - now.read) * (deepest + 1) ≤ most_written_out
+pub next_sure : OneDeeds → OneListOfEnded → OneReference → (e : Entries) (ns : List Counted) (l : WrittenLoop) (body : List Lexeme) (step number next deepest before : ℕ) (size : Sizes) (now mid after : MadeLists) → number ≡ l.from + step
+    → AddsDeeds e (in_its_turn ns l number) body now mid → ((p : Passage) → IsPassage p body → deep p ≤ deepest) → before ≡ mid.read - now.read → mid.read + before * (deepest + 1) ≤ most_written_out
     → (number ≡ next → after ≡ without_flows (closed mid)) → ((number ≡ next → ⊥) → after ≡ taken_back size mid) → IsSure e (in_its_turn ns l (l.from + (step + 1))) body after.read
-next_sure law ended one e ns l body step number next deepest size now mid after at adds low few kept passed p is le many first =
+next_sure law ended one e ns l body step number next deepest before size now mid after at adds low own few kept passed p is le many first =
     let a = adds p is in
     let within : many ≤ a.many * suc deepest =
     late_within law ended one e.input.now e.output.now (nameable e) ns l p number (l.from + (step + 1)) a.deeds a.many many deepest (low p is) a.are first in
-    let product : (mid.read - now.read) * (deepest + 1) ≡ a.many * suc deepest =
-    ap (λ (t : ℕ). t * (deepest + 1)) (omega (arith, a.longer)) ∙ ap (λ (t : ℕ). a.many * t) (omega arith) in
+    let product : before * (deepest + 1) ≡ a.many * suc deepest =
+    ap (λ (t : ℕ). t * (deepest + 1)) (omega (arith, own, a.longer)) ∙ ap (λ (t : ℕ). a.many * t) (omega arith) in
     omega (arith, within, few, product, reads_same number next size mid after kept passed)
 
 -- a turn that is sure, and breaks a rule

@@ -1,8 +1,7 @@
 -- Mixed statements that have a meaning in the first two turns have one in the third.
-use Rattle.std.proofs.Common.{◌≡◌, ◌⊎◌, inl, inr, ℕ, ◌||◌, false, List, [], ◌∷◌, ◌++◌, length, map, refl, sym, ap, subst, ◌∙◌}
+use Rattle.std.proofs.Common.{◌≡◌, ◌⊎◌, inl, inr, ℕ, ◌||◌, List, [], ◌∷◌, ◌++◌, map, refl, sym, ap, subst, ◌∙◌}
 use Rattle.std.specs.List.{AllByRecursion}
 use Rattle.cob_codec.specs.declared.reading.Reading.TheVariants.{Pictured}
-use Rattle.cob_copybook_entry.specs.Described.{PlainValue}
 use Rattle.cob_copybook_entries.specs.Meaning.{IsConstantOf}
 use Rattle.cob_copybook_clauses.specs.Written.{WrittenValue}
 use Rattle.cob_copybook_names.specs.Naming.{named}
@@ -12,19 +11,19 @@ use Rattle.cob_copybook_tree.specs.Nodes.{Resolved}
 use Rattle.cob_move_data.specs.declared.operands.Operand.{Operand}
 use Rattle.cob_move_data.specs.declared.operands.Side.{Side}
 use Rattle.cob_move_data.specs.declared.operands.Side.TheVariants.{Out}
-use Rattle.cob_move_data.specs.Moves.{Entry, Literal, Move, Sender}
+use Rattle.cob_move_data.specs.Moves.{Entry, Move, Sender}
 use Rattle.cob_move_names.specs.Candidates.{Candidate, all_entries}
 use Rattle.cob_move_names.specs.Pairs.{AreOnce, Pair, is_elementary}
 use Rattle.cob_move_names.specs.References.{AreSubscriptsOf, IsSubscriptOf, NamesOperand, operand, subscript_numbers}
 use Rattle.cob_move_receive.specs.Refusals.{IsAllowed}
 use Rattle.cob_move_receive.specs.Table.{SenderKind}
-use Rattle.cob_move_statements.specs.Laws.{OneListOfEnded, OneReference}
-use Rattle.cob_move_statements.specs.Statements.{IsEndedStatement, IsReference, Several}
+use Rattle.cob_move_statements.specs.Laws.{OneListOfEnded}
+use Rattle.cob_move_statements.specs.Statements.{IsEndedStatement}
 use Rattle.cob_move_statements.specs.Written.{MoveCorresponding, MoveTo, SentConstant, SentReference, WrittenAction, WrittenReference, WrittenSender, WrittenStatement}
 use Rattle.cob_source.specs.Tokens.{Lexeme}
 use Rattle.cob_move.specs.declared.corresponding.TwoGroups.{TwoGroups}
 use Rattle.cob_move.specs.Deeds.{IsRunMeant}
-use Rattle.cob_move.specs.Meaning.{AreGroupsOf, AreMeanings, AreMeant, AreMovesOf, AreReceiversOf, IsAllowedMove, IsMeaning, IsMoveOf, IsSenderOf, kind_of_sender, pair_move, pairs_of}
+use Rattle.cob_move.specs.Meaning.{AreMeanings, AreMeant, AreMovesOf, AreReceiversOf, IsAllowedMove, IsMeaning, IsMoveOf, IsSenderOf, kind_of_sender, pair_move, pairs_of}
 use Rattle.cob_move.proofs.MixedStatements.{AllMixed, AreMixedActions, AreMixedReferences, AreMixedSenders, AreMixedStatements, AreMixedTexts, mixed_ended, mixed_length, mixed_several}
 use Rattle.cob_move.proofs.MixedWords.{AreMixed}
 

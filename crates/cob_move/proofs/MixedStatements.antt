@@ -8,13 +8,13 @@ use Rattle.cob_source.specs.declared.token.TokenKind.TheVariants as kind
 use Rattle.cob_copybook_entry.specs.declared.kinds.Figurative.{Figurative}
 use Rattle.cob_copybook_clauses.specs.declared.term.WordClass.{WordClass}
 use Rattle.cob_copybook_clauses.specs.declared.term.WordClass.TheVariants as term
-use Rattle.cob_copybook_clauses.specs.Clauses.{AreQualifiers, IsAll, IsConstant, IsFigurativeWord, IsFree, IsNameWord, figurative_of}
+use Rattle.cob_copybook_clauses.specs.Clauses.{AreQualifiers, IsFree, IsNameWord, figurative_of}
 use Rattle.cob_copybook_clauses.specs.Names.{is_letter}
 use Rattle.cob_copybook_clauses.specs.Terms.{word_class}
-use Rattle.cob_copybook_clauses.specs.Written.{Figure, Quoted, Repeated, Word, WrittenValue, names_behind}
-use Rattle.cob_copybook_entries.specs.Parts.{HasParts, IsLiteralOf}
+use Rattle.cob_copybook_clauses.specs.Written.{Figure, Quoted, Repeated, Word, WrittenValue}
+use Rattle.cob_copybook_entries.specs.Parts.{IsLiteralOf}
 use Rattle.cob_move_loops.specs.Words.{IsPeriod}
-use Rattle.cob_move_statements.specs.Statements.{AreSubscripts, IsAction, IsBracketed, IsEndedStatement, IsLiteralOrFigurative, IsNumeral, IsReference, IsStatement, IsWrittenSender, NoName, Several}
+use Rattle.cob_move_statements.specs.Statements.{AreSubscripts, IsAction, IsBracketed, IsEndedStatement, IsNumeral, IsReference, IsStatement, IsWrittenSender, NoName, Several}
 use Rattle.cob_move_statements.specs.Written.{MoveCorresponding, MoveTo, SentConstant, SentReference, WrittenAction, WrittenReference, WrittenSender, WrittenStatement, word_texts}
 use Rattle.cob_move.proofs.MixedWords.{AreMixed, IsMixed, IsNumberWord}
 

@@ -12,8 +12,8 @@ use Rattle.cob_source.specs.declared.token.TokenKind.TheVariants as kind
 use Rattle.cob_copybook_entry.specs.Kinds.{KeptWord, meaning_by, usage_word, usage_words}
 use Rattle.cob_copybook_clauses.specs.declared.term.WordClass.{WordClass}
 use Rattle.cob_copybook_clauses.specs.declared.term.WordClass.TheVariants as term
-use Rattle.cob_copybook_clauses.specs.Terms.{Keyword, reserved_words, term_by, term_of_kind, term_of_usage, term_of_word, word_class}
-use Rattle.cob_move_loops.specs.Turns.{Counted, amount_of_kind, counted_number, counted_of_kind, in_turn, number_of_name, numeral, open_by, passed_by, passed_by_sum, shifted_by, shifted_number, shifted_of_kind, sum_in, word_by, word_by_sum}
+use Rattle.cob_copybook_clauses.specs.Terms.{Keyword, reserved_words, term_by, term_of_usage, term_of_word, word_class}
+use Rattle.cob_move_loops.specs.Turns.{Counted, amount_of_kind, counted_number, counted_of_kind, in_turn, number_of_name, numeral, open_by, passed_by, passed_by_sum, shifted_by, shifted_of_kind, sum_in, word_by, word_by_sum}
 
 -- ---- numbers as words
 

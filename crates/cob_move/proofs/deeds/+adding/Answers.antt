@@ -164,8 +164,8 @@ try_turns-loop-step-preserved t c = record {
   tried = tried_step c.one_deeds.ensures c.args.entries.now (counters c.args.turn.now) (written_loop c.args.head.now) (lexemes c.args.body.now) c.loop-step.step c.in_ok-number.number c.loop-step.next _ (flow_lists c.loop-step.turns.items) (flow_lists c.keep_turn.new.turns.items) c.sizes-before.result (made_lists c.args.made.now) (made_lists c.loop-step.made) (made_lists c.try_turn.new.made) (made_lists c.keep_turn.new.made)
       c.args.head.now.steps c.in_ok-number.ensures c.loop-step.invariant.tried c.sizes-before.ensures c.in_ok-fault.ensures.made c.in_ok-fault.ensures.grown (rw c.in_default.is at c.in_ok-fault.ensures.added) c.in_ok-next.ensures.kept
       (λ other. let k = c.in_ok-next.ensures.passed other in (k.0, k.1, ap flow_lists k.2));
-  sure = λ yes. next_sure c.one_deeds.ensures c.one_list_of_ended.ensures c.one_reference.ensures c.args.entries.now (counters c.args.turn.now) (written_loop c.args.head.now) (lexemes c.args.body.now) c.loop-step.step c.in_ok-number.number c.loop-step.next c.depth-deep.result c.sizes-before.result
-      (made_lists c.loop-step.made) (made_lists c.try_turn.new.made) (made_lists c.keep_turn.new.made) c.in_ok-number.ensures (rw c.in_default.is at c.in_ok-fault.ensures.added) c.depth-deep.ensures.deep (c.is_sure.ensures yes)
+  sure = λ yes. next_sure c.one_deeds.ensures c.one_list_of_ended.ensures c.one_reference.ensures c.args.entries.now (counters c.args.turn.now) (written_loop c.args.head.now) (lexemes c.args.body.now) c.loop-step.step c.in_ok-number.number c.loop-step.next c.depth-deep.result c.saturating_sub.result c.sizes-before.result
+      (made_lists c.loop-step.made) (made_lists c.try_turn.new.made) (made_lists c.keep_turn.new.made) c.in_ok-number.ensures (rw c.in_default.is at c.in_ok-fault.ensures.added) c.depth-deep.ensures.deep c.saturating_sub.ensures (c.is_sure-sure.ensures yes)
       (λ here. (c.in_ok-next.ensures.kept here).1) (λ other. (c.in_ok-next.ensures.passed other).1);
   pairs = c.in_ok-fault.ensures.pairs;
 }
