@@ -20,6 +20,11 @@ mod CloseLemmas
 mod ReadingLemmas
 mod TurnsLemmas
 mod TestedLemmas
+mod MixedWords
+mod MixedStatements
+mod MixedMeaning
+mod MixedTurns
+mod LookLemmas
 mod LiteralLemmas
 mod BodyLemmas
 mod ReadyLemmas

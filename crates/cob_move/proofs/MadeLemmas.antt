@@ -241,7 +241,7 @@ memory_loop n e ns l body m is = subst (λ (k : NotRead). LoopRefused k e ns l b
 -- ---- words of MOVE statements that aren't read
 
 -- memory was refused, or not
-either_memory : (r : MoveRule) → (r ≡ rule.Memory) ⊎ ((r ≡ rule.Memory) → ⊥)
+pub either_memory : (r : MoveRule) → (r ≡ rule.Memory) ⊎ ((r ≡ rule.Memory) → ⊥)
 either_memory rule.Memory = inl refl
 either_memory (rule.Source s) = inr (λ e. absurd (let never : rule.Source s ≡ rule.Memory = e in cc))
 either_memory rule.Grammar = inr (λ e. absurd (let never : rule.Grammar ≡ rule.Memory = e in cc))
@@ -257,7 +257,7 @@ either_memory rule.TooLong = inr (λ e. absurd (let never : rule.TooLong ≡ rul
 either_memory rule.Counter = inr (λ e. absurd (let never : rule.Counter ≡ rule.Memory = e in cc))
 either_memory rule.TooMany = inr (λ e. absurd (let never : rule.TooMany ≡ rule.Memory = e in cc))
 
-told_refused : (f : MoveFault) (e : Entries) (ns : List Counted) (ws : List Lexeme) → ((f.rule ≡ rule.Memory) → ⊥) → (f.rule ≡ rule.Memory) ⊎ RunRefused f e (in_turn ns false 0 ws) → RunRefused f e (in_turn ns false 0 ws)
+pub told_refused : (f : MoveFault) (e : Entries) (ns : List Counted) (ws : List Lexeme) → ((f.rule ≡ rule.Memory) → ⊥) → (f.rule ≡ rule.Memory) ⊎ RunRefused f e (in_turn ns false 0 ws) → RunRefused f e (in_turn ns false 0 ws)
 told_refused f e ns ws other (inl is) = absurd (other is)
 told_refused f e ns ws other (inr refused) = refused
 

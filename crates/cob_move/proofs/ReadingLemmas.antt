@@ -53,7 +53,7 @@ pause_added e m is ns p within = record {
 
 -- ---- what stands in front, and the others
 
-refused_behind : (g : MoveFault) (e : Entries) (ns : List Counted) (f : PassageFront) (body others : Passage) → IsRefusedIn g e ns others → IsRefusedIn g e ns (joined f body others)
+pub refused_behind : (g : MoveFault) (e : Entries) (ns : List Counted) (f : PassageFront) (body others : Passage) → IsRefusedIn g e ns others → IsRefusedIn g e ns (joined f body others)
 refused_behind g e ns (ARun ws) body others refused = inr refused
 refused_behind g e ns APause body others refused = refused
 refused_behind g e ns (Looped l ws) body others refused = inr refused

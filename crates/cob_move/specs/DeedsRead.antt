@@ -1,5 +1,5 @@
 -- What the readers of paragraphs with loops to items say of what they answer.
-use Rattle.std.specs.Prelude.{◌≡◌, ◌⊎◌, ℕ, zero, suc, ◌+◌, ◌-◌, ◌*◌, ◌<◌, ◌≤◌, nat_eq, false, Bool, true, List, [], ◌∷◌, ◌++◌, drop, length, map, take}
+use Rattle.std.specs.Prelude.{◌≡◌, ◌⊎◌, ℕ, zero, suc, ◌+◌, ◌-◌, ◌*◌, ◌<◌, ◌≤◌, max, nat_eq, false, Bool, true, List, [], ◌∷◌, ◌++◌, drop, length, map, take}
 use Rattle.std.specs.Global.{Vec}
 use Rattle.std.specs.List.{AllByRecursion}
 use Rattle.cob_codec.specs.declared.reading.Reading.TheVariants.{Pictured}
@@ -20,7 +20,7 @@ use Rattle.cob_move_apply.specs.Prepared.{moves_of}
 use Rattle.cob_move_deeds.specs.Tests.{IsBound, IsBoundItem, Past}
 use Rattle.cob_move_loops.specs.Bounded.{AreBounded, BoundedFront}
 use Rattle.cob_move_loops.specs.Few.{loop_line}
-use Rattle.cob_move_loops.specs.Passages.{APause, ARun, IsPassage, IsRun, Looped, Passage, PassageFront, WrittenLoop}
+use Rattle.cob_move_loops.specs.Passages.{ALoop, APause, ARun, IsPassage, IsRun, Looped, Moves, NoMore, Passage, PassageFront, Pause, WrittenLoop}
 use Rattle.cob_move_loops.specs.Reading.{Within}
 use Rattle.cob_move_loops.specs.Turns.{Counted, counter_at, in_turn, turns as loop_turns}
 use Rattle.cob_move_statements.specs.declared.fault.MoveFault.{MoveFault}
@@ -326,6 +326,49 @@ abbrev pub AreTurnsMeant : (ℕ → Deeds Past → ℕ → Type 0) → (by n i :
 AreTurnsMeant meant by zero i d many = (d ≡ Nothing) × (many ≡ 0)
 AreTurnsMeant meant by (suc n) i d many = (own next : Deeds Past) × (count rest : ℕ)
     × meant i own count × AreTurnsMeant meant by n (i + by) next rest × (d ≡ joined_deeds own next) × (many ≡ count + rest)
+
+-- how many loops of a passage hold one another, at most
+abbrev pub deep : Passage → ℕ
+deep NoMore = 0
+deep (Moves own more) = deep more
+deep (Pause more) = deep more
+deep (ALoop l body more) = max (deep body + 1) (deep more)
+
+-- the same of what stands in front, where its statements, if it is a loop, are this passage
+abbrev pub deep_front : PassageFront → Passage → ℕ
+deep_front (ARun own) p = 0
+deep_front APause p = 0
+deep_front (Looped l own) p = deep p + 1
+
+-- the words of its statements, if it is a loop
+abbrev pub words_in_front : PassageFront → ℕ
+words_in_front (ARun own) = 0
+words_in_front APause = 0
+words_in_front (Looped l own) = length own
+
+-- ---- turns that are looked at
+
+-- A rule is broken, which refuses it; or memory was refused.
+abbrev pub StopsAt : NotRead → (refused : MoveFault → Type 0) → Type 0
+StopsAt why.Memory refused = Unit {0}
+StopsAt why.TooMany refused = ⊥
+StopsAt (why.Broken f) refused = ((f.rule ≡ rule.Memory) → ⊥) × refused f
+
+-- so it is of whatever passage words are, in a turn
+abbrev pub WordsStop : NotRead → Entries → List Counted → List Lexeme → Type 0
+WordsStop n e ns words = (p : Passage) → IsPassage p words → StopsAt n (λ f. IsRefusedIn f e ns p)
+
+-- of what stands in front
+abbrev pub FrontStops : NotRead → Entries → List Counted → PassageFront → Type 0
+FrontStops n e ns f = (p : Passage) → Within f p → StopsAt n (λ g. FrontIsRefused g e ns f p)
+
+-- of a loop
+abbrev pub LoopStops : NotRead → Entries → List Counted → WrittenLoop → List Lexeme → Type 0
+LoopStops n e ns l body = (p : Passage) → IsPassage p body → StopsAt n (λ f. LoopIsRefused f e ns l p)
+
+-- whatever passage words are, few statements come first in it in a turn, behind so many
+abbrev pub IsSure : Entries → List Counted → List Lexeme → ℕ → Type 0
+IsSure e ns words before = (p : Passage) → IsPassage p words → FewWith (λ many. FirstIn e ns p many) before
 
 -- what the turn of a loop with this passage comes to
 abbrev pub TurnComesTo : Entries → List Counted → WrittenLoop → Passage → ℕ → Deeds Past → ℕ → Type 0

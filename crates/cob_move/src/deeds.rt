@@ -15,7 +15,7 @@ ghost use Rattle.cob_move_deeds.specs.Tests.{Past};
 ghost use Rattle.cob_move.specs.Among.{nameable};
 ghost use Rattle.cob_move.specs.Deeds.{IsBoundOf};
 ghost use Rattle.cob_move.specs.Between.{ArePairsOf};
-ghost use Rattle.cob_move.specs.DeedsRead.{AddsDeeds, AddsFront, AddsLoop, AddsMoved, AreKept, BoundNotRead, BoundRefused, BreaksInTurn, FrontHasBounds, FrontRefused, HasBounds, HasGrown, HasNoTurn, IsBoundRead, IsFrontRead, IsMade, IsNotBroken, LeavesFront, LoopRefused, MovedRefused, ReadsTurns, TurnRefused, closed, flow_lists, in_its_turn, last_marked, linked_size, linked_turns, made_lists, open_statements, taken_back, without_flows};
+ghost use Rattle.cob_move.specs.DeedsRead.{AddsDeeds, AddsFront, AddsLoop, AddsMoved, AreKept, BoundNotRead, BoundRefused, BreaksInTurn, FrontHasBounds, FrontRefused, HasBounds, HasGrown, HasNoTurn, IsBoundRead, IsFrontRead, IsMade, IsNotBroken, IsSure, LeavesFront, LoopRefused, MovedRefused, ReadsTurns, TurnRefused, closed, flow_lists, in_its_turn, last_marked, linked_size, linked_turns, made_lists, open_statements, taken_back, without_flows};
 ghost use Rattle.cob_move.specs.Entries.{AllMayBeNamed, records_of};
 ghost use Rattle.cob_move.specs.Loops.{AddsRun, RunRefused};
 ghost use Rattle.cob_move.specs.declared.made.NotRead.TheVariants as unread;
@@ -23,6 +23,7 @@ ghost use Rattle.cob_move.specs.declared.made.NotRead.TheVariants as unread;
 use crate::deeds_laws::{deeds_break_no_rule, one_deeds};
 use crate::entries::{Entries, NamedEntry};
 use crate::linking::{link_turns, next_number};
+use crate::looking::{depth, is_sure, look_at_turn};
 use crate::loops::{add_words, fault_of};
 use crate::made::{Made, NotRead, keep_turn};
 use crate::meaning_laws::{meant_are_moves, meant_break_no_rule};
@@ -42,7 +43,7 @@ use std::alloc::Global;
 use std::mem::replace;
 
 /// Why words of a fault are not read.
-fn not_read(fault: MoveFault) -> NotRead
+pub(crate) fn not_read(fault: MoveFault) -> NotRead
     ensures memory { fault.rule ≡ Memory → result ≡ unread.Memory }
     ensures broken { fault.rule ≢ Memory → result ≡ unread.Broken fault }
 {
@@ -57,7 +58,7 @@ fn not_read(fault: MoveFault) -> NotRead
 /// # Errors
 ///
 /// The rule that they break, with its line; `Memory`.
-fn add_words_in(
+pub(crate) fn add_words_in(
     alloc: Global,
     entries: &Entries<'_, '_>,
     pairs: &mut Correspondences<'_>,
@@ -177,7 +178,7 @@ fn bound_named(entries: &Entries<'_, '_>, words: &[Token]) -> Result<NamedEntry,
 /// # Errors
 ///
 /// The rule that they break, with the loop's line; `Memory`.
-fn read_bound(
+pub(crate) fn read_bound(
     alloc: Global,
     entries: &Entries<'_, '_>,
     head: &Loop<'_>,
@@ -239,6 +240,7 @@ fn add_turn<'a>(
 }
 
 /// Reads a turn of a loop to an item, and says whether it has the elements that it names: of one that hasn't nothing is kept or counted, but its fault.
+/// Where the turn is sure to come to few statements it is looked at first, and not read if it breaks a rule there.
 ///
 /// # Errors
 ///
@@ -252,12 +254,16 @@ fn try_turn<'a>(
     number: u32,
     body: &'a [Token],
     turn: &[Counter<'a>],
+    sure: bool,
     made: &mut Made,
 ) -> Result<Option<MoveFault>, NotRead>
     requires named { AllMayBeNamed entries.now }
     requires pairs { ArePairsOf (records_of entries.now) pairs.old }
     requires made { IsMade (records_of entries.now) (made_lists made.old) }
     requires bounds { HasBounds (lexemes body.now) }
+    requires sure { IsTrue sure → IsSure entries.now
+        (in_its_turn (counters turn.now) (written_loop head.now) number) (lexemes body.now)
+        (made_lists made.old).read }
     ensures added { IfOk result (λ o. IfNone o (AddsDeeds entries.now
         (in_its_turn (counters turn.now) (written_loop head.now) number) (lexemes body.now)
         (made_lists made.old) (made_lists made.new))) }
@@ -274,6 +280,11 @@ fn try_turn<'a>(
     ensures grown { OnOk result (HasGrown (made_lists made.old) (made_lists made.new)) }
     ensures pairs { ArePairsOf (records_of entries.now) pairs.new }
 {
+    if sure {
+        if let Some(fault) = look_at_turn(alloc, entries, pairs, head, number, body, turn)? {
+            return Ok(Some(fault));
+        }
+    }
     let before = made.sizes();
     match add_turn(alloc, entries, pairs, head, number, body, turn, made) {
         Ok(()) => Ok(None),
@@ -379,16 +390,25 @@ fn try_turns<'a>(
     // For what comes first: what comes to something does so once, and breaks no rule.
     one_deeds();
     deeds_break_no_rule();
+    // For turns that are sure: words are one list of statements, and one reference.
+    one_list_of_ended();
+    one_reference();
+    let deep = depth(body);
     let mut next = head.from;
+    let mut sure = false;
     for step in 0..MAX_RECORD + 1 {
         let number = next_number(head.from, step)?;
         let before = made.sizes();
-        if let Some(fault) = try_turn(alloc, entries, pairs, head, number, body, turn, made)? {
+        let read = made.read;
+        if let Some(fault) = try_turn(
+            alloc, entries, pairs, head, number, body, turn, sure, made,
+        )? {
             if step == 0 {
                 return Err(NotRead::Broken(fault));
             }
             return Ok(number);
         }
+        sure = is_sure(made.read, made.read.saturating_sub(read), deep);
         next = keep_turn(alloc, number, next, head.by, before, made, turns)?;
     }
     Err(NotRead::Broken(fault_of(MoveRule::Counter, head.line)))

@@ -56,6 +56,7 @@ mod deeds_laws;
 mod entries;
 mod laws;
 mod linking;
+mod looking;
 mod loops;
 mod made;
 mod meaning;

@@ -1,4 +1,4 @@
-use Rattle.std.proofs.Common.{◌≡◌, ◌+◌, ◌-◌, ◌++◌, ◌∷◌, [], List, ℕ, ◌∙◌, ap, arith, false, length, refl, subst, sym}
+use Rattle.std.proofs.Common.{◌≡◌, ◌+◌, ◌-◌, ◌++◌, ◌∷◌, [], List, ℕ, ◌∙◌, ap, arith, false, length, refl, subst, sym, true}
 use Rattle.std.specs.Prelude.{IfErr, OnOk}
 use Rattle.std.specs.Global.{Vec}
 use Rattle.std.proofs.lemmas.Result.{IfErr-weaker, IfOk-weaker, err_from_is_err_and}
@@ -19,6 +19,7 @@ use Rattle.cob_move.proofs.MadeLemmas.{forgotten_again, grown_both, grown_none, 
 use Rattle.cob_move.proofs.ReadingLemmas.{bounds_parted, deeds_end, deeds_first, deeds_more, deeds_refused, front_read, loop_bounds, pause_added}
 use Rattle.cob_move.proofs.TestedLemmas.{HasReadLoop, bound_for, bound_not_read, breaks_first, breaks_same, broken_left, closed_refused, emptied, first_refused, later_refused, loop_left, loop_same, never_refused, no_turn_comes, past_of, tested_added, tested_grown, tested_made, tried_first, tried_now, tried_step}
 use Rattle.cob_move.proofs.CloseLemmas.{closed_made, closed_open}
+use Rattle.cob_move.proofs.LookLemmas.{next_sure, sure_breaks}
 use Rattle.cob_move.proofs.TurnsLemmas.{number_next, turn_refused, turns_begin, turns_end, turns_next}
 use Rattle.cob_move.proofs.deeds.+adding.Goals as goal
 
@@ -91,6 +92,19 @@ add_item-returns-in-Pause-clause-added t c =
 pub add_item-returns-in-Pause-clause-grown : goal.add_item-returns-in-Pause-clause-grown
 add_item-returns-in-Pause-clause-grown t c = grown_none (made_lists c.args.made.now)
 
+pub try_turn-returns-in-Some-clause-refused : goal.try_turn-returns-in-Some-clause-refused
+try_turn-returns-in-Some-clause-refused t c =
+    sure_breaks c.in-Some.fault c.args.entries.now (in_its_turn (counters c.args.turn.now) (written_loop c.args.head.now) c.args.number) (lexemes c.args.body.now) (made_lists c.args.made.now).read
+    (rw c.in-Some.is at c.in_ok-fault.ensures.stops) (c.requires.sure c.if-sure.true)
+
+pub try_turn-returns-in-Some-clause-grown : goal.try_turn-returns-in-Some-clause-grown
+try_turn-returns-in-Some-clause-grown t c = grown_none (made_lists c.args.made.now)
+
+pub try_turn-returns-in_err-fault-clause-fault : goal.try_turn-returns-in_err-fault-clause-fault
+try_turn-returns-in_err-fault-clause-fault t c =
+    let p = err_from_is_err_and c.from_residual.result c.from_residual.ensures.1 in
+    rw (p.1, p.2, c.in_err-fault.ensures.fault) (λ p is. tt)
+
 pub try_turn-returns-in-Err-Broken-clause-same : goal.try_turn-returns-in-Err-Broken-clause-same
 try_turn-returns-in-Err-Broken-clause-same t c = c.forget.ensures ∙ forgotten_again c.sizes-before.result (made_lists c.args.made.now) (made_lists c.add_turn.new.made) c.sizes-before.ensures (subst (λ (n : NotRead). LeavesFront n (made_lists c.args.made.now) (made_lists c.add_turn.new.made)) c.in-Err-Broken.field-0-is c.in-Err-Broken.ensures.kept)
 
@@ -141,6 +155,7 @@ add_turns-returns-clause-added t c =
 pub try_turns-loop-step-init : goal.try_turns-loop-step-init
 try_turns-loop-step-init t c = record {
   tried = tried_first c.args.entries.now (counters c.args.turn.now) (written_loop c.args.head.now) (lexemes c.args.body.now) (c.args.head.now.from + 0) c.args.head.now.from (flow_lists c.args.turns.now.items) (made_lists c.args.made.now) (omega arith) refl (ap flow_lists c.requires.none.1) c.requires.none.0 c.requires.marked c.requires.made;
+  sure = λ never. absurd (let same : false ≡ true = never in cc);
   pairs = c.requires.pairs;
 }
 
@@ -149,6 +164,9 @@ try_turns-loop-step-preserved t c = record {
   tried = tried_step c.one_deeds.ensures c.args.entries.now (counters c.args.turn.now) (written_loop c.args.head.now) (lexemes c.args.body.now) c.loop-step.step c.in_ok-number.number c.loop-step.next _ (flow_lists c.loop-step.turns.items) (flow_lists c.keep_turn.new.turns.items) c.sizes-before.result (made_lists c.args.made.now) (made_lists c.loop-step.made) (made_lists c.try_turn.new.made) (made_lists c.keep_turn.new.made)
       c.args.head.now.steps c.in_ok-number.ensures c.loop-step.invariant.tried c.sizes-before.ensures c.in_ok-fault.ensures.made c.in_ok-fault.ensures.grown (rw c.in_default.is at c.in_ok-fault.ensures.added) c.in_ok-next.ensures.kept
       (λ other. let k = c.in_ok-next.ensures.passed other in (k.0, k.1, ap flow_lists k.2));
+  sure = λ yes. next_sure c.one_deeds.ensures c.one_list_of_ended.ensures c.one_reference.ensures c.args.entries.now (counters c.args.turn.now) (written_loop c.args.head.now) (lexemes c.args.body.now) c.loop-step.step c.in_ok-number.number c.loop-step.next c.depth-deep.result c.saturating_sub.result c.sizes-before.result
+      (made_lists c.loop-step.made) (made_lists c.try_turn.new.made) (made_lists c.keep_turn.new.made) c.in_ok-number.ensures (rw c.in_default.is at c.in_ok-fault.ensures.added) c.depth-deep.ensures.deep c.saturating_sub.ensures (c.is_sure-sure.ensures yes)
+      (λ here. (c.in_ok-next.ensures.kept here).1) (λ other. (c.in_ok-next.ensures.passed other).1);
   pairs = c.in_ok-fault.ensures.pairs;
 }
 

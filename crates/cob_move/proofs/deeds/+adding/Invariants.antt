@@ -1,9 +1,10 @@
 use Rattle.std.proofs.Common.{◌≡◌, ℕ, ◌≤◌, ◌+◌, ◌-◌, ◌*◌, length}
+use Rattle.std.specs.Prelude.{IsTrue}
 use Rattle.cob_source.specs.Tokens.{lexemes}
 use Rattle.cob_move_loops.specs.Reading.{counters, item_front, written_loop}
 use Rattle.cob_move_loops.proofs.FrontLemmas.{front_size}
 use Rattle.cob_move.specs.Between.{ArePairsOf}
-use Rattle.cob_move.specs.DeedsRead.{AddsTurns, HasBounds, HasGrown, IsMade, flow_lists, made_lists}
+use Rattle.cob_move.specs.DeedsRead.{AddsTurns, HasBounds, HasGrown, IsMade, IsSure, flow_lists, in_its_turn, made_lists}
 use Rattle.cob_move.specs.Entries.{records_of}
 use Rattle.cob_move.proofs.ReadingLemmas.{LeftOfDeeds}
 use Rattle.cob_move.proofs.TestedLemmas.{HasTried}
@@ -59,5 +60,6 @@ invariant-add_turns-loop-done l = record {
 abbrev pub invariant-try_turns-loop-step : goal.invariant-try_turns-loop-step
 invariant-try_turns-loop-step l = record {
   tried : HasTried l.entries (counters l.turn) (written_loop l.head) (lexemes l.body) (l.head.from + l.step) l.next (flow_lists l.turns.items) (made_lists l.fn.made) (made_lists l.made);
+  sure : IsTrue l.sure → IsSure l.entries (in_its_turn (counters l.turn) (written_loop l.head) (l.head.from + l.step)) (lexemes l.body) (made_lists l.made).read;
   pairs : ArePairsOf (records_of l.entries) l.pairs;
 }
