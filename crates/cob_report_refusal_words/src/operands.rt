@@ -1,6 +1,6 @@
 //! Names of a statement, and what they mean.
 
-use crate::bearers::{Bearer, BearersText, BothWords, MOST_BEARERS, OperandText};
+use crate::bearers::{Bearer, BothWords, MOST_BEARERS, NamedBearers, Operand};
 use crate::entry::{behind_many, front_of, picture_word};
 use crate::phrases::{Part, Phrase};
 use crate::search::Looked;
@@ -102,7 +102,7 @@ pub(crate) fn told_ambiguous<'a>(both: BothWords<'a>, statement: &'a [Token]) ->
             "{} is {} entries: {}",
             Part::Word(word),
             Part::Number(both.count(Looked::Named(name))),
-            Part::Bearers(BearersText { both, name }),
+            Part::Bearers(NamedBearers { both, name }),
         ),
         hint: first_hint(both, name),
     }
@@ -166,11 +166,11 @@ pub(crate) fn told_pair<'a>(
     hint: &'static str,
 ) -> Told<'a> {
     let receivers = receivers_of(statement);
-    let from = OperandText {
+    let from = Operand {
         both,
         words: behind_many(statement, 1),
     };
-    let to = OperandText {
+    let to = Operand {
         both,
         words: receivers,
     };
