@@ -4,8 +4,9 @@ use crate::entry::{
     WrittenEntry, entry_at, entry_in_front, level_of, line_of, name_word, write_picture,
 };
 use crate::search::{Looked, MOST_LEVELS, found_between, found_in, holder_at};
+use crate::terms::behind;
 use crate::words::write_word;
-use cob_copybook_clauses::{WordClass, behind};
+use cob_copybook_clauses::WordClass;
 use cob_source::Token;
 use std::fmt;
 

@@ -1,9 +1,9 @@
 //! The words of an entry.
 
 use crate::clauses::clause_name;
+use crate::terms::{is_term, whole};
 use crate::words::write_word;
-use cob_copybook_clauses::{WordClass, is_term};
-use cob_copybook_entries::whole;
+use cob_copybook_clauses::WordClass;
 use cob_source::{Token, TokenKind};
 use std::fmt;
 
@@ -149,10 +149,10 @@ pub(crate) fn word_of(words: &[Token], term: WordClass) -> Option<&Token> {
 
 /// The first word behind this one, one that may be left out passed over.
 pub(crate) fn word_behind(words: &[Token], term: WordClass, between: WordClass) -> Option<&Token> {
-    let (_, more) = words_from(words, term)?.split_first()?;
-    let (first, others) = more.split_first()?;
+    let rest = behind_many(words_from(words, term)?, 1);
+    let first = rest.first()?;
     if is_term(first, between) {
-        return others.first();
+        return behind_many(rest, 1).first();
     }
     Some(first)
 }

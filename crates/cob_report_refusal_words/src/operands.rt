@@ -5,19 +5,17 @@ use crate::entry::{behind_many, front_of, picture_word};
 use crate::phrases::{Part, Phrase};
 use crate::search::Looked;
 use crate::statements::receivers_of;
+use crate::terms::{behind, is_name_word, is_term};
 use crate::told::{Caret, Told, advised, said};
-use cob_copybook_clauses::{WordClass, behind, is_name_word, is_term, word_class};
+use cob_copybook_clauses::WordClass;
 use cob_source::Token;
 
 /// Whether the last bracket among these words is one that opens.
 fn end_in_brackets(words: &[Token]) -> bool {
     let mut inside = false;
     for word in words {
-        match word_class(word) {
-            WordClass::OpenBracket => inside = true,
-            WordClass::CloseBracket => inside = false,
-            _ => {}
-        }
+        inside = is_term(word, WordClass::OpenBracket)
+            || (inside && !is_term(word, WordClass::CloseBracket));
     }
     inside
 }

@@ -5,9 +5,9 @@ use crate::entry::{behind_many, front_of};
 use crate::phrases::{Part, Phrase};
 use crate::search::{MOST_LEVELS, holder_at};
 use crate::tables::greatest_number;
+use crate::terms::{behind, is_name_word, is_term, whole};
 use crate::told::{Caret, Told, advised};
-use cob_copybook_clauses::{WordClass, behind, is_name_word, is_term, qualifiers_at};
-use cob_copybook_entries::whole;
+use cob_copybook_clauses::{WordClass, qualifiers_at};
 use cob_source::Token;
 
 /// What holds an entry, if something does.
