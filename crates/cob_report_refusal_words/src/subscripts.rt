@@ -64,17 +64,27 @@ fn subscripts_of(words: &[Token]) -> &[Token] {
     }
 }
 
+/// What is told of a subscript behind the name of an entry in no table.
+fn told_needless(name: &Token) -> Told<'_> {
+    advised(
+        Some(Caret::under(name)),
+        Phrase::of(
+            "{} stands in no table, and a subscript is written",
+            Part::Word(name),
+        ),
+        Phrase::plain("leave the subscript out"),
+    )
+}
+
 /// What is told of the number of subscripts.
 fn told_number(name: &Token, tables: usize, written: usize) -> Told<'_> {
-    let form = if tables == 0 {
-        "{} stands in no table, and a subscript is written"
-    } else {
-        "{} has {} OCCURS at it or above, and {} subscripts are written"
-    };
+    if tables == 0 {
+        return told_needless(name);
+    }
     advised(
         Some(Caret::under(name)),
         Phrase::of_three(
-            form,
+            "{} has {} OCCURS at it or above, and {} subscripts are written",
             Part::Word(name),
             Part::Number(tables),
             Part::Number(written),
