@@ -1,11 +1,12 @@
 //! The entries of both records that bear a name.
 
 use crate::entry::{
-    PictureOf, WrittenEntry, entry_at, entry_in_front, level_of, line_of, name_word,
+    WrittenEntry, entry_at, entry_in_front, level_of, line_of, name_word, write_picture,
 };
 use crate::search::{Looked, MOST_LEVELS, found_between, found_in, holder_at};
-use crate::words::WordText;
-use cob_copybook_clauses::{WordClass, behind};
+use crate::terms::behind;
+use crate::words::write_word;
+use cob_copybook_clauses::WordClass;
 use cob_source::Token;
 use std::fmt;
 
@@ -155,88 +156,94 @@ pub(crate) fn meant<'a>(both: BothWords<'a>, words: &[Token]) -> Option<Bearer<'
     found
 }
 
-/// An entry with its record, which prints.
-#[derive(Clone, Copy)]
-pub(crate) struct QualifiedText<'a> {
-    pub(crate) bearer: Bearer<'a>,
-}
-
-impl fmt::Display for QualifiedText<'_> {
-    fn fmt<W: fmt::Write>(&self, f: &mut fmt::Formatter<W>) -> fmt::Result {
-        match name_word(self.bearer.entry()) {
-            Some(word) => write!(f, "{} OF ", WordText { word })?,
-            None => return write!(f, "FILLER"),
-        }
-        match self.bearer.book.record_word() {
-            Some(word) => write!(f, "{}", WordText { word }),
-            None => write!(f, "{}", self.bearer.book.given_name()),
-        }
+/// Writes the name of a record.
+fn write_record<W: fmt::Write>(f: &mut fmt::Formatter<W>, book: BookWords<'_>) -> fmt::Result {
+    match book.record_word() {
+        Some(word) => write_word(f, word),
+        None => f.write_str(book.given_name()),
     }
 }
 
-/// Where an entry stands, which prints.
-#[derive(Clone, Copy)]
-pub(crate) struct PlaceText<'a> {
-    pub(crate) bearer: Bearer<'a>,
+/// Writes an entry with its record.
+pub(crate) fn write_qualified<W: fmt::Write>(
+    f: &mut fmt::Formatter<W>,
+    bearer: Bearer<'_>,
+) -> fmt::Result {
+    let Some(word) = name_word(bearer.entry()) else {
+        return f.write_str("FILLER");
+    };
+    write_word(f, word)?;
+    f.write_str(" OF ")?;
+    write_record(f, bearer.book)
 }
 
-impl fmt::Display for PlaceText<'_> {
-    fn fmt<W: fmt::Write>(&self, f: &mut fmt::Formatter<W>) -> fmt::Result {
-        let option = if self.bearer.book.is_input {
-            "in-book"
-        } else {
-            "out-book"
-        };
-        write!(f, "{option} line {}", line_of(self.bearer.entry()))
-    }
+/// Writes where an entry stands.
+pub(crate) fn write_place<W: fmt::Write>(
+    f: &mut fmt::Formatter<W>,
+    bearer: Bearer<'_>,
+) -> fmt::Result {
+    let option = if bearer.book.is_input {
+        "in-book"
+    } else {
+        "out-book"
+    };
+    write!(f, "{option} line {}", line_of(bearer.entry()))
 }
 
-/// The entries of both records with a name, which print with their places, three at most.
+/// Writes an entry with its record, and in brackets where it stands.
+fn write_bearer<W: fmt::Write>(f: &mut fmt::Formatter<W>, bearer: Bearer<'_>) -> fmt::Result {
+    write_qualified(f, bearer)?;
+    f.write_str(" (")?;
+    write_place(f, bearer)?;
+    f.write_char(')')
+}
+
+/// The entries of both records with a name.
 #[derive(Clone, Copy)]
-pub(crate) struct BearersText<'a> {
+pub(crate) struct NamedBearers<'a> {
     pub(crate) both: BothWords<'a>,
     pub(crate) name: &'a [u8],
 }
 
-impl fmt::Display for BearersText<'_> {
-    fn fmt<W: fmt::Write>(&self, f: &mut fmt::Formatter<W>) -> fmt::Result {
-        let looked = Looked::Named(self.name);
-        let mut next = self.both.first(looked);
-        for at in 0..3 {
-            let Some(bearer) = next else {
-                return Ok(());
-            };
-            if at > 0 {
-                write!(f, ", ")?;
-            }
-            let own = QualifiedText { bearer };
-            let place = PlaceText { bearer };
-            write!(f, "{own} ({place})")?;
-            next = self.both.next(bearer, looked);
+/// Writes the entries with a name, with their places, three at most.
+pub(crate) fn write_bearers<W: fmt::Write>(
+    f: &mut fmt::Formatter<W>,
+    named: NamedBearers<'_>,
+) -> fmt::Result {
+    let looked = Looked::Named(named.name);
+    let mut next = named.both.first(looked);
+    for at in 0..3 {
+        let Some(bearer) = next else {
+            return Ok(());
+        };
+        if at > 0 {
+            f.write_str(", ")?;
         }
-        Ok(())
+        write_bearer(f, bearer)?;
+        next = named.both.next(bearer, looked);
     }
+    Ok(())
 }
 
-/// An operand of a statement, which prints with what it is, where one entry is meant.
+/// An operand of a statement.
 #[derive(Clone, Copy)]
-pub(crate) struct OperandText<'a> {
+pub(crate) struct Operand<'a> {
     pub(crate) both: BothWords<'a>,
     pub(crate) words: &'a [Token],
 }
 
-impl fmt::Display for OperandText<'_> {
-    fn fmt<W: fmt::Write>(&self, f: &mut fmt::Formatter<W>) -> fmt::Result {
-        match self.words.first() {
-            Some(word) => write!(f, "{}", WordText { word })?,
-            None => return write!(f, "nothing"),
-        }
-        match meant(self.both, self.words) {
-            Some(bearer) => {
-                let entry = bearer.entry();
-                write!(f, ", {}", PictureOf { entry })
-            }
-            None => Ok(()),
-        }
-    }
+/// Writes an operand with what it is, where one entry is meant.
+pub(crate) fn write_operand<W: fmt::Write>(
+    f: &mut fmt::Formatter<W>,
+    operand: Operand<'_>,
+) -> fmt::Result {
+    let Some(word) = operand.words.first() else {
+        return f.write_str("nothing");
+    };
+    write_word(f, word)?;
+    let Some(bearer) = meant(operand.both, operand.words) else {
+        return Ok(());
+    };
+    f.write_str(", ")?;
+    write_picture(f, bearer.entry())
 }

@@ -1,7 +1,8 @@
 //! The clauses of an entry, as far as their words go on.
 
 use crate::entry::behind_many;
-use cob_copybook_clauses::{WordClass, behind, is_name_word, is_term, qualifiers_at, word_class};
+use crate::terms::{behind, is_name_word, is_term};
+use cob_copybook_clauses::{WordClass, qualifiers_at};
 use cob_source::{Token, TokenKind};
 
 /// What lacks in words: what was expected, and the words from the first on that can't go on.
@@ -152,17 +153,24 @@ fn behind_occurs(words: &[Token]) -> Read<'_> {
     behind_keys(times)
 }
 
+/// The words of characters: a literal in quotes, and the figurative constants.
+static CHARACTERS: [WordClass; 6] = [
+    WordClass::Literal,
+    WordClass::Space,
+    WordClass::Zero,
+    WordClass::HighValue,
+    WordClass::LowValue,
+    WordClass::Quote,
+];
+
 /// Whether a word is a literal in quotes or a figurative constant.
 pub(crate) fn is_characters(word: &Token) -> bool {
-    matches!(
-        word_class(word),
-        WordClass::Literal
-            | WordClass::Space
-            | WordClass::Zero
-            | WordClass::HighValue
-            | WordClass::LowValue
-            | WordClass::Quote
-    )
+    for term in &CHARACTERS {
+        if is_term(word, *term) {
+            return true;
+        }
+    }
+    false
 }
 
 fn behind_value(words: &[Token]) -> Read<'_> {
@@ -192,35 +200,73 @@ fn behind_blank(words: &[Token]) -> Read<'_> {
     behind_term(skip(more, WordClass::When), WordClass::Zero, "ZERO")
 }
 
+/// A clause of an entry.
+#[derive(Clone, Copy)]
+enum Clause {
+    Redefines,
+    Picture,
+    Usage,
+    Sign,
+    Occurs,
+    Value,
+    Justified,
+    Blank,
+}
+
+/// The words that begin a clause, which clause that is, and what it is called.
+static FIRST_WORDS: [(WordClass, Clause, &str); 11] = [
+    (WordClass::Redefines, Clause::Redefines, "a REDEFINES"),
+    (WordClass::Picture, Clause::Picture, "a PICTURE"),
+    (WordClass::Usage, Clause::Usage, "a USAGE"),
+    (WordClass::UsageName, Clause::Usage, "a USAGE"),
+    (WordClass::Sign, Clause::Sign, "a SIGN"),
+    (WordClass::Leading, Clause::Sign, "a SIGN"),
+    (WordClass::Trailing, Clause::Sign, "a SIGN"),
+    (WordClass::Occurs, Clause::Occurs, "an OCCURS"),
+    (WordClass::Value, Clause::Value, "a VALUE"),
+    (WordClass::Justified, Clause::Justified, "a JUSTIFIED"),
+    (WordClass::Blank, Clause::Blank, "a BLANK WHEN ZERO"),
+];
+
+/// The clause that a word begins, and what it is called, if it begins one.
+fn begun_clause(word: &Token) -> Option<(Clause, &'static str)> {
+    for (first, clause, name) in &FIRST_WORDS {
+        if is_term(word, *first) {
+            return Some((*clause, *name));
+        }
+    }
+    None
+}
+
+/// The words behind a clause in front, or what lacks in it.
+fn behind_begun(words: &[Token], clause: Clause) -> Read<'_> {
+    match clause {
+        Clause::Redefines => behind_redefines(words),
+        Clause::Picture => behind_picture(words),
+        Clause::Usage => behind_usage(words),
+        Clause::Sign => behind_sign(words),
+        Clause::Occurs => behind_occurs(words),
+        Clause::Value => behind_value(words),
+        Clause::Justified => behind_justified(words),
+        Clause::Blank => behind_blank(words),
+    }
+}
+
 /// The words behind the clause in front, or what lacks in it.
 pub(crate) fn behind_clause(words: &[Token]) -> Read<'_> {
     let Some(first) = words.first() else {
         return Ok(words);
     };
-    match word_class(first) {
-        WordClass::Redefines => behind_redefines(words),
-        WordClass::Picture => behind_picture(words),
-        WordClass::Usage | WordClass::UsageName => behind_usage(words),
-        WordClass::Sign | WordClass::Leading | WordClass::Trailing => behind_sign(words),
-        WordClass::Occurs => behind_occurs(words),
-        WordClass::Value => behind_value(words),
-        WordClass::Justified => behind_justified(words),
-        WordClass::Blank => behind_blank(words),
-        _ => lacks(words, "a clause or a period"),
+    match begun_clause(first) {
+        Some((clause, _)) => behind_begun(words, clause),
+        None => lacks(words, "a clause or a period"),
     }
 }
 
 /// What a word that begins a clause is called.
 pub(crate) fn clause_name(word: &Token) -> Option<&'static str> {
-    match word_class(word) {
-        WordClass::Redefines => Some("a REDEFINES"),
-        WordClass::Picture => Some("a PICTURE"),
-        WordClass::Usage | WordClass::UsageName => Some("a USAGE"),
-        WordClass::Sign | WordClass::Leading | WordClass::Trailing => Some("a SIGN"),
-        WordClass::Occurs => Some("an OCCURS"),
-        WordClass::Value => Some("a VALUE"),
-        WordClass::Justified => Some("a JUSTIFIED"),
-        WordClass::Blank => Some("a BLANK WHEN ZERO"),
-        _ => None,
+    match begun_clause(word) {
+        Some((_, name)) => Some(name),
+        None => None,
     }
 }

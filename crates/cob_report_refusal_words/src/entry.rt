@@ -1,9 +1,9 @@
 //! The words of an entry.
 
 use crate::clauses::clause_name;
-use crate::words::WordText;
-use cob_copybook_clauses::{WordClass, is_term};
-use cob_copybook_entries::whole;
+use crate::terms::{is_term, whole};
+use crate::words::write_word;
+use cob_copybook_clauses::WordClass;
 use cob_source::{Token, TokenKind};
 use std::fmt;
 
@@ -100,34 +100,36 @@ pub(crate) fn name_word(entry: WrittenEntry<'_>) -> Option<&Token> {
     if names { Some(named) } else { None }
 }
 
-/// An entry, which prints as it is told: by its name, or by its line.
-#[derive(Clone, Copy)]
-pub(crate) struct EntryText<'a> {
-    pub(crate) entry: WrittenEntry<'a>,
-}
-
-impl fmt::Display for EntryText<'_> {
-    fn fmt<W: fmt::Write>(&self, f: &mut fmt::Formatter<W>) -> fmt::Result {
-        match name_word(self.entry) {
-            Some(word) => write!(f, "{}", WordText { word }),
-            None => write!(f, "the entry in line {}", line_of(self.entry)),
-        }
+/// Writes an entry as it is told: by its name, or by its line.
+pub(crate) fn write_entry<W: fmt::Write>(
+    f: &mut fmt::Formatter<W>,
+    entry: WrittenEntry<'_>,
+) -> fmt::Result {
+    match name_word(entry) {
+        Some(word) => write_word(f, word),
+        None => write!(f, "the entry in line {}", line_of(entry)),
     }
 }
 
-/// What an entry is, which prints as its picture, or as a group.
-#[derive(Clone, Copy)]
-pub(crate) struct PictureOf<'a> {
-    pub(crate) entry: WrittenEntry<'a>,
+/// Writes an entry so, and its line behind it in brackets.
+pub(crate) fn write_entry_with_line<W: fmt::Write>(
+    f: &mut fmt::Formatter<W>,
+    entry: WrittenEntry<'_>,
+) -> fmt::Result {
+    write_entry(f, entry)?;
+    write!(f, " (line {})", line_of(entry))
 }
 
-impl fmt::Display for PictureOf<'_> {
-    fn fmt<W: fmt::Write>(&self, f: &mut fmt::Formatter<W>) -> fmt::Result {
-        match picture_word(self.entry) {
-            Some(word) => write!(f, "PIC {}", WordText { word }),
-            None => write!(f, "a group"),
-        }
-    }
+/// Writes what an entry is: its picture, or that it is a group.
+pub(crate) fn write_picture<W: fmt::Write>(
+    f: &mut fmt::Formatter<W>,
+    entry: WrittenEntry<'_>,
+) -> fmt::Result {
+    let Some(word) = picture_word(entry) else {
+        return f.write_str("a group");
+    };
+    f.write_str("PIC ")?;
+    write_word(f, word)
 }
 
 /// The words from the first of this kind on, if there is one.
@@ -147,10 +149,10 @@ pub(crate) fn word_of(words: &[Token], term: WordClass) -> Option<&Token> {
 
 /// The first word behind this one, one that may be left out passed over.
 pub(crate) fn word_behind(words: &[Token], term: WordClass, between: WordClass) -> Option<&Token> {
-    let (_, more) = words_from(words, term)?.split_first()?;
-    let (first, others) = more.split_first()?;
+    let rest = behind_many(words_from(words, term)?, 1);
+    let first = rest.first()?;
     if is_term(first, between) {
-        return others.first();
+        return behind_many(rest, 1).first();
     }
     Some(first)
 }

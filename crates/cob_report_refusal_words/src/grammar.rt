@@ -7,9 +7,10 @@ use crate::entry::{
 };
 use crate::near::near_clause;
 use crate::phrases::{Part, Phrase};
+use crate::terms::{behind, is_term, whole};
 use crate::told::{Caret, Told, advised, said};
-use cob_copybook_clauses::{WordClass, behind, is_condition, is_term, read_entry};
-use cob_copybook_entries::{is_numeric_literal, whole};
+use cob_copybook_clauses::{WordClass, is_condition, read_entry};
+use cob_copybook_entries::is_numeric_literal;
 use cob_source::{Token, TokenKind};
 
 /// The words of an entry behind its level and its name.

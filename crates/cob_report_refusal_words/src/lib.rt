@@ -41,6 +41,7 @@ mod source;
 mod statements;
 mod subscripts;
 mod tables;
+mod terms;
 mod told;
 mod values;
 mod verbs;

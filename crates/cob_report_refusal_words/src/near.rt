@@ -10,14 +10,13 @@ fn differ_in_one(a: &[u8], b: &[u8]) -> bool {
 
 /// How many characters both begin with.
 fn same_front(a: &[u8], b: &[u8]) -> usize {
-    let mut count: usize = 0;
-    for (x, y) in a.iter().zip(b.iter()) {
-        if *x != *y {
-            return count;
+    for (at, x) in a.iter().enumerate() {
+        match b.get(at) {
+            Some(y) if *y == *x => {}
+            _ => return at,
         }
-        count = count.saturating_add(1);
     }
-    count
+    a.len()
 }
 
 /// Whether what is left behind a first difference is the same but for it.

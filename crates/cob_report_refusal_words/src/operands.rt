@@ -1,23 +1,21 @@
 //! Names of a statement, and what they mean.
 
-use crate::bearers::{Bearer, BearersText, BothWords, MOST_BEARERS, OperandText};
+use crate::bearers::{Bearer, BothWords, MOST_BEARERS, NamedBearers, Operand};
 use crate::entry::{behind_many, front_of, picture_word};
 use crate::phrases::{Part, Phrase};
 use crate::search::Looked;
 use crate::statements::receivers_of;
+use crate::terms::{behind, is_name_word, is_term};
 use crate::told::{Caret, Told, advised, said};
-use cob_copybook_clauses::{WordClass, behind, is_name_word, is_term, word_class};
+use cob_copybook_clauses::WordClass;
 use cob_source::Token;
 
 /// Whether the last bracket among these words is one that opens.
 fn end_in_brackets(words: &[Token]) -> bool {
     let mut inside = false;
     for word in words {
-        match word_class(word) {
-            WordClass::OpenBracket => inside = true,
-            WordClass::CloseBracket => inside = false,
-            _ => {}
-        }
+        inside = is_term(word, WordClass::OpenBracket)
+            || (inside && !is_term(word, WordClass::CloseBracket));
     }
     inside
 }
@@ -102,7 +100,7 @@ pub(crate) fn told_ambiguous<'a>(both: BothWords<'a>, statement: &'a [Token]) ->
             "{} is {} entries: {}",
             Part::Word(word),
             Part::Number(both.count(Looked::Named(name))),
-            Part::Bearers(BearersText { both, name }),
+            Part::Bearers(NamedBearers { both, name }),
         ),
         hint: first_hint(both, name),
     }
@@ -166,11 +164,11 @@ pub(crate) fn told_pair<'a>(
     hint: &'static str,
 ) -> Told<'a> {
     let receivers = receivers_of(statement);
-    let from = OperandText {
+    let from = Operand {
         both,
         words: behind_many(statement, 1),
     };
-    let to = OperandText {
+    let to = Operand {
         both,
         words: receivers,
     };

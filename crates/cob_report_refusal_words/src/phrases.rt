@@ -1,8 +1,10 @@
 //! Phrases: a form with places in it, and what stands there.
 
-use crate::bearers::{Bearer, BearersText, OperandText, PlaceText, QualifiedText};
-use crate::entry::{EntryText, PictureOf, WrittenEntry, line_of};
-use crate::words::{BytesText, WordText, WordsText};
+use crate::bearers::{
+    Bearer, NamedBearers, Operand, write_bearers, write_operand, write_place, write_qualified,
+};
+use crate::entry::{WrittenEntry, write_entry, write_entry_with_line, write_picture};
+use crate::words::{write_bytes, write_word, write_words};
 use cob_source::Token;
 use std::fmt;
 
@@ -36,31 +38,30 @@ pub(crate) enum Part<'a> {
     /// Where such an entry stands.
     Place(Bearer<'a>),
     /// Entries with one name, with their places.
-    Bearers(BearersText<'a>),
+    Bearers(NamedBearers<'a>),
     /// An operand of a statement, with what it is.
-    Operand(OperandText<'a>),
+    Operand(Operand<'a>),
 }
 
-impl fmt::Display for Part<'_> {
-    fn fmt<W: fmt::Write>(&self, f: &mut fmt::Formatter<W>) -> fmt::Result {
-        match *self {
+impl Part<'_> {
+    /// Writes it.
+    fn write<W: fmt::Write>(self, f: &mut fmt::Formatter<W>) -> fmt::Result {
+        match self {
             Part::Nothing => Ok(()),
-            Part::Text(text) => write!(f, "{text}"),
-            Part::Bytes(bytes) => write!(f, "{}", BytesText { bytes }),
+            Part::Text(text) => f.write_str(text),
+            Part::Bytes(bytes) => write_bytes(f, bytes),
             Part::Hexadecimal(byte) => write!(f, "{byte:02X}"),
             Part::Number(number) => write!(f, "{number}"),
             Part::Level(level) => write!(f, "{level:02}"),
-            Part::Word(word) => write!(f, "{}", WordText { word }),
-            Part::Words(words) => write!(f, "{}", WordsText { words }),
-            Part::Entry(entry) => write!(f, "{}", EntryText { entry }),
-            Part::EntryWithLine(entry) => {
-                write!(f, "{} (line {})", EntryText { entry }, line_of(entry))
-            }
-            Part::Picture(entry) => write!(f, "{}", PictureOf { entry }),
-            Part::Qualified(bearer) => write!(f, "{}", QualifiedText { bearer }),
-            Part::Place(bearer) => write!(f, "{}", PlaceText { bearer }),
-            Part::Bearers(bearers) => write!(f, "{bearers}"),
-            Part::Operand(operand) => write!(f, "{operand}"),
+            Part::Word(word) => write_word(f, word),
+            Part::Words(words) => write_words(f, words),
+            Part::Entry(entry) => write_entry(f, entry),
+            Part::EntryWithLine(entry) => write_entry_with_line(f, entry),
+            Part::Picture(entry) => write_picture(f, entry),
+            Part::Qualified(bearer) => write_qualified(f, bearer),
+            Part::Place(bearer) => write_place(f, bearer),
+            Part::Bearers(bearers) => write_bearers(f, bearers),
+            Part::Operand(operand) => write_operand(f, operand),
         }
     }
 }
@@ -125,10 +126,10 @@ impl fmt::Display for Phrase<'_> {
         for (at, piece) in self.form.split("{}").enumerate() {
             if at > 0 {
                 if let Some(part) = parts.next() {
-                    write!(f, "{part}")?;
+                    (*part).write(f)?;
                 }
             }
-            write!(f, "{piece}")?;
+            f.write_str(piece)?;
         }
         Ok(())
     }

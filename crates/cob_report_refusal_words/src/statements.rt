@@ -2,7 +2,8 @@
 
 use crate::clauses::{Read, behind_term, is_characters, lacks};
 use crate::entry::{behind_many, front_of};
-use cob_copybook_clauses::{WordClass, behind, is_name_word, is_term};
+use crate::terms::{behind, is_name_word, is_term};
+use cob_copybook_clauses::WordClass;
 use cob_source::{Token, TokenKind};
 
 /// The words behind the qualifiers of a name, or what lacks in them.

@@ -5,9 +5,9 @@ use crate::entry::{behind_many, front_of};
 use crate::phrases::{Part, Phrase};
 use crate::search::{MOST_LEVELS, holder_at};
 use crate::tables::greatest_number;
+use crate::terms::{behind, is_name_word, is_term, whole};
 use crate::told::{Caret, Told, advised};
-use cob_copybook_clauses::{WordClass, behind, is_name_word, is_term, qualifiers_at};
-use cob_copybook_entries::whole;
+use cob_copybook_clauses::{WordClass, qualifiers_at};
 use cob_source::Token;
 
 /// What holds an entry, if something does.
@@ -64,17 +64,27 @@ fn subscripts_of(words: &[Token]) -> &[Token] {
     }
 }
 
+/// What is told of a subscript behind the name of an entry in no table.
+fn told_needless(name: &Token) -> Told<'_> {
+    advised(
+        Some(Caret::under(name)),
+        Phrase::of(
+            "{} stands in no table, and a subscript is written",
+            Part::Word(name),
+        ),
+        Phrase::plain("leave the subscript out"),
+    )
+}
+
 /// What is told of the number of subscripts.
 fn told_number(name: &Token, tables: usize, written: usize) -> Told<'_> {
-    let form = if tables == 0 {
-        "{} stands in no table, and a subscript is written"
-    } else {
-        "{} has {} OCCURS at it or above, and {} subscripts are written"
-    };
+    if tables == 0 {
+        return told_needless(name);
+    }
     advised(
         Some(Caret::under(name)),
         Phrase::of_three(
-            form,
+            "{} has {} OCCURS at it or above, and {} subscripts are written",
             Part::Word(name),
             Part::Number(tables),
             Part::Number(written),

@@ -2,9 +2,9 @@
 
 use crate::entry::{WrittenEntry, level_of, word_behind, words_from};
 use crate::phrases::{Part, Phrase};
+use crate::terms::{behind, whole};
 use crate::told::{Caret, Told, advised, said};
-use cob_copybook_clauses::{WordClass, behind};
-use cob_copybook_entries::whole;
+use cob_copybook_clauses::WordClass;
 use cob_source::Token;
 
 /// The most digits of a number of times.

@@ -4,8 +4,9 @@ use crate::clauses::Lack;
 use crate::entry::{last_words, words_before};
 use crate::phrases::{Part, Phrase};
 use crate::statements::{behind_statement, broken_on};
+use crate::terms::{is_name_word, is_term};
 use crate::told::{Caret, Told, advised, said};
-use cob_copybook_clauses::{WordClass, is_name_word, is_term};
+use cob_copybook_clauses::WordClass;
 use cob_source::Token;
 
 /// What to do with a condition.

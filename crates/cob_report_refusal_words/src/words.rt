@@ -11,50 +11,55 @@ pub(crate) struct BytesText<'a> {
 
 impl fmt::Display for BytesText<'_> {
     fn fmt<W: fmt::Write>(&self, f: &mut fmt::Formatter<W>) -> fmt::Result {
-        for byte in self.bytes {
-            if *byte < 32 || *byte > 126 {
-                write!(f, ".")?;
-            } else {
-                write!(f, "{}", char::from(*byte))?;
-            }
-        }
-        Ok(())
+        write_bytes(f, self.bytes)
     }
 }
 
-/// A word, a literal or a period, which prints as it is told.
-#[derive(Clone, Copy)]
-pub(crate) struct WordText<'a> {
-    pub(crate) word: &'a Token,
-}
-
-impl fmt::Display for WordText<'_> {
-    fn fmt<W: fmt::Write>(&self, f: &mut fmt::Formatter<W>) -> fmt::Result {
-        let bytes = BytesText {
-            bytes: self.word.text.as_slice(),
-        };
-        match self.word.kind {
-            TokenKind::Word => write!(f, "{bytes}"),
-            TokenKind::Literal => write!(f, "\"{bytes}\""),
-            TokenKind::Stop => write!(f, "the period"),
-        }
+/// The character that a byte prints as.
+fn shown(byte: u8) -> char {
+    if byte < 32 || byte > 126 {
+        '.'
+    } else {
+        char::from(byte)
     }
 }
 
-/// Words, which print with spaces between them.
-#[derive(Clone, Copy)]
-pub(crate) struct WordsText<'a> {
-    pub(crate) words: &'a [Token],
+/// Writes bytes as characters, each outside 20 to 7E as a period.
+pub(crate) fn write_bytes<W: fmt::Write>(f: &mut fmt::Formatter<W>, bytes: &[u8]) -> fmt::Result {
+    for byte in bytes {
+        f.write_char(shown(*byte))?;
+    }
+    Ok(())
 }
 
-impl fmt::Display for WordsText<'_> {
-    fn fmt<W: fmt::Write>(&self, f: &mut fmt::Formatter<W>) -> fmt::Result {
-        for (at, word) in self.words.iter().enumerate() {
-            if at > 0 {
-                write!(f, " ")?;
-            }
-            write!(f, "{}", WordText { word })?;
-        }
-        Ok(())
+/// Writes a literal with its quotes.
+fn write_literal<W: fmt::Write>(f: &mut fmt::Formatter<W>, text: &[u8]) -> fmt::Result {
+    f.write_char('"')?;
+    write_bytes(f, text)?;
+    f.write_char('"')
+}
+
+/// Writes a word, a literal or a period as it is told.
+pub(crate) fn write_word<W: fmt::Write>(f: &mut fmt::Formatter<W>, word: &Token) -> fmt::Result {
+    match word.kind {
+        TokenKind::Word => write_bytes(f, word.text.as_slice()),
+        TokenKind::Literal => write_literal(f, word.text.as_slice()),
+        TokenKind::Stop => f.write_str("the period"),
     }
+}
+
+/// Writes words with spaces between them.
+pub(crate) fn write_words<W: fmt::Write>(
+    f: &mut fmt::Formatter<W>,
+    words: &[Token],
+) -> fmt::Result {
+    let Some((first, others)) = words.split_first() else {
+        return Ok(());
+    };
+    write_word(f, first)?;
+    for word in others {
+        f.write_char(' ')?;
+        write_word(f, word)?;
+    }
+    Ok(())
 }
