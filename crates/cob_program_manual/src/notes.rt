@@ -1,8 +1,8 @@
 //! What help says of a command behind its options: an example, and remarks.
 
 use crate::words::push_words;
-use clap::Command;
 use clap::error::ErrorKind;
+use clap::{Command, Error};
 use cob_program_options::program;
 use std::alloc::{AllocError, Global};
 
@@ -25,14 +25,34 @@ const BETWEEN_REMARKS: &str = ".sp\n\\&";
 // What stands between lines that are not filled.
 const LINE_END: &str = "\n\\&";
 
+/// What the program answers to these words, which ask for a help, in place of reading them.
+fn answer_to(alloc: Global, words: &[String]) -> Result<Option<Error>, AllocError> {
+    let program = program(alloc, "")?;
+    Ok(program.try_get_matches_from(words).err())
+}
+
+/// What an answer prints, where it is not that memory was refused.
+fn printed(alloc: Global, answer: &Error) -> Result<String, AllocError> {
+    if answer.kind() == ErrorKind::OutOfMemory {
+        return Err(AllocError);
+    }
+    format!(in alloc; "{answer}")
+}
+
+/// What the program prints for these words, which ask for a help.
+fn help_for(alloc: Global, words: &[String]) -> Result<String, AllocError> {
+    match answer_to(alloc, words)? {
+        Some(answer) => printed(alloc, &answer),
+        None => Ok(String::new(alloc)),
+    }
+}
+
 /// What the program prints as the help of a command.
 pub(crate) fn help_of(alloc: Global, command: &Command<'_>) -> Result<String, AllocError> {
-    let words = [command.get_name(), "--help"];
-    match program(alloc, "")?.try_get_matches_from(&words) {
-        Err(error) if error.kind() == ErrorKind::OutOfMemory => Err(AllocError),
-        Err(help) => format!(in alloc; "{help}"),
-        Ok(_) => Ok(String::new(alloc)),
-    }
+    let mut words = Vec::new(alloc);
+    words.push(String::from_str(alloc, command.get_name())?)?;
+    words.push(String::from_str(alloc, "--help")?)?;
+    help_for(alloc, words.as_slice())
 }
 
 /// What stands in a help behind the options.
@@ -59,14 +79,21 @@ pub(crate) fn push_example(text: &mut String, help: &str) -> Result<(), AllocErr
     Ok(())
 }
 
+/// Adds a remark, behind others or as the first.
+fn push_remark(text: &mut String, behind_others: bool, remark: &str) -> Result<(), AllocError> {
+    if behind_others {
+        push_words(text, BETWEEN_REMARKS, remark, LINE_END, "\n")
+    } else {
+        push_words(text, BEFORE_REMARKS, remark, LINE_END, "\n")
+    }
+}
+
 /// Adds what a help has beside its example, where it has something: paragraphs whose lines stand by themselves.
 pub(crate) fn push_remarks(text: &mut String, help: &str) -> Result<(), AllocError> {
-    let mut before = BEFORE_REMARKS;
     let mut remarks = false;
     for paragraph in notes_in(help).split("\n\n") {
         if !paragraph.starts_with(EXAMPLE) {
-            push_words(text, before, paragraph, LINE_END, "\n")?;
-            before = BETWEEN_REMARKS;
+            push_remark(text, remarks, paragraph)?;
             remarks = true;
         }
     }
