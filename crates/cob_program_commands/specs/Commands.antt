@@ -2,6 +2,7 @@
 use Rattle.std.specs.Prelude.{◌≡◌, ◌⊎◌, ℕ, Bool, List, Option, None, Some, ⊤, if◌then◌else◌}
 use Rattle.clap.specs.Words.{Text, kind_of}
 use Rattle.cob_program_line.specs.Lines.{IsCommandLineOf, IsFaultOf, is_answer_kind}
+use Rattle.cob_program_words.specs.Meant.{meant}
 use Rattle.cob_program_line.specs.declared.line.CommandLine.{CommandLine}
 use Rattle.cob_program_line.specs.declared.line.Line.{Line}
 use Rattle.cob_program_line.specs.declared.line.Line.TheVariants as line
@@ -79,7 +80,11 @@ IsEndOfRefusal fault code = (end : Status) × EndsAs (status_of_refusal fault) e
 abbrev pub RefusesWords : List Text → LineFault → Type 0
 RefusesWords words fault = (fault ≡ refusal.Memory) ⊎ (((said : CommandLine) → IsCommandLineOf words said → ⊥) × IsFaultOf words fault)
 
--- The program ends with this number, called with these words: a command line is carried out, and other words are refused.
-pub data IsEndOfWords (words : List Text) (code : ℕ) : Type 0 where
-  CarriedOut : (said : CommandLine) → IsCommandLineOf words said → IsEndOfSaid said.line code → IsEndOfWords words code
-  Refused : (fault : LineFault) → RefusesWords words fault → IsEndOfRefusal fault code → IsEndOfWords words code
+-- The program ends with this number, where its words mean these: a command line is carried out, and other words are refused.
+pub data IsEndOfMeant (words : List Text) (code : ℕ) : Type 0 where
+  CarriedOut : (said : CommandLine) → IsCommandLineOf words said → IsEndOfSaid said.line code → IsEndOfMeant words code
+  Refused : (fault : LineFault) → RefusesWords words fault → IsEndOfRefusal fault code → IsEndOfMeant words code
+
+-- The program ends with this number, called with these words: as what they mean says. Want of memory refuses any words.
+abbrev pub IsEndOfWords : List Text → ℕ → Type 0
+IsEndOfWords words code = IsEndOfMeant (meant words) code

@@ -1,8 +1,8 @@
-ghost use Rattle.std.specs.Prelude.{◌≡◌, map};
+ghost use Rattle.std.specs.Prelude.{◌≡◌, map, string_bytes};
 ghost use Rattle.cob_program_line.specs.Lines.{HasBlocks};
 ghost use Rattle.cob_records.specs.Forms.{HasBlockSize};
 ghost use Rattle.cob_program_texts.specs.CheckEnds.{EndsCheck};
-ghost use Rattle.cob_program_commands.specs.Commands.{EndsConvert, IsEndOfLine, IsEndOfRefusal, IsEndOfSaid, IsEndOfWords, status_of_refusal};
+ghost use Rattle.cob_program_commands.specs.Commands.{EndsConvert, IsEndOfLine, IsEndOfMeant, IsEndOfRefusal, IsEndOfSaid, IsEndOfWords, status_of_refusal};
 
 use crate::handed::with_handed_books;
 use crate::refusals::{tell_refused, tells_in_words};
@@ -23,6 +23,7 @@ use cob_program_manual::{do_completion, do_manual};
 use cob_program_map::do_map;
 use cob_program_runtime::Noted;
 use cob_program_texts::{do_check, do_cover, do_draft, do_lossless};
+use cob_program_words::meant_words;
 use std::cell::Cell;
 use std::convert::AsStr;
 use std::io::{Eprint, Input, Print};
@@ -201,6 +202,19 @@ pub fn refuse<R: Print + Eprint>(rt: &R, fault: &LineFault) -> u8
     printed(fault.print(rt), refusal_status(fault)).code()
 }
 
+/// Does what words ask for that mean themselves, and answers the program's status.
+fn answer_meant<R: AllocGlobal + Files + Input + Print + Eprint + Clock>(
+    rt: &R,
+    words: &[String],
+) -> u8
+    ensures { IsEndOfMeant (map string_bytes words.now) result }
+{
+    match line_of(rt.alloc(), words, VERSION) {
+        Ok(said) => perform(rt, &said),
+        Err(fault) => refuse(rt, &fault),
+    }
+}
+
 /// Does what the words after the program's name ask for, and answers the program's status.
 pub fn answer<R: AllocGlobal + Files + Input + Print + Eprint + Clock, S: AsStr>(
     rt: &R,
@@ -208,8 +222,8 @@ pub fn answer<R: AllocGlobal + Files + Input + Print + Eprint + Clock, S: AsStr>
 ) -> u8
     ensures { IsEndOfWords (map S.text words.now) result }
 {
-    match line_of(rt.alloc(), words, VERSION) {
-        Ok(said) => perform(rt, &said),
-        Err(fault) => refuse(rt, &fault),
+    match meant_words(rt.alloc(), words) {
+        Ok(meant) => answer_meant(rt, meant.as_slice()),
+        Err(_) => refuse(rt, &LineFault::Memory),
     }
 }

@@ -26,6 +26,17 @@ fn option_of(book: &HandedBook<'_>) -> &'static str {
     }
 }
 
+/// The option that chooses one of several records in a copybook, as it is told.
+fn record_option_of(book: &HandedBook<'_>) -> &'static str {
+    if book.found_at == IN_BOOK {
+        "in-record"
+    } else if book.found_at == OUT_BOOK {
+        "out-record"
+    } else {
+        "record-name"
+    }
+}
+
 /// A copybook as its blocks tell it.
 fn refused_book<'a>(book: &'a HandedBook<'a>) -> RefusedBook<'a> {
     RefusedBook {
@@ -35,6 +46,7 @@ fn refused_book<'a>(book: &'a HandedBook<'a>) -> RefusedBook<'a> {
         } else {
             Role::In
         },
+        record_option: record_option_of(book),
         text: book.text.as_slice(),
     }
 }

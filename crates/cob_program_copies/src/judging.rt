@@ -22,6 +22,15 @@ pub(crate) struct Telling<'a> {
     pub(crate) in_words: bool,
 }
 
+/// The option that chooses one of several records in the copybook that this option names, without its hyphens.
+fn record_option(book: FileName) -> &'static str {
+    match book {
+        FileName::InBook => "in-record",
+        FileName::OutBook => "out-record",
+        _ => "record-name",
+    }
+}
+
 /// The line that a line of a text that was made is made for.
 fn own_line(line: u32, lines: &[u32]) -> u32 {
     match lines.get(line.saturating_sub(1) as usize) {
@@ -67,6 +76,7 @@ fn in_words(
     let book = RefusedBook {
         file: telling.path,
         role,
+        record_option: record_option(telling.option),
         text: made.text.as_slice(),
     };
     for refusal in &made_refusals(alloc, book, MOST)? {

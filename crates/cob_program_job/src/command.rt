@@ -62,7 +62,7 @@ fn without_memory<R: Print>(rt: &R) -> Status
 fn ask_for_job<R: Files + Eprint>(rt: &R) {
     if asks_a_person(rt) {
         let _ = eprintln!(rt;
-            "cobconv: a job is read from standard input; cobconv --help says more"
+            "cobconv: cobconv help shows the commands; without one a job is read from standard input"
         );
     }
 }

@@ -1,7 +1,7 @@
 ghost use Rattle.cob_program_faults.specs.Ends.{EndsAmong};
 ghost use Rattle.cob_program_manual.specs.Ends.{MayEndPrinting};
 
-use crate::texts::{completion_of, page_of};
+use crate::texts::{completion_of, pages_of};
 use cob_convert::Status;
 use cob_program_faults::{CommandFault, printed, tell_fault};
 use std::alloc::AllocError;
@@ -24,9 +24,9 @@ pub fn do_completion<R: AllocGlobal + Print + Eprint>(rt: &R) -> Status
     tell_text(rt, completion_of(rt.alloc()))
 }
 
-/// Prints the manual page, and answers how the program ends.
+/// Prints the manual pages, and answers how the program ends.
 pub fn do_manual<R: AllocGlobal + Print + Eprint>(rt: &R) -> Status
     ensures { EndsAmong MayEndPrinting result }
 {
-    tell_text(rt, page_of(rt.alloc()))
+    tell_text(rt, pages_of(rt.alloc()))
 }

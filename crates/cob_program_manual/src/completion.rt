@@ -17,7 +17,7 @@ _cobconv() {
         words='";
 
 // What stands between these and the cases of each command.
-const MIDDLE: &str = "--help --version'
+const MIDDLE: &str = "help --help --version'
     else
         case \"${COMP_WORDS[1]} $before\" in
 ";
@@ -88,6 +88,13 @@ fn push_names(text: &mut String, program: &Command<'_>) -> Result<(), AllocError
     Ok(())
 }
 
+/// The case of the command `help`, behind which the name of a command stands.
+fn push_help(text: &mut String, program: &Command<'_>) -> Result<(), AllocError> {
+    text.push_str("        'help help') words='")?;
+    push_names(text, program)?;
+    text.push_str("' ;;\n")
+}
+
 /// Adds what bash needs to complete the command lines of a program with these commands.
 pub(crate) fn push_completion(
     alloc: Global,
@@ -97,6 +104,7 @@ pub(crate) fn push_completion(
     text.push_str(HEAD)?;
     push_names(text, program)?;
     text.push_str(MIDDLE)?;
+    push_help(text, program)?;
     for command in program.get_subcommands() {
         if is_told(command) {
             push_cases(alloc, text, command)?;

@@ -1,5 +1,5 @@
 use crate::completion::push_completion;
-use crate::page::push_page;
+use crate::page::push_pages;
 use clap::Command;
 use cob_program_options::program;
 use std::alloc::{AllocError, Global};
@@ -8,7 +8,7 @@ use std::alloc::{AllocError, Global};
 #[derive(Clone, Copy)]
 enum Generated {
     Completion,
-    Page,
+    Pages,
 }
 
 /// What is asked for of a program with these commands.
@@ -16,7 +16,7 @@ fn text_for(alloc: Global, program: &Command<'_>, asked: Generated) -> Result<St
     let mut text = String::new(alloc);
     match asked {
         Generated::Completion => push_completion(alloc, &mut text, program)?,
-        Generated::Page => push_page(alloc, &mut text, program)?,
+        Generated::Pages => push_pages(alloc, &mut text, program)?,
     }
     Ok(text)
 }
@@ -41,11 +41,11 @@ pub fn completion_of(alloc: Global) -> Result<String, AllocError> {
     text_of(alloc, Generated::Completion)
 }
 
-/// The program's manual page.
+/// The program's manual pages, one behind another, each of which begins with a line `.TH`.
 ///
 /// # Errors
 ///
 /// Want of memory.
-pub fn page_of(alloc: Global) -> Result<String, AllocError> {
-    text_of(alloc, Generated::Page)
+pub fn pages_of(alloc: Global) -> Result<String, AllocError> {
+    text_of(alloc, Generated::Pages)
 }

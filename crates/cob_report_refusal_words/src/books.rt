@@ -11,7 +11,7 @@ use crate::names::told_name;
 use crate::phrases::Phrase;
 use crate::pictures::told_picture;
 use crate::references::{told_count, told_redefinition};
-use crate::source::told_source;
+use crate::source::{SourceText, told_source};
 use crate::tables::told_table;
 use crate::told::{Caret, Told, advised};
 use crate::values::told_value;
@@ -36,6 +36,8 @@ pub struct RefusedBook<'a> {
     pub file: &'a str,
     /// What it describes.
     pub role: Role,
+    /// The option by which one of several records in it is chosen, without its hyphens.
+    pub record_option: &'a str,
     /// Its bytes.
     pub text: &'a [u8],
 }
@@ -55,12 +57,17 @@ pub(crate) fn words_of(alloc: Global, text: &[u8]) -> Result<Vec<Token>, AllocEr
     }
 }
 
-/// What is told of an entry that breaks a rule, before which so many words stand.
-fn told_entry<'a>(words: &'a [Token], before: usize, rule: &'a BookRule) -> Told<'a> {
+/// What is told of an entry of a copybook that breaks a rule, before which so many words stand.
+fn told_entry<'a>(
+    book: RefusedBook<'a>,
+    words: &'a [Token],
+    before: usize,
+    rule: &'a BookRule,
+) -> Told<'a> {
     let entry = entry_at(words, before);
     match rule {
         BookRule::Grammar => told_grammar(entry),
-        BookRule::Level => told_level_rule(words, before, entry),
+        BookRule::Level => told_level_rule(words, before, entry, book.record_option),
         BookRule::Picture(fault) => told_picture(entry, *fault),
         BookRule::Usage => told_usage(words, before, entry),
         BookRule::Sign => told_sign(entry),
@@ -108,10 +115,16 @@ fn told_empty() -> Told<'static> {
 fn told_of<'a>(book: RefusedBook<'a>, words: &'a [Token], refusal: &'a Refusal) -> Told<'a> {
     let rule = &refusal.fault.rule;
     if let BookRule::Source(broken) = rule {
-        return told_source(book.file, book.text, *broken, refusal.fault.line);
+        return told_source(
+            SourceText::Copybook,
+            book.file,
+            book.text,
+            *broken,
+            refusal.fault.line,
+        );
     }
     let before = refusal.from.unwrap_or(0);
-    let told = told_entry(words, before, rule).among(words_with_stop(words, before));
+    let told = told_entry(book, words, before, rule).among(words_with_stop(words, before));
     if let BookRule::Grammar = rule {
         return with_columns(book.file, book.text, told);
     }

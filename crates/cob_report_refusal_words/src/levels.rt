@@ -39,13 +39,14 @@ fn told_empty(entry: WrittenEntry<'_>) -> Told<'_> {
     )
 }
 
-/// What is told of a record that begins behind another one.
-fn told_second_record(entry: WrittenEntry<'_>) -> Told<'_> {
+/// What is told of a record that begins behind another one, where an option of this name chooses one.
+fn told_second_record<'a>(entry: WrittenEntry<'a>, option: &'a str) -> Told<'a> {
     advised(
         Caret::under_first(entry.words),
         Phrase::plain("a second record begins, and a copybook has one"),
-        Phrase::plain(
-            "--in-record NAME, --out-record NAME or --record-name NAME chooses one; or a copybook for each type of record",
+        Phrase::of(
+            "--{} NAME chooses one; or a copybook for each type of record",
+            Part::Text(option),
         ),
     )
 }
@@ -59,11 +60,12 @@ fn pictured_holder(words: &[Token], before: usize, level: u32) -> Option<Written
     None
 }
 
-/// What is told of an entry with a level that does not fit, before which so many words stand.
+/// What is told of an entry with a level that does not fit, before which so many words stand. An option of this name chooses a record.
 pub(crate) fn told_level_rule<'a>(
     words: &'a [Token],
     before: usize,
     entry: WrittenEntry<'a>,
+    option: &'a str,
 ) -> Told<'a> {
     let level = level_of(entry);
     if level == 0 || level > 49 {
@@ -73,7 +75,7 @@ pub(crate) fn told_level_rule<'a>(
         );
     }
     if level == 1 && before > 0 {
-        return told_second_record(entry);
+        return told_second_record(entry, option);
     }
     match pictured_holder(words, before, level) {
         Some(holder) => told_beneath(entry, holder),

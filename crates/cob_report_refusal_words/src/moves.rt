@@ -5,7 +5,7 @@ use crate::blocks::push_block;
 use crate::books::{Blocks, words_of};
 use crate::operands::{told_ambiguous, told_groups, told_pair, told_receiver, told_unknown};
 use crate::phrases::{Part, Phrase};
-use crate::source::told_source;
+use crate::source::{SourceText, told_source};
 use crate::statements::{is_constant, statement_on};
 use crate::subscripts::told_subscripts;
 use crate::told::{Caret, Told, advised, said};
@@ -163,7 +163,13 @@ pub fn moves_blocks(
 ) -> Result<Blocks, AllocError> {
     let mut text = String::new(alloc);
     if let MoveRule::Source(rule) = fault.rule {
-        let told = told_source(moves.file, moves.text, rule, fault.line);
+        let told = told_source(
+            SourceText::Paragraph,
+            moves.file,
+            moves.text,
+            rule,
+            fault.line,
+        );
         push_block(alloc, &mut text, moves.file, moves.text, &fault.rule, &told)?;
     } else {
         push_statement(alloc, &mut text, moves, fault)?;

@@ -117,8 +117,43 @@ fn told_foreign(line: BadLine<'_>) -> Told<'_> {
     )
 }
 
+/// What a text is, by which options for it differ.
+#[derive(Clone, Copy)]
+pub(crate) enum SourceText {
+    /// A copybook.
+    Copybook,
+    /// A paragraph.
+    Paragraph,
+}
+
+impl SourceText {
+    /// What to do with a tab in the text of a file.
+    fn tab_hint(self) -> &'static str {
+        match self {
+            SourceText::Copybook => {
+                "--tabs 8 reads it so that tabs stop at every eighth column; expand -t 8 {} writes the spaces"
+            }
+            SourceText::Paragraph => {
+                "expand -t 8 {} writes the spaces, where tabs stop at every eighth column"
+            }
+        }
+    }
+
+    /// What to do with a character in column 7 that is none of its own.
+    fn indicator_hint(self) -> &'static str {
+        match self {
+            SourceText::Copybook => {
+                "columns 1 to 6 are not read: --free reads a copybook without columns"
+            }
+            SourceText::Paragraph => {
+                "columns 1 to 6 are not read: words stand in columns 8 to 72"
+            }
+        }
+    }
+}
+
 /// What is told of a tab.
-fn told_tab<'a>(file: &'a str, line: BadLine<'a>) -> Told<'a> {
+fn told_tab<'a>(kind: SourceText, file: &'a str, line: BadLine<'a>) -> Told<'a> {
     let (column, _) = columns_of(line.bytes, ByteKind::Tab);
     if column == 0 {
         return said(
@@ -135,15 +170,12 @@ fn told_tab<'a>(file: &'a str, line: BadLine<'a>) -> Told<'a> {
             "a tab stands in column {}, and how many columns it is worth is not known",
             Part::Number(column as usize),
         ),
-        Phrase::of(
-            "--tabs 8 reads it so that tabs stop at every eighth column; expand -t 8 {} writes the spaces",
-            Part::Text(file),
-        ),
+        Phrase::of(kind.tab_hint(), Part::Text(file)),
     )
 }
 
 /// What is told of a character in column 7 that is none of its own.
-fn told_indicator(line: BadLine<'_>) -> Told<'_> {
+fn told_indicator(kind: SourceText, line: BadLine<'_>) -> Told<'_> {
     let (_, rest) = line.bytes.split_at(line.bytes.len().min(6));
     let (shown, _) = rest.split_at(rest.len().min(1));
     advised(
@@ -152,7 +184,7 @@ fn told_indicator(line: BadLine<'_>) -> Told<'_> {
             "{} stands in column 7, where a space, *, /, -, D or d stands",
             Part::Bytes(shown),
         ),
-        Phrase::plain("columns 1 to 6 are not read: --free reads a copybook without columns"),
+        Phrase::plain(kind.indicator_hint()),
     )
 }
 
@@ -207,6 +239,7 @@ fn told_too_long(text: &[u8]) -> Told<'_> {
 
 /// What is told of a line that breaks a rule of the reference format.
 pub(crate) fn told_source<'a>(
+    kind: SourceText,
     file: &'a str,
     text: &'a [u8],
     rule: SourceRule,
@@ -218,10 +251,10 @@ pub(crate) fn told_source<'a>(
     };
     match rule {
         SourceRule::NotAscii => told_foreign(line),
-        SourceRule::Tab => told_tab(file, line),
+        SourceRule::Tab => told_tab(kind, file, line),
         SourceRule::OpenLiteral => told_open(line),
         SourceRule::BadContinuation => told_continuation(line),
-        SourceRule::UnknownIndicator => told_indicator(line),
+        SourceRule::UnknownIndicator => told_indicator(kind, line),
         SourceRule::TooLong | SourceRule::Memory => told_too_long(text),
     }
 }

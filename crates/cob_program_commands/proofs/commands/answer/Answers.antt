@@ -1,15 +1,13 @@
-use Rattle.std.proofs.Common.{◌⊎◌, inl, inr}
-use Rattle.cob_program_commands.specs.Commands.{CarriedOut, Refused}
+use Rattle.std.proofs.Common.{◌∙◌, List, ap, inl, map, refl, subst}
+use Rattle.std.specs.Prelude.{string_bytes}
+use Rattle.clap.specs.Words.{Text}
+use Rattle.cob_program_commands.specs.Commands.{IsEndOfMeant, Refused}
+use Rattle.cob_program_line.specs.declared.fault.LineFault.TheVariants.{Memory}
 use Rattle.cob_program_commands.proofs.commands.answer.Goals as goal
 
 pub returns-in-Ok : goal.returns-in-Ok
-returns-in-Ok g c = CarriedOut c.in-Ok.said c.in-Ok.ensures.options c.perform.ensures
-
--- two facts that hold unless a third does hold together unless it does
-together : {M A B : Type 0} → M ⊎ A → M ⊎ B → M ⊎ (A × B)
-together (inl m) b = inl m
-together (inr a) (inl m) = inl m
-together (inr a) (inr b) = inr (a, b)
+returns-in-Ok g c =
+    subst (λ (words : List Text). IsEndOfMeant words c.answer_meant.result) (ap (map string_bytes) c.as_slice.ensures.value ∙ c.in-Ok.ensures) c.answer_meant.ensures
 
 pub returns-in-Err : goal.returns-in-Err
-returns-in-Err g c = Refused c.in-Err.fault (together c.in-Err.ensures.refused c.in-Err.ensures.fault) c.refuse.ensures
+returns-in-Err g c = Refused Memory (inl refl) c.refuse.ensures
