@@ -1,6 +1,6 @@
 -- Conditions: where each of their pieces ends, and chains of them.
 use Rattle.std.specs.declared.cmp.Ordering.{Ordering}
-use Rattle.std.proofs.Common.{◌≡◌, ◌⊎◌, inl, inr, Bool, false, true, List, [], ◌∷◌, ◌++◌, refl, sym, ap, subst, ◌∙◌, append_assoc, append-nil, Some, arith, length, ◌≤◌}
+use Rattle.std.proofs.Common.{◌≡◌, ◌⊎◌, inl, inr, Bool, false, true, List, [], ◌∷◌, ◌++◌, refl, sym, ap, subst, ◌∙◌, append_assoc, append-nil, Option, Some, None, arith, length, ◌≤◌}
 use Rattle.std.proofs.lemmas.List.{length-append}
 use Rattle.std.specs.Prelude.{IfOk, IfSome, Ok, Err, Result}
 use denote.Ref.{Bor}
@@ -19,7 +19,7 @@ use Rattle.cob_move_conditions.specs.declared.words.ConditionWord.TheVariants as
 use Rattle.cob_move_conditions.specs.Words.{IsConditionWord, condition_word, condition_word_of}
 use Rattle.cob_move_conditions.specs.Fronts.{NotConditionWordFirst}
 use Rattle.cob_move_conditions.specs.Relations.{IsRelationBy, opposite_of_word, order_of_word}
-use Rattle.cob_move_conditions.specs.Conditions.{BeginsWithOperand, IsConditionBy, IsRelated, Joining, Alone, ByNot, ByAnd, ByOr}
+use Rattle.cob_move_conditions.specs.Conditions.{BeginsWithOperand, IsConditionBy, IsRelated, IsWholeCondition, most_condition_words, Joining, Alone, ByNot, ByAnd, ByOr}
 use Rattle.cob_move_conditions.specs.Reading.{ConditionInFront, EndsCondition, EndsTest, goes_on_by_class, goes_on_by_word}
 use Rattle.cob_move_conditions.specs.Written.{WrittenCondition, WrittenTest, Relates, RelatesTo, StandsAlone, Has, Simple, InBrackets, BehindNot, WithAnd, WithOr, written_condition}
 use Rattle.cob_move_conditions.specs.declared.phrases.ConditionPhrase.{ConditionPhrase}
@@ -97,7 +97,7 @@ by_related words r s left (own, is, f) reads (Simple (StandsAlone a)) ws more (m
 by_related words r s left (own, is, f) reads (Simple (Has e opposite q)) ws more (may, begins) ends cut = absurd (related_no_begin r s (Has e opposite q) words own left ws more is f begins cut)
 by_related words r s left (own, is, f) reads (InBrackets d) ws more (before, after, inside, opens, closes, within, e) ends cut =
     absurd (related_no_bracket r s words own left ((inside ++ after ∷ []) ++ more) before is f opens (cut ∙ ap (λ (t : List Lexeme). t ++ more) e))
-by_related words r s left (own, is, f) reads (BehindNot d) ws more (may, n, inside, is_not, single, e) ends cut =
+by_related words r s left (own, is, f) reads (BehindNot d) ws more (may, (n, inside, is_not, single, e)) ends cut =
     absurd (related_no_not r s d words own left inside more n is f is_not single (cut ∙ ap (λ (t : List Lexeme). t ++ more) e))
 by_related words r s left found reads (WithAnd c d) ws more is ends cut = absurd is.0
 by_related words r s left found reads (WithOr c d) ws more is ends cut = absurd is.0
@@ -110,7 +110,7 @@ without_not words never none (Simple (Relates a q b)) ws more is ends cut = is
 without_not words never none (Simple (StandsAlone a)) ws more is ends cut = is
 without_not words never none (Simple (Has e opposite q)) ws more is ends cut = is
 without_not words never none (InBrackets d) ws more is ends cut = is
-without_not words never none (BehindNot d) ws more (may, n, inside, is_not, single, e) ends cut = absurd (none n (inside ++ more) is_not (cut ∙ ap (λ (t : List Lexeme). t ++ more) e))
+without_not words never none (BehindNot d) ws more (may, (n, inside, is_not, single, e)) ends cut = absurd (none n (inside ++ more) is_not (cut ∙ ap (λ (t : List Lexeme). t ++ more) e))
 without_not words never none (WithAnd c d) ws more is ends cut = absurd is.0
 without_not words never none (WithOr c d) ws more is ends cut = absurd is.0
 
@@ -142,7 +142,7 @@ with_not words left n never is_not e (InBrackets d) ws more (before, after, insi
     let same = same_front n before left ((inside ++ after ∷ []) ++ more) (sym e ∙ cut ∙ ap (λ (t : List Lexeme). t ++ more) f) in
     let never : term.Plain ≡ term.OpenBracket = sym (plain_word n word.Not is_not) ∙ ap word_class same ∙ opens in
     absurd (plain_no_bracket never)
-with_not words left n never is_not e (BehindNot d) ws more (may, m, inside, is, single, f) ends cut =
+with_not words left n never is_not e (BehindNot d) ws more (may, (m, inside, is, single, f)) ends cut =
     record { inner = d; own = inside; single = single; same = refl; words = same_behind n m left (inside ++ more) (sym e ∙ cut ∙ ap (λ (t : List Lexeme). t ++ more) f) }
 with_not words left n never is_not e (WithAnd c d) ws more is ends cut = absurd is.0
 with_not words left n never is_not e (WithOr c d) ws more is ends cut = absurd is.0
@@ -399,7 +399,7 @@ other_word x y w other is it = let e : Some x ≡ Some y = sym is ∙ it in othe
 pub and_joins : Joins ByNot ByAnd word.And WithAnd
 and_joins = record {
   up = and_up;
-  joined = λ c d front own w is x it. (tt, front, own, w, is, x, it, refl);
+  joined = λ c d front own w is x it. (tt, (front, own, w, is, x, it, refl));
   ends = λ more ends. ends.0;
   ends_at = λ w more is. joins_here word.And w more is refl;
   ends_before = λ more ends. ends.1;
@@ -412,7 +412,7 @@ and_chains (Simple (StandsAlone a)) ws is = alone ByNot word.And WithAnd (Simple
 and_chains (Simple (Has r opposite q)) ws is = alone ByNot word.And WithAnd (Simple (Has r opposite q)) ws is
 and_chains (InBrackets c) ws is = alone ByNot word.And WithAnd (InBrackets c) ws is
 and_chains (BehindNot c) ws is = alone ByNot word.And WithAnd (BehindNot c) ws is
-and_chains (WithAnd c d) ws (may, front, own, w, is, x, it, e) = longer ByNot word.And WithAnd c d ws front own w (and_chains c front is) x it e
+and_chains (WithAnd c d) ws (may, (front, own, w, is, x, it, e)) = longer ByNot word.And WithAnd c d ws front own w (and_chains c front is) x it e
 and_chains (WithOr c d) ws is = absurd is.0
 
 -- ---- OR
@@ -430,7 +430,7 @@ or_up (WithOr c d) ws is = absurd is.0
 pub or_joins : Joins ByAnd ByOr word.Or WithOr
 or_joins = record {
   up = or_up;
-  joined = λ c d front own w is x it. (tt, front, own, w, is, x, it, refl);
+  joined = λ c d front own w is x it. (tt, (front, own, w, is, x, it, refl));
   ends = λ more ends. (ends.0, ends.1);
   ends_at = λ w more is. (joins_here word.Or w more is refl, (λ it. other_word word.Or word.And w (λ e. cc) is it));
   ends_before = λ more ends. ends.2;
@@ -444,7 +444,7 @@ or_chains (Simple (Has r opposite q)) ws is = alone ByAnd word.Or WithOr (Simple
 or_chains (InBrackets c) ws is = alone ByAnd word.Or WithOr (InBrackets c) ws is
 or_chains (BehindNot c) ws is = alone ByAnd word.Or WithOr (BehindNot c) ws is
 or_chains (WithAnd c d) ws is = alone ByAnd word.Or WithOr (WithAnd c d) ws is
-or_chains (WithOr c d) ws (may, front, own, w, is, x, it, e) = longer ByAnd word.Or WithOr c d ws front own w (or_chains c front is) x it e
+or_chains (WithOr c d) ws (may, (front, own, w, is, x, it, e)) = longer ByAnd word.Or WithOr c d ws front own w (or_chains c front is) x it e
 
 -- ---- what doesn't come first
 
@@ -469,6 +469,40 @@ pub found_up : {E : Type 0} (words : List Lexeme) (answer : Result (Option (Cond
 found_up words (Ok None) h = tt
 found_up words (Ok (Some r)) (ws, is, e) = (ws, not_up (written_condition r.0) ws is, e)
 found_up words (Err x) h = tt
+
+-- ---- a simple condition
+
+pub first_not : (t : WordClass) (words : List Lexeme) → NotFirstWord t words → (w : Lexeme) (more : List Lexeme) → word_class w ≡ t → words ≡ w ∷ more → ⊥
+first_not t words none w more is e = let first : word_class w ≡ t → ⊥ = subst (NotFirstWord t) e none in first is
+
+-- however words that no bracket begins are cut into a condition that nothing joins and words behind it, it is a simple one
+pub by_simple : (words : List Lexeme) → NotFirstWord term.OpenBracket words → (t : WrittenTest) (left : List Lexeme)
+    → ((u : WrittenTest) (ws more : List Lexeme) → BeginsWithOperand u ws → EndsTest more → words ≡ ws ++ more → (t ≡ u) × (left ≡ more))
+    → (c : WrittenCondition) (ws more : List Lexeme) → IsConditionBy Alone c ws → EndsTest more → words ≡ ws ++ more → (Simple t ≡ c) × (left ≡ more)
+by_simple words none t left reads c ws more is ends cut =
+    let (u, begins, same) = without_bracket words (first_not term.OpenBracket words none) c ws more is cut in
+    let (one, rest) = reads u ws more begins ends cut in
+    (ap Simple one ∙ sym same, rest)
+
+pub no_simple : (words : List Lexeme) → NotFirstWord term.OpenBracket words
+    → ((u : WrittenTest) (ws more : List Lexeme) → BeginsWithOperand u ws → EndsTest more → words ≡ ws ++ more → ⊥)
+    → (c : WrittenCondition) (ws more : List Lexeme) → IsConditionBy Alone c ws → EndsTest more → words ≡ ws ++ more → ⊥
+no_simple words none never c ws more is ends cut =
+    let (u, begins, same) = without_bracket words (first_not term.OpenBracket words none) c ws more is cut in
+    never u ws more begins ends cut
+
+-- ---- whole words
+
+pub whole_found : (c : WrittenCondition) (words more : List Lexeme) → StandInFront (IsConditionBy ByOr c) words more → length more ≡ 0 → length words ≤ most_condition_words → IsWholeCondition c words
+whole_found c words [] (own, is, e) none few = record { is = subst (IsConditionBy ByOr c) (sym (e ∙ append-nil own)) is; few = few }
+whole_found c words (w ∷ more) (own, is, e) none few = let never : ⊥ = omega (arith, none) in absurd never
+
+-- nothing is behind whole words
+pub whole_cut : (words : List Lexeme) → words ≡ words ++ []
+whole_cut words = sym (append-nil words)
+
+pub nothing_behind : (more : List Lexeme) → more ≡ [] → length more ≡ 0
+nothing_behind more e = ap length e
 
 -- ---- what is left is no longer
 

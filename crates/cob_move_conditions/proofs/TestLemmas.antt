@@ -9,7 +9,7 @@ use Rattle.cob_copybook_clauses.specs.declared.term.WordClass.TheVariants as ter
 use Rattle.cob_copybook_clauses.specs.Terms.{word_class}
 use Rattle.cob_copybook_clauses.specs.Clauses.{IsOptionalWord}
 use Rattle.cob_copybook_clauses.specs.Reading.{NotFirstWord, StandInFront}
-use Rattle.cob_move_statements.specs.Written.{WrittenSender}
+use Rattle.cob_move_statements.specs.Written.{SentReference, WrittenReference, WrittenSender}
 use Rattle.cob_move_conditions.specs.declared.phrases.Quality.{Quality}
 use Rattle.cob_move_conditions.specs.declared.phrases.Quality.TheVariants as quality
 use Rattle.cob_move_conditions.specs.declared.relations.Relation.{Relation}
@@ -213,6 +213,29 @@ NoRelated words = (relation : Relation) (operand : WrittenSender) (ws more : Lis
 
 abbrev pub NoQuality : WrittenSender → List Lexeme → Type 0
 NoQuality a words = (t : WrittenTest) (ws more : List Lexeme) → QualifiedBehind a t ws → words ≡ ws ++ more → ⊥
+
+-- a class or a sign of an entry, by what its words say
+pub no_quality_of : (a : WrittenSender) (words : List Lexeme) → ((opposite : Bool) (q : Quality) (ws more : List Lexeme) → IsQualified opposite q ws → words ≡ ws ++ more → ⊥)
+    → (t : WrittenTest) (ws more : List Lexeme) → QualifiedBehind a t ws → words ≡ ws ++ more → ⊥
+no_quality_of a words never (Has r opposite q) ws more (e, is) cut = never opposite q ws more is cut
+no_quality_of a words never (Relates b r c) ws more is cut = absurd is
+no_quality_of a words never (RelatesTo r c) ws more is cut = absurd is
+no_quality_of a words never (StandsAlone b) ws more is cut = absurd is
+
+same_reference : (r s : WrittenReference) → SentReference r ≡ SentReference s → r ≡ s
+same_reference r s e = cc
+
+pub one_quality_of : (a : WrittenSender) (entry : WrittenReference) (opposite : Bool) (q : Quality) (words left : List Lexeme) → SentReference entry ≡ a
+    → ((other : Bool) (p : Quality) (ws more : List Lexeme) → IsQualified other p ws → words ≡ ws ++ more → (opposite ≡ other) × (q ≡ p) × (left ≡ more))
+    → (t : WrittenTest) (ws more : List Lexeme) → QualifiedBehind a t ws → words ≡ ws ++ more → (Has entry opposite q ≡ t) × (left ≡ more)
+one_quality_of a entry opposite q words left is_a reads (Has r other p) ws more (e, is) cut =
+    let (x, y, z) = reads other p ws more is cut in
+    let same : entry ≡ r = same_reference entry r (is_a ∙ sym e) in
+    let whole : Has entry opposite q ≡ Has r other p = cc in
+    (whole, z)
+one_quality_of a entry opposite q words left is_a reads (Relates b r c) ws more is cut = absurd is
+one_quality_of a entry opposite q words left is_a reads (RelatesTo r c) ws more is cut = absurd is
+one_quality_of a entry opposite q words left is_a reads (StandsAlone b) ws more is cut = absurd is
 
 pub by_related : (words : List Lexeme) (a s : WrittenSender) (r : Relation) (left : List Lexeme) → StandInFront (IsRelated r s) words left → ReadsRelated words r s left
     → (t : WrittenTest) (ws more : List Lexeme) → GoesBehind a t ws → EndsTest more → words ≡ ws ++ more → (Relates a r s ≡ t) × (left ≡ more)

@@ -73,7 +73,7 @@ fn behind_reference(words: &[Token]) -> Option<&[Token]>
 }
 
 /// The words before those that are left.
-fn before<'a>(words: &'a [Token], left: &[Token]) -> &'a [Token]
+fn words_before<'a>(words: &'a [Token], left: &[Token]) -> &'a [Token]
     requires { StandInFront IsAny (lexemes words.now) (lexemes left.now) }
     ensures { (own : List Lexeme) → lexemes words.now ≡ own ++ lexemes left.now
         → lexemes result.now ≡ own }
@@ -91,7 +91,7 @@ fn reference_at(words: &[Token]) -> Option<(Reference<'_>, &[Token])>
     // For `only`: words are one reference.
     one_reference();
     let more = behind_reference(words)?;
-    let reference = whole_reference(before(words, more))?;
+    let reference = whole_reference(words_before(words, more))?;
     Some((reference, more))
 }
 
@@ -180,7 +180,7 @@ pub(crate) fn operand_at(words: &[Token]) -> Option<(StatementSender<'_>, &[Toke
         term.OpenBracket (lexemes words.now) (Answers written_sender result x) }
 {
     let (sender, more) = sender_at(words)?;
-    if !has_no_condition_word(before(words, more)) {
+    if !has_no_condition_word(words_before(words, more)) {
         return None;
     }
     Some((sender, more))

@@ -12,7 +12,7 @@ use Rattle.cob_move_conditions.proofs.conditions.+reading.Goals as goal
 -- ---- brackets
 
 pub single_at-simple_at-requires : goal.single_at-simple_at-requires
-single_at-simple_at-requires t c = record { 0 = not_first term.OpenBracket (lexemes c.args.words.now) c.in_default.ensures.only }
+single_at-simple_at-requires t c = not_first term.OpenBracket (lexemes c.args.words.now) c.in_default.ensures.only
 
 pub single_at-returns-in_default-2-clause-only : goal.single_at-returns-in_default-2-clause-only
 single_at-returns-in_default-2-clause-only t c = λ d ws more is ends cut.
@@ -75,7 +75,7 @@ negated_at-returns-clause-found t c =
     let (n, is_not, e) = c.in-Some-behind_condition_word.ensures.found in
     let (own, is, f) = rw c.in-Some-2.is at c.in_ok-inner.ensures.found in (
       n ∷ own,
-      subst (λ (y : WrittenCondition). IsConditionBy ByNot y (n ∷ own)) (sym c.in_ok-condition.ensures) (tt, n, own, is_not, is, refl),
+      subst (λ (y : WrittenCondition). IsConditionBy ByNot y (n ∷ own)) (sym c.in_ok-condition.ensures) (tt, (n, own, is_not, is, refl)),
       e ∙ ap (λ (t : List Lexeme). n ∷ t) f,
     )
 
