@@ -1,4 +1,5 @@
-use Rattle.std.proofs.Common.{◌≡◌, ◌≤◌, [], arith, length, nat_tests}
+use Rattle.std.proofs.Common.{◌≡◌, ◌≤◌, [], arith, length}
+use Rattle.std.proofs.lemmas.Bool.Decides.{nat_tests}
 use Rattle.std.proofs.lemmas.List.{length-map}
 use Rattle.cob_source.specs.Tokens.{lexeme, lexemes}
 use Rattle.cob_move_conditions.specs.Conditions.{most_condition_words}
