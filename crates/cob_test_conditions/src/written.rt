@@ -67,6 +67,7 @@ fn push_test(test: &TestPhrase<'_>, out: &mut String) -> Result<(), AllocError> 
 }
 
 /// Writes two conditions with a word between them.
+#[cycle(printing)]
 fn push_joined(
     first: &ConditionPhrase<'_>,
     word: &str,
@@ -81,6 +82,7 @@ fn push_joined(
 }
 
 /// Writes a condition.
+#[cycle(printing)]
 fn push_condition(phrase: &ConditionPhrase<'_>, out: &mut String) -> Result<(), AllocError> {
     match phrase {
         ConditionPhrase::Simple(test) => push_test(test, out),
