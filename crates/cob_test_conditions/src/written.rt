@@ -66,23 +66,7 @@ fn push_test(test: &TestPhrase<'_>, out: &mut String) -> Result<(), AllocError> 
     }
 }
 
-/// Writes two conditions with a word between them.
-#[cycle(printing)]
-fn push_joined(
-    first: &ConditionPhrase<'_>,
-    word: &str,
-    second: &ConditionPhrase<'_>,
-    out: &mut String,
-) -> Result<(), AllocError> {
-    out.push('{')?;
-    push_condition(first, out)?;
-    out.push_str(word)?;
-    push_condition(second, out)?;
-    out.push('}')
-}
-
 /// Writes a condition.
-#[cycle(printing)]
 fn push_condition(phrase: &ConditionPhrase<'_>, out: &mut String) -> Result<(), AllocError> {
     match phrase {
         ConditionPhrase::Simple(test) => push_test(test, out),
@@ -95,8 +79,20 @@ fn push_condition(phrase: &ConditionPhrase<'_>, out: &mut String) -> Result<(), 
             out.push_str("not ")?;
             push_condition(inner, out)
         }
-        ConditionPhrase::WithAnd(first, second) => push_joined(first, " and ", second, out),
-        ConditionPhrase::WithOr(first, second) => push_joined(first, " or ", second, out),
+        ConditionPhrase::WithAnd(first, second) => {
+            out.push('{')?;
+            push_condition(first, out)?;
+            out.push_str(" and ")?;
+            push_condition(second, out)?;
+            out.push('}')
+        }
+        ConditionPhrase::WithOr(first, second) => {
+            out.push('{')?;
+            push_condition(first, out)?;
+            out.push_str(" or ")?;
+            push_condition(second, out)?;
+            out.push('}')
+        }
     }
 }
 
