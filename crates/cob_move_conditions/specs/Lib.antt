@@ -1,0 +1,7 @@
+pub mod Words
+pub mod Fronts
+pub mod Operands
+pub mod Relations
+pub mod Written
+pub mod Conditions
+pub mod Reading

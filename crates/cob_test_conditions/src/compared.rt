@@ -1,0 +1,186 @@
+//! What two operands compare to, and whether an entry is of a class.
+//!
+//! - `constant`: an operand's entries, its bytes in hexadecimal digits, and a literal or a figurative constant.
+//! - `whole`: the same, with a binary item read whole.
+//! - `entry`: the entries and the bytes of two operands.
+//! - `class`: a class, and an operand's entries and bytes.
+//!
+//! An item and a group each stand as a record of their own.
+
+ghost use Rattle.std.specs.Prelude.{◌≡◌, IsTrue};
+ghost use Rattle.cob_copybook_tree.specs.Items.{IsStorable};
+ghost use Rattle.cob_move_condition.specs.Comparable.{kind_of_sent};
+ghost use Rattle.cob_move_receive.specs.Sent.{HasAllBytes, Occupies, sent};
+ghost use Rattle.cob_move_receive.specs.Table.{sender_kind};
+
+use cob_codec::Reading;
+use cob_copybook::Role;
+use cob_copybook_tree::{Item, Kind, is_number, is_number_item};
+use cob_move_condition::{Class, WithoutValue, compare, is_in_class, may_compare};
+use cob_move_receive::{SenderKind, Sent};
+use cob_test_layouts::{book_at, constant_of};
+use cob_test_rows::{Family, Row, RowFault};
+use std::alloc::{AllocError, Global};
+use std::cmp::Ordering;
+
+/// The tables on conditions.
+pub(crate) struct ConditionRows;
+
+/// Whether bytes can hold what an item describes.
+fn is_storable(item: &Item) -> bool
+    ensures { IsTrue result → IsStorable item.now }
+{
+    if is_number(item) {
+        is_number_item(item)
+    } else {
+        item.size() == item.picture.size()
+    }
+}
+
+/// Whether so many bytes are those of an item, or of a group.
+fn has_bytes(kind: &Kind, length: usize) -> bool
+    ensures { IsTrue result → Occupies kind.now length }
+{
+    match kind {
+        Kind::Group => true,
+        Kind::Item(item) => length == usize::from(item.size()) && is_storable(item),
+    }
+}
+
+/// The word for an order.
+fn order_name(order: Ordering) -> &'static str {
+    match order {
+        Ordering::Less => "less",
+        Ordering::Equal => "equal",
+        Ordering::Greater => "greater",
+    }
+}
+
+/// Writes what two operands compare to, which of them gives no number, or that they may not be compared.
+fn push_compared(
+    first: &Sent<'_>,
+    first_kind: &SenderKind<'_>,
+    second: &Sent<'_>,
+    second_kind: &SenderKind<'_>,
+    out: &mut String,
+) -> Result<(), AllocError>
+    requires first { HasAllBytes (sent first.now) }
+    requires second { HasAllBytes (sent second.now) }
+    requires first_kind { kind_of_sent (sent first.now) ≡ sender_kind first_kind.now }
+    requires second_kind { kind_of_sent (sent second.now) ≡ sender_kind second_kind.now }
+{
+    if !may_compare(first_kind, second_kind) {
+        return out.push_str("M13");
+    }
+    match compare(first, second) {
+        Ok(order) => out.push_str(order_name(order)),
+        Err(WithoutValue::First) => out.push_str("no value of the first"),
+        Err(WithoutValue::Second) => out.push_str("no value of the second"),
+    }
+}
+
+/// Writes what an entry that is read so and a constant compare to.
+fn compare_constant(
+    alloc: Global,
+    reading: Reading,
+    row: &Row,
+    out: &mut String,
+) -> Result<(), RowFault> {
+    let book = book_at(alloc, Role::In, row, 1)?;
+    let bytes = row.bytes(alloc, 2)?;
+    let value = constant_of(row.field(3)?)?;
+    let kind = &book.root().kind;
+    if bytes.len() != usize::from(book.greatest()) || !has_bytes(kind, bytes.len()) {
+        return Err(RowFault::BadRow);
+    }
+    let given = Sent::Entry {
+        kind,
+        bytes: bytes.as_slice(),
+        reading,
+    };
+    Ok(push_compared(
+        &given,
+        &SenderKind::Entry(kind),
+        &Sent::Constant(&value),
+        &SenderKind::Constant(&value),
+        out,
+    )?)
+}
+
+/// Writes what two entries compare to.
+fn compare_entries(alloc: Global, row: &Row, out: &mut String) -> Result<(), RowFault> {
+    let book = book_at(alloc, Role::In, row, 1)?;
+    let bytes = row.bytes(alloc, 2)?;
+    let other = book_at(alloc, Role::In, row, 3)?;
+    let others = row.bytes(alloc, 4)?;
+    let kind = &book.root().kind;
+    let other_kind = &other.root().kind;
+    if bytes.len() != usize::from(book.greatest()) || !has_bytes(kind, bytes.len()) {
+        return Err(RowFault::BadRow);
+    }
+    if others.len() != usize::from(other.greatest()) || !has_bytes(other_kind, others.len()) {
+        return Err(RowFault::BadRow);
+    }
+    let given = Sent::Entry {
+        kind,
+        bytes: bytes.as_slice(),
+        reading: Reading::Pictured,
+    };
+    let beside = Sent::Entry {
+        kind: other_kind,
+        bytes: others.as_slice(),
+        reading: Reading::Pictured,
+    };
+    Ok(push_compared(
+        &given,
+        &SenderKind::Entry(kind),
+        &beside,
+        &SenderKind::Entry(other_kind),
+        out,
+    )?)
+}
+
+/// The class of this name.
+fn class_named(name: &str) -> Option<Class> {
+    match name {
+        "NUMERIC" => Some(Class::Numeric),
+        "ALPHABETIC" => Some(Class::Alphabetic),
+        "ALPHABETIC-LOWER" => Some(Class::AlphabeticLower),
+        "ALPHABETIC-UPPER" => Some(Class::AlphabeticUpper),
+        _ => None,
+    }
+}
+
+/// Writes whether an entry is of a class.
+fn tell_class(alloc: Global, row: &Row, out: &mut String) -> Result<(), RowFault> {
+    let class = class_named(row.field(1)?).ok_or(RowFault::BadRow)?;
+    let book = book_at(alloc, Role::In, row, 2)?;
+    let bytes = row.bytes(alloc, 3)?;
+    let kind = &book.root().kind;
+    if bytes.len() != usize::from(book.greatest()) || !has_bytes(kind, bytes.len()) {
+        return Err(RowFault::BadRow);
+    }
+    let given = Sent::Entry {
+        kind,
+        bytes: bytes.as_slice(),
+        reading: Reading::Pictured,
+    };
+    let word = if is_in_class(class, &given) {
+        "yes"
+    } else {
+        "no"
+    };
+    Ok(out.push_str(word)?)
+}
+
+impl Family for ConditionRows {
+    fn answer(alloc: Global, _table: &str, row: &Row, out: &mut String) -> Result<(), RowFault> {
+        match row.field(0)? {
+            "constant" => compare_constant(alloc, Reading::Pictured, row, out),
+            "whole" => compare_constant(alloc, Reading::Whole, row, out),
+            "entry" => compare_entries(alloc, row, out),
+            "class" => tell_class(alloc, row, out),
+            _ => Err(RowFault::BadRow),
+        }
+    }
+}

@@ -1,0 +1,74 @@
+//! How operands are printed.
+
+use cob_copybook_clauses::ValueClause;
+use cob_copybook_entry::Figurative;
+use cob_move_statements::{Reference, StatementSender};
+use cob_source::Token;
+use cob_test_rows::push_text;
+use std::alloc::AllocError;
+
+/// Writes words, each behind a space.
+fn push_words(words: &[Token], out: &mut String) -> Result<(), AllocError> {
+    for word in words {
+        out.push(' ')?;
+        push_text(out, word.text.as_slice())?;
+    }
+    Ok(())
+}
+
+/// Writes a reference: its name, its qualifiers, and its subscripts in brackets.
+pub(crate) fn push_reference(
+    reference: &Reference<'_>,
+    out: &mut String,
+) -> Result<(), AllocError> {
+    push_text(out, reference.name)?;
+    push_words(reference.qualifiers, out)?;
+    if reference.subscripts.is_empty() {
+        return Ok(());
+    }
+    out.push_str(" (")?;
+    push_words(reference.subscripts, out)?;
+    out.push_str(" )")
+}
+
+/// The word of a figurative constant.
+fn figurative_name(figurative: Figurative) -> &'static str {
+    match figurative {
+        Figurative::Space => "SPACE",
+        Figurative::Zero => "ZERO",
+        Figurative::HighValue => "HIGH-VALUE",
+        Figurative::LowValue => "LOW-VALUE",
+        Figurative::Quote => "QUOTE",
+    }
+}
+
+/// Writes the characters of a literal between quotes.
+fn push_quoted(text: &[u8], out: &mut String) -> Result<(), AllocError> {
+    out.push('"')?;
+    push_text(out, text)?;
+    out.push('"')
+}
+
+/// Writes a constant.
+fn push_constant(constant: &ValueClause<'_>, out: &mut String) -> Result<(), AllocError> {
+    match constant {
+        ValueClause::Word(text) => push_text(out, text),
+        ValueClause::Literal(text) => push_quoted(text, out),
+        ValueClause::Figurative(figurative) => out.push_str(figurative_name(*figurative)),
+        ValueClause::All(text) => {
+            out.push_str("ALL ")?;
+            push_quoted(text, out)
+        }
+    }
+}
+
+/// Writes what is compared.
+pub(crate) fn push_operand(
+    operand: &StatementSender<'_>,
+    out: &mut String,
+) -> Result<(), AllocError> {
+    match operand {
+        StatementSender::Reference(reference) => push_reference(reference, out),
+        StatementSender::Constant(constant) => push_constant(constant, out),
+    }
+}

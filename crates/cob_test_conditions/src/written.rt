@@ -1,0 +1,113 @@
+//! Conditions as they are written.
+//!
+//! The one field is the words of a condition, with bars between its lines. Where they are one, it is printed with all that joins it in brackets: `[..]` are
+//! brackets of its own, `{..}` those that AND and OR make. A relation whose subject is left out begins with `_`.
+
+use crate::operands::{push_operand, push_reference};
+use cob_move_condition::Class;
+use cob_move_conditions::{ConditionPhrase, Quality, Relation, TestPhrase, condition};
+use cob_move_statements::MoveRule;
+use cob_source::paragraph_tokens;
+use cob_test_rows::{Family, Row, RowFault};
+use std::alloc::{AllocError, Global};
+use std::cmp::Ordering;
+
+/// The table of conditions as they are written.
+pub(crate) struct WrittenRows;
+
+/// Writes a relation.
+fn push_relation(relation: Relation, out: &mut String) -> Result<(), AllocError> {
+    if relation.opposite {
+        out.push_str(" not")?;
+    }
+    out.push_str(match relation.order {
+        Ordering::Less => " < ",
+        Ordering::Equal => " = ",
+        Ordering::Greater => " > ",
+    })
+}
+
+/// The word for what an entry may be.
+fn quality_name(quality: Quality) -> &'static str {
+    match quality {
+        Quality::Class(Class::Numeric) => "numeric",
+        Quality::Class(Class::Alphabetic) => "alphabetic",
+        Quality::Class(Class::AlphabeticLower) => "lower",
+        Quality::Class(Class::AlphabeticUpper) => "upper",
+        Quality::Sign(Ordering::Less) => "negative",
+        Quality::Sign(Ordering::Equal) => "zero",
+        Quality::Sign(Ordering::Greater) => "positive",
+    }
+}
+
+/// Writes a simple condition.
+fn push_test(test: &TestPhrase<'_>, out: &mut String) -> Result<(), AllocError> {
+    match test {
+        TestPhrase::Relates(first, relation, second) => {
+            push_operand(first, out)?;
+            push_relation(*relation, out)?;
+            push_operand(second, out)
+        }
+        TestPhrase::RelatesTo(relation, second) => {
+            out.push('_')?;
+            push_relation(*relation, out)?;
+            push_operand(second, out)
+        }
+        TestPhrase::StandsAlone(first) => push_operand(first, out),
+        TestPhrase::Has {
+            entry,
+            opposite,
+            quality,
+        } => {
+            push_reference(entry, out)?;
+            out.push_str(if *opposite { " is not " } else { " is " })?;
+            out.push_str(quality_name(*quality))
+        }
+    }
+}
+
+/// Writes a condition.
+fn push_condition(phrase: &ConditionPhrase<'_>, out: &mut String) -> Result<(), AllocError> {
+    match phrase {
+        ConditionPhrase::Simple(test) => push_test(test, out),
+        ConditionPhrase::InBrackets(inner) => {
+            out.push('[')?;
+            push_condition(inner, out)?;
+            out.push(']')
+        }
+        ConditionPhrase::BehindNot(inner) => {
+            out.push_str("not ")?;
+            push_condition(inner, out)
+        }
+        ConditionPhrase::WithAnd(first, second) => {
+            out.push('{')?;
+            push_condition(first, out)?;
+            out.push_str(" and ")?;
+            push_condition(second, out)?;
+            out.push('}')
+        }
+        ConditionPhrase::WithOr(first, second) => {
+            out.push('{')?;
+            push_condition(first, out)?;
+            out.push_str(" or ")?;
+            push_condition(second, out)?;
+            out.push('}')
+        }
+    }
+}
+
+impl Family for WrittenRows {
+    fn answer(alloc: Global, _table: &str, row: &Row, out: &mut String) -> Result<(), RowFault> {
+        let text = row.lines(alloc, 0)?;
+        let Ok(words) = paragraph_tokens(alloc, text.as_slice()) else {
+            return Err(RowFault::BadRow);
+        };
+        match condition(alloc, words.as_slice()) {
+            Ok(phrase) => Ok(push_condition(&phrase, out)?),
+            Err(fault) => match fault.rule {
+                MoveRule::Memory => Err(RowFault::Memory),
+                rule => Ok(write!(out, "{rule} line {}", fault.line)?),
+            },
+        }
+    }
+}
