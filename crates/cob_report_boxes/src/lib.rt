@@ -35,11 +35,14 @@ mod constants;
 mod entries;
 mod occurrences;
 mod records;
+mod ribbons;
 mod texts;
 mod values;
 
 pub use boxes::write_boxes;
 pub use constants::EscapedConstant;
-pub use entries::{EntryText, KindText, TitleText};
-pub use records::{Drawn, GivenRecord, draw, told_length};
+pub use entries::{ClausesText, KindText, NameText, TitleText};
+pub use records::{Drawn, EntryRow, GivenRecord, Tone, rows_of_entries, told_length};
+pub use ribbons::write_ribbon;
 pub use texts::{Characters, HexDigits, ShownBytes};
+pub use values::write_bytes;

@@ -28,12 +28,15 @@
 //! What each single move of a paragraph joins, in order (`ends_in`), and of each how many join the same. The words of the page are shown by rows.
 #![tactic(auto)]
 
+mod aligned;
 mod joined;
 mod lines;
 mod lists;
 mod lost;
 mod page;
 mod style;
+mod tiles;
+mod tones;
 
 pub use joined::ends_of;
 pub use lines::{Sides, write_line};
