@@ -1,44 +1,16 @@
 //! The boxes of a record.
 
-use crate::entries::{EntryText, KindText, TitleText};
-use crate::records::{Drawn, STRIP, tables_with, told_length};
-use crate::values::write_values;
+use crate::entries::{ClausesText, KindText, NameText, TitleText};
+use crate::records::{Drawn, ROW_HEIGHT, Tone, last_beneath, tables_with};
+use crate::values::{write_own_value, write_values};
 use arrayvec::ArrayVec;
 use cob_layout::{Item, Kind, Layout, Node, Spot};
 use cob_layout_steady::is_steady;
 use cob_limits::MAX_SUBSCRIPTS;
-use cob_report_html::{ROW, Rectangle, bare_length, part_at, rows_of};
 use std::fmt;
 
-/// Bytes of a record that stand one behind another, and the first row of the ruler on which they are drawn.
-#[derive(Clone, Copy)]
-struct Bar {
-    offset: u32,
-    length: u32,
-    first_row: u32,
-}
-
-/// Writes bytes as rectangles of their rows.
-fn write_bar<W: fmt::Write>(f: &mut fmt::Formatter<W>, bar: Bar) -> fmt::Result {
-    let mut offset = bar.offset;
-    let mut left = bar.length;
-    while left > 0 {
-        let part = part_at(offset, left);
-        let rectangle = Rectangle {
-            x: part.before,
-            y: part.row.saturating_sub(bar.first_row),
-            width: part.length,
-            height: 1,
-        };
-        write!(f, "{rectangle}")?;
-        offset = offset.saturating_add(part.length);
-        left -= part.length;
-    }
-    Ok(())
-}
-
 /// Of each byte of an element, whether a receiver covers it, as far as that is said.
-fn covered_in(covered: &[bool], spot: Spot) -> &[bool] {
+pub(crate) fn covered_in(covered: &[bool], spot: Spot) -> &[bool] {
     let start = spot.offset as usize;
     let end = start.saturating_add(spot.length as usize);
     match covered.get(start..end) {
@@ -52,78 +24,12 @@ fn is_bare(covered: &[bool]) -> bool {
     covered.contains(&false)
 }
 
-/// Writes the bytes of an element that are not covered.
-fn write_bare<W: fmt::Write>(
-    f: &mut fmt::Formatter<W>,
-    covered: &[bool],
-    spot: Spot,
-    first_row: u32,
-) -> fmt::Result {
-    let mut offset = spot.offset;
-    let mut rest = covered;
-    while let Some((_, behind)) = rest.split_first() {
-        let length = told_length(bare_length(rest));
-        write_bar(
-            f,
-            Bar {
-                offset,
-                length,
-                first_row,
-            },
-        )?;
-        let step = length.max(1);
-        offset = offset.saturating_add(step);
-        rest = match rest.get(step as usize..) {
-            Some(later) => later,
-            None => behind,
-        };
-    }
-    Ok(())
-}
-
-/// Writes the ruler of an item: the bytes of its first element, and of them those that are not covered.
-fn write_ruler<W: fmt::Write>(
-    f: &mut fmt::Formatter<W>,
-    covered: &[bool],
-    spot: Spot,
-) -> fmt::Result {
-    let rows = rows_of(spot.offset, spot.length);
-    let height = rows.saturating_mul(STRIP);
-    let first_row = spot.offset / ROW;
-    let Spot { offset, length, .. } = spot;
-    write!(
-        f,
-        "<svg class=\"s\" viewBox=\"0 0 {ROW} {rows}\" height=\"{height}\" preserveAspectRatio=\"none\">"
-    )?;
-    write_bar(
-        f,
-        Bar {
-            offset,
-            length,
-            first_row,
-        },
-    )?;
-    if is_bare(covered) {
-        write!(f, "<g class=\"z\">")?;
-        write_bare(f, covered, spot, first_row)?;
-        write!(f, "</g>")?;
-    }
-    writeln!(f, "</svg>")
-}
-
-/// Writes what the box of an item holds below its first line.
-fn write_item<W: fmt::Write>(
-    f: &mut fmt::Formatter<W>,
-    drawn: &Drawn<'_>,
-    number: usize,
-    item: &Item,
-    tables: &[usize],
-) -> fmt::Result {
-    let spot = Spot::of(drawn.layout.greatest_spots(), number);
-    write_ruler(f, covered_in(drawn.covered, spot), spot)?;
-    match drawn.contents {
-        Some(contents) => write_values(f, contents, number, item, tables),
-        None => Ok(()),
+/// The class of what has this tone; what keeps all has none.
+pub(crate) fn class_of_tone(tone: Tone) -> &'static str {
+    match tone {
+        Tone::Lost => " bad",
+        Tone::Undescribed => " amb",
+        Tone::Kept | Tone::Idle => "",
     }
 }
 
@@ -134,44 +40,43 @@ fn write_classes<W: fmt::Write>(
     entry: &Node,
     covered: &[bool],
 ) -> fmt::Result {
-    write!(f, "b")?;
+    let tone = drawn.tone(entry.number);
     match &entry.kind {
-        Kind::Group => write!(f, " g")?,
-        Kind::Item(_) if is_bare(covered) => write!(f, " u")?,
-        Kind::Item(_) => {}
+        Kind::Group => write!(f, "g")?,
+        Kind::Item(_) if is_bare(covered) => write!(f, "e bare")?,
+        Kind::Item(_) => write!(f, "e")?,
     }
+    write!(f, "{}", class_of_tone(tone))?;
     if entry.redefines.is_some() {
         write!(f, " r")?;
     }
-    if matches!(drawn.edged.get(entry.number), Some(true)) {
-        write!(f, " e")?;
+    if drawn.receives && tone != Tone::Idle {
+        write!(f, " got")?;
     }
     Ok(())
-}
-
-/// An entry, and where its first element stands where each table has its greatest number of elements.
-#[derive(Clone, Copy)]
-struct Placed<'a> {
-    text: EntryText<'a>,
-    spot: Spot,
 }
 
 /// Writes the beginning of the box of an entry that stands in so many groups.
 fn write_place<W: fmt::Write>(
     f: &mut fmt::Formatter<W>,
     drawn: &Drawn<'_>,
-    placed: Placed<'_>,
+    entry: &Node,
+    spot: Spot,
     depth: u32,
 ) -> fmt::Result {
-    let Placed { text, spot } = placed;
-    let entry = text.entry;
-    let (top, height) = (drawn.top(entry.number), drawn.height(entry));
-    let title = TitleText { text, spot };
+    let number = entry.number;
+    let (top, height) = (drawn.top(number), drawn.height(number));
+    let title = TitleText {
+        layout: drawn.layout,
+        entry,
+        spot,
+    };
     write!(f, "<div class=\"")?;
     write_classes(f, drawn, entry, covered_in(drawn.covered, spot))?;
+    write!(f, "\" id=\"{}{number}\"", drawn.letter)?;
     writeln!(
         f,
-        "\" style=\"--d:{depth};top:{top}px;height:{height}px\" title=\"{title}\">"
+        " style=\"--d:{depth};--y:{top};--h:{height}\" title=\"{title}\">"
     )
 }
 
@@ -215,63 +120,92 @@ fn write_mark<W: fmt::Write>(
     write!(f, "<span class=\"m\">{words}{shifted}</span>")
 }
 
-/// Writes the first line of the box of an entry that stands in so many tables, or is one of them.
-fn write_words<W: fmt::Write>(
+/// Writes the name of an entry, how often it occurs and what it redefines.
+fn write_name<W: fmt::Write>(
+    f: &mut fmt::Formatter<W>,
+    layout: &Layout,
+    entry: &Node,
+) -> fmt::Result {
+    let clauses = ClausesText { layout, entry };
+    write!(
+        f,
+        "<div class=\"w\"><b>{}</b><small>{clauses}</small>",
+        NameText { entry }
+    )
+}
+
+/// Writes what stands in the row of an item behind its name: its picture, whether it is covered, and its value where it occurs once.
+fn write_item<W: fmt::Write>(
     f: &mut fmt::Formatter<W>,
     drawn: &Drawn<'_>,
-    placed: Placed<'_>,
-    tables: usize,
+    entry: &Node,
+    item: &Item,
+    tables: &[usize],
 ) -> fmt::Result {
-    let Placed { text, spot } = placed;
-    let entry = text.entry;
-    write!(f, "<div class=\"w\"><span class=\"n\">{text}</span>")?;
+    let spot = Spot::of(drawn.layout.greatest_spots(), entry.number);
+    let kind = KindText { kind: &entry.kind };
+    write!(f, "<span class=\"p\">{kind}</span>")?;
     write_mark(
         f,
         drawn.layout,
         entry,
-        tables,
+        tables.len(),
         covered_in(drawn.covered, spot),
     )?;
-    let kind = KindText { kind: &entry.kind };
-    let Spot { offset, length, .. } = spot;
-    writeln!(
-        f,
-        "<span class=\"t\">{kind}</span><span class=\"o\">{offset}</span><span class=\"o\">{length}</span></div>"
-    )
+    match drawn.contents {
+        Some(contents) => write_own_value(f, contents, entry.number, item, tables),
+        None => Ok(()),
+    }
 }
 
-/// Writes the beginning of the box of an entry that stands in so many groups and tables, and its first line.
-fn write_front<W: fmt::Write>(
+/// Writes the values of an item below its row.
+fn write_below<W: fmt::Write>(
+    f: &mut fmt::Formatter<W>,
+    drawn: &Drawn<'_>,
+    entry: &Node,
+    tables: &[usize],
+) -> fmt::Result {
+    match (drawn.contents, &entry.kind) {
+        (Some(contents), Kind::Item(item)) => {
+            write_values(f, contents, entry.number, item, tables)
+        }
+        _ => Ok(()),
+    }
+}
+
+/// Writes the box of an entry that stands in so many groups and in these tables.
+fn write_own_box<W: fmt::Write>(
     f: &mut fmt::Formatter<W>,
     drawn: &Drawn<'_>,
     entry: &Node,
     depth: u32,
-    tables: usize,
+    tables: &[usize],
 ) -> fmt::Result {
-    let placed = Placed {
-        text: EntryText {
-            layout: drawn.layout,
-            entry,
-        },
-        spot: Spot::of(drawn.layout.greatest_spots(), entry.number),
-    };
-    write_place(f, drawn, placed, depth)?;
-    write_words(f, drawn, placed, tables)
+    let spot = Spot::of(drawn.layout.greatest_spots(), entry.number);
+    write_place(f, drawn, entry, spot, depth)?;
+    write_name(f, drawn.layout, entry)?;
+    if let Kind::Item(item) = &entry.kind {
+        write_item(f, drawn, entry, item, tables)?;
+    }
+    writeln!(f, "<span class=\"o\">{}</span></div>", spot.offset)?;
+    write_below(f, drawn, entry, tables)?;
+    writeln!(f, "</div>")
 }
 
-/// Writes a bracket from the box of an entry to that of one that redefines it. They stand in so many groups.
-fn write_bracket<W: fmt::Write>(
+/// Writes the rail along what a group holds that stands in so many groups.
+fn write_rail<W: fmt::Write>(
     f: &mut fmt::Formatter<W>,
     drawn: &Drawn<'_>,
-    redefined: usize,
-    redefining: usize,
+    group: &Node,
     depth: u32,
 ) -> fmt::Result {
-    let top = drawn.middle(redefined);
-    let height = drawn.middle(redefining).saturating_sub(top);
+    let last = last_beneath(group);
+    let top = drawn.top(group.number).saturating_add(ROW_HEIGHT);
+    let end = drawn.top(last).saturating_add(drawn.height(last));
+    let height = end.saturating_sub(top);
     writeln!(
         f,
-        "<div class=\"j\" style=\"--d:{depth};top:{top}px;height:{height}px\"></div>"
+        "<div class=\"u\" style=\"--d:{depth};--y:{top};--h:{height}\"></div>"
     )
 }
 
@@ -284,19 +218,12 @@ fn write_box<W: fmt::Write>(
     over: &[usize],
 ) -> fmt::Result {
     let tables = tables_with(over, entry);
-    write_front(f, drawn, entry, depth, tables.len())?;
-    if let Kind::Item(item) = &entry.kind {
-        write_item(f, drawn, entry.number, item, tables.as_slice())?;
+    write_own_box(f, drawn, entry, depth, tables.as_slice())?;
+    if matches!(entry.kind, Kind::Group) {
+        write_rail(f, drawn, entry, depth)?;
     }
-    writeln!(f, "</div>")?;
     let depth = depth.saturating_add(1);
-    let mut redefined = entry.number;
     for child in entry.children.iter() {
-        if child.redefines.is_some() {
-            write_bracket(f, drawn, redefined, child.number, depth)?;
-        } else {
-            redefined = child.number;
-        }
         write_box(f, drawn, child, depth, tables.as_slice())?;
     }
     Ok(())

@@ -42,20 +42,30 @@ fn write_redefined<W: fmt::Write>(
     }
 }
 
-/// An entry, which prints by its level and name, how often it occurs and what it redefines.
+/// An entry, which prints by its name, or as FILLER.
 #[derive(Clone, Copy)]
-pub struct EntryText<'a> {
+pub struct NameText<'a> {
+    pub entry: &'a Node,
+}
+
+impl fmt::Display for NameText<'_> {
+    fn fmt<W: fmt::Write>(&self, f: &mut fmt::Formatter<W>) -> fmt::Result {
+        match &self.entry.name {
+            Some(name) => write!(f, "{name}"),
+            None => write!(f, "FILLER"),
+        }
+    }
+}
+
+/// How often an entry occurs and what it redefines.
+#[derive(Clone, Copy)]
+pub struct ClausesText<'a> {
     pub layout: &'a Layout,
     pub entry: &'a Node,
 }
 
-impl fmt::Display for EntryText<'_> {
+impl fmt::Display for ClausesText<'_> {
     fn fmt<W: fmt::Write>(&self, f: &mut fmt::Formatter<W>) -> fmt::Result {
-        write!(f, "{:02} ", self.entry.level)?;
-        match &self.entry.name {
-            Some(name) => write!(f, "{name}")?,
-            None => write!(f, "FILLER")?,
-        }
         write_occurs(f, self.layout, self.entry.occurs)?;
         write_redefined(f, &self.entry.redefines)
     }
@@ -79,19 +89,26 @@ impl fmt::Display for KindText<'_> {
 /// All that is said of an entry where the pointer rests on its box.
 #[derive(Clone, Copy)]
 pub struct TitleText<'a> {
-    pub text: EntryText<'a>,
+    pub layout: &'a Layout,
+    pub entry: &'a Node,
     pub spot: Spot,
 }
 
 impl fmt::Display for TitleText<'_> {
     fn fmt<W: fmt::Write>(&self, f: &mut fmt::Formatter<W>) -> fmt::Result {
-        let entry = self.text.entry;
+        let TitleText {
+            layout,
+            entry,
+            spot,
+        } = *self;
         let kind = KindText { kind: &entry.kind };
-        let Spot { offset, length, .. } = self.spot;
+        let Spot { offset, length, .. } = spot;
+        write!(f, "{:02} {}", entry.level, NameText { entry })?;
         write!(
             f,
             "{}, {kind}, offset {offset}, length {length}, line {}",
-            self.text, entry.line
+            ClausesText { layout, entry },
+            entry.line
         )
     }
 }

@@ -1,38 +1,65 @@
 //! The records of a mapping, and where their boxes stand.
 
 use crate::occurrences::{EntryTables, occurrences_in};
-use crate::values::value_lines;
-use cob_layout::{Kind, Layout, Node, Spot, is_table};
-use cob_report_html::{rows_of, tops_of};
+use cob_layout::{Item, Kind, Layout, Node, Spot, is_number_item, is_table};
 use std::alloc::{AllocError, Global};
 
-/// How high a line of a box is.
-pub const LINE: u32 = 18;
+/// How high a row is, in units of the drawing.
+pub const ROW_HEIGHT: u32 = 20;
 
-/// How high a row of a ruler is.
-pub const STRIP: u32 = 6;
+/// What stays white below the box of an item.
+const GAP: u32 = 2;
 
-/// How high a line of a value is.
-pub const VALUE: u32 = 15;
-
-/// The room above the first box, and between two boxes.
-pub const GAP: u32 = 2;
+/// What stays white below the row of a group.
+const GROUP_GAP: u32 = 4;
 
 /// How many occurrences of an item show their values.
 pub const MOST_SHOWN: u32 = 8;
+
+/// What single moves do to an entry, the worst of it: nothing; they keep all; they move bytes whose description may be lost; they may lose something.
+#[derive(Clone, Copy, PartialEq, Eq)]
+pub enum Tone {
+    Idle,
+    Kept,
+    Undescribed,
+    Lost,
+}
+
+impl Tone {
+    /// The worse of both.
+    pub fn or(self, other: Tone) -> Tone {
+        match (self, other) {
+            (Tone::Lost, _) | (_, Tone::Lost) => Tone::Lost,
+            (Tone::Undescribed, _) | (_, Tone::Undescribed) => Tone::Undescribed,
+            (Tone::Kept, _) | (_, Tone::Kept) => Tone::Kept,
+            _ => Tone::Idle,
+        }
+    }
+}
+
+/// How high the box of an entry is with what stays white below it, and whether the entry is a group.
+#[derive(Clone, Copy)]
+pub struct EntryRow {
+    pub height: u32,
+    pub is_group: bool,
+}
 
 /// A record as it is drawn.
 #[derive(Drop)]
 pub struct Drawn<'a> {
     pub layout: &'a Layout,
+    /// What the names of its boxes begin with.
+    pub letter: &'static str,
     /// Where its entries stand in the record that is given, and its bytes, where one is.
     pub contents: Option<GivenRecord<'a>>,
     /// Of each byte, whether a receiver covers it; of a byte behind these it isn't said.
     pub covered: &'a [bool],
-    /// Of each entry, by its number, whether its box has a mark at its edge: it receives a move of bytes that may lose their description.
-    pub edged: Vec<bool>,
-    /// How high the boxes of its entries are, by their numbers, each without those beneath it and with the gap behind it.
-    pub heights: Vec<u32>,
+    /// Whether the ends of lines at its boxes have heads of arrows.
+    pub receives: bool,
+    /// Of each entry, by its number, what single moves do to it.
+    pub tones: Vec<Tone>,
+    /// How high the boxes of its entries are, by their numbers.
+    pub rows: Vec<EntryRow>,
     /// Where these boxes begin, and where the last one ends.
     pub tops: Vec<u32>,
 }
@@ -56,72 +83,94 @@ pub fn tables_with(over: &[usize], entry: &Node) -> EntryTables {
     tables
 }
 
-/// How high the lines of an item's values are.
-fn values_height(contents: Option<GivenRecord<'_>>, entry: &Node, tables: &[usize]) -> u32 {
+/// How the values of an item are shown.
+#[derive(Clone, Copy, PartialEq, Eq)]
+pub enum Showing {
+    /// There are none.
+    Nothing,
+    /// The one value, in the row of the item.
+    Alone,
+    /// Characters one beside another, in a row of their own.
+    Beside,
+    /// A row for each of so many occurrences, and one more where there are more.
+    Rows { shown: u32, more: bool },
+}
+
+/// How the values of an item are shown that occurs so many times, an element with so many bytes.
+pub fn showing_of(item: &Item, occurrences: u32, length: u32) -> Showing {
+    if occurrences == 0 {
+        Showing::Nothing
+    } else if occurrences == 1 {
+        Showing::Alone
+    } else if length == 1 && !is_number_item(item) {
+        Showing::Beside
+    } else {
+        Showing::Rows {
+            shown: occurrences.min(MOST_SHOWN),
+            more: occurrences > MOST_SHOWN,
+        }
+    }
+}
+
+/// How many rows the values of an item take below its own.
+fn value_rows(contents: Option<GivenRecord<'_>>, entry: &Node, tables: &[usize]) -> u32 {
     let (Some(contents), Kind::Item(item)) = (contents, &entry.kind) else {
         return 0;
     };
     let occurrences = occurrences_in(contents.spots, tables);
-    let spot = Spot::of(contents.spots, entry.number);
-    let shown = occurrences
-        .min(MOST_SHOWN)
-        .saturating_mul(value_lines(item, spot.length));
-    let more = u32::from(occurrences > MOST_SHOWN);
-    shown.saturating_add(more).saturating_mul(VALUE)
+    let length = Spot::of(contents.spots, entry.number).length;
+    match showing_of(item, occurrences, length) {
+        Showing::Nothing | Showing::Alone => 0,
+        Showing::Beside => 1,
+        Showing::Rows { shown, more } => shown.saturating_add(u32::from(more)),
+    }
 }
 
-/// How high the box of an entry is, without those beneath it, and with the gap behind it.
-fn height_of(entry: &Node, spot: Spot, values: u32) -> u32 {
-    let strips = match &entry.kind {
-        Kind::Group => 0,
-        Kind::Item(_) => rows_of(spot.offset, spot.length).saturating_mul(STRIP),
-    };
-    LINE.saturating_add(strips)
-        .saturating_add(values)
-        .saturating_add(2 * GAP)
+/// How high the box of an entry is, without those beneath it, and with what stays white below it.
+fn row_of(entry: &Node, value_rows: u32) -> EntryRow {
+    match entry.kind {
+        Kind::Group => EntryRow {
+            height: ROW_HEIGHT + GROUP_GAP,
+            is_group: true,
+        },
+        Kind::Item(_) => EntryRow {
+            height: value_rows
+                .saturating_add(1)
+                .saturating_mul(ROW_HEIGHT)
+                .saturating_add(GAP),
+            is_group: false,
+        },
+    }
 }
 
-/// Adds the heights of an entry and of those beneath it, in their order. The entry stands in these tables.
-fn push_heights(
-    layout: &Layout,
+/// Adds the rows of an entry and of those beneath it, in their order. The entry stands in these tables.
+fn push_rows(
     contents: Option<GivenRecord<'_>>,
     entry: &Node,
     over: &[usize],
-    heights: &mut Vec<u32>,
+    rows: &mut Vec<EntryRow>,
 ) -> Result<(), AllocError> {
     let tables = tables_with(over, entry);
-    let spot = Spot::of(layout.greatest_spots(), entry.number);
-    let values = values_height(contents, entry, tables.as_slice());
-    heights.push(height_of(entry, spot, values))?;
+    rows.push(row_of(entry, value_rows(contents, entry, tables.as_slice())))?;
     for child in entry.children.iter() {
-        push_heights(layout, contents, child, tables.as_slice(), heights)?;
+        push_rows(contents, child, tables.as_slice(), rows)?;
     }
     Ok(())
 }
 
-/// A record as it is drawn.
+/// How high the boxes of a record's entries are, by their numbers.
 ///
 /// # Errors
 ///
 /// Where no memory is left.
-pub fn draw<'a>(
+pub fn rows_of_entries(
     alloc: Global,
-    layout: &'a Layout,
-    contents: Option<GivenRecord<'a>>,
-    covered: &'a [bool],
-    edged: Vec<bool>,
-) -> Result<Drawn<'a>, AllocError> {
-    let mut heights = Vec::new(alloc);
-    push_heights(layout, contents, layout.root(), &[], &mut heights)?;
-    let tops = tops_of(alloc, LINE + GAP, &heights)?;
-    Ok(Drawn {
-        layout,
-        contents,
-        covered,
-        edged,
-        heights,
-        tops,
-    })
+    layout: &Layout,
+    contents: Option<GivenRecord<'_>>,
+) -> Result<Vec<EntryRow>, AllocError> {
+    let mut rows = Vec::new(alloc);
+    push_rows(contents, layout.root(), &[], &mut rows)?;
+    Ok(rows)
 }
 
 /// A number of bytes of a record, which has fewer than 65,536.
@@ -137,33 +186,35 @@ pub fn last_beneath(entry: &Node) -> usize {
     }
 }
 
-/// The number at this place, or 0 where there is none.
-fn number_at(numbers: &[u32], place: usize) -> u32 {
-    match numbers.get(place) {
-        Some(number) => *number,
-        None => 0,
-    }
-}
-
 impl Drawn<'_> {
+    /// What single moves do to the entry with this number.
+    pub fn tone(&self, number: usize) -> Tone {
+        match self.tones.get(number) {
+            Some(tone) => *tone,
+            None => Tone::Idle,
+        }
+    }
+
     /// Where the box of the entry with this number begins.
     pub fn top(&self, number: usize) -> u32 {
-        number_at(&self.tops, number)
+        match self.tops.get(number) {
+            Some(top) => *top,
+            None => 0,
+        }
     }
 
     /// Where lines meet the box of the entry with this number.
     pub fn middle(&self, number: usize) -> u32 {
-        self.top(number).saturating_add(LINE / 2 + 1)
+        self.top(number).saturating_add(ROW_HEIGHT / 2)
     }
 
-    /// How high the box of an entry is, with those beneath it.
-    pub fn height(&self, entry: &Node) -> u32 {
-        let last = last_beneath(entry);
-        let end = self
-            .top(last)
-            .saturating_add(number_at(&self.heights, last));
-        end.saturating_sub(self.top(entry.number))
-            .saturating_sub(GAP)
+    /// How high the box of the entry with this number is.
+    pub fn height(&self, number: usize) -> u32 {
+        match self.rows.get(number) {
+            Some(row) if row.is_group => row.height.saturating_sub(GROUP_GAP),
+            Some(row) => row.height.saturating_sub(GAP),
+            None => 0,
+        }
     }
 
     /// How high all of it is.

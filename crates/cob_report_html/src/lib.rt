@@ -2,10 +2,10 @@
 //!
 //! # Texts and shapes
 //!
-//! Texts and shapes as HTML, made up where they are printed: texts with their escapes, and the lines and rectangles of a drawing in SVG.
+//! Texts and shapes as HTML, made up where they are printed: texts with their escapes, and the lines, curves and rectangles of a drawing in SVG.
 //!
 //! - [`Escaped`] prints a text so that a browser shows just its characters: `<`, `>`, `&` and `"` as escapes, and each other one as it is.
-//! - [`StraightLine`] and [`Rectangle`] print as elements of a drawing.
+//! - [`StraightLine`], [`LevelCurve`] and [`Rectangle`] print as elements of a drawing.
 //!
 //! What each prints is promised whole (`output`). That no text can leave its place is a law: what is written of it are plain characters and escapes, one
 //! behind another ([`escapes_read_back`]; `ReadsAs` of specs/Escapes.antt), and such a writing is read in one way, as the text ([`reading_is_one`]). So it
@@ -17,8 +17,8 @@
 //!
 //! Places on the page of a map: where boxes stand, which parts of a ruler bytes take, and which single moves one line stands for.
 //!
-//! - [`tops_of`] says where boxes stand that lie one below another: each begins where the one before it ends, or at the front of the next sheet of paper,
-//!   where the rest of a sheet is too short for it (`AreTops` of specs/Tops.antt). A sheet is [`SHEET`] high.
+//! - [`tops_of`] says where boxes stand that lie one below another: each begins behind the one before it and what stays white above it, or at the front of
+//!   the next sheet of paper, where the rest of a sheet is too short for it (`AreTops` of specs/Tops.antt). A sheet is [`SHEET`] high.
 //! - [`part_at`] is the part of a run of bytes that stands in the row of the ruler in which it begins, and [`rows_of`] says how many rows a run meets
 //!   (specs/Rulers.antt). A row has [`ROW`] bytes.
 //! - [`bare_length`] is how many bytes at the front of a piece of a record are not covered: by it a page goes from one run of such bytes to the next.
@@ -29,7 +29,7 @@
 //!
 //! # Where it is proved
 //!
-//! What a text, a line and a rectangle print, to the byte (`output`); that what is written of a text is read as the text (`escapes_read_back`), and in
+//! What a text, a line, a curve and a rectangle print, to the byte (`output`); that what is written of a text is read as the text (`escapes_read_back`), and in
 //! one way (`reading_is_one`): so it holds none of `<`, `>`, `"`, and `&` only at the front of an escape (`ReadsAs`); where boxes begin that lie one
 //! below another, so that none that has room on a sheet of paper stands on two (`AreTops`); the part of a run of bytes in its row of a ruler
 //! (`IsRowPart`), and how many rows it meets (`AreRows`); how long a run of bytes is that are not covered (`prefix_len`); of each single move how many
@@ -49,5 +49,5 @@ pub use escapes::Escaped;
 pub use laws::{escapes_read_back, reading_is_one};
 pub use rulers::{ROW, RulerPart, part_at, rows_of};
 pub use runs::bare_length;
-pub use shapes::{Rectangle, StraightLine};
-pub use tops::{SHEET, tops_of};
+pub use shapes::{LevelCurve, Rectangle, StraightLine};
+pub use tops::{SHEET, SpacedBox, top_behind, tops_of};

@@ -1,4 +1,4 @@
-//! The lines and rectangles of a drawing.
+//! The lines, curves and rectangles of a drawing.
 
 use std::fmt;
 
@@ -23,6 +23,28 @@ impl fmt::Display for StraightLine {
             f,
             "<line x1=\"{}%\" y1=\"{}\" x2=\"{}%\" y2=\"{}\"/>",
             self.x1, self.y1, self.x2, self.y2
+        )
+    }
+}
+
+/// A curve from the left edge of a drawing to the right one, in a drawing that is a hundred units wide. It begins and ends level, so many units from above.
+#[derive(Clone, Copy, PartialEq, Eq)]
+pub struct LevelCurve {
+    pub from: u32,
+    pub to: u32,
+}
+
+impl fmt::Display for LevelCurve {
+    ghost use Rattle.std.specs.Prelude.{Some};
+    ghost use Rattle.cob_report_html.specs.Shapes.{curve_text};
+
+    ghost output = { λ curve. Some (curve_text curve) };
+
+    fn fmt<W: fmt::Write>(&self, f: &mut fmt::Formatter<W>) -> fmt::Result {
+        write!(
+            f,
+            "<path d=\"M0 {}C45 {} 55 {} 100 {}\"/>",
+            self.from, self.from, self.to, self.to
         )
     }
 }

@@ -1,17 +1,17 @@
-//! A mapping as one page of HTML: both records as rulers of bytes, and a line from each sender to its receivers.
+//! A mapping as one page of HTML: what its moves come to, both records, and a line from each sender to its receivers.
 //!
 //! [`Page`] prints as a page that is complete in itself. It shows, of a paragraph's moves between two records:
 //!
-//! - each record as boxes, one below another in the order of its entries, a group round those beneath it: level and name, picture and storage, how often the
-//!   entry occurs, what it redefines, offset and length, and on a ruler of rows of 64 bytes the bytes of its first element; so a redefinition lies under the
-//!   very bytes that it redefines. A record in which each table has its greatest number of elements is drawn;
-//! - where a record is given, the values and the bytes of the first elements of each item in its box;
+//! - a bar of four tiles: how many moves keep all, move bytes whose description may be lost, or may lose something, and how many bytes no receiver covers, each
+//!   with the first place; and below it each record as a ribbon, whose parts are as wide as their bytes and have the tone of their marks;
+//! - each record as rows, one below another in the order of its entries, with picture, value, digits and offset. A record in which each table has its greatest
+//!   number of elements is drawn. Partners stand at one height wherever the order of both records allows it (src/aligned.rt);
 //! - a line for the single moves that join the same two entries, from the sender's box to the receiver's, with what they are where the pointer rests on it;
 //! - bytes that no receiver covers, moves that may lose something, and moves of bytes that may lose their description, each marked, and listed below with
-//!   its line.
+//!   its line; and where a record is given, all of its bytes.
 //!
 //! What is promised is what is decided: which entries moves join ([`ends_of`]; `ends_in` of specs/Joined.antt), and by `cob_report_html` where boxes stand,
-//! which rows of a ruler bytes take, and which moves one line stands for. Which words are printed is shown by `cob_test_jobs`.
+//! and which moves one line stands for. Which words are printed is shown by `cob_test_jobs`.
 //!
 //! # Lines and lists
 //!
@@ -28,12 +28,15 @@
 //! What each single move of a paragraph joins, in order (`ends_in`), and of each how many join the same. The words of the page are shown by rows.
 #![tactic(auto)]
 
+mod aligned;
 mod joined;
 mod lines;
 mod lists;
 mod lost;
 mod page;
 mod style;
+mod tiles;
+mod tones;
 
 pub use joined::ends_of;
 pub use lines::{Sides, write_line};

@@ -3,7 +3,7 @@
 use crate::lost::Lost;
 use cob_move_data::{Element, Sent, Side};
 use cob_report_boxes::{Drawn, EscapedConstant};
-use cob_report_html::StraightLine;
+use cob_report_html::{LevelCurve, StraightLine};
 use cob_report_lossless::LinedSingle;
 use cob_report_words::NamedOccurrence;
 use std::fmt;
@@ -26,9 +26,6 @@ pub struct Sides<'a> {
     pub input: Drawn<'a>,
     pub output: Drawn<'a>,
 }
-
-/// The dashes of a line of moves that a test stands before.
-const DASHES: &str = " stroke-dasharray=\"1 3\"";
 
 /// Single moves that join the same.
 #[derive(Clone, Copy)]
@@ -125,15 +122,10 @@ fn write_title<'a, W: fmt::Write>(
     write!(f, "</title>")
 }
 
-/// Writes the line from a box of the input record.
+/// Writes the line from a box of the input record, and in front of it a wide one that is not seen, on which the pointer may rest.
 fn write_across<W: fmt::Write>(f: &mut fmt::Formatter<W>, from: u32, to: u32) -> fmt::Result {
-    let line = StraightLine {
-        x1: 0,
-        y1: from,
-        x2: 100,
-        y2: to,
-    };
-    write!(f, "{line}")
+    let curve = LevelCurve { from, to };
+    write!(f, "<g class=\"hit\">{curve}</g>{curve}")
 }
 
 /// Where the line from the entry of the output record with this number turns.
@@ -166,27 +158,38 @@ fn write_back<W: fmt::Write>(
         x2: 100,
         y2: to,
     };
-    write!(f, "<g class=\"p\">{out}{along}</g>{home}")
+    write!(
+        f,
+        "<g class=\"hit\">{out}{along}{home}</g>{out}{along}{home}"
+    )
 }
 
-/// Writes a constant and the line from it.
-fn write_constant<W: fmt::Write>(
-    f: &mut fmt::Formatter<W>,
-    constant: EscapedConstant<'_>,
-    to: u32,
-) -> fmt::Result {
+/// Writes the line from a constant.
+fn write_constant<W: fmt::Write>(f: &mut fmt::Formatter<W>, to: u32) -> fmt::Result {
     let line = StraightLine {
         x1: CONSTANT,
         y1: to,
         x2: 100,
         y2: to,
     };
-    let base = to.saturating_add(4);
-    let end = CONSTANT - 1;
-    write!(
-        f,
-        "{line}<text x=\"{end}%\" y=\"{base}\" text-anchor=\"end\">{constant}</text>"
-    )
+    write!(f, "<g class=\"hit\">{line}</g>{line}")
+}
+
+/// Writes the constant that single moves send, of which this is the first, at the front of its line.
+pub(crate) fn write_constant_text<'a, W: fmt::Write>(
+    f: &mut fmt::Formatter<W>,
+    sides: &Sides<'a>,
+    group: Group<'a>,
+) -> fmt::Result {
+    let top = sides.output.top(group.first.receiver.number);
+    match group.first.sent {
+        Sent::Constant(value) => writeln!(
+            f,
+            "<span style=\"--y:{top}\">{}</span>",
+            EscapedConstant { value }
+        ),
+        Sent::Entry { .. } => Ok(()),
+    }
 }
 
 /// Writes the line from what a single move sends to its receiver.
@@ -208,7 +211,7 @@ fn write_shape<'a, W: fmt::Write>(
             let from = sides.output.middle(entry.number);
             write_back(f, turn_of(entry.number), from, to)
         }
-        Sent::Constant(value) => write_constant(f, EscapedConstant { value }, to),
+        Sent::Constant(_) => write_constant(f, to),
     }
 }
 
@@ -218,10 +221,14 @@ pub fn write_line<'a, W: fmt::Write>(
     sides: &Sides<'a>,
     group: Group<'a>,
 ) -> fmt::Result {
-    let class = class_of(group.lost);
-    let dashes = if group.tested { DASHES } else { "" };
-    write!(f, "<g{class}{dashes}>")?;
+    write!(f, "<g{}>", class_of(group.lost))?;
+    if group.tested {
+        write!(f, "<g class=\"t\">")?;
+    }
     write_title(f, sides, group)?;
     write_shape(f, sides, group.first)?;
+    if group.tested {
+        write!(f, "</g>")?;
+    }
     writeln!(f, "</g>")
 }

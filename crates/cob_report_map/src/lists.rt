@@ -34,7 +34,7 @@ pub fn write_move<'a, W: fmt::Write>(
 }
 
 /// The item in no redefinition in whose first element this byte is, of an entry and those beneath it.
-fn item_at<'a>(drawn: &Drawn<'_>, entry: &'a Node, byte: u32) -> Option<&'a Node> {
+pub(crate) fn item_at<'a>(drawn: &Drawn<'_>, entry: &'a Node, byte: u32) -> Option<&'a Node> {
     if entry.redefines.is_some() {
         return None;
     }

@@ -4,23 +4,37 @@ ghost use Rattle.std.specs.Prelude.{IfOk};
 ghost use Rattle.cob_report_map.specs.Joined.{ends_in};
 ghost use Rattle.cob_report_html.specs.Ends.{AreCountsAtFirsts};
 
+use crate::aligned::aligned;
 use crate::joined::{ends_of, marked_ends, tested_ends};
-use crate::lines::{Group, Sides, write_line};
+use crate::lines::{Group, Sides, write_constant_text, write_line};
 use crate::lists::{write_move, write_runs};
 use crate::lost::Lost;
 use crate::style::{
-    BARE_HEAD, DRAWING_END, HEAD, KEY, LINES_END, LINES_HEAD, LIST_END, MOVES_HEAD, PAGE_END,
-    SIDE_HEAD, STYLE, TESTED_KEY,
+    BARE_HEAD, BYTES_HEAD, CONSTANTS_END, DRAWING_END, HEAD, LINES_END, LIST_END, MOVES_HEAD,
+    PAGE_END, RIBBONS_END, RIBBONS_HEAD, STYLE, TESTED_KEY,
 };
+use crate::tiles::{Counted, count_bare, write_tiles};
+use crate::tones::{Tones, tones_of};
 use cob_back_losses::{Losses, Unkept};
 use cob_layout::{Layout, Spot};
-use cob_move_data::{Sent, StatementMoves};
-use cob_report_boxes::{Drawn, GivenRecord, draw, write_boxes};
-use cob_report_html::{Escaped, SHEET, counts_of};
+use cob_move_data::StatementMoves;
+use cob_report_boxes::{
+    Drawn, EntryRow, GivenRecord, rows_of_entries, write_boxes, write_bytes, write_ribbon,
+};
+use cob_report_html::{Escaped, SHEET, counts_of, tops_of};
 use cob_report_lossless::{LinedSingle, singles_of};
 use cob_report_words::NamedOccurrence;
 use std::alloc::{AllocError, Global};
 use std::fmt;
+
+/// What stands between the parts of the line below the page's heading.
+const BETWEEN: &str = " &#183; ";
+
+/// How high the head of the page is on paper.
+const HEAD_HEIGHT: u32 = 190;
+
+/// Where the first box begins.
+const FIRST_TOP: u32 = 0;
 
 /// A record that is given: where its entries stand, by their numbers, and its bytes.
 #[derive(Clone, Copy)]
@@ -93,33 +107,70 @@ fn contents_of<'a>(record: Record<'a>) -> GivenRecord<'a> {
     }
 }
 
-/// Of each entry of the output record, whether it receives a single move that may lose its description.
-fn edged_in(alloc: Global, mapping: &Mapping<'_>) -> Result<Vec<bool>, AllocError> {
-    let singles = singles_of(alloc, mapping.statements, mapping.lines)?;
-    let mut edged = Vec::new(alloc);
-    for _ in mapping.output.greatest_spots() {
-        edged.push(false)?;
+/// The record that is given on one side, as it is drawn.
+fn given<'a>(record: Option<Record<'a>>) -> Option<GivenRecord<'a>> {
+    match record {
+        Some(record) => Some(contents_of(record)),
+        None => None,
     }
-    for (single, unkept) in singles.iter().zip(mapping.descriptions.iter()) {
-        if let (Some(_), Some(edge)) = (unkept, edged.get_mut(single.receiver.number)) {
-            *edge = true;
-        }
+}
+
+/// Both records that are given, as they are drawn.
+fn given_records<'a>(mapping: &Mapping<'a>) -> (Option<GivenRecord<'a>>, Option<GivenRecord<'a>>) {
+    match mapping.converted {
+        Some(one) => (given(Some(one.input)), given(Some(one.output))),
+        None => (None, None),
     }
-    Ok(edged)
+}
+
+/// Both records as they are drawn, with these rows and tones.
+fn drawn_sides<'a>(
+    alloc: Global,
+    mapping: &Mapping<'a>,
+    from: Vec<EntryRow>,
+    to: Vec<EntryRow>,
+    tones: Tones,
+) -> Result<Sides<'a>, AllocError> {
+    let boxes = aligned(alloc, FIRST_TOP, &from, &to, &tones.partners)?;
+    let (input, output) = given_records(mapping);
+    let input = Drawn {
+        layout: mapping.input,
+        letter: "i",
+        contents: input,
+        covered: &[],
+        receives: false,
+        tones: tones.input,
+        rows: from,
+        tops: tops_of(alloc, FIRST_TOP, &boxes.input)?,
+    };
+    let output = Drawn {
+        layout: mapping.output,
+        letter: "o",
+        contents: output,
+        covered: mapping.covered,
+        receives: true,
+        tones: tones.output,
+        rows: to,
+        tops: tops_of(alloc, FIRST_TOP, &boxes.output)?,
+    };
+    Ok(Sides { input, output })
 }
 
 /// Both records as they are drawn.
 fn sides_of<'a>(alloc: Global, mapping: &Mapping<'a>) -> Result<Sides<'a>, AllocError> {
-    let (from, to) = match mapping.converted {
-        Some(one) => (Some(contents_of(one.input)), Some(contents_of(one.output))),
-        None => (None, None),
-    };
-    let input = draw(alloc, mapping.input, from, &[], Vec::new(alloc))?;
-    let edged = edged_in(alloc, mapping)?;
-    match draw(alloc, mapping.output, to, mapping.covered, edged) {
-        Ok(output) => Ok(Sides { input, output }),
-        Err(refused) => Err(refused),
-    }
+    let (input, output) = given_records(mapping);
+    let from = rows_of_entries(alloc, mapping.input, input)?;
+    let to = rows_of_entries(alloc, mapping.output, output)?;
+    let singles = singles_of(alloc, mapping.statements, mapping.lines)?;
+    let tones = tones_of(
+        alloc,
+        &from,
+        &to,
+        &singles,
+        mapping.losses,
+        mapping.descriptions,
+    )?;
+    drawn_sides(alloc, mapping, from, to, tones)
 }
 
 /// Of each single move of statements how many join the same, where it is the first of them.
@@ -177,12 +228,11 @@ impl<'a> Page<'a> {
     }
 }
 
-/// What is written of single moves that join the same, at the first of them: the line from an entry, the line from a constant, whose text lies over the
-/// other lines, or a row of the list.
+/// What is written of single moves that join the same, at the first of them: their line, the text of a constant, or a row of the list.
 #[derive(Clone, Copy)]
 enum Writing {
-    EntryLine,
-    ConstantLine,
+    Line,
+    Constant,
     Row,
 }
 
@@ -193,12 +243,10 @@ fn write_one<'a, W: fmt::Write>(
     writing: Writing,
     group: Group<'a>,
 ) -> fmt::Result {
-    match (writing, group.first.sent) {
-        (Writing::Row, _) => write_move(f, &page.sides, group),
-        (Writing::EntryLine, Sent::Entry { .. }) | (Writing::ConstantLine, Sent::Constant(_)) => {
-            write_line(f, &page.sides, group)
-        }
-        _ => Ok(()),
+    match writing {
+        Writing::Row => write_move(f, &page.sides, group),
+        Writing::Line => write_line(f, &page.sides, group),
+        Writing::Constant => write_constant_text(f, &page.sides, group),
     }
 }
 
@@ -236,24 +284,6 @@ fn write_joined<W: fmt::Write>(
     Ok(())
 }
 
-/// How many of these bytes are not covered.
-fn count_bare(covered: &[bool]) -> usize {
-    covered.iter().filter(|covered| !**covered).count()
-}
-
-/// How many single moves may lose something.
-fn count_losing(losses: &[Losses]) -> usize {
-    losses.iter().filter(|losses| !losses.are_none()).count()
-}
-
-/// How many single moves may lose their description.
-fn count_undescribed(descriptions: &[Option<Unkept>]) -> usize {
-    descriptions
-        .iter()
-        .filter(|unkept| unkept.is_some())
-        .count()
-}
-
 /// The record of a layout, by its name.
 fn record_name(layout: &Layout) -> NamedOccurrence<'_> {
     NamedOccurrence::new(layout.root(), 0, &[])
@@ -265,7 +295,10 @@ fn write_head<W: fmt::Write>(f: &mut fmt::Formatter<W>, mapping: &Mapping<'_>) -
     f.write_str(HEAD)?;
     write!(f, "<title>{input} to {output}</title>\n<style>")?;
     f.write_str(STYLE)?;
-    writeln!(f, "</style></head><body>\n<h1>{input} to {output}</h1>")
+    writeln!(
+        f,
+        "</style></head><body>\n<h1>{input} <span>to</span> {output}</h1>"
+    )
 }
 
 /// Writes the names of the texts, and the number of the record that is shown.
@@ -278,50 +311,45 @@ fn write_names<W: fmt::Write>(f: &mut fmt::Formatter<W>, mapping: &Mapping<'_>) 
         text: names.out_book,
     };
     let moves = Escaped { text: names.moves };
-    write!(
-        f,
-        "<p>in-book {in_book}, out-book {out_book}, moves {moves}"
-    )?;
-    match mapping.converted {
-        Some(converted) => writeln!(f, ", record {}</p>", converted.number),
-        None => writeln!(f, "</p>"),
+    write!(f, "<p>{in_book}, {out_book}, {moves}")?;
+    if let Some(converted) = mapping.converted {
+        write!(f, "{BETWEEN}record {}", converted.number)?;
     }
-}
-
-/// Writes how long the records are, how many moves there are, and what is marked.
-fn write_summary<W: fmt::Write>(f: &mut fmt::Formatter<W>, mapping: &Mapping<'_>) -> fmt::Result {
     let (from, to) = (mapping.input.greatest(), mapping.output.greatest());
-    let moves = mapping.losses.len();
-    let (bare, losing) = (count_bare(mapping.covered), count_losing(mapping.losses));
-    write!(
-        f,
-        "<p>in {from} bytes, out {to} bytes, single moves {moves}; "
-    )?;
-    let undescribed = count_undescribed(mapping.descriptions);
-    writeln!(
-        f,
-        "bytes that no receiver covers {bare}, single moves that may lose something {losing}, moves of bytes that may lose a description {undescribed}</p>"
-    )
+    writeln!(f, "{BETWEEN}{from} bytes in, {to} bytes out</p>")
 }
 
-/// Writes a record with the line above it.
+/// Writes the tiles, and below them the ribbons of both records.
+fn write_summary<W: fmt::Write>(f: &mut fmt::Formatter<W>, page: &Page<'_>) -> fmt::Result {
+    let Mapping {
+        losses,
+        descriptions,
+        covered,
+        ..
+    } = page.mapping;
+    let counted = Counted {
+        singles: page.joins.singles.as_slice(),
+        losses,
+        descriptions,
+        covered,
+    };
+    write_tiles(f, &page.sides, counted)?;
+    f.write_str(RIBBONS_HEAD)?;
+    write_ribbon(f, &page.sides.input)?;
+    write_ribbon(f, &page.sides.output)?;
+    f.write_str(RIBBONS_END)
+}
+
+/// Writes the boxes of a record.
 fn write_side<W: fmt::Write>(
     f: &mut fmt::Formatter<W>,
     drawn: &Drawn<'_>,
     class: &'static str,
 ) -> fmt::Result {
-    let name = record_name(drawn.layout);
-    write!(
-        f,
-        "<div class=\"side {class}\"><div class=\"h w\"><span class=\"n\">{name}</span>"
-    )?;
-    f.write_str(SIDE_HEAD)?;
+    writeln!(f, "<div class=\"side {class}\">")?;
     write_boxes(f, drawn)?;
     f.write_str("</div>\n")
 }
-
-/// How high the head of the page is on paper.
-const HEAD_HEIGHT: u32 = 120;
 
 /// Writes the drawing.
 fn write_drawing<W: fmt::Write>(f: &mut fmt::Formatter<W>, page: &Page<'_>) -> fmt::Result {
@@ -333,15 +361,16 @@ fn write_drawing<W: fmt::Write>(f: &mut fmt::Formatter<W>, page: &Page<'_>) -> f
     } else {
         "map long"
     };
+    writeln!(f, "<div class=\"{class}\" style=\"--h:{height}\">")?;
+    write_side(f, input, "in")?;
     writeln!(
         f,
-        "<div class=\"scroll\"><div class=\"{class}\" style=\"height:{height}px\">"
+        "<svg class=\"lines\" viewBox=\"0 0 100 {height}\" preserveAspectRatio=\"none\">"
     )?;
-    write_side(f, input, "in")?;
-    f.write_str(LINES_HEAD)?;
-    write_joined(f, page, Writing::EntryLine)?;
-    write_joined(f, page, Writing::ConstantLine)?;
+    write_joined(f, page, Writing::Line)?;
     f.write_str(LINES_END)?;
+    write_joined(f, page, Writing::Constant)?;
+    f.write_str(CONSTANTS_END)?;
     write_side(f, output, "out")?;
     f.write_str(DRAWING_END)
 }
@@ -363,18 +392,29 @@ fn write_bare_bytes<W: fmt::Write>(f: &mut fmt::Formatter<W>, page: &Page<'_>) -
     f.write_str(LIST_END)
 }
 
+/// Writes the list of the bytes of both records, where they are given.
+fn write_all_bytes<W: fmt::Write>(f: &mut fmt::Formatter<W>, page: &Page<'_>) -> fmt::Result {
+    if page.mapping.converted.is_none() {
+        return Ok(());
+    }
+    f.write_str(BYTES_HEAD)?;
+    write_bytes(f, &page.sides.input)?;
+    write_bytes(f, &page.sides.output)?;
+    f.write_str(LIST_END)
+}
+
 impl fmt::Display for Page<'_> {
     fn fmt<W: fmt::Write>(&self, f: &mut fmt::Formatter<W>) -> fmt::Result {
         write_head(f, &self.mapping)?;
         write_names(f, &self.mapping)?;
-        write_summary(f, &self.mapping)?;
-        f.write_str(KEY)?;
+        write_summary(f, self)?;
         if !self.mapping.tested.iter().all(|tested| !*tested) {
             f.write_str(TESTED_KEY)?;
         }
         write_drawing(f, self)?;
         write_moves(f, self)?;
         write_bare_bytes(f, self)?;
+        write_all_bytes(f, self)?;
         f.write_str(PAGE_END)
     }
 }

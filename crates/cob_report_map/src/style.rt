@@ -1,87 +1,118 @@
 //! What stands on each page: its style, and the parts of it that hold no word of the mapping.
 
-/// What is said of the page's elements, on a screen of any width and on paper.
+/// What is said of the page's elements, on a screen of any width, light or dark, and on paper. Places and heights are told in units: one is a point wide where
+/// there is room, and more where a row has two lines.
 pub(crate) const STYLE: &str = "
 *{box-sizing:border-box}
-body{margin:16px;font:13px/18px system-ui,sans-serif;color:#1b1b1b;background:#fff}
-h1{font-size:18px;line-height:24px;margin:0}
-h2{font-size:14px;margin:24px 0 4px}
-p{margin:4px 0}
-.b,.h,text,td{font-family:ui-monospace,'DejaVu Sans Mono',Consolas,monospace;font-size:11px}
-.k span{display:inline-block;margin-right:16px}
-.k i{display:inline-block;width:24px;height:8px;margin-right:4px;border:1px solid #456;background:#9bc4e6}
-.k .k2{background:#e58b82;border-color:#b3261e}
-.k .k3{border:0;border-top:2px dashed #b3261e;height:0;background:none;vertical-align:middle}
-.k .k4{border-style:dashed;background:#fff}
-.k .k5{border:0;border-top:2px dotted #b26a00;height:0;background:none;vertical-align:middle}
-.scroll{overflow-x:auto}
-.map{position:relative;margin-top:8px}
-.side{position:absolute;top:0;width:40%}
+:root{color-scheme:light dark;--u:1px;--paper:#fff;--ink:#1c2733;--soft:#5d6e80;--faint:#7f8f9e;--rule:#dfe5ea;--row:#f8fafc;--tile:#f6f9fb;--chip:#e8eff5;--blue:#2c6e9f;--sky:#9cc6e4;--amber:#a86400;--sand:#f2c36b;--amberrow:#fff9ec;--red:#b3261e;--redrow:#fdf4f3}
+@media screen and (prefers-color-scheme:dark){:root{--paper:#11171d;--ink:#dde5ec;--soft:#97a6b5;--faint:#75848f;--rule:#2b353e;--row:#171e25;--tile:#182129;--chip:#25313b;--blue:#74b4e2;--sky:#3d7aa6;--amber:#e3a845;--sand:#a97b2c;--amberrow:#272013;--red:#ff8a80;--redrow:#2b1b1b}}
+body{margin:24px auto;max-width:1400px;padding:0 24px;font:13px/20px system-ui,sans-serif;color:var(--ink);background:var(--paper)}
+h1{font-size:20px;line-height:28px;margin:0;font-weight:650;letter-spacing:-.01em}
+h1 span{font-weight:400;color:var(--soft)}
+h2{font-size:14px;margin:24px 0 4px;font-weight:650}
+p{margin:0;color:var(--soft)}
+small{font-size:11px;font-weight:400;color:var(--soft);white-space:pre}
+nav{display:grid;grid-template-columns:repeat(4,1fr);gap:12px;margin:16px 0 12px}
+nav a{display:grid;grid-template-columns:auto 1fr;grid-template-rows:auto 1fr;column-gap:8px;align-items:baseline;padding:8px 12px;border-left:3px solid var(--sky);background:var(--tile);color:inherit;text-decoration:none}
+nav b{font-size:20px;line-height:24px;font-weight:650;grid-row:span 2}
+nav small{line-height:16px;overflow-wrap:anywhere;white-space:normal}
+nav .amb{border-color:var(--sand);background:var(--amberrow)}
+nav .bad{border-color:var(--red);background:var(--redrow)}
+nav .none{border-color:var(--rule);color:var(--soft)}
+.ribs{display:grid;grid-template-columns:42% 42%;justify-content:space-between;margin-bottom:12px}
+.rib{display:block;width:100%;height:10px}
+.rib rect{fill:var(--sky);stroke:var(--paper);stroke-width:1px;vector-effect:non-scaling-stroke}
+.rib .no rect{fill:var(--rule)}
+.rib .amb rect{fill:var(--sand)}
+.rib .bad rect{fill:var(--red)}
+.map{position:relative;height:calc(var(--h)*var(--u))}
+.side{position:absolute;top:0;width:42%}
 .in{left:0}
 .out{right:0}
-.h{height:18px;font-weight:bold}
-.b{position:absolute;left:0;right:0;overflow:hidden;border:1px solid #7c92a5;background:#eef4f9;border-radius:2px;padding:0 4px}
-.in .b{left:calc(var(--d)*8px)}
-.out .b{right:calc(var(--d)*8px)}
-.g{background:#dfe6ec}
-.r{border-style:dashed;background:#fff}
-.u{background:#fdf1ef;border-color:#b3261e}
-.e{border-left:4px solid #b26a00}
-.j{position:absolute;width:5px;border:1px dashed #456}
-.in .j{left:calc(var(--d)*8px - 5px);border-right:0}
-.out .j{right:calc(var(--d)*8px - 5px);border-left:0}
-.w{display:flex;height:18px;line-height:18px;white-space:nowrap}
-.n{flex:1 1 auto;overflow:hidden;text-overflow:ellipsis}
-.g .n{font-weight:bold}
-.m{flex:none;margin-left:1ch;color:#b3261e}
-.t{flex:0 20 auto;overflow:hidden;text-overflow:ellipsis;margin:0 1ch;color:#456}
-.g .t{display:none}
-.o{flex:0 0 6ch;text-align:right;margin-left:1ch}
-.v{height:15px;line-height:15px;white-space:pre;overflow:hidden;text-overflow:ellipsis}
-.x{color:#567}
-.s{display:block;width:100%;background:#fff;fill:#9bc4e6}
-.z{fill:#e58b82}
-.lines{position:absolute;top:0;left:40%;width:20%;height:100%;overflow:visible}
-.lines line{stroke:#2f5f8a;stroke-width:1.2;marker-end:url(#a)}
-.lines .c line{stroke:#b3261e;stroke-dasharray:5 3;stroke-width:1.6;marker-end:url(#c)}
-.lines .d line{stroke:#b26a00;stroke-dasharray:2 3;stroke-width:1.6;marker-end:url(#d)}
-.lines .p line{marker-end:none}
-.lines g:hover line{stroke-width:3}
-text,#a{fill:#2f5f8a}
-#c{fill:#b3261e}
-#d{fill:#b26a00}
-text{paint-order:stroke;stroke:#fff;stroke-width:4px;white-space:pre}
+.g,.e,.u{position:absolute;left:calc(var(--d)*14px);right:0;top:calc(var(--y)*var(--u));height:calc(var(--h)*var(--u))}
+.u{left:calc(var(--d)*14px + 5px);right:auto;width:1px;background:var(--rule)}
+.w{display:flex;gap:10px;height:20px;line-height:20px;white-space:nowrap;align-items:baseline}
+.w b{flex:0 1 auto;overflow:hidden;text-overflow:ellipsis}
+.g b{font-weight:650}
+.g .w{border-bottom:1px solid var(--rule);padding-right:6px}
+.e{padding:0 6px 0 8px;border-left:2px solid var(--sky);background:var(--row)}
+.e b{font-weight:500}
+.w small{flex:0 20 auto;overflow:hidden;text-overflow:ellipsis;margin-left:-10px}
+.q small{margin:0}
+.p,.o{flex:none;color:var(--soft);font-size:11px}
+.p{flex:0 8 auto;overflow:hidden;text-overflow:ellipsis}
+.m{flex:none;font-size:11px;color:var(--red)}
+.v,.x,.chip,.consts,td{font-family:ui-monospace,'DejaVu Sans Mono',Consolas,monospace}
+.v{margin-left:auto;flex:0 1 auto;font-size:12px;white-space:pre;overflow:hidden;text-overflow:ellipsis}
+.v i{font-style:normal;font-size:10px;color:var(--faint);margin-left:1ch}
+.v em,td em{font-style:normal;color:var(--red)}
+.x{flex:0 0 12ch;overflow:hidden;text-overflow:ellipsis;font-size:10px;color:var(--faint)}
+.o{min-width:5ch;text-align:right;font-variant-numeric:tabular-nums;margin-left:auto}
+.v~.o{margin-left:0}
+.q{padding-right:calc(5ch + 10px)}
+.chip{font-size:11px;line-height:15px;margin-right:-4px;padding:0 5px;border-radius:2px;background:var(--chip);white-space:pre}
+.chip~.x{flex:0 0 auto;margin-left:auto}
+.r b,.r .v{color:var(--soft)}
+.e.r{border-left-style:dashed}
+.g.r .w{border-bottom-style:dashed}
+.e.amb{border-color:var(--amber);background:var(--amberrow)}
+.g.amb .w{border-bottom:2px dotted var(--amber)}
+.e.bad,.bare{border-color:var(--red);background:var(--redrow)}
+.g.bad .w{border-bottom:2px dashed var(--red)}
+.got::before{content:'';position:absolute;left:-9px;top:calc(10*var(--u) - 4px);border:4px solid transparent;border-left:6px solid var(--blue);border-right:0}
+.got.amb::before{border-left-color:var(--amber)}
+.got.bad::before{border-left-color:var(--red)}
+:target{outline:2px solid var(--blue)}
+.lines,.consts{position:absolute;left:42%;width:16%;top:0;height:100%;overflow:visible}
+.lines path,.lines line{fill:none;stroke:var(--blue);stroke-width:1.25px;opacity:.5;vector-effect:non-scaling-stroke}
+.lines .c *{stroke:var(--red);stroke-width:1.75px;stroke-dasharray:6 4;opacity:1}
+.lines .d *{stroke:var(--amber);stroke-width:1.75px;stroke-dasharray:2 3;opacity:1}
+.lines .t *{stroke-dasharray:1 3}
+.lines g .hit *{stroke-width:12px;stroke-dasharray:none;opacity:0}
+.lines .hit{opacity:1}
+.lines g:hover>*{opacity:1;stroke-width:2.5px}
+.consts{pointer-events:none;font-size:11px;line-height:16px}
+.consts span{position:absolute;right:21%;top:calc((var(--y) + 10)*var(--u) - 8px);max-width:240px;overflow:hidden;text-overflow:ellipsis;white-space:pre;padding:0 2px;color:var(--blue);background:var(--paper)}
 table{border-collapse:collapse}
-th{text-align:left;font-size:11px;padding:0 12px 0 0}
-td{padding:0 12px 0 0;vertical-align:top;border-top:1px solid #dde;white-space:pre-wrap}
-.c td,.v.c{color:#b3261e}
-.d td{color:#8a5200}
-@media(max-width:700px){
-body{margin:8px}
-.side{width:43%}
-.lines{left:43%;width:14%}
-.b,.h,text{font-size:9px}
-td,th{font-size:10px;padding-right:6px}
-.b .w{flex-wrap:wrap;height:19px;line-height:10px;overflow:hidden}
-.b .n{flex:1 0 100%}
-.t{flex:1 1 0;margin-left:0}
-.g .t{display:block;visibility:hidden}
-.m{margin:0 1ch 0 0}
-.o{flex-basis:5ch}
-.h .o{flex-basis:7ch;margin-left:0}
-.v{font-size:9px}
+th{text-align:left;font-size:11px;font-weight:600;padding:0 12px 0 0;color:var(--soft)}
+td{padding:0 12px 0 0;vertical-align:top;border-top:1px solid var(--rule);font-size:11px;white-space:pre-wrap;overflow-wrap:anywhere}
+.c td{color:var(--red)}
+.d td{color:var(--amber)}
+@media screen and (max-width:760px){
+:root{--u:1.7px}
+body{margin:12px 0;padding:0 8px}
+nav{grid-template-columns:1fr 1fr}
+.ribs{grid-template-columns:45% 45%}
+.side{width:45%}
+.lines,.consts{left:45%;width:10%}
+.x,.p,.m{display:none}
+.g,.e{left:calc(var(--d)*5px)}
+.u{left:calc(var(--d)*5px + 2px)}
+.e{padding:0 3px 0 5px}
+.e>.w:first-child{flex-wrap:wrap;gap:0 4px;height:34px;line-height:16px}
+.w b{flex:0 1 auto;max-width:calc(100% - 8ch)}
+.e b{font-size:10px}
+.w small{flex:1 1 0;margin-left:-4px}
+.q small{flex:none;margin:0}
+.e>.w:first-child .v{order:3;flex:1 1 100%;margin:0;font-size:11px}
+.g b{font-size:11px}
+.g .w{height:24px;line-height:24px;margin-top:8px;padding:0}
+small{font-size:9px}
+.o{min-width:0;font-size:9px}
+.q{gap:5px;padding:0}
+.q .v{margin:0;font-size:11px}
+.chip{padding:0 2px}
+.consts{font-size:9px}
+.consts span{max-width:90px}
+.got::before{left:-7px}
 }
 @page{size:1123px 794px;margin:38px}
 @media print{
-body{margin:0;-webkit-print-color-adjust:exact;print-color-adjust:exact}
-.b,.h,text,td{font-size:10px}
-.side{width:43%}
-.lines{left:43%;width:14%}
-.scroll{overflow:visible}
-.map{margin-top:0;break-inside:avoid}
+body{margin:0;padding:0;max-width:none;-webkit-print-color-adjust:exact;print-color-adjust:exact}
+.map{break-inside:avoid}
 .long{break-before:page;break-inside:auto}
 h2,th{break-after:avoid}
-tr{break-inside:avoid}
+tr,nav a{break-inside:avoid}
 }
 ";
 
@@ -91,38 +122,30 @@ pub(crate) const HEAD: &str = "<!DOCTYPE html>
 <meta name=\"viewport\" content=\"width=device-width, initial-scale=1\">
 ";
 
-/// What the signs of the drawing mean.
-pub(crate) const KEY: &str = "<p class=\"k\"><span><i></i>bytes of an item, in rows of 64</span>
-<span><i class=\"k2\"></i>bytes that no receiver covers</span>
-<span><i class=\"k3\"></i>a move that may lose something</span>
-<span><i class=\"k5\"></i>bytes as they are: the description may be lost</span>
-<span><i class=\"k4\"></i>a redefinition, joined to what it redefines</span></p>
-";
-
 /// What dashed lines mean, where there are some.
 pub(crate) const TESTED_KEY: &str =
     "<p>dotted lines: moves of loops to a count, in as many turns as the count says</p>
 ";
 
-/// What stands behind the name of a record in the line above its boxes.
-pub(crate) const SIDE_HEAD: &str =
-    "<span class=\"o\">offset</span><span class=\"o\">length</span></div>
+/// What stands in front of the ribbons.
+pub(crate) const RIBBONS_HEAD: &str = "<div class=\"ribs\">
 ";
 
-/// What stands in front of the lines.
-pub(crate) const LINES_HEAD: &str = "<svg class=\"lines\"><defs>
-<marker id=\"a\" viewBox=\"0 0 8 8\" refX=\"8\" refY=\"4\" markerWidth=\"7\" markerHeight=\"7\" orient=\"auto\"><path d=\"M0 0L8 4L0 8z\"/></marker>
-<marker id=\"c\" viewBox=\"0 0 8 8\" refX=\"8\" refY=\"4\" markerWidth=\"7\" markerHeight=\"7\" orient=\"auto\"><path d=\"M0 0L8 4L0 8z\"/></marker>
-<marker id=\"d\" viewBox=\"0 0 8 8\" refX=\"8\" refY=\"4\" markerWidth=\"7\" markerHeight=\"7\" orient=\"auto\"><path d=\"M0 0L8 4L0 8z\"/></marker>
-</defs>
+/// What stands behind the ribbons.
+pub(crate) const RIBBONS_END: &str = "</div>
 ";
 
-/// What stands behind the lines.
+/// What stands between the lines and the constants.
 pub(crate) const LINES_END: &str = "</svg>
+<div class=\"consts\">
+";
+
+/// What stands behind the constants.
+pub(crate) const CONSTANTS_END: &str = "</div>
 ";
 
 /// The end of the drawing.
-pub(crate) const DRAWING_END: &str = "</div></div>
+pub(crate) const DRAWING_END: &str = "</div>
 ";
 
 /// What stands in front of the list of moves.
@@ -133,6 +156,11 @@ pub(crate) const MOVES_HEAD: &str = "<h2>Moves</h2>
 /// What stands in front of the list of bytes that no receiver covers.
 pub(crate) const BARE_HEAD: &str = "<h2>Bytes that no receiver covers</h2>
 <table><tr><th>offset</th><th>length</th><th>from item</th></tr>
+";
+
+/// What stands in front of the list of the bytes of both records.
+pub(crate) const BYTES_HEAD: &str = "<h2>Bytes</h2>
+<table><tr><th>item</th><th>offset</th><th>value</th><th>bytes</th></tr>
 ";
 
 /// The end of a list.
