@@ -2,4 +2,4 @@
 
 // What `--version` prints after the program's name: its version, the commit whose text it is made of, and the toolchain of the release.
 pub(crate) const VERSION: &str =
-    "2.1.0\ncommit ec577652b82e36c39ece4184f73494b54f244cf8\nrattle-kit-13f logic dac8208d650f15bf";
+    "2.2.0\ncommit a5045b1cdaa407ee748952174bbf3aadae3fe854\nrattle-kit-13f logic dac8208d650f15bf";
