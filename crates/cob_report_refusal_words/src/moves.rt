@@ -102,7 +102,7 @@ fn told_statement<'a>(both: BothWords<'a>, words: &'a [Token], fault: MoveFault)
             both,
             statement,
             "{}, to {}: the table of categories has no such move",
-            "move by way of a group, or change a picture (PROFILE.md has the table)",
+            "change a picture, or move it to an edited item or to a whole number first (PROFILE.md has the table)",
         ),
         MoveRule::TooLong => told_pair(
             both,

@@ -98,8 +98,13 @@ static CLAUSE_WORDS: [&str; 16] = [
     "DISPLAY",
 ];
 
-/// The word of a clause that a text is near to, if there is one.
+/// The word of a clause that a text is near to, if there is one: first one that differs in hyphens alone, as COMP-3 from COMP3.
 pub(crate) fn near_clause(text: &[u8]) -> Option<&'static str> {
+    for word in &CLAUSE_WORDS {
+        if text != word.as_bytes() && are_one_but_for_hyphens(text, word.as_bytes()) {
+            return Some(*word);
+        }
+    }
     for word in &CLAUSE_WORDS {
         if is_near(text, word.as_bytes()) {
             return Some(*word);
