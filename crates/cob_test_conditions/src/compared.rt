@@ -38,7 +38,7 @@ fn is_storable(item: &Item) -> bool
 }
 
 /// Whether so many bytes are those of an item, or of a group.
-fn has_bytes(kind: &Kind, length: usize) -> bool
+pub(crate) fn has_bytes(kind: &Kind, length: usize) -> bool
     ensures { IsTrue result → Occupies kind.now length }
 {
     match kind {

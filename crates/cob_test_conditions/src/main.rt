@@ -5,9 +5,11 @@
 
 mod compared;
 mod operands;
+mod said;
 mod written;
 
 use crate::compared::ConditionRows;
+use crate::said::SaidRows;
 use crate::written::WrittenRows;
 use cob_test_rows::print_table;
 use std::io;
@@ -16,6 +18,7 @@ use std::rt::Files;
 /// Prints the rows of the tables.
 fn print_rows<R: AllocGlobal + Files + Print>(rt: &R) -> io::Result<()> {
     print_table::<ConditionRows, R>(rt, "conditions", "compared")?;
+    print_table::<SaidRows, R>(rt, "conditions", "said")?;
     print_table::<WrittenRows, R>(rt, "conditions", "written")
 }
 
