@@ -32,6 +32,7 @@ mod at_once;
 mod bound;
 mod carrying;
 mod flow;
+mod giving;
 mod known;
 mod laws;
 mod ready;
@@ -40,9 +41,9 @@ mod sides;
 mod steady;
 mod told;
 
-pub use flow::{Bound, CountedLoop, Flow};
+pub use flow::{Asked, Bound, CountedLoop, Flow};
 pub use laws::{
-    bound_of_input_is_kept, literal_loop_is_its_moves, loop_is_its_turns, one_carried,
-    straight_is_applied,
+    bound_of_input_is_kept, choice_is_if, literal_loop_is_its_moves, loop_is_its_turns,
+    one_carried, selection_is_first, straight_is_applied,
 };
 pub use ready::ReadyDeeds;

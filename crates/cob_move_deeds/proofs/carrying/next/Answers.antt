@@ -97,7 +97,7 @@ returns-in_ok-make_turns-in-Turns-clause-spends c =
     let more = c.args.more.now in
     let (l, at, is) = subst (λ (f : Flow). IsFlow on f) c.in-Turns.is c.requires.each.0 in
     subst (λ (f : Flow). FlowSpends r on (f ∷ more) more c.args.sides.now.input.now c.args.output.now c.make_turns.new.output c.args.scratch.now c.make_turns.new.scratch) (sym c.in-Turns.is)
-    (turns_spend c.one_outcome_of_counts.ensures.needed c.one_ending.ensures r on c.in-Turns.number more c.index.result.now c.args.sides.now.input.now c.args.output.now c.make_turns.new.output c.args.scratch.now c.make_turns.new.scratch
+    (turns_spend c.tests_are_one.ensures c.one_ending.ensures r on c.in-Turns.number more c.index.result.now c.args.sides.now.input.now c.args.output.now c.make_turns.new.output c.args.scratch.now c.make_turns.new.scratch
     (there on c.in-Turns.number l c.index.result.now at c.index.ensures) c.in_ok-make_turns-in-Turns.ensures.carried c.in_ok-make_turns-in-Turns.ensures.reads)
 
 pub returns-in_err-make_turns-in-Turns-clause-spent : goal.returns-in_err-make_turns-in-Turns-clause-spent

@@ -1,0 +1,5 @@
+pub mod TextLemmas
+pub mod NumberLemmas
+pub mod ClassLemmas
+pub mod OperandLemmas
+pub mod OneLemmas

@@ -1,0 +1,9 @@
+pub mod Conditions
+pub mod Comparable
+pub mod Compared
+pub mod Classes
+pub mod Says
+pub mod Tested
+pub mod Laws
+pub mod Texts
+pub mod Given
