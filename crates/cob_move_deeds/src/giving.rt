@@ -15,6 +15,7 @@ ghost use Rattle.cob_move_apply.specs.Room.{Scratching};
 ghost use Rattle.cob_move_apply.specs.declared.stop.Stop.{Stop as Stops};
 ghost use Rattle.cob_move_deeds.specs.Carrying.{HasKept, records_of_sides};
 ghost use Rattle.cob_move_deeds.specs.Flows.{sender_placed};
+ghost use Rattle.cob_move_deeds.specs.Giving.{ReadsOn, ReadsOnToStop, constant_gives};
 ghost use Rattle.cob_move_deeds.specs.Prepared.{kind_placed};
 ghost use Rattle.cob_move_deeds.specs.Tests.{GivesIn, LacksIn};
 
@@ -26,6 +27,7 @@ use cob_move_data::Side;
 use cob_move_receive::Sent;
 
 /// The entries that conditions ask for, how their binary items are read, and the storages of two records.
+#[derive(Clone, Copy)]
 pub(crate) struct Giving<'a> {
     pub(crate) entries: &'a [PlacedEntry],
     pub(crate) reading: Reading,
@@ -91,9 +93,9 @@ impl Operands for Giving<'_> {
 
     ghost keeps = { λ g room. HasKept (records_of_sides g.sides.now) g.sides.now.input.now g.output.now room };
 
-    ghost goes = { λ g old new. ReadsFor {A = Unit {0}} g.sides.now.output_layout.now 0 (Ok tt) old new };
+    ghost goes = { λ g. ReadsOn g.sides.now.output_layout.now };
 
-    ghost halts = { λ g old new. (stop : Stops) → ReadsFor {A = Unit {0}} g.sides.now.output_layout.now 0 (Err stop) old new };
+    ghost halts = { λ g. ReadsOnToStop g.sides.now.output_layout.now };
 
     fn give(&self, number: usize, room: &mut Scratch) -> Result<Sent<'_>, Stop> {
         let place = self.place_of(number, room)?;
@@ -129,4 +131,12 @@ impl Operands for Giving<'_> {
             Err(stop) => stop,
         }
     }
+
+    ghost constants = { λ g c. constant_gives (records_of_sides g.sides.now) g.sides.now.input.now g.output.now c };
+
+    ghost stays = { λ g a first h. h };
+
+    ghost joins = { λ g a b c one other first h. other first (one first h) };
+
+    ghost ends = { λ g a b c one other first stop h. other first stop (one first h) };
 }

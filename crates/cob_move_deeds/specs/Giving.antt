@@ -1,0 +1,24 @@
+-- What a constant gives to a condition, and how many counts are read for what its entries give.
+use Rattle.std.specs.Prelude.{ℕ, List, refl, Ok, Err}
+use Rattle.cob_copybook_entry.specs.Described.{PlainValue}
+use Rattle.cob_copybook_tree.specs.Forests.{Forest}
+use Rattle.cob_copybook_tree.specs.Nodes.{Resolved}
+use Rattle.cob_move_data.specs.declared.operands.Side.TheVariants.{Out}
+use Rattle.cob_move_data.specs.Moves.{Literal, Records}
+use Rattle.cob_move_receive.specs.Sent as given
+use Rattle.cob_move_apply.specs.Reads.{ReadsFor}
+use Rattle.cob_move_apply.specs.Room.{Scratching}
+use Rattle.cob_move_apply.specs.declared.stop.Stop.{Stop}
+use Rattle.cob_move_deeds.specs.Tests.{GivesIn}
+
+-- a constant gives itself
+pub constant_gives : (r : Records) (input output : List ℕ) (c : PlainValue) → GivesIn r input output (Literal c) (Ok (given.Literal c))
+constant_gives r input output c = (record { sent = given.Literal c; side = Out; offset = 0 }, refl, refl)
+
+-- where no receiver met the item of a count, no more counts were read up to the later moment than are kept then, if none were up to the earlier one
+abbrev pub ReadsOn : Forest Resolved → Scratching → Scratching → Type 0
+ReadsOn tree earlier later = (first : Scratching) → ReadsFor {A = Unit {0}} tree 0 (Ok tt) first earlier → ReadsFor {A = Unit {0}} tree 0 (Ok tt) first later
+
+-- the same up to a stop
+abbrev pub ReadsOnToStop : Forest Resolved → Scratching → Scratching → Type 0
+ReadsOnToStop tree earlier later = (first : Scratching) (stop : Stop) → ReadsFor {A = Unit {0}} tree 0 (Ok tt) first earlier → ReadsFor {A = Unit {0}} tree 0 (Err stop) first later
