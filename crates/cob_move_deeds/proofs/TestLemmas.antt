@@ -50,7 +50,7 @@ same_counts law tree o bytes c d n m = ok_is {E = CountFault} c d (law tree o.en
 no_counts : OneOfNeeded → (tree : Forest Resolved) (o : Operand) (bytes c : List ℕ) (f : CountFault) → NeededOf tree o.entry.node false bytes (Ok c) → NeededOf tree o.entry.node false bytes (Err f) → ⊥
 no_counts law tree o bytes c f n m = ok_not c f (law tree o.entry.node false bytes (Ok c) (Err f) n m)
 
-not_both : OneOfNeeded → (side : Side) (tree : Forest Resolved) (o : Operand) (bytes : List ℕ) (p : Place) (q : Stop) → Located side tree false o bytes (Ok p) → Located side tree false o bytes (Err q) → ⊥
+pub not_both : OneOfNeeded → (side : Side) (tree : Forest Resolved) (o : Operand) (bytes : List ℕ) (p : Place) (q : Stop) → Located side tree false o bytes (Ok p) → Located side tree false o bytes (Err q) → ⊥
 not_both law side tree o bytes p q (c, n, e) (inl (f, m, is)) = no_counts law tree o bytes c f n m
 not_both law side tree o bytes p q (c, n, e) (inr (d, f, m, at, is)) = ok_not p f (one_standing tree o c d (Ok p) (Err f) (same_counts law tree o bytes c d n m) e at)
 
