@@ -319,7 +319,8 @@ fn take_branch<'a>(
         (flow_support deeds.now) (flow.Where condition holding lacking ∷ more.now)
         sides.now.input.now output.now scratch.old scratch.new) }
 {
-    if condition_says(deeds, condition, sides, output, scratch)? {
+    let holds = condition_says(deeds, condition, sides, output, scratch)?;
+    if holds {
         return Ok(more);
     }
     Ok(behind_skip(more, holding))
