@@ -17,7 +17,7 @@ use Rattle.cob_move_deeds.specs.declared.flow.Flow.{Flow}
 use Rattle.cob_move_deeds.specs.declared.flow.Flow.TheVariants as flow
 use Rattle.cob_move_deeds.specs.Deeds.{Choice, Deeds, Moving, Nothing, both_deeds, moves_of_deeds}
 use Rattle.cob_move_deeds.specs.Flows.{FlowSupport, IsFlow, IsLoop, deeds_from, loop_done, moves_of_turn, turns_to, unless_past}
-use Rattle.cob_move_deeds.specs.Tests.{Past, past_bound}
+use Rattle.cob_move_deeds.specs.Tests.{Test, Until, past_bound}
 use Rattle.cob_move_deeds.specs.Turns.{turns_from}
 use Rattle.cob_move_deeds.proofs.FlowLemmas.{all_behind, all_front}
 use Rattle.cob_move_deeds.proofs.LoopLemmas.{turns_all}
@@ -74,11 +74,11 @@ turns_untested : {T : Type 0} (until : ℕ → T) (body : ℕ → Deeds T) (by n
 turns_untested until body by zero i d = refl
 turns_untested until body by (suc n) i d = refl
 
-bound_untested : (r : Records) (m : MarkedMoves) (l : CountedLoop) (o : Option Bound) (d : Deeds Past) → untested_moves (both_deeds (turns_to r m l o) d) ≡ untested_moves d
+bound_untested : (r : Records) (m : MarkedMoves) (l : CountedLoop) (o : Option Bound) (d : Deeds Test) → untested_moves (both_deeds (turns_to r m l o) d) ≡ untested_moves d
 bound_untested r m l None d = refl
-bound_untested r m l (Some b) d = turns_untested (λ number. past_bound r b number) (λ number. Moving (moves_of_turn r m l number) Nothing) l.by l.turns l.from d
+bound_untested r m l (Some b) d = turns_untested (λ number. Until (past_bound r b number)) (λ number. Moving (moves_of_turn r m l number) Nothing) l.by l.turns l.from d
 
-loop_untested : (r : Records) (on : FlowSupport) (o : Option CountedLoop) (d : Deeds Past) → untested_moves (both_deeds (loop_done r on o) d) ≡ untested_moves d
+loop_untested : (r : Records) (on : FlowSupport) (o : Option CountedLoop) (d : Deeds Test) → untested_moves (both_deeds (loop_done r on o) d) ≡ untested_moves d
 loop_untested r on None d = refl
 loop_untested r on (Some l) d = bound_untested r on.moves l (slice_get on.bounds l.bound) d
 
@@ -89,12 +89,12 @@ turns_marked {T} until body by (suc n) i d =
     let turn : Deeds T = both_deeds (body i) (turns_from until body by n (i + by)) in
     ap (λ (bs : List Bool). bs ++ tested_moves false d) (marked_all turn ∙ ap (λ (ms : List Move). replicate (length ms) true) (sym (append-nil (moves_of_deeds turn))))
 
-bound_marked : (r : Records) (m : MarkedMoves) (l : CountedLoop) (o : Option Bound) (d : Deeds Past)
+bound_marked : (r : Records) (m : MarkedMoves) (l : CountedLoop) (o : Option Bound) (d : Deeds Test)
     → tested_moves false (both_deeds (turns_to r m l o) d) ≡ replicate (length (moves_of_deeds (turns_to r m l o))) true ++ tested_moves false d
 bound_marked r m l None d = refl
-bound_marked r m l (Some b) d = turns_marked (λ number. past_bound r b number) (λ number. Moving (moves_of_turn r m l number) Nothing) l.by l.turns l.from d
+bound_marked r m l (Some b) d = turns_marked (λ number. Until (past_bound r b number)) (λ number. Moving (moves_of_turn r m l number) Nothing) l.by l.turns l.from d
 
-loop_marked : (r : Records) (on : FlowSupport) (o : Option CountedLoop) (d : Deeds Past)
+loop_marked : (r : Records) (on : FlowSupport) (o : Option CountedLoop) (d : Deeds Test)
     → tested_moves false (both_deeds (loop_done r on o) d) ≡ replicate (length (moves_of_deeds (loop_done r on o))) true ++ tested_moves false d
 loop_marked r on None d = refl
 loop_marked r on (Some l) d = bound_marked r on.moves l (slice_get on.bounds l.bound) d
@@ -113,8 +113,8 @@ moves_of_flows r on (suc n) (flow.Turns number ∷ fs) each few =
     ∙ ap (λ (ms : List Move). moves_of_deeds (loop_done r on (slice_get on.loops number)) ++ ms) (moves_of_flows r on n fs each.1 (omega (arith, few)))
 moves_of_flows r on (suc n) (flow.Until bound number skip ∷ fs) each few =
     let (b, at) = each.0 in
-    let front : Deeds Past = deeds_from r on n (take skip fs) in
-    let behind : Deeds Past = deeds_from r on n (drop skip fs) in
+    let front : Deeds Test = deeds_from r on n (take skip fs) in
+    let behind : Deeds Test = deeds_from r on n (drop skip fs) in
     ap (λ (o : Option Bound). moves_of_deeds (unless_past r o number front behind)) at
     ∙ ap (λ (ms : List Move). ms ++ moves_of_deeds behind) (moves_of_flows r on n (take skip fs) (all_front (IsFlow on) skip fs each.1) (omega (arith, few, take_short skip fs)))
     ∙ ap (λ (ms : List Move). flat_map (flow_moves r on) (take skip fs) ++ ms) (moves_of_flows r on n (drop skip fs) (all_behind (IsFlow on) skip fs each.1) (omega (arith, few, length-drop skip fs)))
@@ -137,8 +137,8 @@ next_marked r on n (flow.Moves number) fs is each few = refl
 next_marked r on n (flow.Turns number) fs is each few = loop_marked r on (slice_get on.loops number) (deeds_from r on n fs)
 next_marked r on n (flow.Until bound number skip) fs is each few =
     let (b, at) = is in
-    let front : Deeds Past = deeds_from r on n (take skip fs) in
-    let behind : Deeds Past = deeds_from r on n (drop skip fs) in
+    let front : Deeds Test = deeds_from r on n (take skip fs) in
+    let behind : Deeds Test = deeds_from r on n (drop skip fs) in
     ap (λ (o : Option Bound). tested_moves false (unless_past r o number front behind)) at
     ∙ ap (λ (bs : List Bool). bs ++ tested_moves false behind)
     (marked_all front ∙ ap (λ (ms : List Move). replicate (length ms) true) (moves_of_flows r on n (take skip fs) (all_front (IsFlow on) skip fs each) (omega (arith, few, take_short skip fs))))
@@ -195,7 +195,7 @@ untested_behind r on f fs rest so own whole before is behind = let (n, few, left
 pub untested_whole : (r : Records) (on : FlowSupport) (rest : List Flow) (so whole : List (List Move)) → LeftOf (List Move) on (untested_from r on) rest so whole → length rest ≡ 0 → so ≡ whole
 untested_whole r on [] so whole before none =
     let (n, few, left) = before.left in
-    sym (append-nil so) ∙ ap (λ (d : Deeds Past). so ++ untested_moves d) (sym (none_from r on n)) ∙ left
+    sym (append-nil so) ∙ ap (λ (d : Deeds Test). so ++ untested_moves d) (sym (none_from r on n)) ∙ left
 untested_whole r on (f ∷ fs) so whole before none = absurd (omega (arith, none))
 
 pub marks_first : (r : Records) (on : FlowSupport) (fs : List Flow) (so : List Bool) → AllByRecursion (IsFlow on) fs → so ≡ [] → LeftOf Bool on (marks_from r on) fs so (marks_from r on (length fs) fs)
@@ -230,7 +230,7 @@ marks_behind r on f fs inside rest so mid own whole before first is within behin
 pub marks_whole : (r : Records) (on : FlowSupport) (rest : List Flow) (so whole : List Bool) → LeftOf Bool on (marks_from r on) rest so whole → length rest ≡ 0 → so ≡ whole
 marks_whole r on [] so whole before none =
     let (n, few, left) = before.left in
-    sym (append-nil so) ∙ ap (λ (d : Deeds Past). so ++ tested_moves false d) (sym (none_from r on n)) ∙ left
+    sym (append-nil so) ∙ ap (λ (d : Deeds Test). so ++ tested_moves false d) (sym (none_from r on n)) ∙ left
 marks_whole r on (f ∷ fs) so whole before none = absurd (omega (arith, none))
 
 -- ---- marks one behind another
@@ -277,5 +277,5 @@ pub loop_moves : (r : Records) (on : FlowSupport) (l : CountedLoop) → AreMarke
     → moves_of_deeds (loop_done r on (Some l)) ≡ moves_between_marks r on.moves l.first (l.first + l.turns)
 loop_moves r on l prepared is =
     ap (λ (o : Option Bound). moves_of_deeds (turns_to r on.moves l o)) is.at
-    ∙ moves_of_turns (λ number. past_bound r is.bound number) (λ number. moves_of_turn r on.moves l number) l.by l.turns l.from
+    ∙ moves_of_turns (λ number. Until (past_bound r is.bound number)) (λ number. moves_of_turn r on.moves l number) l.by l.turns l.from
     ∙ turns_all r on.moves l l.turns prepared is.grows is.marks
