@@ -1,9 +1,9 @@
 -- IF and EVALUATE, and the choices that they are written out as.
-use Rattle.std.proofs.Common.{◌≡◌, ◌⊎◌, inl, inr, ℕ, true, false, List, [], ◌∷◌, ◌++◌, refl, sym, ap, subst, ◌∙◌, Ok, Err}
+use Rattle.std.proofs.Common.{◌≡◌, inl, inr, ℕ, false, List, [], ◌∷◌, ◌++◌, refl, sym, ap, subst, Ok}
 use Rattle.cob_move_data.specs.Moves.{Records}
 use Rattle.cob_move_condition.specs.Conditions.{Condition}
 use Rattle.cob_move_apply.specs.Applied.{Ending}
-use Rattle.cob_move_deeds.specs.Choices.{FirstDone, IfDone, NoneHold, When, WhenDone, if_holds, if_lacks, if_stops, selection}
+use Rattle.cob_move_deeds.specs.Choices.{FirstDone, IfDone, When, WhenDone, if_holds, if_lacks, if_stops, selection}
 use Rattle.cob_move_deeds.specs.Deeds.{Carried, Choice, Deeds, Nothing}
 use Rattle.cob_move_deeds.specs.Tests.{Holds, Judged, Test}
 use Rattle.cob_move_deeds.proofs.DeedLemmas.{to_nothing, with_nothing}

@@ -1,6 +1,7 @@
 -- What entries give to conditions, and how many counts are read for it.
-use Rattle.std.proofs.Common.{◌≡◌, ℕ, ◌+◌, ◌≤◌, List, arith, length, refl, subst, sym, false, Ok, Err, Result, Option, Some}
+use Rattle.std.proofs.Common.{◌≡◌, ℕ, zero, suc, ◌+◌, ◌<◌, ◌≤◌, List, [], ◌∷◌, arith, get_or, length, refl, subst, sym, false, Ok, Err, Result, Option, Some}
 use Rattle.std.specs.Prelude.{IfOk, IfErr}
+use Rattle.std.specs.List.{AllByRecursion}
 use Rattle.cob_codec.specs.declared.reading.Reading.{Reading}
 use Rattle.cob_copybook_tree.specs.Forests.{Forest}
 use Rattle.cob_copybook_tree.specs.Nodes.{Resolved}
@@ -12,6 +13,7 @@ use Rattle.cob_layout.specs.declared.fields.Place.{Place}
 use Rattle.cob_move_data.specs.declared.operands.Side.{Side}
 use Rattle.cob_move_data.specs.Moves.{Records, operand_in, record_of}
 use Rattle.cob_move_receive.specs.Sent.{Entry, HasAllBytes, Occupies, Sent}
+use Rattle.cob_move_condition.specs.declared.condition.Condition.{Condition}
 use Rattle.cob_move_apply.specs.Applied.{content_at, storage_of}
 use Rattle.cob_move_apply.specs.Entries.{IsPlacedEntry}
 use Rattle.cob_move_apply.specs.Located.{Located, stop_at}
@@ -66,6 +68,14 @@ pub stands_at : (r : Records) (e : PlacedEntry) (reading : Reading) (input outpu
 stands_at r e reading input output o s is gives =
     let (content, (p, there, same), sent) = subst (λ (k : Option PlacedEntry). GivesIn r input output (sender_placed r reading k) (Ok s)) is gives in
     (p, there)
+
+-- ---- conditions
+
+-- the condition with a number is one of those
+pub condition_at : (P : Condition → Type 0) (n : ℕ) (cs : List Condition) (c : Condition) → n < length cs → c ≡ get_or cs n c → AllByRecursion P cs → P c
+condition_at P n [] c lt is all = absurd (omega (arith, lt))
+condition_at P zero (x ∷ cs) c lt is all = subst P (sym is) all.0
+condition_at P (suc n) (x ∷ cs) c lt is all = condition_at P n cs c (omega (arith, lt)) is all.1
 
 -- ---- reads, one behind another
 

@@ -33,7 +33,7 @@ use Rattle.cob_move_receive.specs.Sent.{Sent}
 use Rattle.cob_move_deeds.specs.Laws.{TestLaws}
 use Rattle.cob_move_deeds.proofs.DeedLemmas.{err_is}
 use Rattle.cob_move_deeds.specs.Deeds.{IsDetermined}
-use Rattle.cob_move_deeds.specs.Tests.{BoundGives, BoundSays, BoundSaysIn, GivesIn, Holds, Judged, JudgedIn, JudgedPast, LacksIn, Past, SaysOfBound, Test, Until, there, up_to, with_number}
+use Rattle.cob_move_deeds.specs.Tests.{BoundGives, BoundSays, BoundSaysIn, GivesIn, Holds, Judged, JudgedIn, JudgedPast, LacksIn, Past, SaysOfBound, Until, there, up_to, with_number}
 
 -- ---- a place, or a stop (as in cob_move_apply, where these are private)
 

@@ -249,7 +249,7 @@ fn make_row<'a>(
 /// # Errors
 ///
 /// The first thing missing for it.
-fn condition_says(
+pub(crate) fn condition_says(
     deeds: &ReadyDeeds,
     number: usize,
     sides: &Sides<'_>,

@@ -22,9 +22,7 @@ ghost use Rattle.cob_move_deeds.specs.Prepared.{kind_placed};
 ghost use Rattle.cob_move_deeds.specs.Tests.{GivesIn, LacksIn};
 
 use crate::sides::Sides;
-use cob_layout::{
-    Layout, Place, one_outcome_of_counts, places_lie_in_storage, records_are_sound,
-};
+use cob_layout::{Layout, Place, one_outcome_of_counts, places_lie_in_storage, records_are_sound};
 use cob_move_apply::{PlacedEntry, Reading, Scratch, Stop, StopCause, entry_kind, field};
 use cob_move_condition::Operands;
 use cob_move_data::Side;
@@ -105,30 +103,13 @@ fn give_entry<'a>(
         scratch,
     )?;
     match entry.side() {
-        Side::In => Ok(sent_at(
-            entry,
-            reading,
-            sides.input_layout,
-            place,
-            sides.input,
-        )),
-        Side::Out => Ok(sent_at(
-            entry,
-            reading,
-            sides.output_layout,
-            place,
-            output,
-        )),
+        Side::In => Ok(sent_at(entry, reading, sides.input_layout, place, sides.input)),
+        Side::Out => Ok(sent_at(entry, reading, sides.output_layout, place, output)),
     }
 }
 
 /// The stop of an entry that stands in the storages of two records, where its bytes represent no value.
-fn lack_entry(
-    entry: &PlacedEntry,
-    sides: &Sides<'_>,
-    output: &[u8],
-    scratch: &mut Scratch,
-) -> Stop
+fn lack_entry(entry: &PlacedEntry, sides: &Sides<'_>, output: &[u8], scratch: &mut Scratch) -> Stop
     requires placed { IsPlacedEntry (records_of_sides sides.now) entry.now }
     requires stands { (p : Places) × Located entry.now.side
         (record_of (records_of_sides sides.now) entry.now.side) false

@@ -13,11 +13,13 @@
 //!   over (`Where`, `Skip`): its entries give what the storages hold then ([`Asked`]). Where one flow is all that there is, and it carries out all moves, that
 //!   is noted beforehand.
 //! - [`ReadyDeeds::new`] puts them together (`deeds`), and they may be carried out where the moves were made ready, the bounds are whole numbers, conditions
-//!   may be tested (`MayBeAsked`), and the flows name what is there (`prepared`); [`ReadyDeeds::with_reading`] are the same with their binary senders read otherwise.
+//!   may be tested (`MayBeAsked`), and the flows name what is there (`prepared`); [`ReadyDeeds::with_reading`] are the same with their binary senders read
+//!   otherwise.
 //!   [`ReadyDeeds::with_steady_bounds`] are the same too (`deeds`, `moves`), and where the moves of a loop leave its bound alone in the output record, it is
 //!   read once (`IsSteady` of specs/Steady.antt), as one of the input record is.
-//! - For who tells what is done: [`ReadyDeeds::flows`], with their bounds and loops, and the statements between marks; [`ReadyDeeds::is_straight`] says whether
-//!   there is no test, and [`ReadyDeeds::bound_number`] what a bound gives in two storages.
+//! - For who tells what is done: [`ReadyDeeds::flows`], with their bounds, loops and conditions, and the statements between marks;
+//!   [`ReadyDeeds::is_straight`] says whether there is no test, [`ReadyDeeds::bound_number`] what a bound gives in two storages, and
+//!   [`ReadyDeeds::condition_says`] whether a condition holds.
 //! - Laws: what is done without a test is what its moves come to ([`straight_is_applied`]), and ends in one way ([`one_carried`]); a loop to the number
 //!   that an item holds is what it is written out as ([`loop_is_its_turns`], by `Performed` of specs/Turns.antt, which is the loop in the standard's own
 //!   words), and a loop with a literal bound is the moves of its turns ([`literal_loop_is_its_moves`]); so is one whose bound stands in the input record, up to
