@@ -20,7 +20,7 @@ use Rattle.cob_move_deeds.specs.Tests.{GivesIn}
 pub constant_gives : (r : Records) (input output : List ℕ) (c : PlainValue) → GivesIn r input output (Literal c) (Ok (given.Literal c))
 constant_gives r input output c = (record { sent = given.Literal c; side = Out; offset = 0 }, refl, refl)
 
--- where no receiver met the item of a count, no more counts were read up to the later moment than are kept then, if none were up to the earlier one
+-- from whichever moment on: where no more counts were read up to the earlier of two moments than were kept anew, that is so up to the later one too
 abbrev pub ReadsOn : Forest Resolved → Scratching → Scratching → Type 0
 ReadsOn tree earlier later = (first : Scratching) → ReadsFor {A = Unit {0}} tree 0 (Ok tt) first earlier → ReadsFor {A = Unit {0}} tree 0 (Ok tt) first later
 
