@@ -17,7 +17,7 @@ use Rattle.cob_move_loops.specs.Reading.{ClashesIn, all_runs, counters, run_word
 use Rattle.cob_move_loops.specs.declared.turn.Counter.{Counter}
 use Rattle.cob_move_loops.specs.declared.writing.Run.{Run}
 use Rattle.cob_move_loops.specs.Turns.{in_turn, words_by_turn}
-use Rattle.cob_move_loops.specs.Words.{IsOther, IsPeriod, loop_word_of_kind}
+use Rattle.cob_move_loops.specs.Words.{IsOther, IsPeriod, passage_word_of_kind}
 use Rattle.cob_move_names.specs.Candidates.{Candidate, all_entries}
 use Rattle.cob_move_names.specs.References.{BreaksReference, NamesOperand}
 use Rattle.cob_move_apply.specs.Some.{SomeOf}
@@ -196,7 +196,7 @@ named_entry all w side o is none = let never : is.bearer ∷ [] ≡ [] = sym is.
 -- ---- the words behind the heading
 
 period_other : (w : Lexeme) → IsPeriod w → IsOther w
-period_other w is = ap (λ (k : TokenKind). loop_word_of_kind k w.text) is
+period_other w is = ap (λ (k : TokenKind). passage_word_of_kind k w.text) is
 
 heading_other : (words heading body : List Lexeme) (w : Lexeme) (more : List Lexeme) → words ≡ w ∷ more → IsOther w → IsHeading heading → words ≡ heading ++ body → AllByRecursion IsOther heading
 heading_other words [] body w more e other are is = tt

@@ -4,14 +4,14 @@ use Rattle.std.specs.Prelude.{IfNone, max}
 use Rattle.std.proofs.Math.Nat.{suc-mul}
 use Rattle.cob_source.specs.Tokens.{Lexeme}
 use Rattle.cob_copybook_clauses.specs.Terms.{word_class}
-use Rattle.cob_move_loops.specs.declared.words.LoopWord.{LoopWord}
-use Rattle.cob_move_loops.specs.declared.words.LoopWord.TheVariants as loop
+use Rattle.cob_move_loops.specs.declared.words.PassageWord.{PassageWord}
+use Rattle.cob_move_loops.specs.declared.words.PassageWord.TheVariants as mark
 use Rattle.cob_move_loops.specs.Few.{deepest, loop_line, loop_line_at, looped_of, statements_by, statements_in, statements_of}
 use Rattle.cob_limits.specs.Limits.{most_open}
 use Rattle.cob_move_loops.specs.Passages.{ALoop, ARun, APause, PassageFront, FrontStands, IsPassage, IsRun, Looped, Moves, NoMore, Passage, Pause, open_by}
 use Rattle.cob_move_loops.specs.Reading.{Within, looped_front, statements_front}
 use Rattle.cob_move_loops.specs.Turns.{Counted, counter_at, turns, turns_of, words_by_turn}
-use Rattle.cob_move_loops.specs.Words.{loop_word}
+use Rattle.cob_move_loops.specs.Words.{passage_word}
 use Rattle.cob_move_loops.proofs.PassageLemmas.{IsOnlyFront, Parted, joined, nothing_left, parted}
 
 -- a count of passages that adds up: none of nothing, and of what stands in front with the others
@@ -143,12 +143,12 @@ none_open [] = refl
 none_open (w ∷ ws) = let behind = none_open ws in omega (arith, behind)
 
 -- what is open in words is what is open behind the first, or before it
-open_word : (rest more : List Lexeme) (w : Lexeme) (depth : ℕ) (next : Option ℕ) → rest ≡ w ∷ more → next ≡ open_by (loop_word w) (Some depth)
+open_word : (rest more : List Lexeme) (w : Lexeme) (depth : ℕ) (next : Option ℕ) → rest ≡ w ∷ more → next ≡ open_by (passage_word w) (Some depth)
     → deepest (Some depth) rest ≡ max depth (deepest next more)
 open_word rest more w depth next e step =
     ap (λ (ws : List Lexeme). deepest (Some depth) ws) e ∙ ap (λ (d : Option ℕ). max depth (deepest d more)) (sym step)
 
-pub open_more : (words rest more : List Lexeme) (w : Lexeme) (depth next : ℕ) → LeftToOpen words rest depth → rest ≡ w ∷ more → Some next ≡ open_by (loop_word w) (Some depth)
+pub open_more : (words rest more : List Lexeme) (w : Lexeme) (depth next : ℕ) → LeftToOpen words rest depth → rest ≡ w ∷ more → Some next ≡ open_by (passage_word w) (Some depth)
     → next ≤ most_open → LeftToOpen words more next
 open_more words rest more w depth next so e step few =
     let both = open_word rest more w depth (Some next) e step in record {
@@ -157,7 +157,7 @@ open_more words rest more w depth next so e step few =
       low = few;
     }
 
-pub too_deep : (words rest more : List Lexeme) (w : Lexeme) (depth next : ℕ) → LeftToOpen words rest depth → rest ≡ w ∷ more → Some next ≡ open_by (loop_word w) (Some depth)
+pub too_deep : (words rest more : List Lexeme) (w : Lexeme) (depth next : ℕ) → LeftToOpen words rest depth → rest ≡ w ∷ more → Some next ≡ open_by (passage_word w) (Some depth)
     → most_open < next → deepest (Some 0) words ≤ most_open → ⊥
 too_deep words rest more w depth next so e step many h =
     let both = open_word rest more w depth (Some next) e step in
@@ -165,7 +165,7 @@ too_deep words rest more w depth next so e step many h =
     let least = at_least next more in
     omega (arith, both, all, least, many)
 
-pub open_none : (words rest more : List Lexeme) (w : Lexeme) (depth : ℕ) → LeftToOpen words rest depth → rest ≡ w ∷ more → None ≡ open_by (loop_word w) (Some depth)
+pub open_none : (words rest more : List Lexeme) (w : Lexeme) (depth : ℕ) → LeftToOpen words rest depth → rest ≡ w ∷ more → None ≡ open_by (passage_word w) (Some depth)
     → deepest (Some 0) words ≤ most_open
 open_none words rest more w depth so e step =
     let both = open_word rest more w depth None e step in
@@ -179,14 +179,14 @@ open_end words rest depth so none =
 
 -- ---- the first loop
 
-line_behind : (o : Option LoopWord) (line others : ℕ) → (o ≡ Some loop.Perform → ⊥) → loop_line_at o line others ≡ others
+line_behind : (o : Option PassageWord) (line others : ℕ) → (o ≡ Some mark.Perform → ⊥) → loop_line_at o line others ≡ others
 line_behind None line others none = refl
-line_behind (Some loop.Perform) line others none = absurd (none refl)
-line_behind (Some loop.EndPerform) line others none = refl
-line_behind (Some loop.Continue) line others none = refl
+line_behind (Some mark.Perform) line others none = absurd (none refl)
+line_behind (Some mark.EndPerform) line others none = refl
+line_behind (Some mark.Continue) line others none = refl
 
-pub line_more : (words rest more : List Lexeme) (w : Lexeme) → loop_line rest ≡ loop_line words → rest ≡ w ∷ more → (loop_word w ≡ Some loop.Perform → ⊥) → loop_line more ≡ loop_line words
-line_more words rest more w so e none = sym (line_behind (loop_word w) w.line (loop_line more) none) ∙ sym (ap loop_line e) ∙ so
+pub line_more : (words rest more : List Lexeme) (w : Lexeme) → loop_line rest ≡ loop_line words → rest ≡ w ∷ more → (passage_word w ≡ Some mark.Perform → ⊥) → loop_line more ≡ loop_line words
+line_more words rest more w so e none = sym (line_behind (passage_word w) w.line (loop_line more) none) ∙ sym (ap loop_line e) ∙ so
 
-pub line_found : (words rest more : List Lexeme) (w : Lexeme) → loop_line rest ≡ loop_line words → rest ≡ w ∷ more → loop_word w ≡ Some loop.Perform → w.line ≡ loop_line words
-line_found words rest more w so e is = sym (ap (λ (o : Option LoopWord). loop_line_at o w.line (loop_line more)) is) ∙ sym (ap loop_line e) ∙ so
+pub line_found : (words rest more : List Lexeme) (w : Lexeme) → loop_line rest ≡ loop_line words → rest ≡ w ∷ more → passage_word w ≡ Some mark.Perform → w.line ≡ loop_line words
+line_found words rest more w so e is = sym (ap (λ (o : Option PassageWord). loop_line_at o w.line (loop_line more)) is) ∙ sym (ap loop_line e) ∙ so

@@ -2,10 +2,10 @@
 use Rattle.std.proofs.Common.{◌≡◌, ℕ, ◌+◌, ◌-◌, ◌<◌, ◌≤◌, List, [], ◌∷◌, ◌++◌, length, refl, sym, ap, ◌∙◌, append_assoc, append-nil, arith, rules, Bool, true, false, nat_lt, if◌then◌else◌, Option, Some, None}
 use Rattle.std.specs.List.{AllByRecursion}
 use Rattle.cob_source.specs.Tokens.{Lexeme}
-use Rattle.cob_move_loops.specs.declared.words.LoopWord.{LoopWord}
-use Rattle.cob_move_loops.specs.declared.words.LoopWord.TheVariants as loop
+use Rattle.cob_move_loops.specs.declared.words.PassageWord.{PassageWord}
+use Rattle.cob_move_loops.specs.declared.words.PassageWord.TheVariants as mark
 use Rattle.cob_move_loops.specs.Reading.{ClosedInFront}
-use Rattle.cob_move_loops.specs.Words.{IsOther, IsPeriod, NoPeriod, loop_word}
+use Rattle.cob_move_loops.specs.Words.{IsOther, IsPeriod, NoPeriod, passage_word}
 use Rattle.cob_move_loops.specs.Passages.{APause, ARun, PassageFront, FrontStands, Looped, open_behind, open_by}
 use Rattle.cob_move_loops.proofs.CutLemmas.{cut_one, no_cut, open_append}
 use Rattle.cob_move_loops.proofs.PassageLemmas.{body_shorter, shorter}
@@ -44,12 +44,12 @@ pub record Opened (words rest : List Lexeme) (depth : ℕ) : Type 0 where
 pub opened_first : (words : List Lexeme) → Opened words words 0
 opened_first words = record { done = []; words_are = refl; opened = refl; room = omega arith }
 
-pub opened_more : (words rest more : List Lexeme) (w : Lexeme) (depth next : ℕ) → Opened words rest depth → rest ≡ w ∷ more → Some next ≡ open_by (loop_word w) (Some depth) → next ≤ depth + 1
+pub opened_more : (words rest more : List Lexeme) (w : Lexeme) (depth next : ℕ) → Opened words rest depth → rest ≡ w ∷ more → Some next ≡ open_by (passage_word w) (Some depth) → next ≤ depth + 1
     → Opened words more next
 opened_more words rest more w depth next so e step most = record {
   done = so.done ++ w ∷ [];
   words_are = so.words_are ∙ ap (λ (t : List Lexeme). so.done ++ t) e ∙ sym (append_assoc so.done (w ∷ []) more);
-  opened = open_append (Some 0) so.done (w ∷ []) ∙ ap (λ d. open_by (loop_word w) d) so.opened ∙ sym step;
+  opened = open_append (Some 0) so.done (w ∷ []) ∙ ap (λ d. open_by (passage_word w) d) so.opened ∙ sym step;
   room = omega (arith, so.room, ap length e, most);
 }
 
@@ -61,16 +61,16 @@ not_below : (n : ℕ) → nat_lt 0 n ≡ false → n ≡ 0
 not_below n e = search rules
 
 -- an END-PERFORM that ends no loop
-ends_none : (o : Option LoopWord) (depth : ℕ) → open_by o (Some depth) ≡ None → (o ≡ Some loop.EndPerform) × (depth ≡ 0)
+ends_none : (o : Option PassageWord) (depth : ℕ) → open_by o (Some depth) ≡ None → (o ≡ Some mark.EndPerform) × (depth ≡ 0)
 ends_none None depth e = absurd (let never : Some depth ≡ None = e in cc)
-ends_none (Some loop.Perform) depth e = absurd (let never : Some (depth + 1) ≡ None = e in cc)
-ends_none (Some loop.EndPerform) depth e = (refl, not_below depth (if_none (nat_lt 0 depth) (depth - 1) e))
-ends_none (Some loop.Continue) depth e = absurd (let never : Some depth ≡ None = e in cc)
+ends_none (Some mark.Perform) depth e = absurd (let never : Some (depth + 1) ≡ None = e in cc)
+ends_none (Some mark.EndPerform) depth e = (refl, not_below depth (if_none (nat_lt 0 depth) (depth - 1) e))
+ends_none (Some mark.Continue) depth e = absurd (let never : Some depth ≡ None = e in cc)
 
-pub closed_here : (words rest more : List Lexeme) (w : Lexeme) (depth : ℕ) (so : Opened words rest depth) → rest ≡ w ∷ more → open_by (loop_word w) (Some depth) ≡ None
+pub closed_here : (words rest more : List Lexeme) (w : Lexeme) (depth : ℕ) (so : Opened words rest depth) → rest ≡ w ∷ more → open_by (passage_word w) (Some depth) ≡ None
     → (own behind : List Lexeme) → ClosedInFront own words behind → (so.done ≡ own) × (more ≡ behind)
 closed_here words rest more w depth so e none own behind (end, closed, is, cut) =
-    let (ends, zero_is) = ends_none (loop_word w) depth none in
+    let (ends, zero_is) = ends_none (passage_word w) depth none in
     cut_one (Some 0) so.done own w end more behind (so.opened ∙ ap (λ (d : ℕ). Some d) zero_is) ends closed is (sym (so.words_are ∙ ap (λ (t : List Lexeme). so.done ++ t) e) ∙ cut)
 
 none_left : (rest : List Lexeme) → length rest ≤ 0 → rest ≡ []

@@ -2,9 +2,9 @@
 use Rattle.std.proofs.Common.{◌≡◌, ◌<◌, List, [], ◌∷◌, ◌++◌, length, refl, sym, ap, subst, ◌∙◌, arith, Option, Some, None}
 use Rattle.std.specs.List.{AllByRecursion}
 use Rattle.cob_source.specs.Tokens.{Lexeme}
-use Rattle.cob_move_loops.specs.declared.words.LoopWord.{LoopWord}
-use Rattle.cob_move_loops.specs.declared.words.LoopWord.TheVariants as loop
-use Rattle.cob_move_loops.specs.Words.{IsOther, IsPeriod, LoopWordFirst, NoPeriod, loop_word}
+use Rattle.cob_move_loops.specs.declared.words.PassageWord.{PassageWord}
+use Rattle.cob_move_loops.specs.declared.words.PassageWord.TheVariants as mark
+use Rattle.cob_move_loops.specs.Words.{IsOther, IsPeriod, PassageWordFirst, NoPeriod, passage_word}
 use Rattle.cob_move_loops.specs.Passages.{ALoop, APause, ARun, PassageFront, FrontStands, IsPassage, IsRun, Looped, Moves, NoMore, Passage, Pause, breaks_behind, breaks_here, breaks_within}
 use Rattle.cob_move_loops.specs.Reading.{Within}
 use Rattle.cob_move_loops.specs.Laws.{BreaksNone, OnePassage}
@@ -12,10 +12,10 @@ use Rattle.cob_move_loops.proofs.CutLemmas.{cut_one}
 use Rattle.cob_move_loops.proofs.HeadLemmas.{ends_before, head_one}
 use Rattle.cob_move_loops.proofs.PassageLemmas.{InFront, head_first, in_front, joined, no_period, shorter}
 
-pub others_one : (own us a b : List Lexeme) → AllByRecursion IsOther own → AllByRecursion IsOther us → LoopWordFirst a → LoopWordFirst b → own ++ a ≡ us ++ b → (own ≡ us) × (a ≡ b)
+pub others_one : (own us a b : List Lexeme) → AllByRecursion IsOther own → AllByRecursion IsOther us → PassageWordFirst a → PassageWordFirst b → own ++ a ≡ us ++ b → (own ≡ us) × (a ≡ b)
 others_one [] [] a b p q f g e = (refl, e)
-others_one [] (w ∷ us) a b p q f g e = absurd (subst LoopWordFirst e f q.0)
-others_one (w ∷ own) [] a b p q f g e = absurd (subst LoopWordFirst (sym e) g p.0)
+others_one [] (w ∷ us) a b p q f g e = absurd (subst PassageWordFirst e f q.0)
+others_one (w ∷ own) [] a b p q f g e = absurd (subst PassageWordFirst (sym e) g p.0)
 others_one (w ∷ own) (v ∷ us) a b p q f g e =
     let tail : own ++ a ≡ us ++ b = cc in
     let rest = others_one own us a b p.1 q.1 f g tail in
@@ -33,12 +33,12 @@ periods_one (w ∷ n) [] a b p q f g e = absurd (subst NoPeriod (sym e) g p.0)
 periods_one (w ∷ n) (v ∷ m) a b p q f g e = let tail : n ++ a ≡ m ++ b = cc in periods_one n m a b p.1 q.1 f g tail
 
 -- the word of loops that stands first
-abbrev first_kind : PassageFront → Option LoopWord
+abbrev first_kind : PassageFront → Option PassageWord
 first_kind (ARun own) = None
-first_kind APause = Some loop.Continue
-first_kind (Looped l own) = Some loop.Perform
+first_kind APause = Some mark.Continue
+first_kind (Looped l own) = Some mark.Perform
 
-first_word : (f : PassageFront) (ws more : List Lexeme) → FrontStands f ws more → (w : Lexeme) × (tail : List Lexeme) × (ws ≡ w ∷ tail) × (loop_word w ≡ first_kind f)
+first_word : (f : PassageFront) (ws more : List Lexeme) → FrontStands f ws more → (w : Lexeme) × (tail : List Lexeme) × (ws ≡ w ∷ tail) × (passage_word w ≡ first_kind f)
 first_word (ARun []) ws more (run, first, e) = absurd run
 first_word (ARun (w ∷ own)) ws more (run, first, e) = (w, own ++ more, e, run.1.0)
 first_word APause ws more (pause, stops, word, are, none, e) = (pause, stops ++ more, e, word)
@@ -52,23 +52,23 @@ same_kind f g ws more others p q =
     let (v, liat, d, y) = first_word g ws others q in
     let both : w ∷ tail ≡ v ∷ liat = sym e ∙ d in
     let first : w ≡ v = cc in
-    sym x ∙ ap loop_word first ∙ y
+    sym x ∙ ap passage_word first ∙ y
 
 -- one thing stands in front, and it leaves the same words
 pub one_front : (f g : PassageFront) (ws more others : List Lexeme) → FrontStands f ws more → FrontStands g ws others → (f ≡ g) × (more ≡ others)
 one_front (ARun own) (ARun us) ws more others (run, first, e) (nur, tsrif, d) =
     let one = others_one own us more others (are_others own run) (are_others us nur) first tsrif (sym e ∙ d) in
     (ap ARun one.0, one.1)
-one_front (ARun own) APause ws more others p q = absurd (let never : None ≡ Some loop.Continue = same_kind (ARun own) APause ws more others p q in cc)
-one_front (ARun own) (Looped l us) ws more others p q = absurd (let never : None ≡ Some loop.Perform = same_kind (ARun own) (Looped l us) ws more others p q in cc)
-one_front APause (ARun own) ws more others p q = absurd (let never : Some loop.Continue ≡ None = same_kind APause (ARun own) ws more others p q in cc)
+one_front (ARun own) APause ws more others p q = absurd (let never : None ≡ Some mark.Continue = same_kind (ARun own) APause ws more others p q in cc)
+one_front (ARun own) (Looped l us) ws more others p q = absurd (let never : None ≡ Some mark.Perform = same_kind (ARun own) (Looped l us) ws more others p q in cc)
+one_front APause (ARun own) ws more others p q = absurd (let never : Some mark.Continue ≡ None = same_kind APause (ARun own) ws more others p q in cc)
 one_front APause APause ws more others (pause, stops, word, are, none, e) (esuap, spots, drow, era, enon, d) =
     let both : pause ∷ (stops ++ more) ≡ esuap ∷ (spots ++ others) = sym e ∙ d in
     let tail : stops ++ more ≡ spots ++ others = cc in
     (refl, periods_one stops spots more others are era none enon tail)
-one_front APause (Looped l own) ws more others p q = absurd (let never : Some loop.Continue ≡ Some loop.Perform = same_kind APause (Looped l own) ws more others p q in cc)
-one_front (Looped l own) (ARun us) ws more others p q = absurd (let never : Some loop.Perform ≡ None = same_kind (Looped l own) (ARun us) ws more others p q in cc)
-one_front (Looped l own) APause ws more others p q = absurd (let never : Some loop.Perform ≡ Some loop.Continue = same_kind (Looped l own) APause ws more others p q in cc)
+one_front APause (Looped l own) ws more others p q = absurd (let never : Some mark.Continue ≡ Some mark.Perform = same_kind APause (Looped l own) ws more others p q in cc)
+one_front (Looped l own) (ARun us) ws more others p q = absurd (let never : Some mark.Perform ≡ None = same_kind (Looped l own) (ARun us) ws more others p q in cc)
+one_front (Looped l own) APause ws more others p q = absurd (let never : Some mark.Perform ≡ Some mark.Continue = same_kind (Looped l own) APause ws more others p q in cc)
 one_front (Looped l own) (Looped m us) ws more others (head, stops, end, h, b, word, are, none, e) (deah, spots, dne, k, c, drow, era, enon, d) =
     let heads = head_one l m head deah (own ++ end ∷ (stops ++ more)) (us ++ dne ∷ (spots ++ others)) h k (ends_before l.bound own (end ∷ (stops ++ more)) b) (ends_before m.bound us (dne ∷ (spots ++ others)) c) (sym e ∙ d) in
     let cut = cut_one (Some 0) own us end dne (stops ++ more) (spots ++ others) b.closed word c.closed drow heads.1 in

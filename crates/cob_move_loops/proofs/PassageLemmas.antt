@@ -7,9 +7,9 @@ use Rattle.cob_source.specs.declared.token.Token.{Token}
 use Rattle.cob_source.specs.Tokens.{Lexeme, lexemes}
 use Rattle.cob_copybook_clauses.specs.Terms.{term_of_kind}
 use Rattle.cob_copybook_clauses.specs.declared.term.WordClass.TheVariants as term
-use Rattle.cob_move_loops.specs.declared.words.LoopWord.{LoopWord}
-use Rattle.cob_move_loops.specs.declared.words.LoopWord.TheVariants as loop
-use Rattle.cob_move_loops.specs.Words.{IsLoopWord, IsPeriod, NoPeriod, loop_word_of_kind}
+use Rattle.cob_move_loops.specs.declared.words.PassageWord.{PassageWord}
+use Rattle.cob_move_loops.specs.declared.words.PassageWord.TheVariants as mark
+use Rattle.cob_move_loops.specs.Words.{IsPassageWord, IsPeriod, NoPeriod, passage_word_of_kind}
 use Rattle.cob_move_loops.specs.Passages.{ALoop, APause, ARun, Breaks, PassageFront, FrontStands, IsHead, IsPassage, IsRun, Looped, Moves, NoMore, Passage, Pause, WrittenLoop, breaks_behind, breaks_within}
 use Rattle.cob_move_loops.specs.Reading.{BreaksWithin, HasPassages, Within, written_front}
 use Rattle.cob_move_loops.specs.Turns.{Counted, words_by_turn}
@@ -22,24 +22,24 @@ joined (Looped l own) body more = ALoop l body more
 
 -- ---- no period comes first
 
-loop_no_period : (l : LoopWord) (w : Lexeme) → IsLoopWord l w → IsPeriod w → ⊥
-loop_no_period l w is stop = let never : Some l ≡ None = sym is ∙ ap (λ k. loop_word_of_kind k w.text) stop in cc
+loop_no_period : (l : PassageWord) (w : Lexeme) → IsPassageWord l w → IsPeriod w → ⊥
+loop_no_period l w is stop = let never : Some l ≡ None = sym is ∙ ap (λ k. passage_word_of_kind k w.text) stop in cc
 
 run_no_period : (own rest : List Lexeme) → IsRun own → NoPeriod (own ++ rest)
 run_no_period [] rest is = absurd is
 run_no_period (w ∷ own) rest is = λ stop. let never : term.Move ≡ term.Stop = sym is.0 ∙ ap (λ k. term_of_kind k w.text) stop in cc
 
-pub head_first : (l : WrittenLoop) (head : List Lexeme) → IsHead l head → (w : Lexeme) × (tail : List Lexeme) × IsLoopWord loop.Perform w × (head ≡ w ∷ tail)
+pub head_first : (l : WrittenLoop) (head : List Lexeme) → IsHead l head → (w : Lexeme) × (tail : List Lexeme) × IsPassageWord mark.Perform w × (head ≡ w ∷ tail)
 head_first l head (varying, stepping, until, (perform, named, counter, is, at, a, b, e), s, u, f) =
     (perform, named ∷ counter ∷ (stepping ++ until), is, f ∙ ap (λ (t : List Lexeme). t ++ (stepping ++ until)) e)
 
 pub no_period : (p : Passage) (ws : List Lexeme) → IsPassage p ws → NoPeriod ws
 no_period NoMore ws e = subst NoPeriod (sym e) tt
 no_period (Moves own more) ws (rest, run, first, e, is) = subst NoPeriod (sym e) (run_no_period own rest run)
-no_period (Pause more) ws (pause, stops, rest, word, are, e, is) = subst NoPeriod (sym e) (loop_no_period loop.Continue pause word)
+no_period (Pause more) ws (pause, stops, rest, word, are, e, is) = subst NoPeriod (sym e) (loop_no_period mark.Continue pause word)
 no_period (ALoop l body more) ws (head, own, stops, rest, end, h, b, inner, word, are, e, is) =
     let (w, tail, first, f) = head_first l head h in
-    subst NoPeriod (sym (e ∙ ap (λ (t : List Lexeme). t ++ (own ++ end ∷ (stops ++ rest))) f)) (loop_no_period loop.Perform w first)
+    subst NoPeriod (sym (e ∙ ap (λ (t : List Lexeme). t ++ (own ++ end ∷ (stops ++ rest))) f)) (loop_no_period mark.Perform w first)
 
 -- ---- what stands in front
 

@@ -5,10 +5,10 @@ use Rattle.cob_source.specs.Tokens.{Lexeme}
 use Rattle.cob_copybook_clauses.specs.Terms.{word_class}
 use Rattle.cob_copybook_clauses.specs.declared.term.WordClass.{WordClass}
 use Rattle.cob_copybook_clauses.specs.declared.term.WordClass.TheVariants as term
-use Rattle.cob_move_loops.specs.declared.words.LoopWord.{LoopWord}
-use Rattle.cob_move_loops.specs.declared.words.LoopWord.TheVariants as loop
+use Rattle.cob_move_loops.specs.declared.words.PassageWord.{PassageWord}
+use Rattle.cob_move_loops.specs.declared.words.PassageWord.TheVariants as mark
 use Rattle.cob_limits.specs.Limits.{most_open, most_written_out}
-use Rattle.cob_move_loops.specs.Words.{loop_word}
+use Rattle.cob_move_loops.specs.Words.{passage_word}
 use Rattle.cob_move_loops.specs.Passages.{ALoop, Moves, NoMore, Passage, Pause, WrittenLoop, open_by}
 use Rattle.cob_move_loops.specs.Turns.{turns_of}
 
@@ -37,7 +37,7 @@ depth_of (Some depth) = depth
 -- the most loops that are open anywhere in words, where so many are open before
 abbrev pub deepest : Option ℕ → List Lexeme → ℕ
 deepest depth [] = depth_of depth
-deepest depth (w ∷ ws) = max (depth_of depth) (deepest (open_by (loop_word w) depth) ws)
+deepest depth (w ∷ ws) = max (depth_of depth) (deepest (open_by (passage_word w) depth) ws)
 
 -- the statements that the loops of a passage come to; those outside of loops are as many as are written
 abbrev pub looped_of : Passage → ℕ
@@ -82,11 +82,11 @@ Clashes around (ALoop l body more) line =
     ((line ≡ l.line) × (IsApart around l → ⊥)) ⊎ (Clashes (around ++ l ∷ []) body line ⊎ Clashes around more line)
 
 -- the line of the first loop, or 1 where there is none
-abbrev pub loop_line_at : Option LoopWord → ℕ → ℕ → ℕ
-loop_line_at (Some loop.Perform) line others = line
+abbrev pub loop_line_at : Option PassageWord → ℕ → ℕ → ℕ
+loop_line_at (Some mark.Perform) line others = line
 loop_line_at other line others = others
 
 -- it is that of the first word PERFORM
 abbrev pub loop_line : List Lexeme → ℕ
 loop_line [] = 1
-loop_line (w ∷ ws) = loop_line_at (loop_word w) w.line (loop_line ws)
+loop_line (w ∷ ws) = loop_line_at (passage_word w) w.line (loop_line ws)

@@ -5,9 +5,9 @@ use Rattle.cob_source.specs.Tokens.{Lexeme}
 use Rattle.cob_copybook_clauses.specs.Clauses.{IsWord}
 use Rattle.cob_copybook_clauses.specs.Terms.{word_class}
 use Rattle.cob_copybook_clauses.specs.declared.term.WordClass.TheVariants as term
-use Rattle.cob_move_loops.specs.declared.words.LoopWord.{LoopWord}
-use Rattle.cob_move_loops.specs.declared.words.LoopWord.TheVariants as loop
-use Rattle.cob_move_loops.specs.Words.{AreItemWords, IsCounter, IsLoopWord, IsNoPeriod, IsNumber, IsOther, IsPeriod, LoopWordFirst, NoItemWord, NoPeriod, first_line, loop_word}
+use Rattle.cob_move_loops.specs.declared.words.PassageWord.{PassageWord}
+use Rattle.cob_move_loops.specs.declared.words.PassageWord.TheVariants as mark
+use Rattle.cob_move_loops.specs.Words.{AreItemWords, IsCounter, IsPassageWord, IsNoPeriod, IsNumber, IsOther, IsPeriod, PassageWordFirst, NoItemWord, NoPeriod, first_line, passage_word}
 
 -- what a loop ends by: a number that its counter is not to pass, or that of an item, by the words that name it
 pub data WrittenBound : Type 0 where
@@ -33,7 +33,7 @@ pub data Passage : Type 0 where
 -- PERFORM VARYING and the counter, on this line
 abbrev pub IsVarying : ℕ → List ℕ → List Lexeme → Type 0
 IsVarying line name ws = (perform varying counter : Lexeme)
-    × IsLoopWord loop.Perform perform × (line ≡ perform.line) × IsWord (codes "VARYING") varying × IsCounter name counter
+    × IsPassageWord mark.Perform perform × (line ≡ perform.line) × IsWord (codes "VARYING") varying × IsCounter name counter
     × (ws ≡ perform ∷ varying ∷ counter ∷ [])
 
 -- FROM and BY with their numbers
@@ -84,17 +84,17 @@ IsRun [] = ⊥
 IsRun (w ∷ ws) = (word_class w ≡ term.Move) × AllByRecursion IsOther (w ∷ ws)
 
 -- How many loops are open behind a word, where so many were before; none where it is an END-PERFORM that ends no loop.
-abbrev pub open_by : Option LoopWord → Option ℕ → Option ℕ
+abbrev pub open_by : Option PassageWord → Option ℕ → Option ℕ
 open_by word None = None
-open_by (Some loop.Perform) (Some depth) = Some (depth + 1)
-open_by (Some loop.EndPerform) (Some depth) = if nat_lt 0 depth then Some (depth - 1) else None
-open_by (Some loop.Continue) (Some depth) = Some depth
+open_by (Some mark.Perform) (Some depth) = Some (depth + 1)
+open_by (Some mark.EndPerform) (Some depth) = if nat_lt 0 depth then Some (depth - 1) else None
+open_by (Some mark.Continue) (Some depth) = Some depth
 open_by None (Some depth) = Some depth
 
 -- how many are open behind words
 abbrev pub open_behind : Option ℕ → List Lexeme → Option ℕ
 open_behind depth [] = depth
-open_behind depth (w ∷ ws) = open_behind (open_by (loop_word w) depth) ws
+open_behind depth (w ∷ ws) = open_behind (open_by (passage_word w) depth) ws
 
 -- the words of the statements in a loop: there is one, the words of what it ends by end before it, each PERFORM has its END-PERFORM, and no period stands
 -- among them
@@ -107,11 +107,11 @@ pub record IsLoopBody (bound : WrittenBound) (ws : List Lexeme) : Type 0 where
 -- Words say a passage. Behind CONTINUE and END-PERFORM periods may stand, outside of loops.
 abbrev pub IsPassage : Passage → List Lexeme → Type 0
 IsPassage NoMore ws = ws ≡ []
-IsPassage (Moves own more) ws = (rest : List Lexeme) × IsRun own × LoopWordFirst rest × (ws ≡ own ++ rest) × IsPassage more rest
+IsPassage (Moves own more) ws = (rest : List Lexeme) × IsRun own × PassageWordFirst rest × (ws ≡ own ++ rest) × IsPassage more rest
 IsPassage (Pause more) ws = (pause : Lexeme) × (stops rest : List Lexeme)
-    × IsLoopWord loop.Continue pause × AllByRecursion IsPeriod stops × (ws ≡ pause ∷ (stops ++ rest)) × IsPassage more rest
+    × IsPassageWord mark.Continue pause × AllByRecursion IsPeriod stops × (ws ≡ pause ∷ (stops ++ rest)) × IsPassage more rest
 IsPassage (ALoop l body more) ws = (head own stops rest : List Lexeme) × (end : Lexeme)
-    × IsHead l head × IsLoopBody l.bound own × IsPassage body own × IsLoopWord loop.EndPerform end × AllByRecursion IsPeriod stops
+    × IsHead l head × IsLoopBody l.bound own × IsPassage body own × IsPassageWord mark.EndPerform end × AllByRecursion IsPeriod stops
     × (ws ≡ head ++ (own ++ end ∷ (stops ++ rest))) × IsPassage more rest
 
 -- What stands in front of a passage: words of MOVE statements, CONTINUE, or a loop with the words of its statements.
@@ -122,11 +122,11 @@ pub data PassageFront : Type 0 where
 
 -- It stands in front, with all periods behind it, before these words.
 abbrev pub FrontStands : PassageFront → List Lexeme → List Lexeme → Type 0
-FrontStands (ARun own) words more = IsRun own × LoopWordFirst more × (words ≡ own ++ more)
+FrontStands (ARun own) words more = IsRun own × PassageWordFirst more × (words ≡ own ++ more)
 FrontStands APause words more = (pause : Lexeme) × (stops : List Lexeme)
-    × IsLoopWord loop.Continue pause × AllByRecursion IsPeriod stops × NoPeriod more × (words ≡ pause ∷ (stops ++ more))
+    × IsPassageWord mark.Continue pause × AllByRecursion IsPeriod stops × NoPeriod more × (words ≡ pause ∷ (stops ++ more))
 FrontStands (Looped l own) words more = (head stops : List Lexeme) × (end : Lexeme)
-    × IsHead l head × IsLoopBody l.bound own × IsLoopWord loop.EndPerform end × AllByRecursion IsPeriod stops × NoPeriod more
+    × IsHead l head × IsLoopBody l.bound own × IsPassageWord mark.EndPerform end × AllByRecursion IsPeriod stops × NoPeriod more
     × (words ≡ head ++ (own ++ end ∷ (stops ++ more)))
 
 -- Where words are no passage, and on which line: nothing stands in front that may, and this is the line there; or it is so within a loop in front, or

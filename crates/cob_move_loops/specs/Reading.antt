@@ -13,10 +13,10 @@ use Rattle.cob_move_loops.specs.declared.naming.LoopFault.TheVariants as fault
 use Rattle.cob_move_loops.specs.declared.writing.Run.{Run}
 use Rattle.cob_move_loops.specs.declared.front.PassageItem.{PassageItem}
 use Rattle.cob_move_loops.specs.declared.front.PassageItem.TheVariants as item
-use Rattle.cob_move_loops.specs.declared.words.LoopWord.TheVariants as loop
+use Rattle.cob_move_loops.specs.declared.words.PassageWord.TheVariants as mark
 use Rattle.cob_move_loops.specs.Few.{AreLoopsApart, Clashes, IsApart, loops_of, statements_in, statements_of}
 use Rattle.cob_move_loops.specs.Turns.{Counted, counter_at, in_turn, turns, turns_of, words_by_turn}
-use Rattle.cob_move_loops.specs.Words.{IsLoopWord}
+use Rattle.cob_move_loops.specs.Words.{IsPassageWord}
 use Rattle.cob_move_loops.specs.Passages.{APause, ARun, AreBoundWords, BoundEnds, Breaks, IsHead, IsPassage, IsUntil, Looped, Passage, PassageFront, ToItem, ToNumber, WrittenBound, WrittenLoop, open_behind}
 
 -- what a loop ends by, without where its words lie in memory
@@ -74,7 +74,7 @@ loop_in_front l own = Looped (written_loop l) own
 
 -- words stand in front in which as many loops are closed as are opened, and behind them an END-PERFORM, before these words
 abbrev pub ClosedInFront : List Lexeme → List Lexeme → List Lexeme → Type 0
-ClosedInFront own words more = (end : Lexeme) × (open_behind (Some 0) own ≡ Some 0) × IsLoopWord loop.EndPerform end × (words ≡ own ++ end ∷ more)
+ClosedInFront own words more = (end : Lexeme) × (open_behind (Some 0) own ≡ Some 0) × IsPassageWord mark.EndPerform end × (words ≡ own ++ end ∷ more)
 
 -- a reader answers what stands in front, and leaves the words behind it
 abbrev pub AnswersFront : Option (PassageItem × Bor (List Token)) → PassageFront → List Lexeme → Type 0

@@ -9,39 +9,39 @@ use Rattle.cob_copybook_clauses.specs.Clauses.{IsNameWord, IsWord}
 use Rattle.cob_copybook_clauses.specs.Terms.{word_class}
 use Rattle.cob_copybook_clauses.specs.declared.term.WordClass.TheVariants as term
 use Rattle.cob_copybook_entries.specs.Meaning.{IsIntegerText}
-use Rattle.cob_move_loops.specs.declared.words.LoopWord.{LoopWord}
-use Rattle.cob_move_loops.specs.declared.words.LoopWord.TheVariants as loop
+use Rattle.cob_move_loops.specs.declared.words.PassageWord.{PassageWord}
+use Rattle.cob_move_loops.specs.declared.words.PassageWord.TheVariants as mark
 
 -- the word of loops that a text is, if it is one
-abbrev pub loop_word_in : List ℕ → Option LoopWord
-loop_word_in text =
-    if bytes_eq text (codes "PERFORM") then Some loop.Perform
-    else if bytes_eq text (codes "END-PERFORM") then Some loop.EndPerform
-    else if bytes_eq text (codes "CONTINUE") then Some loop.Continue
+abbrev pub passage_word_in : List ℕ → Option PassageWord
+passage_word_in text =
+    if bytes_eq text (codes "PERFORM") then Some mark.Perform
+    else if bytes_eq text (codes "END-PERFORM") then Some mark.EndPerform
+    else if bytes_eq text (codes "CONTINUE") then Some mark.Continue
     else None
 
 -- a literal and a period are no words
-abbrev pub loop_word_of_kind : TokenKind → List ℕ → Option LoopWord
-loop_word_of_kind kind.Word text = loop_word_in text
-loop_word_of_kind kind.Literal text = None
-loop_word_of_kind kind.Stop text = None
+abbrev pub passage_word_of_kind : TokenKind → List ℕ → Option PassageWord
+passage_word_of_kind kind.Word text = passage_word_in text
+passage_word_of_kind kind.Literal text = None
+passage_word_of_kind kind.Stop text = None
 
 -- the word of loops that a word is, if it is one: none of these is a name in a paragraph
-abbrev pub loop_word : Lexeme → Option LoopWord
-loop_word w = loop_word_of_kind w.kind w.text
+abbrev pub passage_word : Lexeme → Option PassageWord
+passage_word w = passage_word_of_kind w.kind w.text
 
 -- this word of loops
-abbrev pub IsLoopWord : LoopWord → Lexeme → Type 0
-IsLoopWord l w = loop_word w ≡ Some l
+abbrev pub IsPassageWord : PassageWord → Lexeme → Type 0
+IsPassageWord l w = passage_word w ≡ Some l
 
 -- no word of loops
 abbrev pub IsOther : Lexeme → Type 0
-IsOther w = loop_word w ≡ None
+IsOther w = passage_word w ≡ None
 
 -- nothing comes first, or a word of loops
-abbrev pub LoopWordFirst : List Lexeme → Type 0
-LoopWordFirst [] = Unit {0}
-LoopWordFirst (w ∷ ws) = IsOther w → ⊥
+abbrev pub PassageWordFirst : List Lexeme → Type 0
+PassageWordFirst [] = Unit {0}
+PassageWordFirst (w ∷ ws) = IsOther w → ⊥
 
 -- a period, before a space or the end of a line
 abbrev pub IsPeriod : Lexeme → Type 0

@@ -7,11 +7,11 @@ ghost use Rattle.cob_limits.specs.Limits.{most_written_out};
 ghost use Rattle.cob_move_loops.specs.Passages.{IsPassage, Passage};
 ghost use Rattle.cob_move_loops.specs.Reading.{Within, item_front, looped_front, statements_front, written_loop};
 ghost use Rattle.cob_move_loops.specs.Turns.{turns_between, turns_of};
-ghost use Rattle.cob_move_loops.specs.Words.{loop_word};
+ghost use Rattle.cob_move_loops.specs.Words.{passage_word};
 
 use crate::front::{PassageItem, depth_behind, item_at};
 use crate::parts::{Loop, LoopBound};
-use crate::words::{LoopWord, loop_word};
+use crate::words::{PassageWord, passage_word};
 use cob_copybook_clauses::{WordClass, is_term};
 use cob_limits::{MAX_OPEN, MAX_WRITTEN_OUT};
 use cob_source::Token;
@@ -186,7 +186,7 @@ pub fn is_shallow(words: &[Token]) -> bool
     let mut depth: usize = 0;
     let mut rest = words;
     while let Some((first, more)) = rest.split_first() {
-        match depth_behind(depth, loop_word(first), MAX_OPEN + 1) {
+        match depth_behind(depth, passage_word(first), MAX_OPEN + 1) {
             Some(next) => {
                 if next > MAX_OPEN {
                     return false;
@@ -202,11 +202,11 @@ pub fn is_shallow(words: &[Token]) -> bool
 
 /// Whether a word is PERFORM.
 fn is_perform(token: &Token) -> bool
-    ensures { IsTrue result ↔ loop_word (lexeme token.now) ≡ Some LoopWord.Perform }
+    ensures { IsTrue result ↔ passage_word (lexeme token.now) ≡ Some PassageWord.Perform }
 {
-    match loop_word(token) {
-        Some(LoopWord::Perform) => true,
-        Some(LoopWord::EndPerform) | Some(LoopWord::Continue) | None => false,
+    match passage_word(token) {
+        Some(PassageWord::Perform) => true,
+        Some(PassageWord::EndPerform) | Some(PassageWord::Continue) | None => false,
     }
 }
 

@@ -3,14 +3,14 @@
 ghost use Rattle.std.specs.Prelude.{◌≡◌, ◌↔◌, ℕ, ◌<◌, ◌≤◌, ◌+◌, ◌∷◌, ◌++◌, List, length, Option, Some, None, IfNone, IfSome, IsFalse, IsSomeAnd, IsTrue};
 ghost use Rattle.std.specs.List.{AllByRecursion};
 ghost use Rattle.cob_source.specs.Tokens.{Lexeme, lexeme, lexemes};
-ghost use Rattle.cob_move_loops.specs.Words.{IsNoPeriod, IsOther, LoopWordFirst};
+ghost use Rattle.cob_move_loops.specs.Words.{IsNoPeriod, IsOther, PassageWordFirst};
 ghost use Rattle.cob_move_loops.specs.Passages.{APause, ARun, BoundEnds, FrontStands, IsLoopBody, IsRun, Looped, PassageFront, WrittenLoop, open_behind, open_by};
 ghost use Rattle.cob_move_loops.specs.Reading.{AnswersFront, ClosedInFront, item_front, written_bound};
 
 use crate::head::head_at;
 use crate::parts::{Loop, LoopBound};
 use crate::stops::{behind_stops, is_stop};
-use crate::words::{LoopWord, behind_loop_word, loop_word};
+use crate::words::{PassageWord, behind_passage_word, passage_word};
 use cob_copybook_clauses::{WordClass, front, is_term};
 use cob_source::Token;
 
@@ -29,10 +29,10 @@ pub enum PassageItem<'a> {
 fn behind_other(words: &[Token]) -> Option<&[Token]>
     ensures found { IfSome result (λ r. (w : Lexeme) × IsOther w
         × (lexemes words.now ≡ w ∷ lexemes r.now)) }
-    ensures none { IfNone result (LoopWordFirst (lexemes words.now)) }
+    ensures none { IfNone result (PassageWordFirst (lexemes words.now)) }
 {
     let (first, more) = words.split_first()?;
-    match loop_word(first) {
+    match passage_word(first) {
         Some(_) => None,
         None => Some(more),
     }
@@ -42,7 +42,7 @@ fn behind_other(words: &[Token]) -> Option<&[Token]>
 fn others_at(words: &[Token]) -> (&[Token], &[Token])
     ensures are { AllByRecursion IsOther (lexemes result.0.now) }
     ensures found { lexemes words.now ≡ lexemes result.0.now ++ lexemes result.1.now }
-    ensures ends { LoopWordFirst (lexemes result.1.now) }
+    ensures ends { PassageWordFirst (lexemes result.1.now) }
 {
     let mut rest = words;
     while let Some(more) = behind_other(rest) {
@@ -83,20 +83,20 @@ fn pause_at(words: &[Token]) -> Option<(PassageItem<'_>, &[Token])>
     ensures only { (more : List Lexeme) → FrontStands APause (lexemes words.now) more
         → AnswersFront result APause more }
 {
-    let rest = behind_loop_word(words, LoopWord::Continue)?;
+    let rest = behind_passage_word(words, PassageWord::Continue)?;
     Some((PassageItem::Pause, behind_stops(rest)))
 }
 
 /// How many loops are open behind a word, where they are fewer than so many before; none where it ends one that is not there.
-pub(crate) fn depth_behind(depth: usize, word: Option<LoopWord>, most: usize) -> Option<usize>
+pub(crate) fn depth_behind(depth: usize, word: Option<PassageWord>, most: usize) -> Option<usize>
     requires room { depth < most }
     ensures value { result ≡ open_by word (Some depth) }
     ensures most { IfSome result (λ d. d ≤ depth + 1) }
 {
     match word {
-        Some(LoopWord::Perform) => { if depth < most { Some(depth + 1) } else { None } }
-        Some(LoopWord::EndPerform) => { if depth > 0 { Some(depth - 1) } else { None } }
-        Some(LoopWord::Continue) | None => Some(depth),
+        Some(PassageWord::Perform) => { if depth < most { Some(depth + 1) } else { None } }
+        Some(PassageWord::EndPerform) => { if depth > 0 { Some(depth - 1) } else { None } }
+        Some(PassageWord::Continue) | None => Some(depth),
     }
 }
 
@@ -110,7 +110,7 @@ fn body_at(words: &[Token]) -> Option<(&[Token], &[Token])>
     let mut depth: usize = 0;
     let mut rest = words;
     while let Some((first, more)) = rest.split_first() {
-        match depth_behind(depth, loop_word(first), words.len()) {
+        match depth_behind(depth, passage_word(first), words.len()) {
             Some(next) => {
                 depth = next;
                 rest = more;
@@ -168,10 +168,10 @@ pub fn item_at(words: &[Token]) -> Option<(PassageItem<'_>, &[Token])>
         → AnswersFront result f more }
 {
     let (first, _) = words.split_first()?;
-    match loop_word(first) {
+    match passage_word(first) {
         None => run_at(words),
-        Some(LoopWord::Perform) => loop_at(words),
-        Some(LoopWord::Continue) => pause_at(words),
-        Some(LoopWord::EndPerform) => None,
+        Some(PassageWord::Perform) => loop_at(words),
+        Some(PassageWord::Continue) => pause_at(words),
+        Some(PassageWord::EndPerform) => None,
     }
 }

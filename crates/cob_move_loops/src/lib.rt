@@ -12,7 +12,7 @@
 //! line of one where it isn't (`line`). [`item_at`] answers what stands in front of a passage, [`with_counter`] the counters of a turn, and [`turns_to_write`]
 //! how many turns of a loop come to something. [`write_out`] answers the words of MOVE statements in each turn, in their order, and [`in_turn`] has them with
 //! their numbers in place. Outside of loops words are as they are written ([`no_turn`]). [`behind_stops`] passes over periods, [`first_line`] answers the line
-//! of the first word, and [`loop_word`] which words are no names in a paragraph.
+//! of the first word, and [`passage_word`] which words are no names in a paragraph.
 //!
 //! The definitions stand in `specs/`: `Words` has the words of loops, `Passages` which words a passage has and where words are none, `Turns` what loops come
 //! to, `Few` how much that is and which counters are a loop's own, `Bounded` which loops to items are bounded. `Reading` holds what the readers say of what
@@ -47,5 +47,5 @@ pub use naming::{LoopFault, loops};
 pub use parts::{Loop, LoopBound};
 pub use stops::{behind_stop, behind_stops, is_stop};
 pub use turn::{Counter, in_turn};
-pub use words::{LoopWord, first_line, loop_word};
+pub use words::{PassageWord, first_line, passage_word};
 pub use writing::{Run, turns_to_write, with_counter, write_out};

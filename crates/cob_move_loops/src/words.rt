@@ -3,13 +3,13 @@
 ghost use Rattle.std.specs.Prelude.{◌≡◌, ◌↔◌, ◌∷◌, IfSome, IsSomeAnd, IsTrue, List, Some};
 ghost use Rattle.cob_copybook_clauses.specs.Clauses.{IsWord};
 ghost use Rattle.cob_source.specs.Tokens.{Lexeme, lexeme, lexemes};
-ghost use Rattle.cob_move_loops.specs.Words.{first_line, loop_word, loop_word_in};
+ghost use Rattle.cob_move_loops.specs.Words.{first_line, passage_word, passage_word_in};
 
 use cob_source::{Token, TokenKind};
 
 /// A word of loops, which is no name in a paragraph.
 #[derive(Clone, Copy, PartialEq, Eq)]
-pub enum LoopWord {
+pub enum PassageWord {
     /// PERFORM.
     Perform,
     /// END-PERFORM.
@@ -19,27 +19,27 @@ pub enum LoopWord {
 }
 
 /// The word of loops that a text is, if it is one.
-fn loop_word_in(text: &[u8]) -> Option<LoopWord>
-    ensures { result ≡ loop_word_in text.now }
+fn passage_word_in(text: &[u8]) -> Option<PassageWord>
+    ensures { result ≡ passage_word_in text.now }
 {
     if text == b"PERFORM".as_slice() {
-        return Some(LoopWord::Perform);
+        return Some(PassageWord::Perform);
     }
     if text == b"END-PERFORM".as_slice() {
-        return Some(LoopWord::EndPerform);
+        return Some(PassageWord::EndPerform);
     }
     if text == b"CONTINUE".as_slice() {
-        return Some(LoopWord::Continue);
+        return Some(PassageWord::Continue);
     }
     None
 }
 
 /// The word of loops that a token is, if it is one.
-pub fn loop_word(token: &Token) -> Option<LoopWord>
-    ensures { result ≡ loop_word (lexeme token.now) }
+pub fn passage_word(token: &Token) -> Option<PassageWord>
+    ensures { result ≡ passage_word (lexeme token.now) }
 {
     match token.kind {
-        TokenKind::Word => loop_word_in(token.text.as_slice()),
+        TokenKind::Word => passage_word_in(token.text.as_slice()),
         TokenKind::Literal | TokenKind::Stop => None,
     }
 }
@@ -73,24 +73,24 @@ pub(crate) fn behind_text<'a>(words: &'a [Token], text: &[u8]) -> Option<&'a [To
 }
 
 /// Whether a token is this word of loops.
-fn is_loop_word(token: &Token, word: LoopWord) -> bool
-    ensures { IsTrue result ↔ loop_word (lexeme token.now) ≡ Some word }
+fn is_passage_word(token: &Token, word: PassageWord) -> bool
+    ensures { IsTrue result ↔ passage_word (lexeme token.now) ≡ Some word }
 {
-    match loop_word(token) {
+    match passage_word(token) {
         Some(found) => found == word,
         None => false,
     }
 }
 
 /// The words behind this word of loops, if it comes first.
-pub(crate) fn behind_loop_word(words: &[Token], word: LoopWord) -> Option<&[Token]>
-    ensures found { IfSome result (λ r. (w : Lexeme) × (loop_word w ≡ Some word)
+pub(crate) fn behind_passage_word(words: &[Token], word: PassageWord) -> Option<&[Token]>
+    ensures found { IfSome result (λ r. (w : Lexeme) × (passage_word w ≡ Some word)
         × (lexemes words.now ≡ w ∷ lexemes r.now)) }
-    ensures only { (w : Lexeme) (more : List Lexeme) → loop_word w ≡ Some word
+    ensures only { (w : Lexeme) (more : List Lexeme) → passage_word w ≡ Some word
         → lexemes words.now ≡ w ∷ more → IsSomeAnd result (λ r. lexemes r.now ≡ more) }
 {
     let (first, more) = words.split_first()?;
-    if !is_loop_word(first, word) {
+    if !is_passage_word(first, word) {
         return None;
     }
     Some(more)
