@@ -1,16 +1,17 @@
 //! How much passages come to.
 
-ghost use Rattle.std.specs.Prelude.{◌≡◌, ◌↔◌, ◌+◌, ◌*◌, ◌<◌, ◌≤◌, IfNone, IfSome, IsTrue, Some};
+ghost use Rattle.std.specs.Prelude.{◌≡◌, ◌↔◌, ◌+◌, ◌*◌, ◌<◌, ◌≤◌, IfNone, IfSome, IsTrue, true};
 ghost use Rattle.cob_source.specs.Tokens.{lexeme, lexemes};
-ghost use Rattle.cob_move_loops.specs.Few.{IsFew, IsShallow, loop_line, looped_of, statements_in, statements_of};
+ghost use Rattle.cob_move_loops.specs.Few.{IsFew, IsShallow, choices_by, looped_of, opening_line, opens, statements_in, statements_of};
 ghost use Rattle.cob_limits.specs.Limits.{most_written_out};
-ghost use Rattle.cob_move_loops.specs.Passages.{IsPassage, Passage};
+ghost use Rattle.cob_move_loops.specs.Passages.{IsPassage, IsPassageAt, Passage};
 ghost use Rattle.cob_move_loops.specs.Reading.{Within, item_front, looped_front, statements_front, written_loop};
 ghost use Rattle.cob_move_loops.specs.Turns.{turns_between, turns_of};
 ghost use Rattle.cob_move_loops.specs.Words.{passage_word};
 
-use crate::front::{PassageItem, depth_behind, item_at};
-use crate::parts::{Loop, LoopBound};
+use crate::edges::{Edge, Pair, depth_behind, edge_of};
+use crate::front::{PassageItem, item_in};
+use crate::parts::{ChoiceKind, Loop, LoopBound, Place, kind_of};
 use crate::words::{PassageWord, passage_word};
 use cob_copybook_clauses::{WordClass, is_term};
 use cob_limits::{MAX_OPEN, MAX_WRITTEN_OUT};
@@ -99,8 +100,22 @@ fn count_turns(head: &Loop<'_>, body: &[Token]) -> Option<u64>
     if turns == 0 {
         return Some(0);
     }
-    let own = count_all(body)?;
+    let own = count_all(Place::Statements, body)?;
     product_of(turns, own)
+}
+
+/// The statements of a choice, itself among them, where they are not over the most.
+#[cycle(counting)]
+fn count_choice(kind: ChoiceKind, branches: &[Token]) -> Option<u64>
+    ensures some { IfSome result (λ n. (p : Passage)
+        → IsPassageAt (Place.Branches kind) p (lexemes branches.now) → n ≡ 1 + statements_of p) }
+    ensures most { IfSome result (λ n. n ≤ most_written_out) }
+    ensures none { IfNone result ((p : Passage)
+        → IsPassageAt (Place.Branches kind) p (lexemes branches.now)
+        → most_written_out < 1 + statements_of p) }
+{
+    let own = count_all(Place::Branches(kind), branches)?;
+    sum_of(1, own)
 }
 
 /// The statements of what stands in front once it is written out, where they are not over the most.
@@ -116,21 +131,23 @@ fn count_item(item: &PassageItem<'_>) -> Option<u64>
         PassageItem::Run(words) => statements_in(words),
         PassageItem::Pause => Some(0),
         PassageItem::Loop { head, body } => count_turns(head, body),
+        PassageItem::Choice { choice, branches } => count_choice(kind_of(choice), branches),
+        PassageItem::Branch { body, .. } => count_all(Place::Statements, body),
     }
 }
 
 /// The statements of a passage once its loops are written out, where they are not over the most.
 #[cycle(counting)]
-pub(crate) fn count_all(words: &[Token]) -> Option<u64>
-    ensures some { IfSome result (λ n. (p : Passage) → IsPassage p (lexemes words.now)
+pub(crate) fn count_all(place: Place, words: &[Token]) -> Option<u64>
+    ensures some { IfSome result (λ n. (p : Passage) → IsPassageAt place p (lexemes words.now)
         → n ≡ statements_of p) }
     ensures most { IfSome result (λ n. n ≤ most_written_out) }
-    ensures none { IfNone result ((p : Passage) → IsPassage p (lexemes words.now)
+    ensures none { IfNone result ((p : Passage) → IsPassageAt place p (lexemes words.now)
         → most_written_out < statements_of p) }
 {
     let mut count: u64 = 0;
     let mut rest = words;
-    while let Some((item, more)) = item_at(rest) {
+    while let Some((item, more)) = item_in(place, rest) {
         let own = count_item(&item)?;
         let sum = sum_of(count, own)?;
         count = sum;
@@ -139,7 +156,8 @@ pub(crate) fn count_all(words: &[Token]) -> Option<u64>
     Some(count)
 }
 
-/// The statements of what stands in front once it is written out, if it is a loop, where they are not over the most.
+/// The statements that the loops of what stands in front come to, where they are not over the most.
+#[cycle(counting_loops)]
 fn count_looped(item: &PassageItem<'_>) -> Option<u64>
     ensures some { IfSome result (λ n. (p : Passage) → Within (item_front item.now) p
         → n ≡ looped_front (item_front item.now) p) }
@@ -150,20 +168,26 @@ fn count_looped(item: &PassageItem<'_>) -> Option<u64>
     match item {
         PassageItem::Run(_) | PassageItem::Pause => Some(0),
         PassageItem::Loop { head, body } => count_turns(head, body),
+        PassageItem::Choice { choice, branches } => count_loops(
+            Place::Branches(kind_of(choice)),
+            branches,
+        ),
+        PassageItem::Branch { body, .. } => count_loops(Place::Statements, body),
     }
 }
 
 /// The statements that the loops of a passage come to, where they are not over the most.
-fn count_loops(words: &[Token]) -> Option<u64>
-    ensures some { IfSome result (λ n. (p : Passage) → IsPassage p (lexemes words.now)
+#[cycle(counting_loops)]
+fn count_loops(place: Place, words: &[Token]) -> Option<u64>
+    ensures some { IfSome result (λ n. (p : Passage) → IsPassageAt place p (lexemes words.now)
         → n ≡ looped_of p) }
     ensures most { IfSome result (λ n. n ≤ most_written_out) }
-    ensures none { IfNone result ((p : Passage) → IsPassage p (lexemes words.now)
+    ensures none { IfNone result ((p : Passage) → IsPassageAt place p (lexemes words.now)
         → most_written_out < looped_of p) }
 {
     let mut count: u64 = 0;
     let mut rest = words;
-    while let Some((item, more)) = item_at(rest) {
+    while let Some((item, more)) = item_in(place, rest) {
         let own = count_looped(&item)?;
         let sum = sum_of(count, own)?;
         count = sum;
@@ -176,22 +200,44 @@ fn count_loops(words: &[Token]) -> Option<u64>
 pub fn is_few(words: &[Token]) -> bool
     ensures { (p : Passage) → IsPassage p (lexemes words.now) → (IsTrue result ↔ IsFew p) }
 {
-    count_loops(words).is_some()
+    count_loops(Place::Statements, words).is_some()
 }
 
-/// Whether few loops of words hold one another.
+/// How many choices of a kind are open behind a word, where so many were before.
+fn choices_behind(count: usize, edge: Option<Edge>) -> usize
+    requires room { count ≤ most_open }
+    ensures value { result ≡ choices_by edge count }
+    ensures most { result ≤ count + 1 }
+{
+    match edge {
+        Some(Edge::Opens) => count + 1,
+        Some(Edge::Closes) => count.saturating_sub(1),
+        Some(Edge::Parts) | None => count,
+    }
+}
+
+/// Whether few loops and choices of words hold one another.
 pub fn is_shallow(words: &[Token]) -> bool
     ensures { IsTrue result ↔ IsShallow (lexemes words.now) }
 {
-    let mut depth: usize = 0;
+    let mut loops: usize = 0;
+    let mut ifs: usize = 0;
+    let mut evaluates: usize = 0;
     let mut rest = words;
     while let Some((first, more)) = rest.split_first() {
-        match depth_behind(depth, passage_word(first), MAX_OPEN + 1) {
+        let next_ifs = choices_behind(ifs, edge_of(Pair::Choice(ChoiceKind::If), first));
+        let next_evaluates = choices_behind(
+            evaluates,
+            edge_of(Pair::Choice(ChoiceKind::Evaluate), first),
+        );
+        match depth_behind(loops, false, edge_of(Pair::Loop, first), MAX_OPEN + 1) {
             Some(next) => {
-                if next > MAX_OPEN {
+                if next + (next_ifs + next_evaluates) > MAX_OPEN {
                     return false;
                 }
-                depth = next;
+                loops = next;
+                ifs = next_ifs;
+                evaluates = next_evaluates;
                 rest = more;
             }
             None => return true,
@@ -200,23 +246,23 @@ pub fn is_shallow(words: &[Token]) -> bool
     true
 }
 
-/// Whether a word is PERFORM.
-fn is_perform(token: &Token) -> bool
-    ensures { IsTrue result ↔ passage_word (lexeme token.now) ≡ Some PassageWord.Perform }
+/// Whether a word begins a loop or a choice.
+fn is_opening(token: &Token) -> bool
+    ensures { IsTrue result ↔ opens (passage_word (lexeme token.now)) ≡ true }
 {
     match passage_word(token) {
-        Some(PassageWord::Perform) => true,
+        Some(PassageWord::Perform) | Some(PassageWord::If) | Some(PassageWord::Evaluate) => true,
         Some(PassageWord::EndPerform) | Some(PassageWord::Continue) | None => false,
     }
 }
 
-/// The line of the first loop, or 1 where there is none.
-pub fn loop_line(words: &[Token]) -> u32
-    ensures { result ≡ loop_line (lexemes words.now) }
+/// The line of the first loop or choice, or 1 where there is none.
+pub fn opening_line(words: &[Token]) -> u32
+    ensures { result ≡ opening_line (lexemes words.now) }
 {
     let mut rest = words;
     while let Some((first, more)) = rest.split_first() {
-        if is_perform(first) {
+        if is_opening(first) {
             return first.line;
         }
         rest = more;

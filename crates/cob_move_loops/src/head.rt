@@ -12,7 +12,9 @@ ghost use Rattle.cob_move_loops.specs.Reading.{AfterIs, AnswersBound, AnswersNam
 use crate::number::number_at;
 use crate::parts::{Loop, LoopBound};
 use crate::stops::is_stop;
-use crate::words::{PassageWord, behind_passage_word, behind_text, first_line, is_that_word, passage_word};
+use crate::words::{
+    PassageWord, behind_passage_word, behind_text, first_line, is_that_word, passage_word,
+};
 use cob_copybook_clauses::{WordClass, front, is_name_word, is_term};
 use cob_source::Token;
 
@@ -99,7 +101,7 @@ fn behind_past(words: &[Token]) -> Option<&[Token]>
 }
 
 /// Whether a word may be one of a reference.
-fn is_item_word(token: &Token) -> bool
+pub(crate) fn is_item_word(token: &Token) -> bool
     ensures { IsTrue result ↔ IsItemWord (lexeme token.now) }
 {
     passage_word(token).is_none() && !is_term(token, WordClass::Move) && !is_stop(token)

@@ -1,6 +1,8 @@
-//! The parts of loops.
+//! The parts of loops and choices.
 
-ghost use Rattle.std.specs.Prelude.{◌<◌};
+ghost use Rattle.std.specs.Prelude.{◌≡◌, ◌<◌};
+ghost use Rattle.cob_move_loops.specs.Passages.{kind_of};
+ghost use Rattle.cob_move_loops.specs.Reading.{written_choice};
 
 use cob_source::Token;
 
@@ -25,4 +27,50 @@ pub struct Loop<'a> {
     pub bound: LoopBound<'a>,
 
     pub ghost steps: { 0 < by },
+}
+
+/// A kind of choice.
+#[derive(Clone, Copy, PartialEq, Eq)]
+pub enum ChoiceKind {
+    /// IF, whose branches are parted by ELSE.
+    If,
+    /// EVALUATE, whose branches begin with WHEN.
+    Evaluate,
+}
+
+/// Where words of a passage stand.
+#[derive(Clone, Copy)]
+pub enum Place {
+    /// In a paragraph, a loop or a branch: they are statements.
+    Statements,
+    /// In a choice: they are its branches.
+    Branches(ChoiceKind),
+}
+
+/// What stands before the branches of a choice.
+#[derive(Clone, Copy)]
+pub enum Choice<'a> {
+    /// IF on this line.
+    If { line: u32 },
+    /// EVALUATE on this line, with the words of what it tests.
+    Evaluate { line: u32, subject: &'a [Token] },
+}
+
+/// What a branch of a choice is taken by.
+#[derive(Clone, Copy)]
+pub enum BranchTest<'a> {
+    /// The words of a condition, or of a WHEN, hold.
+    Tested(&'a [Token]),
+    /// No branch before it was taken.
+    Otherwise,
+}
+
+/// The kind of a choice.
+pub fn kind_of(choice: &Choice<'_>) -> ChoiceKind
+    ensures { result ≡ kind_of (written_choice choice.now) }
+{
+    match choice {
+        Choice::If { .. } => ChoiceKind::If,
+        Choice::Evaluate { .. } => ChoiceKind::Evaluate,
+    }
 }
