@@ -1,21 +1,26 @@
 -- The heads of choices, and their branches.
-use Rattle.std.proofs.Common.{◌≡◌, false, List, [], ◌∷◌, ◌++◌, length, refl, sym, ap, subst, ◌∙◌, append_assoc, Option, Some, None}
+use Rattle.std.proofs.Common.{◌≡◌, ℕ, false, List, [], ◌∷◌, ◌++◌, length, refl, sym, ap, subst, ◌∙◌, append_assoc, Option, Some, None}
 use Rattle.std.specs.Prelude.{codes}
 use Rattle.std.specs.List.{AllByRecursion}
+use denote.Ref.{Bor}
+use Rattle.cob_source.specs.declared.token.Token.{Token}
 use Rattle.cob_source.specs.Tokens.{Lexeme}
+use Rattle.cob_copybook_clauses.specs.Reading.{Answers}
 use Rattle.cob_copybook_clauses.specs.Clauses.{IsWord}
 use Rattle.cob_move_loops.specs.declared.edges.Edge.{Edge}
 use Rattle.cob_move_loops.specs.declared.edges.Edge.TheVariants as edge
 use Rattle.cob_move_loops.specs.declared.edges.Pair.TheVariants as pair
+use Rattle.cob_move_loops.specs.declared.parts.BranchTest.{BranchTest}
+use Rattle.cob_move_loops.specs.declared.parts.Choice.{Choice}
 use Rattle.cob_move_loops.specs.declared.parts.ChoiceKind.{ChoiceKind}
 use Rattle.cob_move_loops.specs.declared.parts.ChoiceKind.TheVariants as kind
 use Rattle.cob_move_loops.specs.declared.words.BranchWord.{BranchWord}
 use Rattle.cob_move_loops.specs.declared.words.BranchWord.TheVariants as branch
 use Rattle.cob_move_loops.specs.declared.words.PassageWord.{PassageWord}
 use Rattle.cob_move_loops.specs.declared.words.PassageWord.TheVariants as mark
-use Rattle.cob_move_loops.specs.Reading.{ClosedInFront, NoTestAfter}
+use Rattle.cob_move_loops.specs.Reading.{BranchInFront, ClosedInFront, NoTestAfter, WhenTestInFront, written_choice}
 use Rattle.cob_move_loops.specs.Words.{AreTestWords, IsBranchWord, IsPassageWord, IsTestWord, IsThen, NoHeadWord, NoTestWord, NotOtherFirst, branch_word, passage_word}
-use Rattle.cob_move_loops.specs.Passages.{AnEvaluate, AnIf, AreBranches, BranchEnds, IsBranchBody, IsBranchHead, IsChoiceHead, IsWhenTest, NextWhen, Otherwise, PartFirst, Tested, WhenFirst, WrittenChoice, WrittenTest, branch_edge, choice_edge, edge_of, kind_of, loop_edge, open_behind}
+use Rattle.cob_move_loops.specs.Passages.{AnEvaluate, AnIf, AreBranches, BranchEnds, IsBranchBody, IsBranchHead, IsChoiceHead, IsWhenTest, NextWhen, Otherwise, PartFirst, Tested, WrittenChoice, WrittenTest, branch_edge, choice_edge, edge_of, kind_of, loop_edge, open_behind}
 
 -- what ends a loop is END-PERFORM
 pub loop_closes : (o : Option PassageWord) → loop_edge o ≡ Some edge.Closes → o ≡ Some mark.EndPerform
@@ -64,7 +69,8 @@ branch_no_test b w is test = let never : Some b ≡ None = sym is ∙ test.no_br
 pub tested_ends : (c : WrittenChoice) (own more : List Lexeme) → AreBranches c own → NoTestAfter c (own ++ more)
 tested_ends (AnIf line) own more are = tt
 tested_ends (AnEvaluate line subject) [] more are = absurd are.begin
-tested_ends (AnEvaluate line subject) (w ∷ own) more are = branch_no_test branch.When w are.begin
+tested_ends (AnEvaluate line subject) (w ∷ []) more are = absurd are.begin
+tested_ends (AnEvaluate line subject) (w ∷ v ∷ own) more are = branch_no_test branch.When w are.begin.0
 
 pub choice_one : (c d : WrittenChoice) (h k a b : List Lexeme) → IsChoiceHead c h → IsChoiceHead d k → NoTestAfter c a → NoTestAfter d b → h ++ a ≡ k ++ b → (c ≡ d) × (a ≡ b)
 choice_one (AnIf i) (AnIf j) h k a b (w, is, at, e) (v, si, ta, f) ends also same =
@@ -183,3 +189,82 @@ pub choice_closed : (k : ChoiceKind) (c d : WrittenChoice) (own more words : Lis
 choice_closed k c d own more words end of_kind same are closes e =
     let kinds : kind_of c ≡ k = ap kind_of (sym same) ∙ sym of_kind in
     (end, subst (λ (x : ChoiceKind). open_behind (pair.Choice x) false (Some 0) own ≡ Some 0) kinds are.closed, subst (λ (x : ChoiceKind). edge_of (pair.Choice x) end ≡ Some edge.Closes) kinds closes, e)
+
+-- ---- what readers of choices answer
+
+-- where no IF comes first, what stands before the branches is an EVALUATE
+pub choice_else : (words : List Lexeme) (answer : Option (Choice × Bor (List Token))) → ((line : ℕ) (head more : List Lexeme) → IsChoiceHead (AnIf line) head → words ≡ head ++ more → ⊥)
+    → ((line : ℕ) (subject head more : List Lexeme) → IsChoiceHead (AnEvaluate line subject) head → NoTestWord more → words ≡ head ++ more → Answers written_choice answer (AnEvaluate line subject) more)
+    → (c : WrittenChoice) (head more : List Lexeme) → IsChoiceHead c head → NoTestAfter c more → words ≡ head ++ more → Answers written_choice answer c more
+choice_else words answer none only (AnIf line) head more h ends e = absurd (none line head more h e)
+choice_else words answer none only (AnEvaluate line subject) head more h ends e = only line subject head more h ends e
+
+-- THEN that stands there is passed over
+pub then_behind : (w : Lexeme) (rest end more : List Lexeme) → IsWord (codes "THEN") w → IsThen end → NoHeadWord more → w ∷ rest ≡ end ++ more → rest ≡ more
+then_behind w rest [] more is it none same = absurd ((subst NoHeadWord (sym same) none).1 is)
+then_behind w rest (v ∷ []) more is it none same = cc
+then_behind w rest (v ∷ u ∷ end) more is it none same = absurd it
+
+pub then_absent : (words : List Lexeme) → ((w : Lexeme) (rest : List Lexeme) → IsWord (codes "THEN") w → words ≡ w ∷ rest → ⊥) → (end more : List Lexeme) → IsThen end → words ≡ end ++ more → words ≡ more
+then_absent words none [] more is same = same
+then_absent words none (v ∷ []) more is same = absurd (none v more is same)
+then_absent words none (v ∷ u ∷ end) more is same = absurd is
+
+-- what ELSE in front leaves
+pub else_one : (w : Lexeme) (rest : List Lexeme) (t : WrittenTest) (head more : List Lexeme) → IsBranchWord branch.Else w → IsBranchHead kind.If t head → w ∷ rest ≡ head ++ more → (Otherwise ≡ t) × (rest ≡ more)
+else_one w rest (Tested x) head more is (p, ix, ip, e) same =
+    absurd (test_no_branch branch.Else x (p ++ more) rest w ix is (sym (then_split x p more) ∙ sym (ap (λ (t : List Lexeme). t ++ more) e) ∙ sym same))
+else_one w rest Otherwise head more is (v, iv, e) same =
+    let it : w ∷ rest ≡ v ∷ more = same ∙ ap (λ (t : List Lexeme). t ++ more) e in
+    let tail : rest ≡ more = cc in
+    (refl, tail)
+
+-- no branch of an IF stands where neither ELSE nor a test does
+pub if_absent : (words : List Lexeme) → ((w : Lexeme) (rest : List Lexeme) → IsBranchWord branch.Else w → words ≡ w ∷ rest → ⊥) → ((own more : List Lexeme) → AreTestWords own → NoTestWord more → words ≡ own ++ more → ⊥)
+    → (t : WrittenTest) (head more : List Lexeme) → IsBranchHead kind.If t head → NoHeadWord more → words ≡ head ++ more → ⊥
+if_absent words no_else no_tests (Tested x) head more (p, ix, ip, e) none same =
+    no_tests x (p ++ more) ix (then_no_test p more ip none) (same ∙ ap (λ (t : List Lexeme). t ++ more) e ∙ then_split x p more)
+if_absent words no_else no_tests Otherwise head more (v, iv, e) none same = no_else v more iv (same ∙ ap (λ (t : List Lexeme). t ++ more) e)
+
+pub if_only : (words test behind rest : List Lexeme) → ((w : Lexeme) (rest : List Lexeme) → IsBranchWord branch.Else w → words ≡ w ∷ rest → ⊥)
+    → ((own more : List Lexeme) → AreTestWords own → NoTestWord more → words ≡ own ++ more → (test ≡ own) × (behind ≡ more))
+    → ((end more : List Lexeme) → IsThen end → NoHeadWord more → behind ≡ end ++ more → rest ≡ more)
+    → (t : WrittenTest) (head more : List Lexeme) → IsBranchHead kind.If t head → NoHeadWord more → words ≡ head ++ more → (Tested test ≡ t) × (rest ≡ more)
+if_only words test behind rest no_else tests passed (Tested x) head more (p, ix, ip, e) none same =
+    let first = tests x (p ++ more) ix (then_no_test p more ip none) (same ∙ ap (λ (t : List Lexeme). t ++ more) e ∙ then_split x p more) in
+    (ap Tested first.0, passed p more ip none first.1)
+if_only words test behind rest no_else tests passed Otherwise head more (v, iv, e) none same = absurd (no_else v more iv (same ∙ ap (λ (t : List Lexeme). t ++ more) e))
+
+-- what OTHER in front leaves
+pub other_one : (w : Lexeme) (rest : List Lexeme) (t : WrittenTest) (own more : List Lexeme) → IsWord (codes "OTHER") w → IsWhenTest t own → w ∷ rest ≡ own ++ more → (Otherwise ≡ t) × (rest ≡ more)
+other_one w rest (Tested x) own more is (ix, nx, e) same = absurd (not_other x more rest w ix nx is (sym (ap (λ (t : List Lexeme). t ++ more) e) ∙ sym same))
+other_one w rest Otherwise own more is (v, iv, e) same =
+    let it : w ∷ rest ≡ v ∷ more = same ∙ ap (λ (t : List Lexeme). t ++ more) e in
+    let tail : rest ≡ more = cc in
+    (refl, tail)
+
+pub when_absent : (words : List Lexeme) → ((w : Lexeme) (rest : List Lexeme) → IsWord (codes "OTHER") w → words ≡ w ∷ rest → ⊥) → ((own more : List Lexeme) → AreTestWords own → NoTestWord more → words ≡ own ++ more → ⊥)
+    → (t : WrittenTest) (own more : List Lexeme) → IsWhenTest t own → NoHeadWord more → words ≡ own ++ more → ⊥
+when_absent words no_other no_tests (Tested x) own more (ix, nx, e) none same = no_tests x more ix (no_test more none) (same ∙ ap (λ (t : List Lexeme). t ++ more) e)
+when_absent words no_other no_tests Otherwise own more (v, iv, e) none same = no_other v more iv (same ∙ ap (λ (t : List Lexeme). t ++ more) e)
+
+pub when_only : (words test rest : List Lexeme) → ((w : Lexeme) (rest : List Lexeme) → IsWord (codes "OTHER") w → words ≡ w ∷ rest → ⊥)
+    → ((own more : List Lexeme) → AreTestWords own → NoTestWord more → words ≡ own ++ more → (test ≡ own) × (rest ≡ more))
+    → (t : WrittenTest) (own more : List Lexeme) → IsWhenTest t own → NoHeadWord more → words ≡ own ++ more → (Tested test ≡ t) × (rest ≡ more)
+when_only words test rest no_other tests (Tested x) own more (ix, nx, e) none same =
+    let first = tests x more ix (no_test more none) (same ∙ ap (λ (t : List Lexeme). t ++ more) e) in
+    (ap Tested first.0, first.1)
+when_only words test rest no_other tests Otherwise own more (v, iv, e) none same = absurd (no_other v more iv (same ∙ ap (λ (t : List Lexeme). t ++ more) e))
+
+-- words of a test don't begin with OTHER where words don't that begin with them
+pub no_other_first : (words own more : List Lexeme) → ((w : Lexeme) (rest : List Lexeme) → IsWord (codes "OTHER") w → words ≡ w ∷ rest → ⊥) → words ≡ own ++ more → NotOtherFirst own
+no_other_first words [] more none same = tt
+no_other_first words (w ∷ own) more none same = λ is. none w (own ++ more) is same
+
+-- the words behind WHEN stand in front with it
+pub when_behind : (t : BranchTest) (words tested more : List Lexeme) → (w : Lexeme) × IsBranchWord branch.When w × (words ≡ w ∷ tested) → WhenTestInFront t tested more → BranchInFront kind.Evaluate t words more
+when_behind t words tested more (w, is, e) (own, it, f) = (w ∷ own, (w, own, is, it, refl), e ∙ ap (λ (x : List Lexeme). w ∷ x) f)
+
+pub ends_same : (k : ChoiceKind) (t u : WrittenTest) (own us more others : List Lexeme) → t ≡ u → own ≡ us → more ≡ others → BranchEnds k u us others → BranchEnds k t own more
+ends_same k t u own us more others e f g is =
+    subst (λ (x : WrittenTest). BranchEnds k x own more) (sym e) (subst (λ (x : List Lexeme). BranchEnds k u x more) (sym f) (subst (λ (x : List Lexeme). BranchEnds k u us x) (sym g) is))

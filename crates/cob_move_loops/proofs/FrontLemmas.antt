@@ -113,7 +113,7 @@ closed_here k words rest more w depth so e none own behind (end, closed, is, cut
     let tail : more ≡ behind = cc in
     (one.0, tail)
 
-none_left : (rest : List Lexeme) → length rest ≤ 0 → rest ≡ []
+pub none_left : (rest : List Lexeme) → length rest ≤ 0 → rest ≡ []
 none_left [] few = refl
 none_left (w ∷ rest) few = absurd (omega (arith, few))
 
@@ -151,25 +151,28 @@ parted_never kind words rest more w depth so e none other own behind parted =
     other (subst (λ (t : List Lexeme). PartFirst kind t) (sym one.1 ∙ e) first)
 
 part_end : (kind : ChoiceKind) (words done : List Lexeme) (depth : ℕ) → words ≡ done → open_behind (pair.Choice kind) true (Some 0) done ≡ Some depth
-    → (own behind : List Lexeme) → PartedInFront kind own words behind → (own ≡ words) × (behind ≡ []) × (Some depth ≡ Some 0)
+    → (own behind : List Lexeme) → PartedInFront kind own words behind → (own ≡ words) × (behind ≡ []) × (depth ≡ 0)
 part_end kind words done depth all opened own [] (closed, first, cut) =
     let same : own ≡ words = sym (append-nil own) ∙ sym cut in
-    (same, refl, sym opened ∙ ap (λ (t : List Lexeme). open_behind (pair.Choice kind) true (Some 0) t) (sym all ∙ sym same) ∙ closed)
+    let depths : Some depth ≡ Some 0 = sym opened ∙ ap (λ (t : List Lexeme). open_behind (pair.Choice kind) true (Some 0) t) (sym all ∙ sym same) ∙ closed in
+    let zero_is : depth ≡ 0 = cc in
+    (same, refl, zero_is)
 part_end kind words done depth all opened own (v ∷ behind) (closed, first, cut) =
     absurd (no_cut (pair.Choice kind) true own behind v depth closed (part_stop kind (v ∷ behind) first)
     (ap (λ (t : List Lexeme). open_behind (pair.Choice kind) true (Some 0) t) (sym cut ∙ all) ∙ opened))
 
 pub parted_end : (kind : ChoiceKind) (words rest : List Lexeme) (depth : ℕ) → Opened (pair.Choice kind) true words rest depth → length rest ≤ 0
-    → (own behind : List Lexeme) → PartedInFront kind own words behind → (own ≡ words) × (behind ≡ []) × (Some depth ≡ Some 0)
+    → (own behind : List Lexeme) → PartedInFront kind own words behind → (own ≡ words) × (behind ≡ []) × (depth ≡ 0)
 parted_end kind words rest depth so few own behind parted =
     part_end kind words so.done depth (all_done (pair.Choice kind) true words rest depth so few) so.opened own behind parted
 
-pub parted_all : (kind : ChoiceKind) (words rest : List Lexeme) (depth : ℕ) → Opened (pair.Choice kind) true words rest depth → length rest ≤ 0 → depth ≡ 0 → PartedInFront kind words words rest
-parted_all kind words rest depth so few zero_is =
-    let none = none_left rest few in (
-      ap (λ (t : List Lexeme). open_behind (pair.Choice kind) true (Some 0) t) (all_done (pair.Choice kind) true words rest depth so few) ∙ so.opened ∙ ap (λ (d : ℕ). Some d) zero_is,
+pub parted_whole : (kind : ChoiceKind) (words rest own behind : List Lexeme) (depth : ℕ) → Opened (pair.Choice kind) true words rest depth → length rest ≤ 0
+    → own ≡ words → behind ≡ rest → depth ≡ 0 → PartedInFront kind own words behind
+parted_whole kind words rest own behind depth so few same last zero_is =
+    let none : behind ≡ [] = last ∙ none_left rest few in (
+      ap (λ (t : List Lexeme). open_behind (pair.Choice kind) true (Some 0) t) (same ∙ all_done (pair.Choice kind) true words rest depth so few) ∙ so.opened ∙ ap (λ (d : ℕ). Some d) zero_is,
       subst (λ (t : List Lexeme). PartFirst kind t) (sym none) tt,
-      sym (append-nil words) ∙ ap (λ (t : List Lexeme). words ++ t) (sym none),
+      sym same ∙ sym (append-nil own) ∙ ap (λ (t : List Lexeme). own ++ t) (sym none),
     )
 
 -- how many words are in what stands in front, if it has statements or branches

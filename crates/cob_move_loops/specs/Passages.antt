@@ -172,15 +172,21 @@ IsChoiceHead (AnIf line) ws = (begins : Lexeme) × IsPassageWord mark.If begins 
 IsChoiceHead (AnEvaluate line subject) ws = (begins : Lexeme)
     × IsPassageWord mark.Evaluate begins × (line ≡ begins.line) × AreTestWords subject × (ws ≡ begins ∷ subject)
 
--- WHEN comes first
-abbrev pub WhenFirst : List Lexeme → Type 0
-WhenFirst [] = ⊥
-WhenFirst (w ∷ ws) = IsBranchWord branch.When w
+-- ELSE doesn't come first
+abbrev pub NotElseFirst : List Lexeme → Type 0
+NotElseFirst [] = Unit {0}
+NotElseFirst (w ∷ ws) = IsBranchWord branch.Else w → ⊥
 
--- what EVALUATE tests ends before a WHEN
+-- WHEN with a test comes first
+abbrev pub NextWhen : List Lexeme → Type 0
+NextWhen [] = ⊥
+NextWhen (w ∷ []) = ⊥
+NextWhen (w ∷ v ∷ ws) = IsBranchWord branch.When w × (IsWord (codes "OTHER") v → ⊥)
+
+-- the first branch of a choice has a test; what EVALUATE tests ends before its WHEN
 abbrev pub BranchesBegin : WrittenChoice → List Lexeme → Type 0
-BranchesBegin (AnIf line) ws = Unit {0}
-BranchesBegin (AnEvaluate line subject) ws = WhenFirst ws
+BranchesBegin (AnIf line) ws = NotElseFirst ws
+BranchesBegin (AnEvaluate line subject) ws = NextWhen ws
 
 -- the words of a choice's branches: there are some, each word that begins such a choice has its end among them, and no period stands there
 pub record AreBranches (c : WrittenChoice) (ws : List Lexeme) : Type 0 where
@@ -204,12 +210,6 @@ IsBranchHead kind.Evaluate t ws = (begins : Lexeme) × (own : List Lexeme) × Is
 abbrev pub PartFirst : ChoiceKind → List Lexeme → Type 0
 PartFirst kind [] = Unit {0}
 PartFirst kind (w ∷ ws) = edge_of (pair.Choice kind) w ≡ Some edge.Parts
-
--- WHEN with a test comes first
-abbrev pub NextWhen : List Lexeme → Type 0
-NextWhen [] = ⊥
-NextWhen (w ∷ []) = ⊥
-NextWhen (w ∷ v ∷ ws) = IsBranchWord branch.When w × (IsWord (codes "OTHER") v → ⊥)
 
 -- A branch has a statement, and ends where the next begins. Nothing stands behind ELSE and WHEN OTHER with their statements. A WHEN may share those of the
 -- next WHEN.

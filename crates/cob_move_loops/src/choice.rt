@@ -1,17 +1,17 @@
 //! The heads of choices, and their branches.
 
-ghost use Rattle.std.specs.Prelude.{◌≡◌, ◌↔◌, ◌++◌, ◌∷◌, List, IfNone, IfSome, IsTrue};
+ghost use Rattle.std.specs.Prelude.{◌≡◌, ◌↔◌, ◌<◌, ◌++◌, ◌∷◌, [], ℕ, List, length, IfNone, IfSome, IsTrue};
 ghost use Rattle.std.specs.List.{AllByRecursion};
 ghost use Rattle.cob_copybook_clauses.specs.Reading.{Answers};
 ghost use Rattle.cob_source.specs.Tokens.{Lexeme, lexeme, lexemes};
-ghost use Rattle.cob_move_loops.specs.Passages.{BranchEnds, Branched, FrontAt, IsBranchHead, IsChoiceHead, IsWhenTest, NextWhen, PartFirst, WrittenChoice, WrittenTest};
+ghost use Rattle.cob_move_loops.specs.Passages.{AnEvaluate, AnIf, BranchEnds, Branched, FrontAt, IsBranchHead, IsChoiceHead, IsWhenTest, NextWhen, PartFirst, Tested, WrittenChoice, WrittenTest};
 ghost use Rattle.cob_move_loops.specs.Reading.{AnswersFront, AnswersWords, BranchInFront, ChoiceInFront, NoTestAfter, WhenTestInFront, item_front, written_choice, written_test};
 ghost use Rattle.cob_move_loops.specs.Words.{AreTestWords, IsTestWord, IsThen, NoHeadWord, NoTestWord};
 
 use crate::edges::part_at;
 use crate::front::PassageItem;
 use crate::head::is_item_word;
-use crate::parts::{BranchTest, Choice, ChoiceKind};
+use crate::parts::{BranchTest, Choice, ChoiceKind, Place};
 use crate::words::{
     BranchWord, PassageWord, behind_branch_word, behind_passage_word, behind_text, branch_word,
     first_line, is_branch_word, is_that_word,
@@ -52,19 +52,63 @@ fn all_test_words_at(words: &[Token]) -> (&[Token], &[Token])
     (front(words, rest.len()), rest)
 }
 
+/// Whether words that may be those of a test are one: there is a word.
+fn are_test_words(words: &[Token]) -> bool
+    requires { AllByRecursion IsTestWord (lexemes words.now) }
+    ensures { IsTrue result ↔ AreTestWords (lexemes words.now) }
+{
+    match words.split_first() {
+        Some(_) => true,
+        None => false,
+    }
+}
+
 /// The words of a test in front, one at least, and what is behind them.
 fn test_words_at(words: &[Token]) -> Option<(&[Token], &[Token])>
     ensures found { IfSome result (λ r. AreTestWords (lexemes r.0.now)
-        × (lexemes words.now ≡ lexemes r.0.now ++ lexemes r.1.now)) }
-    ensures ends { IfSome result (λ r. NoTestWord (lexemes r.1.now)) }
+        × NoTestWord (lexemes r.1.now) × (lexemes words.now ≡ lexemes r.0.now ++ lexemes r.1.now)) }
     ensures only { (own more : List Lexeme) → AreTestWords own → NoTestWord more
         → lexemes words.now ≡ own ++ more → AnswersWords result own more }
 {
     let (own, rest) = all_test_words_at(words);
-    if own.is_empty() {
+    if !are_test_words(own) {
         return None;
     }
     Some((own, rest))
+}
+
+/// IF in front, and what is behind it.
+fn if_at(words: &[Token]) -> Option<(Choice<'_>, &[Token])>
+    ensures found { IfSome result (λ r. ChoiceInFront r.0 (lexemes words.now) (lexemes r.1.now)) }
+    ensures only { (line : ℕ) (head more : List Lexeme) → IsChoiceHead (AnIf line) head
+        → lexemes words.now ≡ head ++ more → Answers written_choice result (AnIf line) more }
+{
+    let more = behind_passage_word(words, PassageWord::If)?;
+    Some((
+        Choice::If {
+            line: first_line(words),
+        },
+        more,
+    ))
+}
+
+/// EVALUATE with what it tests in front, and what is behind that.
+fn evaluate_at(words: &[Token]) -> Option<(Choice<'_>, &[Token])>
+    ensures found { IfSome result (λ r. ChoiceInFront r.0 (lexemes words.now) (lexemes r.1.now)) }
+    ensures only { (line : ℕ) (subject head more : List Lexeme)
+        → IsChoiceHead (AnEvaluate line subject) head → NoTestWord more
+        → lexemes words.now ≡ head ++ more
+        → Answers written_choice result (AnEvaluate line subject) more }
+{
+    let tested = behind_passage_word(words, PassageWord::Evaluate)?;
+    let (subject, more) = test_words_at(tested)?;
+    Some((
+        Choice::Evaluate {
+            line: first_line(words),
+            subject,
+        },
+        more,
+    ))
 }
 
 /// What stands before the branches of a choice in front, and what is behind it.
@@ -74,13 +118,10 @@ pub(crate) fn choice_head_at(words: &[Token]) -> Option<(Choice<'_>, &[Token])>
         → NoTestAfter c more → lexemes words.now ≡ head ++ more
         → Answers written_choice result c more }
 {
-    let line = first_line(words);
-    if let Some(more) = behind_passage_word(words, PassageWord::If) {
-        return Some((Choice::If { line }, more));
+    if let Some((choice, more)) = if_at(words) {
+        return Some((choice, more));
     }
-    let tested = behind_passage_word(words, PassageWord::Evaluate)?;
-    let (subject, more) = test_words_at(tested)?;
-    Some((Choice::Evaluate { line, subject }, more))
+    evaluate_at(words)
 }
 
 /// The words behind THEN in front, or all where it isn't there.
@@ -107,8 +148,8 @@ fn if_head_at(words: &[Token]) -> Option<(BranchTest<'_>, &[Token])>
     if let Some(more) = behind_branch_word(words, BranchWord::Else) {
         return Some((BranchTest::Otherwise, more));
     }
-    let (test, more) = test_words_at(words)?;
-    Some((BranchTest::Tested(test), behind_then(more)))
+    let (test, behind) = test_words_at(words)?;
+    Some((BranchTest::Tested(test), behind_then(behind)))
 }
 
 /// The words of a WHEN's test in front, and what is behind them.
@@ -121,8 +162,8 @@ fn when_test_at(words: &[Token]) -> Option<(BranchTest<'_>, &[Token])>
     if let Some(more) = behind_text(words, b"OTHER") {
         return Some((BranchTest::Otherwise, more));
     }
-    let (test, more) = test_words_at(words)?;
-    Some((BranchTest::Tested(test), more))
+    let (test, behind) = test_words_at(words)?;
+    Some((BranchTest::Tested(test), behind))
 }
 
 /// What stands before the statements of a branch of an EVALUATE in front, and what is behind it.
@@ -169,7 +210,7 @@ fn begins_when(first: &Token, second: &Token) -> bool
 }
 
 /// Whether WHEN with a test comes first.
-fn next_when(words: &[Token]) -> bool
+pub(crate) fn next_when(words: &[Token]) -> bool
     ensures { IsTrue result ↔ NextWhen (lexemes words.now) }
 {
     let Some((first, behind)) = words.split_first() else {
@@ -181,15 +222,45 @@ fn next_when(words: &[Token]) -> bool
     }
 }
 
+/// Whether these are the statements of the last branch of a choice.
+fn are_last(own: &[Token], more: &[Token]) -> bool
+    ensures { IsTrue result
+        ↔ ((0 < length (lexemes own.now)) × (lexemes more.now ≡ [])) }
+{
+    !own.is_empty() && more.is_empty()
+}
+
+/// Whether a branch may share the statements of the next.
+fn shares_next(kind: ChoiceKind, more: &[Token]) -> bool
+    ensures { (test : List Lexeme) → (IsTrue result ↔ BranchEnds kind (Tested test) [] (lexemes more.now)) }
+{
+    match kind {
+        ChoiceKind::If => false,
+        ChoiceKind::Evaluate => next_when(more),
+    }
+}
+
+/// Whether a branch with a test and these statements may end before these words.
+fn tested_ends(kind: ChoiceKind, own: &[Token], more: &[Token]) -> bool
+    requires { PartFirst kind (lexemes more.now) }
+    ensures { (test : List Lexeme) → (IsTrue result
+        ↔ BranchEnds kind (Tested test) (lexemes own.now) (lexemes more.now)) }
+{
+    match own.split_first() {
+        Some(_) => true,
+        None => shares_next(kind, more),
+    }
+}
+
 /// Whether a branch with these statements may end before these words.
 fn branch_ends(kind: ChoiceKind, test: &BranchTest<'_>, own: &[Token], more: &[Token]) -> bool
     requires { PartFirst kind (lexemes more.now) }
-    ensures { IsTrue result ↔ BranchEnds kind (written_test test.now) (lexemes own.now) (lexemes more.now) }
+    ensures { IsTrue result
+        ↔ BranchEnds kind (written_test test.now) (lexemes own.now) (lexemes more.now) }
 {
     match test {
-        BranchTest::Otherwise => !own.is_empty() && more.is_empty(),
-        BranchTest::Tested(_) => !own.is_empty()
-            || (kind == ChoiceKind::Evaluate && next_when(more)),
+        BranchTest::Otherwise => are_last(own, more),
+        BranchTest::Tested(_) => tested_ends(kind, own, more),
     }
 }
 

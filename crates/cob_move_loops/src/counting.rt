@@ -1,10 +1,10 @@
 //! How much passages come to.
 
-ghost use Rattle.std.specs.Prelude.{◌≡◌, ◌↔◌, ◌+◌, ◌*◌, ◌<◌, ◌≤◌, IfNone, IfSome, IsTrue, true};
+ghost use Rattle.std.specs.Prelude.{◌≡◌, ◌↔◌, ◌+◌, ◌*◌, ◌<◌, ◌≤◌, IfNone, IfSome, IsFalse, IsTrue, Some, false, true};
 ghost use Rattle.cob_source.specs.Tokens.{lexeme, lexemes};
 ghost use Rattle.cob_move_loops.specs.Few.{IsFew, IsShallow, choices_by, looped_of, opening_line, opens, statements_in, statements_of};
-ghost use Rattle.cob_limits.specs.Limits.{most_written_out};
-ghost use Rattle.cob_move_loops.specs.Passages.{IsPassage, IsPassageAt, Passage};
+ghost use Rattle.cob_limits.specs.Limits.{most_open, most_written_out};
+ghost use Rattle.cob_move_loops.specs.Passages.{IsPassage, IsPassageAt, Passage, edge_of, open_by};
 ghost use Rattle.cob_move_loops.specs.Reading.{Within, item_front, looped_front, statements_front, written_loop};
 ghost use Rattle.cob_move_loops.specs.Turns.{turns_between, turns_of};
 ghost use Rattle.cob_move_loops.specs.Words.{passage_word};
@@ -203,8 +203,8 @@ pub fn is_few(words: &[Token]) -> bool
     count_loops(Place::Statements, words).is_some()
 }
 
-/// How many choices of a kind are open behind a word, where so many were before.
-fn choices_behind(count: usize, edge: Option<Edge>) -> usize
+/// A number with what a word adds to it or takes away from it.
+fn choices_by(count: usize, edge: Option<Edge>) -> usize
     requires room { count ≤ most_open }
     ensures value { result ≡ choices_by edge count }
     ensures most { result ≤ count + 1 }
@@ -212,8 +212,38 @@ fn choices_behind(count: usize, edge: Option<Edge>) -> usize
     match edge {
         Some(Edge::Opens) => count + 1,
         Some(Edge::Closes) => count.saturating_sub(1),
-        Some(Edge::Parts) | None => count,
+        Some(Edge::Parts) => count,
+        None => count,
     }
+}
+
+/// How many choices of a kind are open behind a word, where so many were before.
+fn choices_behind(kind: ChoiceKind, count: usize, token: &Token) -> usize
+    requires room { count ≤ most_open }
+    ensures value { result ≡ choices_by (edge_of (Pair.Choice kind) (lexeme token.now)) count }
+    ensures most { result ≤ count + 1 }
+{
+    choices_by(count, edge_of(Pair::Choice(kind), token))
+}
+
+/// How many loops are open behind a word, where so many were before; none where it ends one that is not there.
+fn loops_behind(count: usize, token: &Token) -> Option<usize>
+    requires room { count ≤ most_open }
+    ensures value { result ≡ open_by false (edge_of Pair.Loop (lexeme token.now)) (Some count) }
+    ensures most { IfSome result (λ d. d ≤ count + 1) }
+{
+    depth_behind(count, false, edge_of(Pair::Loop, token), MAX_OPEN + 1)
+}
+
+/// Whether loops, IFs and EVALUATEs hold one another too deep.
+fn are_many(loops: usize, ifs: usize, evaluates: usize) -> bool
+    requires few { loops ≤ most_open + 1 }
+    requires fewer { ifs ≤ most_open + 1 }
+    requires least { evaluates ≤ most_open + 1 }
+    ensures many { IsTrue result → most_open < loops + (ifs + evaluates) }
+    ensures some { IsFalse result → loops + (ifs + evaluates) ≤ most_open }
+{
+    loops + (ifs + evaluates) > MAX_OPEN
 }
 
 /// Whether few loops and choices of words hold one another.
@@ -225,14 +255,11 @@ pub fn is_shallow(words: &[Token]) -> bool
     let mut evaluates: usize = 0;
     let mut rest = words;
     while let Some((first, more)) = rest.split_first() {
-        let next_ifs = choices_behind(ifs, edge_of(Pair::Choice(ChoiceKind::If), first));
-        let next_evaluates = choices_behind(
-            evaluates,
-            edge_of(Pair::Choice(ChoiceKind::Evaluate), first),
-        );
-        match depth_behind(loops, false, edge_of(Pair::Loop, first), MAX_OPEN + 1) {
+        let next_ifs = choices_behind(ChoiceKind::If, ifs, first);
+        let next_evaluates = choices_behind(ChoiceKind::Evaluate, evaluates, first);
+        match loops_behind(loops, first) {
             Some(next) => {
-                if next + (next_ifs + next_evaluates) > MAX_OPEN {
+                if are_many(next, next_ifs, next_evaluates) {
                     return false;
                 }
                 loops = next;

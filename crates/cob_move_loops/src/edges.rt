@@ -34,10 +34,39 @@ pub enum Edge {
 fn loop_edge(word: Option<PassageWord>) -> Option<Edge>
     ensures { result ≡ loop_edge word }
 {
-    match word? {
-        PassageWord::Perform => Some(Edge::Opens),
-        PassageWord::EndPerform => Some(Edge::Closes),
-        PassageWord::Continue | PassageWord::If | PassageWord::Evaluate => None,
+    match word {
+        Some(PassageWord::Perform) => Some(Edge::Opens),
+        Some(PassageWord::EndPerform) => Some(Edge::Closes),
+        Some(PassageWord::Continue) => None,
+        Some(PassageWord::If) => None,
+        Some(PassageWord::Evaluate) => None,
+        None => None,
+    }
+}
+
+/// What a word round statements is to an IF.
+fn if_opening(word: PassageWord) -> Option<Edge>
+    ensures { result ≡ opening_edge ChoiceKind.If word }
+{
+    match word {
+        PassageWord::If => Some(Edge::Opens),
+        PassageWord::Perform => None,
+        PassageWord::EndPerform => None,
+        PassageWord::Continue => None,
+        PassageWord::Evaluate => None,
+    }
+}
+
+/// What a word round statements is to an EVALUATE.
+fn evaluate_opening(word: PassageWord) -> Option<Edge>
+    ensures { result ≡ opening_edge ChoiceKind.Evaluate word }
+{
+    match word {
+        PassageWord::Evaluate => Some(Edge::Opens),
+        PassageWord::Perform => None,
+        PassageWord::EndPerform => None,
+        PassageWord::Continue => None,
+        PassageWord::If => None,
     }
 }
 
@@ -45,10 +74,33 @@ fn loop_edge(word: Option<PassageWord>) -> Option<Edge>
 fn opening_edge(kind: ChoiceKind, word: PassageWord) -> Option<Edge>
     ensures { result ≡ opening_edge kind word }
 {
-    match (kind, word) {
-        (ChoiceKind::If, PassageWord::If) => Some(Edge::Opens),
-        (ChoiceKind::Evaluate, PassageWord::Evaluate) => Some(Edge::Opens),
-        _ => None,
+    match kind {
+        ChoiceKind::If => if_opening(word),
+        ChoiceKind::Evaluate => evaluate_opening(word),
+    }
+}
+
+/// What a word of branches is to an IF.
+fn if_branch(word: BranchWord) -> Option<Edge>
+    ensures { result ≡ branch_edge ChoiceKind.If word }
+{
+    match word {
+        BranchWord::Else => Some(Edge::Parts),
+        BranchWord::EndIf => Some(Edge::Closes),
+        BranchWord::When => None,
+        BranchWord::EndEvaluate => None,
+    }
+}
+
+/// What a word of branches is to an EVALUATE.
+fn evaluate_branch(word: BranchWord) -> Option<Edge>
+    ensures { result ≡ branch_edge ChoiceKind.Evaluate word }
+{
+    match word {
+        BranchWord::When => Some(Edge::Parts),
+        BranchWord::EndEvaluate => Some(Edge::Closes),
+        BranchWord::Else => None,
+        BranchWord::EndIf => None,
     }
 }
 
@@ -56,12 +108,26 @@ fn opening_edge(kind: ChoiceKind, word: PassageWord) -> Option<Edge>
 fn branch_edge(kind: ChoiceKind, word: BranchWord) -> Option<Edge>
     ensures { result ≡ branch_edge kind word }
 {
-    match (kind, word) {
-        (ChoiceKind::If, BranchWord::Else) => Some(Edge::Parts),
-        (ChoiceKind::If, BranchWord::EndIf) => Some(Edge::Closes),
-        (ChoiceKind::Evaluate, BranchWord::When) => Some(Edge::Parts),
-        (ChoiceKind::Evaluate, BranchWord::EndEvaluate) => Some(Edge::Closes),
-        _ => None,
+    match kind {
+        ChoiceKind::If => if_branch(word),
+        ChoiceKind::Evaluate => evaluate_branch(word),
+    }
+}
+
+/// What words of passages and of branches, of which a token is one at most, are to choices of a kind.
+fn edge_by(
+    kind: ChoiceKind,
+    passage: Option<PassageWord>,
+    branch: Option<BranchWord>,
+) -> Option<Edge>
+    ensures { result ≡ choice_edge kind passage branch }
+{
+    match branch {
+        Some(word) => branch_edge(kind, word),
+        None => match passage {
+            Some(word) => opening_edge(kind, word),
+            None => None,
+        },
     }
 }
 
@@ -69,10 +135,7 @@ fn branch_edge(kind: ChoiceKind, word: BranchWord) -> Option<Edge>
 fn choice_edge(kind: ChoiceKind, token: &Token) -> Option<Edge>
     ensures { result ≡ choice_edge kind (passage_word (lexeme token.now)) (branch_word (lexeme token.now)) }
 {
-    match branch_word(token) {
-        Some(word) => branch_edge(kind, word),
-        None => opening_edge(kind, passage_word(token)?),
-    }
+    edge_by(kind, passage_word(token), branch_word(token))
 }
 
 /// What a token is to loops, or to choices of a kind.
@@ -82,6 +145,18 @@ pub(crate) fn edge_of(pair: Pair, token: &Token) -> Option<Edge>
     match pair {
         Pair::Loop => loop_edge(passage_word(token)),
         Pair::Choice(kind) => choice_edge(kind, token),
+    }
+}
+
+/// How many are open behind a word that parts branches.
+fn parted_depth(depth: usize, by_branch: bool) -> Option<usize>
+    ensures value { result ≡ open_by by_branch (Some Edge.Parts) (Some depth) }
+    ensures most { IfSome result (λ d. d ≤ depth + 1) }
+{
+    if by_branch {
+        if depth > 0 { Some(depth) } else { None }
+    } else {
+        Some(depth)
     }
 }
 
@@ -99,13 +174,7 @@ pub(crate) fn depth_behind(
     match edge {
         Some(Edge::Opens) => { if depth < most { Some(depth + 1) } else { None } }
         Some(Edge::Closes) => { if depth > 0 { Some(depth - 1) } else { None } }
-        Some(Edge::Parts) => {
-            if depth > 0 || !by_branch {
-                Some(depth)
-            } else {
-                None
-            }
-        }
+        Some(Edge::Parts) => parted_depth(depth, by_branch),
         None => Some(depth),
     }
 }
@@ -141,6 +210,25 @@ fn parts(kind: ChoiceKind, token: &Token) -> bool
     }
 }
 
+/// All words and what is behind them, where none is open behind them.
+fn closed_part<'a>(
+    depth: usize,
+    words: &'a [Token],
+    rest: &'a [Token],
+) -> Option<(&'a [Token], &'a [Token])>
+    ensures found { IfSome result (λ r. (lexemes r.0.now ≡ lexemes words.now)
+        × (lexemes r.1.now ≡ lexemes rest.now) × (depth ≡ 0)) }
+    ensures only { (own more : List Lexeme) → depth ≡ 0 → lexemes words.now ≡ own
+        → lexemes rest.now ≡ more
+        → IsSomeAnd result (λ r. (lexemes r.0.now ≡ own) × (lexemes r.1.now ≡ more)) }
+{
+    if depth == 0 {
+        Some((words, rest))
+    } else {
+        None
+    }
+}
+
 /// The words before the next branch of the choice which they are in, or all where they are in its last, and the words of the others.
 pub(crate) fn part_at(kind: ChoiceKind, words: &[Token]) -> Option<(&[Token], &[Token])>
     ensures found { IfSome result
@@ -164,8 +252,5 @@ pub(crate) fn part_at(kind: ChoiceKind, words: &[Token]) -> Option<(&[Token], &[
             }
         }
     }
-    if depth > 0 {
-        return None;
-    }
-    Some((words, rest))
+    closed_part(depth, words, rest)
 }

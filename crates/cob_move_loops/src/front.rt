@@ -4,10 +4,10 @@ ghost use Rattle.std.specs.Prelude.{◌≡◌, ◌↔◌, ◌∷◌, ◌++◌, f
 ghost use Rattle.std.specs.List.{AllByRecursion};
 ghost use Rattle.cob_source.specs.Tokens.{Lexeme, lexeme, lexemes};
 ghost use Rattle.cob_move_loops.specs.Words.{IsNoPeriod, IsOther, PassageWordFirst};
-ghost use Rattle.cob_move_loops.specs.Passages.{APause, ARun, AreBranches, BoundEnds, BranchesBegin, Chosen, FrontAt, FrontStands, IsLoopBody, IsRun, Looped, PassageFront, WhenFirst, WrittenChoice, WrittenLoop, kind_of, open_behind};
+ghost use Rattle.cob_move_loops.specs.Passages.{APause, ARun, AreBranches, BoundEnds, BranchesBegin, Chosen, FrontAt, FrontStands, IsLoopBody, IsRun, Looped, NotElseFirst, PassageFront, WrittenChoice, WrittenLoop, kind_of, open_behind};
 ghost use Rattle.cob_move_loops.specs.Reading.{AnswersFront, item_front, written_bound, written_choice};
 
-use crate::choice::{branch_at, choice_head_at};
+use crate::choice::{branch_at, choice_head_at, next_when};
 use crate::edges::{Pair, body_at};
 use crate::head::head_at;
 use crate::parts::{BranchTest, Choice, Loop, LoopBound, Place, kind_of};
@@ -125,23 +125,23 @@ fn is_body(bound: &LoopBound<'_>, words: &[Token]) -> bool
     !words.is_empty() && has_no_period(words)
 }
 
-/// Whether WHEN comes first.
-fn when_first(words: &[Token]) -> bool
-    ensures { IsTrue result ↔ WhenFirst (lexemes words.now) }
+/// Whether no ELSE comes first.
+fn not_else_first(words: &[Token]) -> bool
+    ensures { IsTrue result ↔ NotElseFirst (lexemes words.now) }
 {
     match words.split_first() {
-        Some((first, _)) => is_branch_word(first, BranchWord::When),
-        None => false,
+        Some((first, _)) => !is_branch_word(first, BranchWord::Else),
+        None => true,
     }
 }
 
-/// Whether branches begin where what an EVALUATE tests ends.
+/// Whether the first branch of a choice has a test.
 fn branches_begin(choice: &Choice<'_>, words: &[Token]) -> bool
     ensures { IsTrue result ↔ BranchesBegin (written_choice choice.now) (lexemes words.now) }
 {
     match choice {
-        Choice::If { .. } => true,
-        Choice::Evaluate { .. } => when_first(words),
+        Choice::If { .. } => not_else_first(words),
+        Choice::Evaluate { .. } => next_when(words),
     }
 }
 
