@@ -1,5 +1,5 @@
 -- What the readers of passages say of what they answer, and of the words that they leave.
-use Rattle.std.specs.Prelude.{◌≡◌, ◌⊎◌, ℕ, ◌*◌, codes, false, List, [], ◌∷◌, ◌++◌, map, Option, Some, IsSomeAnd}
+use Rattle.std.specs.Prelude.{◌≡◌, ◌⊎◌, ℕ, ◌+◌, ◌*◌, codes, true, false, List, [], ◌∷◌, ◌++◌, map, Option, Some, IsSomeAnd}
 use denote.Ref.{Bor}
 use Rattle.cob_source.specs.declared.token.Token.{Token}
 use Rattle.cob_source.specs.Tokens.{Lexeme, lexemes}

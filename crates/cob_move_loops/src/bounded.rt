@@ -6,9 +6,10 @@ ghost use Rattle.cob_move_loops.specs.Bounded.{AreBounded, BoundedFront, IsBound
 ghost use Rattle.cob_move_loops.specs.Passages.{Branched, Chosen, IsPassage, IsPassageAt, Passage, kind_of};
 ghost use Rattle.cob_move_loops.specs.Reading.{Within, item_front, loop_in_front, written_bound, written_choice, written_loop, written_test};
 
+use crate::choice::kind_of;
 use crate::counting::turns_of;
 use crate::front::{PassageItem, item_in};
-use crate::parts::{BranchTest, Choice, Loop, LoopBound, Place, kind_of};
+use crate::parts::{BranchTest, Choice, Loop, LoopBound, Place};
 use crate::turn::opens;
 use cob_source::Token;
 

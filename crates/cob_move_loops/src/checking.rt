@@ -5,8 +5,9 @@ ghost use Rattle.cob_source.specs.Tokens.{lexemes};
 ghost use Rattle.cob_move_loops.specs.Passages.{Breaks, BreaksAt, IsPassage, IsPassageAt, Passage};
 ghost use Rattle.cob_move_loops.specs.Reading.{HasPassages, BreaksWithin, item_front};
 
+use crate::choice::kind_of;
 use crate::front::{PassageItem, item_in};
-use crate::parts::{Place, kind_of};
+use crate::parts::Place;
 use crate::words::first_line;
 use cob_source::Token;
 

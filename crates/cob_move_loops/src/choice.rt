@@ -4,7 +4,7 @@ ghost use Rattle.std.specs.Prelude.{◌≡◌, ◌↔◌, ◌<◌, ◌++◌, ◌
 ghost use Rattle.std.specs.List.{AllByRecursion};
 ghost use Rattle.cob_copybook_clauses.specs.Reading.{Answers};
 ghost use Rattle.cob_source.specs.Tokens.{Lexeme, lexeme, lexemes};
-ghost use Rattle.cob_move_loops.specs.Passages.{AnEvaluate, AnIf, BranchEnds, Branched, FrontAt, IsBranchHead, IsChoiceHead, IsWhenTest, NextWhen, PartFirst, Tested, WrittenChoice, WrittenTest};
+ghost use Rattle.cob_move_loops.specs.Passages.{AnEvaluate, AnIf, BranchEnds, Branched, FrontAt, IsBranchHead, IsChoiceHead, IsWhenTest, NextWhen, PartFirst, Tested, WrittenChoice, WrittenTest, kind_of};
 ghost use Rattle.cob_move_loops.specs.Reading.{AnswersFront, AnswersWords, BranchInFront, ChoiceInFront, NoTestAfter, WhenTestInFront, item_front, written_choice, written_test};
 ghost use Rattle.cob_move_loops.specs.Words.{AreTestWords, IsTestWord, IsThen, NoHeadWord, NoTestWord};
 
@@ -18,6 +18,16 @@ use crate::words::{
 };
 use cob_copybook_clauses::front;
 use cob_source::Token;
+
+/// The kind of a choice.
+pub fn kind_of(choice: &Choice<'_>) -> ChoiceKind
+    ensures { result ≡ kind_of (written_choice choice.now) }
+{
+    match choice {
+        Choice::If { .. } => ChoiceKind::If,
+        Choice::Evaluate { .. } => ChoiceKind::Evaluate,
+    }
+}
 
 /// Whether a word may be one of a test.
 fn is_test_word(token: &Token) -> bool

@@ -9,9 +9,10 @@ ghost use Rattle.cob_move_loops.specs.Reading.{Within, item_front, looped_front,
 ghost use Rattle.cob_move_loops.specs.Turns.{turns_between, turns_of};
 ghost use Rattle.cob_move_loops.specs.Words.{passage_word};
 
+use crate::choice::kind_of;
 use crate::edges::{Edge, Pair, depth_behind, edge_of};
 use crate::front::{PassageItem, item_in};
-use crate::parts::{ChoiceKind, Loop, LoopBound, Place, kind_of};
+use crate::parts::{ChoiceKind, Loop, LoopBound, Place};
 use crate::words::{PassageWord, passage_word};
 use cob_copybook_clauses::{WordClass, is_term};
 use cob_limits::{MAX_OPEN, MAX_WRITTEN_OUT};

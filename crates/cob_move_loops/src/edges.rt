@@ -4,6 +4,7 @@ ghost use Rattle.std.specs.Prelude.{◌≡◌, ◌↔◌, ℕ, ◌<◌, ◌≤�
 ghost use Rattle.cob_source.specs.Tokens.{Lexeme, lexeme, lexemes};
 ghost use Rattle.cob_move_loops.specs.Passages.{branch_edge, choice_edge, edge_of, loop_edge, open_by, opening_edge};
 ghost use Rattle.cob_move_loops.specs.Reading.{ClosedInFront, PartedInFront};
+ghost use Rattle.cob_move_loops.specs.Words.{branch_word, passage_word};
 
 use crate::parts::ChoiceKind;
 use crate::words::{BranchWord, PassageWord, branch_word, passage_word};

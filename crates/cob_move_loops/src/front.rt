@@ -7,10 +7,10 @@ ghost use Rattle.cob_move_loops.specs.Words.{IsNoPeriod, IsOther, PassageWordFir
 ghost use Rattle.cob_move_loops.specs.Passages.{APause, ARun, AreBranches, BoundEnds, BranchesBegin, Chosen, FrontAt, FrontStands, IsLoopBody, IsRun, Looped, NotElseFirst, PassageFront, WrittenChoice, WrittenLoop, kind_of, open_behind};
 ghost use Rattle.cob_move_loops.specs.Reading.{AnswersFront, item_front, written_bound, written_choice};
 
-use crate::choice::{branch_at, choice_head_at, next_when};
+use crate::choice::{branch_at, choice_head_at, kind_of, next_when};
 use crate::edges::{Pair, body_at};
 use crate::head::head_at;
-use crate::parts::{BranchTest, Choice, Loop, LoopBound, Place, kind_of};
+use crate::parts::{BranchTest, Choice, Loop, LoopBound, Place};
 use crate::stops::{behind_stops, is_stop};
 use crate::words::{BranchWord, PassageWord, behind_passage_word, is_branch_word, passage_word};
 use cob_copybook_clauses::{WordClass, front, is_term};

@@ -42,11 +42,12 @@ mod writing;
 
 pub use bounded::check_bounds;
 pub use checking::check;
+pub use choice::kind_of;
 pub use counting::{is_few, is_shallow, opening_line};
 pub use front::{PassageItem, item_at, item_in};
 pub use laws::{breaks_none, no_turn, one_passage};
 pub use naming::{LoopFault, loops};
-pub use parts::{BranchTest, Choice, ChoiceKind, Loop, LoopBound, Place, kind_of};
+pub use parts::{BranchTest, Choice, ChoiceKind, Loop, LoopBound, Place};
 pub use stops::{behind_stop, behind_stops, is_stop};
 pub use turn::{Counter, in_turn};
 pub use words::{PassageWord, first_line, passage_word};

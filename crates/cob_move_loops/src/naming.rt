@@ -8,8 +8,9 @@ ghost use Rattle.cob_move_loops.specs.Few.{AreLoopsApart, IsApart, loops_of};
 ghost use Rattle.cob_move_loops.specs.Passages.{IsPassage, Passage};
 ghost use Rattle.cob_move_loops.specs.Reading.{AddsLoops, AddsLoopsFront, ClashesIn, ClashesInFront, IsClash, item_front, loop_in_front, written_loop, written_loops};
 
+use crate::choice::kind_of;
 use crate::front::{PassageItem, item_in};
-use crate::parts::{Loop, Place, kind_of};
+use crate::parts::{Loop, Place};
 use cob_source::Token;
 use std::alloc::{AllocError, AllocFailed, Global};
 

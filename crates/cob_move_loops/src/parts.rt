@@ -1,8 +1,6 @@
 //! The parts of loops and choices.
 
-ghost use Rattle.std.specs.Prelude.{◌≡◌, ◌<◌};
-ghost use Rattle.cob_move_loops.specs.Passages.{kind_of};
-ghost use Rattle.cob_move_loops.specs.Reading.{written_choice};
+ghost use Rattle.std.specs.Prelude.{◌<◌};
 
 use cob_source::Token;
 
@@ -63,14 +61,4 @@ pub enum BranchTest<'a> {
     Tested(&'a [Token]),
     /// No branch before it was taken.
     Otherwise,
-}
-
-/// The kind of a choice.
-pub fn kind_of(choice: &Choice<'_>) -> ChoiceKind
-    ensures { result ≡ kind_of (written_choice choice.now) }
-{
-    match choice {
-        Choice::If { .. } => ChoiceKind::If,
-        Choice::Evaluate { .. } => ChoiceKind::Evaluate,
-    }
 }

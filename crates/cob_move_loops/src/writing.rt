@@ -7,9 +7,10 @@ ghost use Rattle.cob_move_loops.specs.Passages.{IsPassage, Passage};
 ghost use Rattle.cob_move_loops.specs.Reading.{AddsRuns, AddsRunsFront, all_runs, counters, item_front, loop_in_front, written_loop};
 ghost use Rattle.cob_move_loops.specs.Turns.{in_turn, turns_of, words_by_turn};
 
+use crate::choice::kind_of;
 use crate::counting::{count_all, turns_of};
 use crate::front::{PassageItem, item_in};
-use crate::parts::{Loop, Place, kind_of};
+use crate::parts::{Loop, Place};
 use crate::turn::Counter;
 use cob_source::Token;
 use std::alloc::{AllocError, Global};

@@ -11,7 +11,7 @@ use Rattle.cob_move_loops.proofs.front.choice_at.Goals as goal
 pub are_branches-requires : goal.are_branches-requires
 are_branches-requires c =
     let (end, closed, is, cut) = c.in_ok-branches.ensures.found in
-    subst (λ k. open_behind (pair.Choice k) false (Some 0) (lexemes c.in_ok-branches.branches.now) ≡ Some 0) c.kind_of.ensures closed
+    record { closed = subst (λ k. open_behind (pair.Choice k) false (Some 0) (lexemes c.in_ok-branches.branches.now) ≡ Some 0) c.kind_of.ensures closed }
 
 pub returns-in_err-choice-clause-only : goal.returns-in_err-choice-clause-only
 returns-in_err-choice-clause-only c = λ d own more (head, stops, end, h, b, word, are, none, e).
