@@ -19,7 +19,7 @@ use Rattle.cob_move_deeds.specs.declared.ready.ReadyDeeds.{ReadyDeeds}
 use Rattle.cob_move_apply.specs.Prepared.{moves_of}
 use Rattle.cob_move_deeds.specs.Tests.{IsBound, IsBoundItem, Past}
 use Rattle.cob_move_loops.specs.Bounded.{AreBounded, BoundedFront}
-use Rattle.cob_move_loops.specs.Few.{loop_line}
+use Rattle.cob_move_loops.specs.Few.{opening_line}
 use Rattle.cob_move_loops.specs.Passages.{ALoop, APause, ARun, IsPassage, IsRun, Looped, Moves, NoMore, Passage, PassageFront, Pause, WrittenLoop}
 use Rattle.cob_move_loops.specs.Reading.{Within}
 use Rattle.cob_move_loops.specs.Turns.{Counted, counter_at, in_turn, turns as loop_turns}
@@ -202,7 +202,7 @@ LeavesFront (why.Broken f) old new = HasGrown old new
 -- the fault of words behind a heading that are not read: where they come to too much, on the line of the first loop
 abbrev pub TellsFault : NotRead → MoveFault → List Lexeme → Type 0
 TellsFault why.Memory f body = IsRefusedMemory f
-TellsFault why.TooMany f body = (f.rule ≡ rule.TooMany) × (f.line ≡ loop_line body)
+TellsFault why.TooMany f body = (f.rule ≡ rule.TooMany) × (f.line ≡ opening_line body)
 TellsFault (why.Broken g) f body = f ≡ g
 
 -- words of MOVE statements, in a turn, come to one thing

@@ -19,7 +19,7 @@ use crate::meaning::meanings_of;
 use crate::pieces::{is_other, refused_memory};
 use cob_move_data::StatementMoves;
 use cob_move_loops::{
-    Loop, LoopBound, LoopFault, Run, check, in_turn, is_few, is_shallow, loop_line, loops, no_turn,
+    Loop, LoopBound, LoopFault, Run, check, in_turn, is_few, is_shallow, opening_line, loops, no_turn,
     write_out,
 };
 use cob_move_names::{Correspondences, Names};
@@ -132,11 +132,11 @@ fn check_passage(body: &[Token]) -> Result<(), MoveFault>
         return Err(fault_of(MoveRule::Grammar, 1));
     }
     if !is_shallow(body) {
-        return Err(fault_of(MoveRule::TooMany, loop_line(body)));
+        return Err(fault_of(MoveRule::TooMany, opening_line(body)));
     }
     check_grammar(body)?;
     if !is_few(body) {
-        return Err(fault_of(MoveRule::TooMany, loop_line(body)));
+        return Err(fault_of(MoveRule::TooMany, opening_line(body)));
     }
     Ok(())
 }
