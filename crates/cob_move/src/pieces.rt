@@ -17,7 +17,7 @@ use crate::meaning::meanings_of;
 use cob_copybook_clauses::{WordClass, is_term};
 use cob_layout::Layout;
 use cob_move_data::StatementMoves;
-use cob_move_loops::{passage_word, no_turn};
+use cob_move_loops::{no_turn, passage_word};
 use cob_move_names::{Correspondences, Names};
 use cob_move_statements::{MoveFault, MoveRule, Statement, statements};
 use cob_source::{SourceRule, Token, WordsAhead};

@@ -8,7 +8,7 @@ use Rattle.cob_move_loops.specs.declared.edges.Pair.TheVariants as pair
 use Rattle.cob_move_loops.specs.declared.parts.ChoiceKind.TheVariants as kind
 use Rattle.cob_move_loops.specs.declared.parts.Place.{Place}
 use Rattle.cob_move_loops.specs.declared.parts.Place.TheVariants as place
-use Rattle.cob_move_loops.specs.Few.{choices_by, deepest, looped_of, opening_line, opens, statements_by, statements_in, statements_of}
+use Rattle.cob_move_loops.specs.Few.{begins_choice, choice_line, choices_by, deepest, looped_of, opening_line, opens, statements_by, statements_in, statements_of}
 use Rattle.cob_limits.specs.Limits.{most_open}
 use Rattle.cob_move_loops.specs.Passages.{ABranch, AChoice, ALoop, ARun, APause, Branched, Chosen, FrontAt, IsPassageAt, IsRun, Looped, Moves, NoMore, Passage, PassageFront, Pause, edge_of, open_by}
 use Rattle.cob_move_loops.specs.Reading.{Within, looped_front, statements_front}
@@ -216,3 +216,17 @@ line_more words rest more w so e none = sym (line_past (opens (passage_word w)) 
 
 pub line_found : (words rest more : List Lexeme) (w : Lexeme) → opening_line rest ≡ opening_line words → rest ≡ w ∷ more → opens (passage_word w) ≡ true → w.line ≡ opening_line words
 line_found words rest more w so e is = sym (line_by (opens (passage_word w)) w.line (opening_line more) is) ∙ sym (ap opening_line e) ∙ so
+
+some_by : (b : Bool) (line : ℕ) (others : Option ℕ) → b ≡ true → (if b then Some line else others) ≡ Some line
+some_by true line others is = refl
+some_by false line others is = absurd (let never : false ≡ true = is in cc)
+
+some_past : (b : Bool) (line : ℕ) (others : Option ℕ) → (b ≡ true → ⊥) → (if b then Some line else others) ≡ others
+some_past true line others none = absurd (none refl)
+some_past false line others none = refl
+
+pub choice_more : (words rest more : List Lexeme) (w : Lexeme) → choice_line rest ≡ choice_line words → rest ≡ w ∷ more → (begins_choice (passage_word w) ≡ true → ⊥) → choice_line more ≡ choice_line words
+choice_more words rest more w so e none = sym (some_past (begins_choice (passage_word w)) w.line (choice_line more) none) ∙ sym (ap choice_line e) ∙ so
+
+pub choice_found : (words rest more : List Lexeme) (w : Lexeme) → choice_line rest ≡ choice_line words → rest ≡ w ∷ more → begins_choice (passage_word w) ≡ true → Some w.line ≡ choice_line words
+choice_found words rest more w so e is = sym (some_by (begins_choice (passage_word w)) w.line (choice_line more) is) ∙ sym (ap choice_line e) ∙ so

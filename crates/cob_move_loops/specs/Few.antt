@@ -113,3 +113,14 @@ opens other = false
 abbrev pub opening_line : List Lexeme → ℕ
 opening_line [] = 1
 opening_line (w ∷ ws) = if opens (passage_word w) then w.line else opening_line ws
+
+-- a word that begins a choice
+abbrev pub begins_choice : Option PassageWord → Bool
+begins_choice (Some mark.If) = true
+begins_choice (Some mark.Evaluate) = true
+begins_choice other = false
+
+-- the line of the first choice, where there is one: that of the first word IF or EVALUATE
+abbrev pub choice_line : List Lexeme → Option ℕ
+choice_line [] = None
+choice_line (w ∷ ws) = if begins_choice (passage_word w) then Some w.line else choice_line ws

@@ -166,6 +166,11 @@ abbrev pub kind_of : WrittenChoice → ChoiceKind
 kind_of (AnIf line) = kind.If
 kind_of (AnEvaluate line subject) = kind.Evaluate
 
+-- the line of a choice
+abbrev pub line_of : WrittenChoice → ℕ
+line_of (AnIf line) = line
+line_of (AnEvaluate line subject) = line
+
 -- what stands before the branches of a choice: IF, or EVALUATE and what it tests
 abbrev pub IsChoiceHead : WrittenChoice → List Lexeme → Type 0
 IsChoiceHead (AnIf line) ws = (begins : Lexeme) × IsPassageWord mark.If begins × (line ≡ begins.line) × (ws ≡ begins ∷ [])

@@ -4,7 +4,7 @@ ghost use Rattle.std.specs.Prelude.{◌≡◌, ◌↔◌, ◌<◌, ◌++◌, ◌
 ghost use Rattle.std.specs.List.{AllByRecursion};
 ghost use Rattle.cob_copybook_clauses.specs.Reading.{Answers};
 ghost use Rattle.cob_source.specs.Tokens.{Lexeme, lexeme, lexemes};
-ghost use Rattle.cob_move_loops.specs.Passages.{AnEvaluate, AnIf, BranchEnds, Branched, FrontAt, IsBranchHead, IsChoiceHead, IsWhenTest, NextWhen, PartFirst, Tested, WrittenChoice, WrittenTest, kind_of};
+ghost use Rattle.cob_move_loops.specs.Passages.{AnEvaluate, AnIf, BranchEnds, Branched, FrontAt, IsBranchHead, IsChoiceHead, IsWhenTest, NextWhen, PartFirst, Tested, WrittenChoice, WrittenTest, kind_of, line_of};
 ghost use Rattle.cob_move_loops.specs.Reading.{AnswersFront, AnswersWords, BranchInFront, ChoiceInFront, NoTestAfter, WhenTestInFront, item_front, written_choice, written_test};
 ghost use Rattle.cob_move_loops.specs.Words.{AreTestWords, IsTestWord, IsThen, NoHeadWord, NoTestWord};
 
@@ -26,6 +26,16 @@ pub fn kind_of(choice: &Choice<'_>) -> ChoiceKind
     match choice {
         Choice::If { .. } => ChoiceKind::If,
         Choice::Evaluate { .. } => ChoiceKind::Evaluate,
+    }
+}
+
+/// The line of a choice.
+pub fn line_of(choice: &Choice<'_>) -> u32
+    ensures { result ≡ line_of (written_choice choice.now) }
+{
+    match choice {
+        Choice::If { line } => *line,
+        Choice::Evaluate { line, .. } => *line,
     }
 }
 

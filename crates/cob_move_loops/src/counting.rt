@@ -2,7 +2,7 @@
 
 ghost use Rattle.std.specs.Prelude.{◌≡◌, ◌↔◌, ◌+◌, ◌*◌, ◌<◌, ◌≤◌, IfNone, IfSome, IsFalse, IsTrue, Some, false, true};
 ghost use Rattle.cob_source.specs.Tokens.{lexeme, lexemes};
-ghost use Rattle.cob_move_loops.specs.Few.{IsFew, IsShallow, choices_by, looped_of, opening_line, opens, statements_in, statements_of};
+ghost use Rattle.cob_move_loops.specs.Few.{IsFew, IsShallow, begins_choice, choice_line, choices_by, looped_of, opening_line, opens, statements_in, statements_of};
 ghost use Rattle.cob_limits.specs.Limits.{most_open, most_written_out};
 ghost use Rattle.cob_move_loops.specs.Passages.{IsPassage, IsPassageAt, Passage, edge_of, open_by};
 ghost use Rattle.cob_move_loops.specs.Reading.{Within, item_front, looped_front, statements_front, written_loop};
@@ -296,4 +296,31 @@ pub fn opening_line(words: &[Token]) -> u32
         rest = more;
     }
     1
+}
+
+/// Whether a word begins a choice.
+fn is_choice(token: &Token) -> bool
+    ensures { IsTrue result ↔ begins_choice (passage_word (lexeme token.now)) ≡ true }
+{
+    match passage_word(token) {
+        Some(PassageWord::If) | Some(PassageWord::Evaluate) => true,
+        Some(PassageWord::Perform)
+        | Some(PassageWord::EndPerform)
+        | Some(PassageWord::Continue)
+        | None => false,
+    }
+}
+
+/// The line of the first choice, where there is one.
+pub fn choice_line(words: &[Token]) -> Option<u32>
+    ensures { result ≡ choice_line (lexemes words.now) }
+{
+    let mut rest = words;
+    while let Some((first, more)) = rest.split_first() {
+        if is_choice(first) {
+            return Some(first.line);
+        }
+        rest = more;
+    }
+    None
 }

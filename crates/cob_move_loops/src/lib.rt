@@ -17,7 +17,7 @@
 //! of statements or of the branches of a choice of some kind ([`kind_of`]). [`with_counter`] answers the counters of a turn, and [`turns_to_write`] how many turns
 //! of a loop come to something. [`write_out`] answers the words of MOVE statements in each turn, in their order and of all branches, and [`in_turn`] has them with
 //! their numbers in place. Outside of loops words are as they are written ([`no_turn`]). [`behind_stops`] passes over periods, [`first_line`] answers the line
-//! of the first word, [`opening_line`] that of the first loop or choice, and [`passage_word`] which words are no names in a paragraph.
+//! of the first word, [`opening_line`] that of the first loop or choice, [`choice_line`] that of the first choice, and [`passage_word`] which words are no names in a paragraph.
 //!
 //! The definitions stand in `specs/`: `Words` has the words of loops and choices, `Passages` which words a passage has and where words are none, `Turns` what loops
 //! come to, `Few` how much that is and which counters are a loop's own, `Bounded` which loops to items are bounded. `Reading` holds what the readers say of what
@@ -47,8 +47,8 @@ mod writing;
 
 pub use bounded::check_bounds;
 pub use checking::check;
-pub use choice::kind_of;
-pub use counting::{is_few, is_shallow, opening_line};
+pub use choice::{kind_of, line_of};
+pub use counting::{choice_line, is_few, is_shallow, opening_line};
 pub use front::{PassageItem, item_at, item_in};
 pub use laws::{breaks_none, no_turn, one_passage};
 pub use naming::{LoopFault, loops};
