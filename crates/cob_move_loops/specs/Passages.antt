@@ -17,7 +17,7 @@ use Rattle.cob_move_loops.specs.declared.words.BranchWord.{BranchWord}
 use Rattle.cob_move_loops.specs.declared.words.BranchWord.TheVariants as branch
 use Rattle.cob_move_loops.specs.declared.words.PassageWord.{PassageWord}
 use Rattle.cob_move_loops.specs.declared.words.PassageWord.TheVariants as mark
-use Rattle.cob_move_loops.specs.Words.{AreItemWords, AreTestWords, IsBranchWord, IsCounter, IsNoPeriod, IsNumber, IsOther, IsPassageWord, IsPeriod, IsThen, NoHeadWord, NoItemWord, NoPeriod, NotOtherFirst, PassageWordFirst, branch_word, first_line, passage_word}
+use Rattle.cob_move_loops.specs.Words.{AreItemWords, AreTestWords, IsBranchWord, IsCounter, IsNoPeriod, IsNumber, IsOther, IsPassageWord, IsPeriod, IsTestWord, IsThen, NoHeadWord, NoItemWord, NoPeriod, NotOtherFirst, PassageWordFirst, branch_word, first_line, passage_word}
 
 -- what a loop ends by: a number that its counter is not to pass, or that of an item, by the words that name it
 pub data WrittenBound : Type 0 where
@@ -177,10 +177,10 @@ IsChoiceHead (AnIf line) ws = (begins : Lexeme) × IsPassageWord mark.If begins 
 IsChoiceHead (AnEvaluate line subject) ws = (begins : Lexeme)
     × IsPassageWord mark.Evaluate begins × (line ≡ begins.line) × AreTestWords subject × (ws ≡ begins ∷ subject)
 
--- ELSE doesn't come first
-abbrev pub NotElseFirst : List Lexeme → Type 0
-NotElseFirst [] = Unit {0}
-NotElseFirst (w ∷ ws) = IsBranchWord branch.Else w → ⊥
+-- a word of a test comes first
+abbrev pub TestFirst : List Lexeme → Type 0
+TestFirst [] = ⊥
+TestFirst (w ∷ ws) = IsTestWord w
 
 -- WHEN with a test comes first
 abbrev pub NextWhen : List Lexeme → Type 0
@@ -190,7 +190,7 @@ NextWhen (w ∷ v ∷ ws) = IsBranchWord branch.When w × (IsWord (codes "OTHER"
 
 -- the first branch of a choice has a test; what EVALUATE tests ends before its WHEN
 abbrev pub BranchesBegin : WrittenChoice → List Lexeme → Type 0
-BranchesBegin (AnIf line) ws = NotElseFirst ws
+BranchesBegin (AnIf line) ws = TestFirst ws
 BranchesBegin (AnEvaluate line subject) ws = NextWhen ws
 
 -- the words of a choice's branches: there are some, each word that begins such a choice has its end among them, and no period stands there

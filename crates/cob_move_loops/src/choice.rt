@@ -40,7 +40,7 @@ pub fn line_of(choice: &Choice<'_>) -> u32
 }
 
 /// Whether a word may be one of a test.
-fn is_test_word(token: &Token) -> bool
+pub(crate) fn is_test_word(token: &Token) -> bool
     ensures { IsTrue result ↔ IsTestWord (lexeme token.now) }
 {
     is_item_word(token) && branch_word(token).is_none() && !is_that_word(token, b"THEN")

@@ -4,15 +4,15 @@ ghost use Rattle.std.specs.Prelude.{◌≡◌, ◌↔◌, ◌∷◌, ◌++◌, f
 ghost use Rattle.std.specs.List.{AllByRecursion};
 ghost use Rattle.cob_source.specs.Tokens.{Lexeme, lexeme, lexemes};
 ghost use Rattle.cob_move_loops.specs.Words.{IsNoPeriod, IsOther, PassageWordFirst};
-ghost use Rattle.cob_move_loops.specs.Passages.{APause, ARun, AreBranches, BoundEnds, BranchesBegin, Chosen, FrontAt, FrontStands, IsLoopBody, IsRun, Looped, NotElseFirst, PassageFront, WrittenChoice, WrittenLoop, kind_of, open_behind};
+ghost use Rattle.cob_move_loops.specs.Passages.{APause, ARun, AreBranches, BoundEnds, BranchesBegin, Chosen, FrontAt, FrontStands, IsLoopBody, IsRun, Looped, PassageFront, TestFirst, WrittenChoice, WrittenLoop, kind_of, open_behind};
 ghost use Rattle.cob_move_loops.specs.Reading.{AnswersFront, item_front, written_bound, written_choice};
 
-use crate::choice::{branch_at, choice_head_at, kind_of, next_when};
+use crate::choice::{branch_at, choice_head_at, is_test_word, kind_of, next_when};
 use crate::edges::{Pair, body_at};
 use crate::head::head_at;
 use crate::parts::{BranchTest, Choice, Loop, LoopBound, Place};
 use crate::stops::{behind_stops, is_stop};
-use crate::words::{BranchWord, PassageWord, behind_passage_word, is_branch_word, passage_word};
+use crate::words::{PassageWord, behind_passage_word, passage_word};
 use cob_copybook_clauses::{WordClass, front, is_term};
 use cob_source::Token;
 
@@ -125,13 +125,13 @@ fn is_body(bound: &LoopBound<'_>, words: &[Token]) -> bool
     !words.is_empty() && has_no_period(words)
 }
 
-/// Whether no ELSE comes first.
-fn not_else_first(words: &[Token]) -> bool
-    ensures { IsTrue result ↔ NotElseFirst (lexemes words.now) }
+/// Whether a word of a test comes first.
+fn test_first(words: &[Token]) -> bool
+    ensures { IsTrue result ↔ TestFirst (lexemes words.now) }
 {
     match words.split_first() {
-        Some((first, _)) => !is_branch_word(first, BranchWord::Else),
-        None => true,
+        Some((first, _)) => is_test_word(first),
+        None => false,
     }
 }
 
@@ -140,7 +140,7 @@ fn branches_begin(choice: &Choice<'_>, words: &[Token]) -> bool
     ensures { IsTrue result ↔ BranchesBegin (written_choice choice.now) (lexemes words.now) }
 {
     match choice {
-        Choice::If { .. } => not_else_first(words),
+        Choice::If { .. } => test_first(words),
         Choice::Evaluate { .. } => next_when(words),
     }
 }
