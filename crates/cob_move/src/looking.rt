@@ -12,11 +12,12 @@ ghost use Rattle.cob_move.specs.declared.made.NotRead.TheVariants as unread;
 
 use crate::deeds::{add_words_in, not_read, read_bound};
 use crate::entries::Entries;
+use crate::loops::fault_of;
 use crate::made::NotRead;
 use cob_limits::MAX_WRITTEN_OUT;
 use cob_move_loops::{Counter, Loop, LoopBound, PassageItem, item_at, line_of, with_counter};
 use cob_move_names::Correspondences;
-use cob_move_statements::MoveFault;
+use cob_move_statements::{MoveFault, MoveRule};
 use cob_source::Token;
 use std::alloc::Global;
 
