@@ -10,6 +10,7 @@ use Rattle.cob_move_loops.specs.Laws.{NoTurn}
 use Rattle.cob_move_loops.specs.Passages.{ALoop, IsPassage, IsRun, Moves, NoMore, Passage, Pause, open_by}
 use Rattle.cob_move_loops.specs.Turns.{words_by_turn}
 use Rattle.cob_move_loops.specs.Words.{IsPassageWord, IsOther, PassageWordFirst, passage_word}
+use Rattle.cob_move_loops.specs.declared.parts.Place.TheVariants as standing
 use Rattle.cob_move_loops.proofs.PassageLemmas.{head_first, nothing_left, shorter}
 use Rattle.cob_move_statements.specs.Statements.{IsEndedStatement, IsParagraph, Several}
 use Rattle.cob_move_statements.specs.Written.{WrittenStatement}
@@ -82,7 +83,7 @@ no_passage_word : (l : PassageWord) (w : Lexeme) → IsPassageWord l w → IsOth
 no_passage_word l w is other = let never : Some l ≡ None = sym is ∙ other in cc
 
 no_words : (q : Passage) (rest : List Lexeme) → IsPassage q rest → rest ≡ [] → q ≡ NoMore
-no_words q rest is none = nothing_left q rest is (λ f more stands. omega (arith, shorter f rest more stands, ap length none))
+no_words q rest is none = nothing_left standing.Statements q rest is (λ f more stands. omega (arith, shorter standing.Statements f rest more stands, ap length none))
 
 plain_is : (p : Passage) (ws : List Lexeme) → IsPassage p ws → AllByRecursion IsOther ws → 0 < length ws → p ≡ Moves ws NoMore
 plain_is NoMore ws e all some = absurd (omega (arith, some, ap length e))
