@@ -123,17 +123,17 @@ fn push_move(
     push_outcome(alloc, from, given, &book.root().kind, size, out)
 }
 
-/// Writes what comes of the move of an entry that is read so.
-fn move_entry(
+/// Writes what comes of the move of the bytes of a row, which are an entry of this kind and size.
+fn move_bytes(
     alloc: Global,
+    kind: &Kind,
+    size: usize,
     reading: Reading,
     row: &Row,
     out: &mut String,
 ) -> Result<(), RowFault> {
-    let book = book_at(alloc, Role::Out, row, 1)?;
     let bytes = row.bytes(alloc, 2)?;
-    let kind = &book.root().kind;
-    if bytes.len() != usize::from(book.greatest()) || !has_bytes(kind, bytes.len()) {
+    if bytes.len() != size || !has_bytes(kind, bytes.len()) {
         return Err(RowFault::BadRow);
     }
     let given = Sent::Entry {
@@ -142,6 +142,18 @@ fn move_entry(
         reading,
     };
     push_move(alloc, &SenderKind::Entry(kind), &given, row, 3, out)
+}
+
+/// Writes what comes of the move of an entry that is read so.
+fn move_entry(
+    alloc: Global,
+    reading: Reading,
+    row: &Row,
+    out: &mut String,
+) -> Result<(), RowFault> {
+    let book = book_at(alloc, Role::Out, row, 1)?;
+    let size = usize::from(book.greatest());
+    move_bytes(alloc, &book.root().kind, size, reading, row, out)
 }
 
 /// Writes what comes of the move of a constant.

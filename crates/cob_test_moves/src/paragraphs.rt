@@ -66,6 +66,32 @@ fn push_read(
     }
 }
 
+/// Reads the paragraph of a row between two records, and writes what came of it.
+fn push_between(
+    alloc: Global,
+    input: &Layout,
+    output: &Layout,
+    row: &Row,
+    has_steps: bool,
+    out: &mut String,
+) -> Result<(), RowFault> {
+    let text = text_of(alloc, row)?;
+    let read = read_paragraph(alloc, input, output, text.as_slice());
+    push_read(out, read, has_steps)
+}
+
+/// The same between this input record and the output record of the row.
+fn push_from(
+    alloc: Global,
+    input: &Layout,
+    row: &Row,
+    has_steps: bool,
+    out: &mut String,
+) -> Result<(), RowFault> {
+    let output = layout_at(alloc, Role::Out, row, 2)?;
+    push_between(alloc, input, &output, row, has_steps, out)
+}
+
 /// Writes the answer to a row's question about a paragraph.
 pub(crate) fn answer(
     alloc: Global,
@@ -74,8 +100,5 @@ pub(crate) fn answer(
     out: &mut String,
 ) -> Result<(), RowFault> {
     let input = layout_at(alloc, Role::In, row, 1)?;
-    let output = layout_at(alloc, Role::Out, row, 2)?;
-    let text = text_of(alloc, row)?;
-    let read = read_paragraph(alloc, &input, &output, text.as_slice());
-    push_read(out, read, has_steps)
+    push_from(alloc, &input, row, has_steps, out)
 }

@@ -9,7 +9,7 @@ ghost use Rattle.cob_move.specs.Among.{both};
 ghost use Rattle.cob_move.specs.Paragraphs.{IsReadyFor};
 
 use crate::paragraphs::read_paragraph;
-use cob_copybook::Role;
+use cob_copybook::{Book, Role};
 use cob_layout::Layout;
 use cob_move::{Paragraph, Scratch, Stop, apply};
 use cob_move_initial::initial;
@@ -45,27 +45,67 @@ fn push_applied(
     push_reads(out, answer, scratch.reads())
 }
 
+/// Carries out a paragraph over the input record of a row, and writes how many count items of the output record were read.
+fn push_over(
+    alloc: Global,
+    paragraph: &Paragraph,
+    records: (&Layout, &Layout),
+    row: &Row,
+    output: &mut [u8],
+    out: &mut String,
+) -> Result<(), RowFault>
+    requires ready { IsReadyFor (both records.0.now records.1.now) paragraph.now }
+    requires output { length output.old ≡ greatest_length records.1.now }
+{
+    let input = row.bytes(alloc, 4)?;
+    if input.len() != usize::from(records.0.greatest()) {
+        return Err(RowFault::BadRow);
+    }
+    Ok(push_applied(alloc, paragraph, records, input.as_slice(), output, out)?)
+}
+
+/// Reads the paragraph of a row, carries it out over what stands in the output record, and writes how many of its count items were read.
+fn push_paragraph(
+    alloc: Global,
+    records: (&Layout, &Layout),
+    row: &Row,
+    output: &mut [u8],
+    out: &mut String,
+) -> Result<(), RowFault>
+    requires output { length output.old ≡ greatest_length records.1.now }
+{
+    let text = row.lines(alloc, 3)?;
+    match read_paragraph(alloc, records.0, records.1, text.as_slice()) {
+        Ok(paragraph) => push_over(alloc, &paragraph, records, row, output, out),
+        Err(_) => Err(RowFault::BadRow),
+    }
+}
+
+/// The same over the initial values of the output record.
+fn push_between(
+    alloc: Global,
+    from: &Layout,
+    to: &Layout,
+    book: &Book,
+    row: &Row,
+    out: &mut String,
+) -> Result<(), RowFault>
+    requires same { book.now ≡ to.now }
+{
+    let mut output = vec![in alloc; 0u8; usize::from(to.greatest())]?;
+    initial(to, book, &mut output);
+    push_paragraph(alloc, (from, to), row, &mut output, out)
+}
+
+/// The same for the output record of a row.
+fn push_from(alloc: Global, from: &Layout, row: &Row, out: &mut String) -> Result<(), RowFault> {
+    let book = book_at(alloc, Role::Out, row, 2)?;
+    let to = Layout::of(alloc, &book)?;
+    push_between(alloc, from, &to, &book, row, out)
+}
+
 /// Writes the answer to a row's question about the reads of a paragraph.
 pub(crate) fn answer(alloc: Global, row: &Row, out: &mut String) -> Result<(), RowFault> {
     let from = layout_at(alloc, Role::In, row, 1)?;
-    let book = book_at(alloc, Role::Out, row, 2)?;
-    let to = Layout::of(alloc, &book)?;
-    let text = row.lines(alloc, 3)?;
-    let Ok(paragraph) = read_paragraph(alloc, &from, &to, text.as_slice()) else {
-        return Err(RowFault::BadRow);
-    };
-    let input = row.bytes(alloc, 4)?;
-    if input.len() != usize::from(from.greatest()) {
-        return Err(RowFault::BadRow);
-    }
-    let mut output = vec![in alloc; 0u8; usize::from(to.greatest())]?;
-    initial(&to, &book, &mut output);
-    Ok(push_applied(
-        alloc,
-        &paragraph,
-        (&from, &to),
-        input.as_slice(),
-        &mut output,
-        out,
-    )?)
+    push_from(alloc, &from, row, out)
 }

@@ -37,24 +37,41 @@ impl<'a> Template<'a> {
         Ok(())
     }
 
+    /// Adds the places of a part, for the pieces in its brace and for what stands behind; or answers that the brace isn't closed.
+    fn add_part(&mut self, alloc: Global, part: &'a str) -> Result<bool, AllocError> {
+        let Some((pieces, plain)) = part.split_once('}') else {
+            return Ok(false);
+        };
+        self.add(pieces_of(alloc, pieces)?)?;
+        self.add(one_piece(alloc, plain)?)?;
+        Ok(true)
+    }
+
+    /// Adds all places of a text, or answers that a brace isn't closed.
+    fn add_all(&mut self, alloc: Global, text: &'a str) -> Result<bool, AllocError> {
+        let mut parts = text.split('{');
+        if let Some(plain) = parts.next() {
+            self.add(one_piece(alloc, plain)?)?;
+        }
+        for part in parts {
+            if !self.add_part(alloc, part)? {
+                return Ok(false);
+            }
+        }
+        Ok(true)
+    }
+
     /// Reads a template; None where a brace isn't closed.
     pub(crate) fn read(alloc: Global, text: &'a str) -> Result<Option<Template<'a>>, AllocError> {
         let mut template = Template {
             places: Vec::new(alloc),
             sizes: Vec::new(alloc),
         };
-        let mut parts = text.split('{');
-        if let Some(plain) = parts.next() {
-            template.add(one_piece(alloc, plain)?)?;
+        if template.add_all(alloc, text)? {
+            Ok(Some(template))
+        } else {
+            Ok(None)
         }
-        for part in parts {
-            let Some((pieces, plain)) = part.split_once('}') else {
-                return Ok(None);
-            };
-            template.add(pieces_of(alloc, pieces)?)?;
-            template.add(one_piece(alloc, plain)?)?;
-        }
-        Ok(Some(template))
     }
 
     /// How many texts there are; None where a number of 64 bits can't say it.

@@ -13,6 +13,7 @@
 use crate::reader::Reader;
 use crate::template::Template;
 use cob_copybook::Role;
+use cob_layout::Layout;
 use cob_test_layouts::layout_at;
 use cob_test_rows::{Row, RowFault, lines_of, unescaped};
 use std::alloc::Global;
@@ -85,9 +86,14 @@ pub(crate) fn read_copybooks(alloc: Global, row: &Row, out: &mut String) -> Resu
     read_template(alloc, row, 1, Reader::Copybooks, out)
 }
 
+/// Reads each text of a row's template of paragraphs between this input record and the output record of the row.
+fn read_from(alloc: Global, input: &Layout, row: &Row, out: &mut String) -> Result<(), RowFault> {
+    let output = layout_at(alloc, Role::Out, row, 2)?;
+    read_template(alloc, row, 3, Reader::Paragraphs(input, &output), out)
+}
+
 /// Writes the answer to a row's question about a template of paragraphs.
 pub(crate) fn read_paragraphs(alloc: Global, row: &Row, out: &mut String) -> Result<(), RowFault> {
     let input = layout_at(alloc, Role::In, row, 1)?;
-    let output = layout_at(alloc, Role::Out, row, 2)?;
-    read_template(alloc, row, 3, Reader::Paragraphs(&input, &output), out)
+    read_from(alloc, &input, row, out)
 }
