@@ -213,6 +213,17 @@ fn run(
     ran.ok()
 }
 
+/// Counts the records that were converted.
+fn count(ran: Option<u64>, figures: &mut Figures) -> Result<(), Refused> {
+    match ran {
+        Some(records) => {
+            figures.records = figures.records.saturating_add(records);
+            Ok(())
+        }
+        None => Err(Refused { call: "run" }),
+    }
+}
+
 /// Converts the records of a job.
 fn convert(
     alloc: Global,
@@ -221,13 +232,8 @@ fn convert(
     figures: &mut Figures,
 ) -> Result<(), Refused> {
     let mut converter = prepare(alloc, job, Reading::Pictured)?;
-    match run(&mut converter, &job.data, room, figures) {
-        Some(records) => {
-            figures.records = figures.records.saturating_add(records);
-            Ok(())
-        }
-        None => Err(Refused { call: "run" }),
-    }
+    let ran = run(&mut converter, &job.data, room, figures);
+    count(ran, figures)
 }
 
 /// Whether a job is done that is one text.

@@ -34,15 +34,20 @@ fn layout_of_text(alloc: Global, role: Role, text: &[u8]) -> Result<Layout, Refu
     layout_of(alloc, &book)
 }
 
+/// How many single moves a paragraph has between this input record and the output record, or the rule that it breaks.
+fn moves_from(alloc: Global, input: &Layout, text: &[u8]) -> Result<u32, MoveFault> {
+    match layout_of_text(alloc, Role::Out, RECEIVING) {
+        Ok(output) => read_paragraph(alloc, input, &output, text),
+        Err(_) => Err(MEMORY),
+    }
+}
+
 /// How many single moves a paragraph has between the two records, or the rule that it breaks.
 fn moves_between(alloc: Global, text: &[u8]) -> Result<u32, MoveFault> {
-    let Ok(input) = layout_of_text(alloc, Role::In, SENDING) else {
-        return Err(MEMORY);
-    };
-    let Ok(output) = layout_of_text(alloc, Role::Out, RECEIVING) else {
-        return Err(MEMORY);
-    };
-    read_paragraph(alloc, &input, &output, text)
+    match layout_of_text(alloc, Role::In, SENDING) {
+        Ok(input) => moves_from(alloc, &input, text),
+        Err(_) => Err(MEMORY),
+    }
 }
 
 /// How many single moves the paragraph of so many bytes has, or the rule that it breaks.
