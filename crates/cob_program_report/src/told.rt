@@ -1,0 +1,261 @@
+//! What is told of a run.
+
+ghost use Rattle.std.specs.Prelude.{◌≡◌};
+ghost use Rattle.cob_program_report.specs.Counts.{counts_of};
+
+use crate::texts::ReadTexts;
+use cob_convert::{Cause, Converter, Side};
+use cob_convert_stream::Reason;
+use cob_program_faults::{CommandDone, CommandFault};
+use cob_program_line::ConvertLine;
+use cob_records::size_of;
+use cob_report_run::{
+    CauseCount, CauseTold, Causes, RunCounts, RunFile, RunReport, RunText, is_json, item_at,
+    report_json, report_text, sum_of,
+};
+use std::alloc::{AllocError, Global};
+use std::rt::Files;
+
+/// The counts that are told of what a conversion came to.
+fn counts_of(outcome: Result<CommandDone, CommandFault>) -> Option<RunCounts>
+    ensures { result ≡ counts_of outcome }
+{
+    match outcome {
+        Ok(CommandDone::Converted(records)) => Some(RunCounts {
+            converted: records,
+            set_aside: 0,
+        }),
+        Ok(
+            CommandDone::SetAside {
+                converted,
+                rejected,
+            },
+        ) => Some(RunCounts {
+            converted,
+            set_aside: rejected,
+        }),
+        Err(_) => None,
+    }
+}
+
+/// How a run ended: `done`, or its fault line.
+fn ending_of(
+    alloc: Global,
+    outcome: Result<CommandDone, CommandFault>,
+) -> Result<String, AllocError> {
+    match outcome {
+        Ok(_) => String::from_str(alloc, "done"),
+        Err(fault) => format!(in alloc; "{fault}"),
+    }
+}
+
+/// Whether there was a run that came to this: none where its texts or its files were not there.
+pub(crate) fn is_run(outcome: Result<CommandDone, CommandFault>) -> bool {
+    matches!(
+        outcome,
+        Ok(_)
+            | Err(
+                CommandFault::Stopped(_)
+                    | CommandFault::Unflushed { .. }
+                    | CommandFault::NotSetAside { .. }
+                    | CommandFault::UnflushedAside { .. }
+                    | CommandFault::NotRenamed
+                    | CommandFault::NotRenamedAside
+                    | CommandFault::Unprinted,
+            )
+    )
+}
+
+/// The name of the entry at the place of a reason, as its copybook has it. A record that can't be read has no such place.
+fn item_name(converter: &Converter, reason: Reason) -> &[u8] {
+    let (input, output) = converter.conversion().layouts();
+    match (reason.cause, reason.side) {
+        (Cause::Limit | Cause::Record(_), _) => b"",
+        (_, Side::In) => item_at(input, reason.offset),
+        (_, Side::Out) => item_at(output, reason.offset),
+    }
+}
+
+/// The name of the entry at the place of a reason, as text.
+fn item_of(alloc: Global, converter: &Converter, count: &CauseCount) -> Result<String, AllocError> {
+    let name = item_name(converter, count.reason);
+    let mut text = String::new(alloc);
+    for letter in name {
+        text.push(char::from(*letter))?;
+    }
+    Ok(text)
+}
+
+/// A side as a fault line names it.
+fn side_word(side: Side) -> &'static str {
+    match side {
+        Side::In => "in",
+        Side::Out => "out",
+    }
+}
+
+/// Why records were set aside, as it is told.
+fn causes_of(
+    alloc: Global,
+    converter: &Converter,
+    causes: &Causes,
+) -> Result<Vec<CauseTold>, AllocError> {
+    let mut told = Vec::new(alloc);
+    for count in causes.told() {
+        let side = side_word(count.reason.side);
+        let offset = count.reason.offset;
+        let cause = count.reason.cause;
+        told.push(CauseTold {
+            place: format!(in alloc; "{side} offset {offset} {cause}")?,
+            item: item_of(alloc, converter, count)?,
+            records: count.records,
+        })?;
+    }
+    Ok(told)
+}
+
+/// A text's file, with the size of the text.
+fn text_file<'a>(option: &'a str, path: &'a str, text: &[u8]) -> RunFile<'a> {
+    RunFile {
+        option,
+        path,
+        bytes: Some(text.len() as u64),
+    }
+}
+
+/// A file of records.
+fn records_file<'a, R: Files>(rt: &R, option: &'a str, path: &'a str) -> RunFile<'a> {
+    RunFile {
+        option,
+        path,
+        bytes: size_of(rt, path),
+    }
+}
+
+/// What is known of a run, beside what it came to.
+#[derive(Clone, Copy)]
+pub(crate) struct RunKnown<'a> {
+    pub(crate) version: &'a str,
+    pub(crate) texts: &'a ReadTexts,
+    pub(crate) converter: &'a Converter,
+    pub(crate) causes: &'a Causes,
+    pub(crate) uncovered: u64,
+    pub(crate) milliseconds: u64,
+}
+
+/// What is told of a run in words.
+#[derive(Clone, Copy)]
+struct RunWords<'a> {
+    texts: &'a [RunText<'a>],
+    files: &'a [RunFile<'a>],
+    ended: &'a str,
+    causes: &'a [CauseTold],
+}
+
+/// The report of a run that came to this, and of which this is told in words.
+fn report_with<'a>(
+    line: &ConvertLine<'_>,
+    known: RunKnown<'a>,
+    words: RunWords<'a>,
+    outcome: Result<CommandDone, CommandFault>,
+) -> RunReport<'a>
+    ensures counts { result.counts ≡ counts_of outcome }
+    ensures skipped { result.skipped ≡ line.now.skip }
+    ensures uncovered { result.uncovered ≡ known.uncovered }
+    ensures milliseconds { result.milliseconds ≡ known.milliseconds }
+{
+    RunReport {
+        version: known.version,
+        texts: words.texts,
+        files: words.files,
+        ended: words.ended,
+        counts: counts_of(outcome),
+        causes: words.causes,
+        others: known.causes.others(),
+        skipped: line.skip,
+        uncovered: known.uncovered,
+        milliseconds: known.milliseconds,
+    }
+}
+
+/// The sums of three texts.
+#[derive(Drop)]
+struct Sums {
+    in_book: String,
+    out_book: String,
+    moves: String,
+}
+
+/// The sums of these texts.
+fn sums_of(alloc: Global, texts: &ReadTexts) -> Result<Sums, AllocError> {
+    Ok(Sums {
+        in_book: sum_of(alloc, &texts.in_book)?,
+        out_book: sum_of(alloc, &texts.out_book)?,
+        moves: sum_of(alloc, &texts.moves)?,
+    })
+}
+
+/// The texts of a run, as they are told.
+fn texts_of<'a>(line: &ConvertLine<'a>, texts: &ReadTexts, sums: &'a Sums) -> [RunText<'a>; 3] {
+    let told = line.told;
+    [
+        RunText {
+            file: text_file("in-book", told.in_book, &texts.in_book),
+            sum: &sums.in_book,
+        },
+        RunText {
+            file: text_file("out-book", told.out_book, &texts.out_book),
+            sum: &sums.out_book,
+        },
+        RunText {
+            file: text_file("moves", told.moves, &texts.moves),
+            sum: &sums.moves,
+        },
+    ]
+}
+
+/// The files of records of a run, as they are told.
+fn files_of<'a, R: AllocGlobal + Files>(
+    rt: &R,
+    line: &ConvertLine<'a>,
+) -> Result<Vec<RunFile<'a>>, AllocError> {
+    let mut files = Vec::new(rt.alloc());
+    files.push(records_file(rt, "in", line.input))?;
+    files.push(records_file(rt, "out", line.output))?;
+    if let Some(rejects) = line.rejects {
+        files.push(records_file(rt, "rejects", rejects))?;
+    }
+    Ok(files)
+}
+
+/// The report of a run that came to this, as text or as JSON by the name of its file.
+///
+/// # Errors
+///
+/// Where no memory is left.
+pub(crate) fn report_of<R: AllocGlobal + Files>(
+    rt: &R,
+    line: &ConvertLine<'_>,
+    path: &str,
+    known: RunKnown<'_>,
+    outcome: Result<CommandDone, CommandFault>,
+) -> Result<String, AllocError> {
+    let alloc = rt.alloc();
+    let sums = sums_of(alloc, known.texts)?;
+    let texts = texts_of(line, known.texts, &sums);
+    let files = files_of(rt, line)?;
+    let ended = ending_of(alloc, outcome)?;
+    let causes = causes_of(alloc, known.converter, known.causes)?;
+    let words = RunWords {
+        texts: &texts,
+        files: &files,
+        ended: &ended,
+        causes: &causes,
+    };
+    let report = report_with(line, known, words, outcome);
+    if is_json(path) {
+        report_json(alloc, &report)
+    } else {
+        report_text(alloc, &report)
+    }
+}
