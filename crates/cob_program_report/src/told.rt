@@ -10,8 +10,8 @@ use cob_program_faults::{CommandDone, CommandFault};
 use cob_program_line::ConvertLine;
 use cob_records::size_of;
 use cob_report_run::{
-    CauseCount, CauseTold, Causes, RunCounts, RunFile, RunReport, RunText, is_json, item_at,
-    report_json, report_text, sum_of,
+    CauseTold, Causes, RunCounts, RunFile, RunReport, RunText, is_json, item_at, report_json,
+    report_text, sum_of,
 };
 use std::alloc::{AllocError, Global};
 use std::rt::Files;
@@ -77,21 +77,13 @@ fn item_name(converter: &Converter, reason: Reason) -> &[u8] {
 }
 
 /// The name of the entry at the place of a reason, as text.
-fn item_of(alloc: Global, converter: &Converter, count: &CauseCount) -> Result<String, AllocError> {
-    let name = item_name(converter, count.reason);
+fn item_of(alloc: Global, converter: &Converter, reason: Reason) -> Result<String, AllocError> {
+    let name = item_name(converter, reason);
     let mut text = String::new(alloc);
     for letter in name {
         text.push(char::from(*letter))?;
     }
     Ok(text)
-}
-
-/// A side as a fault line names it.
-fn side_word(side: Side) -> &'static str {
-    match side {
-        Side::In => "in",
-        Side::Out => "out",
-    }
 }
 
 /// Why records were set aside, as it is told.
@@ -102,13 +94,9 @@ fn causes_of(
 ) -> Result<Vec<CauseTold>, AllocError> {
     let mut told = Vec::new(alloc);
     for count in causes.told() {
-        let side = side_word(count.reason.side);
-        let offset = count.reason.offset;
-        let cause = count.reason.cause;
         told.push(CauseTold {
-            place: format!(in alloc; "{side} offset {offset} {cause}")?,
-            item: item_of(alloc, converter, count)?,
-            records: count.records,
+            count: *count,
+            item: item_of(alloc, converter, count.reason)?,
         })?;
     }
     Ok(told)

@@ -2,6 +2,7 @@
 
 use crate::report::{CauseTold, RunFile, RunReport, RunText};
 use crate::seconds::Seconds;
+use cob_convert_stream::Reason;
 use std::alloc::{AllocError, Global};
 use std::fmt;
 
@@ -51,14 +52,15 @@ fn push_file(alloc: Global, out: &mut String, file: RunFile<'_>) -> Result<(), A
 }
 
 /// Adds the line of a cause.
-fn push_cause(alloc: Global, out: &mut String, cause: &CauseTold) -> Result<(), AllocError> {
-    let CauseTold {
-        place,
-        item,
-        records,
-    } = cause;
+fn push_cause(alloc: Global, out: &mut String, told: &CauseTold) -> Result<(), AllocError> {
+    let CauseTold { count, item } = told;
+    let side = told.side();
+    let Reason { offset, cause, .. } = count.reason;
+    let records = count.records;
     let behind = if item.is_empty() { "" } else { " " };
-    out.push_str(&format!(in alloc; "rejected {records} {place}{behind}{item}\n")?)
+    out.push_str(&format!(in alloc;
+        "rejected {records} {side} offset {offset} {cause}{behind}{item}\n"
+    )?)
 }
 
 /// Adds the lines of what is counted.

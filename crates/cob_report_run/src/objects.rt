@@ -2,6 +2,7 @@
 
 use crate::report::{CauseTold, RunFile, RunReport, RunText};
 use crate::seconds::Seconds;
+use cob_convert_stream::Reason;
 use json::{Writer, is_number};
 use std::alloc::{AllocError, Global};
 use std::str;
@@ -66,16 +67,25 @@ fn put_files(out: &mut Writer, files: &[RunFile<'_>]) -> Result<(), AllocError> 
     out.end_array()
 }
 
+/// Adds a cause.
+fn put_cause(alloc: Global, out: &mut Writer, told: &CauseTold) -> Result<(), AllocError> {
+    let Reason { offset, cause, .. } = told.count.reason;
+    let cause = format!(in alloc; "{cause}")?;
+    out.begin_object()?;
+    put_string(out, "side", told.side())?;
+    put_number(out, "offset", u64::from(offset))?;
+    put_string(out, "cause", &cause)?;
+    put_string(out, "item", &told.item)?;
+    put_number(out, "records", told.count.records)?;
+    out.end_object()
+}
+
 /// Adds the array of causes.
-fn put_causes(out: &mut Writer, causes: &[CauseTold]) -> Result<(), AllocError> {
+fn put_causes(alloc: Global, out: &mut Writer, causes: &[CauseTold]) -> Result<(), AllocError> {
     out.key("causes")?;
     out.begin_array()?;
-    for cause in causes {
-        out.begin_object()?;
-        put_string(out, "place", cause.place.as_str())?;
-        put_string(out, "item", cause.item.as_str())?;
-        put_number(out, "records", cause.records)?;
-        out.end_object()?;
+    for told in causes {
+        put_cause(alloc, out, told)?;
     }
     out.end_array()
 }
@@ -98,7 +108,7 @@ fn put_counts(alloc: Global, out: &mut Writer, report: &RunReport<'_>) -> Result
         put_number(out, "converted", counts.converted)?;
         put_number(out, "rejected", counts.set_aside)?;
     }
-    put_causes(out, report.causes)?;
+    put_causes(alloc, out, report.causes)?;
     put_number(out, "elsewhere", report.others)?;
     put_number(out, "skipped", report.skipped)?;
     put_number(out, "uncovered", report.uncovered)?;

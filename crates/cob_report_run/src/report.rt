@@ -1,5 +1,8 @@
 //! What is told of a run.
 
+use crate::causes::CauseCount;
+use cob_convert_stream::Side;
+
 /// A file of a run.
 #[derive(Clone, Copy)]
 pub struct RunFile<'a> {
@@ -27,15 +30,23 @@ pub struct RunCounts {
     pub set_aside: u64,
 }
 
-/// Records that were set aside for one cause at one place.
+/// Records that were set aside for one reason, as it is told.
 #[derive(Drop)]
 pub struct CauseTold {
-    /// The side, the offset and the cause, as a fault line has them.
-    pub place: String,
+    /// The reason, and how many there were.
+    pub count: CauseCount,
     /// The name of the entry that stands there; none where no name is known.
     pub item: String,
-    /// How many there were.
-    pub records: u64,
+}
+
+impl CauseTold {
+    /// The side of the record as a fault line names it.
+    pub(crate) fn side(&self) -> &'static str {
+        match self.count.reason.side {
+            Side::In => "in",
+            Side::Out => "out",
+        }
+    }
 }
 
 /// What a run came to.
