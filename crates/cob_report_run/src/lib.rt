@@ -3,8 +3,8 @@
 //! - A [`RunReport`] is what is told; [`report_text`] writes it in lines, and [`report_json`] as a JSON object. [`is_json`] says by the name of a file which of
 //!   them it has.
 //! - [`sum_of`] is the SHA-256 of a text in hexadecimal digits, as `sha256sum` prints it.
-//! - [`Causes`] counts the records that are set aside by where and why they do not convert, without memory: at most 64 such places, and all others as one
-//!   number. [`item_at`] names the entry that stands at one.
+//! - [`Causes`] counts the records that are set aside by where and why they do not convert: at most 64 such places, and all others as one number. It takes its
+//!   memory when it is made, and none as it counts. [`item_at`] names the entry that stands at such a place.
 //!
 //! What is promised: that a sum is that of the text (`sum_of`, by the definition of FIPS 180-4 in `sha2`), and that each record which is counted is counted
 //! once (`count` of [`Causes`], by `all_in` of specs/Causes.antt). Which words are written is shown by rows.
