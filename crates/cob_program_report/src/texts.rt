@@ -1,7 +1,7 @@
 //! The texts of a conversion, as they are read.
 
 ghost use Rattle.std.specs.Prelude.{IfErr};
-ghost use Rattle.cob_program_faults.specs.Texts.{LacksConversion};
+ghost use Rattle.cob_program_faults.specs.Texts.{LacksConversion, LacksText};
 ghost use Rattle.cob_records.specs.Forms.{HasBlockSize};
 
 use cob_back_runs::carried;
@@ -12,12 +12,44 @@ use cob_report_cover::bytes_covered;
 use std::alloc::{AllocError, Global};
 use std::rt::Files;
 
+/// A text of a conversion.
+#[derive(Drop)]
+pub(crate) struct ReadText {
+    /// What the converter is made of.
+    pub(crate) text: Vec<u8>,
+    /// What its file holds, where that is another text.
+    pub(crate) file: Option<Vec<u8>>,
+}
+
 /// The three texts of a conversion.
 #[derive(Drop)]
 pub(crate) struct ReadTexts {
-    pub(crate) in_book: Vec<u8>,
-    pub(crate) out_book: Vec<u8>,
-    pub(crate) moves: Vec<u8>,
+    pub(crate) in_book: ReadText,
+    pub(crate) out_book: ReadText,
+    pub(crate) moves: ReadText,
+}
+
+/// Reads a text, and its file as it is told, where the text was made of that.
+fn read_text<R: AllocGlobal + Files>(
+    rt: &R,
+    path: &str,
+    told: &str,
+    name: FileName,
+) -> Result<ReadText, CommandFault>
+    ensures { IfErr result (LacksText name) }
+{
+    let text = text_of(rt, path, name)?;
+    if path == told {
+        return Ok(ReadText { text, file: None });
+    }
+    let file = text_of(rt, told, name)?;
+    if file.as_slice() == text.as_slice() {
+        return Ok(ReadText { text, file: None });
+    }
+    Ok(ReadText {
+        text,
+        file: Some(file),
+    })
 }
 
 /// Reads the three texts of a conversion.
@@ -31,9 +63,10 @@ pub(crate) fn read_texts<R: AllocGlobal + Files>(
 ) -> Result<ReadTexts, CommandFault>
     ensures { IfErr result LacksConversion }
 {
-    let in_book = text_of(rt, line.texts.in_book, FileName::InBook)?;
-    let out_book = text_of(rt, line.texts.out_book, FileName::OutBook)?;
-    let moves = text_of(rt, line.texts.moves, FileName::Moves)?;
+    let ConvertLine { texts, told, .. } = line;
+    let in_book = read_text(rt, texts.in_book, told.in_book, FileName::InBook)?;
+    let out_book = read_text(rt, texts.out_book, told.out_book, FileName::OutBook)?;
+    let moves = read_text(rt, texts.moves, told.moves, FileName::Moves)?;
     Ok(ReadTexts {
         in_book,
         out_book,
@@ -57,9 +90,9 @@ pub(crate) fn converter_of(
 {
     match Converter::prepare_with(
         alloc,
-        &texts.in_book,
-        &texts.out_book,
-        &texts.moves,
+        &texts.in_book.text,
+        &texts.out_book.text,
+        &texts.moves.text,
         line.forms.input,
         line.forms.output,
         line.forms.reading,

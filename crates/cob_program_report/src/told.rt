@@ -3,11 +3,11 @@
 ghost use Rattle.std.specs.Prelude.{◌≡◌};
 ghost use Rattle.cob_program_report.specs.Counts.{counts_of};
 
-use crate::texts::ReadTexts;
+use crate::texts::{ReadText, ReadTexts};
 use cob_convert::{Cause, Converter, Side};
 use cob_convert_stream::Reason;
 use cob_program_faults::{CommandDone, CommandFault};
-use cob_program_line::ConvertLine;
+use cob_program_line::{ConvertLine, TextFiles};
 use cob_records::size_of;
 use cob_report_run::{
     CauseTold, Causes, RunCounts, RunFile, RunReport, RunText, is_json, item_at, report_json,
@@ -102,13 +102,61 @@ fn causes_of(
     Ok(told)
 }
 
-/// A text's file, with the size of the text.
-fn text_file<'a>(option: &'a str, path: &'a str, text: &[u8]) -> RunFile<'a> {
-    RunFile {
-        option,
-        path,
-        bytes: Some(text.len() as u64),
+/// What is told of a text, by the option that names it and its path.
+fn told_text<'a>(
+    alloc: Global,
+    option: &'a str,
+    path: &'a str,
+    text: &[u8],
+) -> Result<RunText<'a>, AllocError> {
+    Ok(RunText {
+        file: RunFile {
+            option,
+            path,
+            bytes: Some(text.len() as u64),
+        },
+        sum: sum_of(alloc, text)?,
+    })
+}
+
+/// The options that a text is told by: as its file holds it, and as it was made of that.
+#[derive(Clone, Copy)]
+struct TextOptions {
+    file: &'static str,
+    made: &'static str,
+}
+
+const IN_BOOK: TextOptions = TextOptions {
+    file: "in-book",
+    made: "in-book-made",
+};
+
+const OUT_BOOK: TextOptions = TextOptions {
+    file: "out-book",
+    made: "out-book-made",
+};
+
+const MOVES: TextOptions = TextOptions {
+    file: "moves",
+    made: "moves-made",
+};
+
+/// Adds what is told of a text: its file, and behind it what was made of that.
+fn push_text<'a>(
+    told: &mut Vec<RunText<'a>>,
+    alloc: Global,
+    options: TextOptions,
+    path: &'a str,
+    read: &ReadText,
+) -> Result<(), AllocError> {
+    match &read.file {
+        None => told.push(told_text(alloc, options.file, path, &read.text)?)?,
+        Some(file) => {
+            told.push(told_text(alloc, options.file, path, file)?)?;
+            told.push(told_text(alloc, options.made, path, &read.text)?)?;
+        }
     }
+    Ok(())
 }
 
 /// A file of records.
@@ -166,40 +214,17 @@ fn report_with<'a>(
     }
 }
 
-/// The sums of three texts.
-#[derive(Drop)]
-struct Sums {
-    in_book: String,
-    out_book: String,
-    moves: String,
-}
-
-/// The sums of these texts.
-fn sums_of(alloc: Global, texts: &ReadTexts) -> Result<Sums, AllocError> {
-    Ok(Sums {
-        in_book: sum_of(alloc, &texts.in_book)?,
-        out_book: sum_of(alloc, &texts.out_book)?,
-        moves: sum_of(alloc, &texts.moves)?,
-    })
-}
-
 /// The texts of a run, as they are told.
-fn texts_of<'a>(line: &ConvertLine<'a>, texts: &ReadTexts, sums: &'a Sums) -> [RunText<'a>; 3] {
-    let told = line.told;
-    [
-        RunText {
-            file: text_file("in-book", told.in_book, &texts.in_book),
-            sum: &sums.in_book,
-        },
-        RunText {
-            file: text_file("out-book", told.out_book, &texts.out_book),
-            sum: &sums.out_book,
-        },
-        RunText {
-            file: text_file("moves", told.moves, &texts.moves),
-            sum: &sums.moves,
-        },
-    ]
+fn texts_of<'a>(
+    alloc: Global,
+    told: TextFiles<'a>,
+    texts: &ReadTexts,
+) -> Result<Vec<RunText<'a>>, AllocError> {
+    let mut list = Vec::new(alloc);
+    push_text(&mut list, alloc, IN_BOOK, told.in_book, &texts.in_book)?;
+    push_text(&mut list, alloc, OUT_BOOK, told.out_book, &texts.out_book)?;
+    push_text(&mut list, alloc, MOVES, told.moves, &texts.moves)?;
+    Ok(list)
 }
 
 /// The files of records of a run, as they are told.
@@ -229,8 +254,7 @@ pub(crate) fn report_of<R: AllocGlobal + Files>(
     outcome: Result<CommandDone, CommandFault>,
 ) -> Result<String, AllocError> {
     let alloc = rt.alloc();
-    let sums = sums_of(alloc, known.texts)?;
-    let texts = texts_of(line, known.texts, &sums);
+    let texts = texts_of(alloc, line.told, known.texts)?;
     let files = files_of(rt, line)?;
     let ended = ending_of(alloc, outcome)?;
     let causes = causes_of(alloc, known.converter, known.causes)?;

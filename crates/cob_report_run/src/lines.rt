@@ -29,7 +29,7 @@ fn push_version(out: &mut String, version: &str) -> Result<(), AllocError> {
 }
 
 /// Adds the line of a text.
-fn push_text(alloc: Global, out: &mut String, text: RunText<'_>) -> Result<(), AllocError> {
+fn push_text(alloc: Global, out: &mut String, text: &RunText<'_>) -> Result<(), AllocError> {
     let RunText { file, sum } = text;
     let RunFile {
         option,
@@ -95,7 +95,7 @@ pub fn report_text(alloc: Global, report: &RunReport<'_>) -> Result<String, Allo
     let mut out = String::new(alloc);
     push_version(&mut out, report.version)?;
     for text in report.texts {
-        push_text(alloc, &mut out, *text)?;
+        push_text(alloc, &mut out, text)?;
     }
     for file in report.files {
         push_file(alloc, &mut out, *file)?;

@@ -49,7 +49,7 @@ fn put_texts(out: &mut Writer, texts: &[RunText<'_>]) -> Result<(), AllocError> 
     for text in texts {
         out.begin_object()?;
         put_file(out, text.file)?;
-        put_string(out, "sha256", text.sum)?;
+        put_string(out, "sha256", &text.sum)?;
         out.end_object()?;
     }
     out.end_array()

@@ -15,12 +15,12 @@ pub struct RunFile<'a> {
 }
 
 /// A text that a run was made by.
-#[derive(Clone, Copy)]
+#[derive(Drop)]
 pub struct RunText<'a> {
     /// Its file.
     pub file: RunFile<'a>,
     /// The SHA-256 of the text, in hexadecimal digits.
-    pub sum: &'a str,
+    pub sum: String,
 }
 
 /// How many records a run converted and set aside.
