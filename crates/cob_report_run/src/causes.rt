@@ -41,6 +41,18 @@ fn count_among(counts: &mut [CauseCount], reason: Reason) -> bool
     count_among(rest, reason)
 }
 
+/// Adds a reason, for which there is one record, where there are not as many as are told apart; and says whether.
+fn add(counts: &mut Vec<CauseCount>, reason: Reason) -> bool
+    ensures added { result ≡ true → records_of counts.new.items ≡ records_of counts.old.items + 1 }
+    ensures same { result ≡ false → counts.new.items ≡ counts.old.items }
+{
+    if counts.len() < MOST {
+        counts.push(CauseCount { reason, records: 1 }).is_ok()
+    } else {
+        false
+    }
+}
+
 impl Causes {
     /// Those of no records. Behind it, counting takes no memory.
     ///
@@ -74,7 +86,7 @@ impl Causes {
         if count_among(self.told.as_mut_slice(), reason) {
             return;
         }
-        if self.told.len() < MOST && self.told.push(CauseCount { reason, records: 1 }).is_ok() {
+        if add(&mut self.told, reason) {
             return;
         }
         self.others = self.others.saturating_add(1);

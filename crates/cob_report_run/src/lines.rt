@@ -35,7 +35,7 @@ fn push_text(alloc: Global, out: &mut String, text: &RunText<'_>) -> Result<(), 
         option,
         path,
         bytes,
-    } = file;
+    } = *file;
     let size = Size { bytes };
     out.push_str(&format!(in alloc; "{option} {size} sha256 {sum} {path}\n")?)
 }
