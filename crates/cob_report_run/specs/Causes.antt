@@ -4,7 +4,7 @@ use Rattle.cob_report_run.specs.declared.causes.CauseCount.{CauseCount}
 use Rattle.cob_report_run.specs.declared.causes.Causes.{Causes}
 
 -- how many records these reasons have
-pub records_of : List CauseCount → ℕ
+unfoldable pub records_of : List CauseCount → ℕ
 records_of [] = 0
 records_of (count ∷ counts) = count.records + records_of counts
 
