@@ -49,30 +49,45 @@ fn ending_of(
     }
 }
 
-/// Whether there was a run that came to this: none where its texts or its files were not there.
-pub(crate) fn is_run(outcome: Result<CommandDone, CommandFault>) -> bool {
-    matches!(
-        outcome,
-        Ok(_)
-            | Err(
-                CommandFault::Stopped(_)
-                    | CommandFault::Unflushed { .. }
-                    | CommandFault::NotSetAside { .. }
-                    | CommandFault::UnflushedAside { .. }
-                    | CommandFault::NotRenamed
-                    | CommandFault::NotRenamedAside
-                    | CommandFault::Unprinted,
-            )
-    )
+/// Whether a fault is that of a run, or of what was done behind it.
+fn is_of_run(fault: CommandFault) -> bool {
+    match fault {
+        CommandFault::Stopped(_)
+        | CommandFault::Unflushed { .. }
+        | CommandFault::NotSetAside { .. }
+        | CommandFault::UnflushedAside { .. }
+        | CommandFault::NotRenamed
+        | CommandFault::NotRenamedAside
+        | CommandFault::Unprinted => true,
+        _ => false,
+    }
 }
 
-/// The name of the entry at the place of a reason, as its copybook has it. A record that can't be read has no such place.
+/// Whether there was a run that came to this: none where its texts or its files were not there.
+pub(crate) fn is_run(outcome: Result<CommandDone, CommandFault>) -> bool {
+    match outcome {
+        Ok(_) => true,
+        Err(fault) => is_of_run(fault),
+    }
+}
+
+/// Whether a cause is that of an item: a record that can't be read has none.
+fn is_of_item(cause: Cause) -> bool {
+    match cause {
+        Cause::NoValue | Cause::Count | Cause::Subscript => true,
+        Cause::Limit | Cause::Record(_) => false,
+    }
+}
+
+/// The name of the entry at the place of a reason, as its copybook has it.
 fn item_name(converter: &Converter, reason: Reason) -> &[u8] {
+    if !is_of_item(reason.cause) {
+        return b"";
+    }
     let (input, output) = converter.conversion().layouts();
-    match (reason.cause, reason.side) {
-        (Cause::Limit | Cause::Record(_), _) => b"",
-        (_, Side::In) => item_at(input, reason.offset),
-        (_, Side::Out) => item_at(output, reason.offset),
+    match reason.side {
+        Side::In => item_at(input, reason.offset),
+        Side::Out => item_at(output, reason.offset),
     }
 }
 
