@@ -151,10 +151,11 @@ fn convert_into<'a, R: AllocGlobal + Files + Input + Print + Eprint + Clock>(
     requires out_block { HasBlockSize line.now.forms.output }
     ensures { EndsReported (EndsConvert line.now.rejects line.now.atomic result) result }
 {
-    let (Ok(uncovered), Ok(mut causes)) = (
-        uncovered(rt.alloc(), converter),
-        Causes::new(rt.alloc()),
-    ) else {
+    let Ok(uncovered) = uncovered(rt.alloc(), converter) else {
+        leave_report(rt, part);
+        return tell_unreported(rt, ReportFault::Memory);
+    };
+    let Ok(mut causes) = Causes::new(rt.alloc()) else {
         leave_report(rt, part);
         return tell_unreported(rt, ReportFault::Memory);
     };
