@@ -16,6 +16,7 @@ use cob_program_explained::tell_explained;
 use cob_program_faults::{CommandDone, CommandFault, printed, tell_fault};
 use cob_program_line::ConvertLine;
 use cob_program_run::RejectionWatcher;
+use cob_records::FileSink;
 use cob_report_run::Causes;
 use std::io::{Eprint, Input, Print, Printer};
 use std::rt::{Clock, Files};
@@ -92,7 +93,7 @@ fn tell<R: AllocGlobal + Files + Input + Print + Eprint>(
 fn report<'a, R: AllocGlobal + Files + Print + Eprint>(
     rt: &'a R,
     line: &ConvertLine<'_>,
-    part: ReportPart<'a, R::File, Printer<'a, R>>,
+    part: ReportPart<'a, FileSink<R::File, Printer<'a, R>>>,
     known: RunKnown<'_>,
     outcome: Result<CommandDone, CommandFault>,
     status: Status,
@@ -145,7 +146,7 @@ fn convert_into<'a, R: AllocGlobal + Files + Input + Print + Eprint + Clock>(
     reported: Reported<'a>,
     texts: &ReadTexts,
     converter: &mut Converter,
-    part: ReportPart<'a, R::File, Printer<'a, R>>,
+    part: ReportPart<'a, FileSink<R::File, Printer<'a, R>>>,
 ) -> Status
     requires in_block { HasBlockSize line.now.forms.input }
     requires out_block { HasBlockSize line.now.forms.output }

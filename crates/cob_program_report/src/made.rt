@@ -53,13 +53,13 @@ impl ReportFault {
 
 /// The part of a report.
 #[derive(Drop)]
-pub(crate) struct ReportPart<'a, F: Write + Drop, S: Write + Drop> {
+pub(crate) struct ReportPart<'a, K> {
     /// The report's own name.
     pub(crate) path: &'a str,
     /// That of the part.
     part: String,
     /// The part.
-    sink: FileSink<F, S>,
+    sink: K,
 }
 
 /// Whether a report would be one with a file that is written, by whatever names.
@@ -101,7 +101,7 @@ pub(crate) fn open_report<'a, R: AllocGlobal + Files + Print>(
     rt: &'a R,
     line: &ConvertLine<'_>,
     path: &'a str,
-) -> Result<ReportPart<'a, R::File, Printer<'a, R>>, ReportFault> {
+) -> Result<ReportPart<'a, FileSink<R::File, Printer<'a, R>>>, ReportFault> {
     if let Some(name) = other_of(rt, line, path) {
         return Err(ReportFault::OneFile(name));
     }
@@ -122,10 +122,7 @@ pub(crate) fn open_report<'a, R: AllocGlobal + Files + Print>(
 }
 
 /// Takes the part of a report away, which nothing is written to.
-pub(crate) fn leave_report<R: Files, F: Write + Drop, S: Write + Drop>(
-    rt: &R,
-    report: ReportPart<'_, F, S>,
-) {
+pub(crate) fn leave_report<R: Files, K: Drop>(rt: &R, report: ReportPart<'_, K>) {
     remove_part(rt, &report.part);
 }
 
@@ -137,7 +134,7 @@ pub(crate) fn leave_report<R: Files, F: Write + Drop, S: Write + Drop>(
 pub(crate) fn close_report<'a, R: AllocGlobal + Files + Print>(
     rt: &'a R,
     line: &ConvertLine<'_>,
-    report: ReportPart<'a, R::File, Printer<'a, R>>,
+    report: ReportPart<'a, FileSink<R::File, Printer<'a, R>>>,
     text: &str,
 ) -> Result<(), ReportFault> {
     let ReportPart { path, part, sink } = report;
