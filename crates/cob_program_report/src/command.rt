@@ -92,9 +92,9 @@ fn tell<R: AllocGlobal + Files + Input + Print + Eprint>(
 /// Writes the report of a run that came to this, and answers how the command ends, which else ends so.
 fn report<'a, R: AllocGlobal + Files + Print + Eprint>(
     rt: &'a R,
-    line: &ConvertLine<'_>,
+    line: &ConvertLine<'a>,
     part: ReportPart<'a, FileSink<R::File, Printer<'a, R>>>,
-    known: RunKnown<'_>,
+    known: RunKnown<'a>,
     outcome: Result<CommandDone, CommandFault>,
     status: Status,
 ) -> Status
@@ -104,7 +104,7 @@ fn report<'a, R: AllocGlobal + Files + Print + Eprint>(
         leave_report(rt, part);
         return status;
     }
-    let Ok(text) = report_of(rt, line, part.path, known, outcome) else {
+    let Ok(text) = report_of(rt, line, known, outcome) else {
         leave_report(rt, part);
         return tell_unreported(rt, ReportFault::Memory);
     };
@@ -142,10 +142,10 @@ fn is_beside<R: Files>(rt: &R, line: &ConvertLine<'_>) -> bool {
 /// ends.
 fn convert_into<'a, R: AllocGlobal + Files + Input + Print + Eprint + Clock>(
     rt: &'a R,
-    line: &ConvertLine<'_>,
+    line: &ConvertLine<'a>,
     reported: Reported<'a>,
-    texts: &ReadTexts,
-    converter: &mut Converter,
+    texts: &'a ReadTexts,
+    converter: &'a mut Converter,
     part: ReportPart<'a, FileSink<R::File, Printer<'a, R>>>,
 ) -> Status
     requires in_block { HasBlockSize line.now.forms.input }
@@ -163,6 +163,7 @@ fn convert_into<'a, R: AllocGlobal + Files + Input + Print + Eprint + Clock>(
     let began = Instant::now(rt).ok();
     let outcome = run(rt, line, converter, &mut causes);
     let known = RunKnown {
+        path: reported.path,
         version: reported.version,
         texts,
         converter,

@@ -186,6 +186,7 @@ fn records_file<'a, R: Files>(rt: &R, option: &'a str, path: &'a str) -> RunFile
 /// What is known of a run, beside what it came to.
 #[derive(Clone, Copy)]
 pub(crate) struct RunKnown<'a> {
+    pub(crate) path: &'a str,
     pub(crate) version: &'a str,
     pub(crate) texts: &'a ReadTexts,
     pub(crate) converter: &'a Converter,
@@ -212,8 +213,8 @@ fn report_with<'a>(
 ) -> RunReport<'a>
     ensures counts { result.counts ≡ counts_of outcome }
     ensures skipped { result.skipped ≡ line.now.skip }
-    ensures uncovered { result.uncovered ≡ known.uncovered }
-    ensures milliseconds { result.milliseconds ≡ known.milliseconds }
+    ensures uncovered { result.uncovered ≡ known.entry.uncovered }
+    ensures milliseconds { result.milliseconds ≡ known.entry.milliseconds }
 {
     RunReport {
         version: known.version,
@@ -261,11 +262,10 @@ fn files_of<'a, R: AllocGlobal + Files>(
 /// # Errors
 ///
 /// Where no memory is left.
-pub(crate) fn report_of<R: AllocGlobal + Files>(
+pub(crate) fn report_of<'a, R: AllocGlobal + Files>(
     rt: &R,
-    line: &ConvertLine<'_>,
-    path: &str,
-    known: RunKnown<'_>,
+    line: &ConvertLine<'a>,
+    known: RunKnown<'a>,
     outcome: Result<CommandDone, CommandFault>,
 ) -> Result<String, AllocError> {
     let alloc = rt.alloc();
@@ -280,7 +280,7 @@ pub(crate) fn report_of<R: AllocGlobal + Files>(
         causes: &causes,
     };
     let report = report_with(line, known, words, outcome);
-    if is_json(path) {
+    if is_json(known.path) {
         report_json(alloc, &report)
     } else {
         report_text(alloc, &report)
