@@ -197,27 +197,28 @@ pub(crate) struct RunKnown<'a> {
 
 /// What is told of a run in words.
 #[derive(Clone, Copy)]
-struct RunWords<'a> {
-    texts: &'a [RunText<'a>],
-    files: &'a [RunFile<'a>],
-    ended: &'a str,
-    causes: &'a [CauseTold],
+struct RunWords<'r, 'a> {
+    version: &'r str,
+    texts: &'r [RunText<'a>],
+    files: &'r [RunFile<'a>],
+    ended: &'r str,
+    causes: &'r [CauseTold],
 }
 
 /// The report of a run that came to this, and of which this is told in words.
-fn report_with<'a>(
+fn report_with<'r, 'a>(
     line: &ConvertLine<'_>,
-    known: RunKnown<'a>,
-    words: RunWords<'a>,
+    known: &RunKnown<'_>,
+    words: RunWords<'r, 'a>,
     outcome: Result<CommandDone, CommandFault>,
-) -> RunReport<'a>
+) -> RunReport<'r, 'a>
     ensures counts { result.counts ≡ counts_of outcome }
     ensures skipped { result.skipped ≡ line.now.skip }
-    ensures uncovered { result.uncovered ≡ known.entry.uncovered }
-    ensures milliseconds { result.milliseconds ≡ known.entry.milliseconds }
+    ensures uncovered { result.uncovered ≡ known.now.uncovered }
+    ensures milliseconds { result.milliseconds ≡ known.now.milliseconds }
 {
     RunReport {
-        version: known.version,
+        version: words.version,
         texts: words.texts,
         files: words.files,
         ended: words.ended,
@@ -265,7 +266,7 @@ fn files_of<'a, R: AllocGlobal + Files>(
 pub(crate) fn report_of<'a, R: AllocGlobal + Files>(
     rt: &R,
     line: &ConvertLine<'a>,
-    known: RunKnown<'a>,
+    known: &RunKnown<'_>,
     outcome: Result<CommandDone, CommandFault>,
 ) -> Result<String, AllocError> {
     let alloc = rt.alloc();
@@ -274,6 +275,7 @@ pub(crate) fn report_of<'a, R: AllocGlobal + Files>(
     let ended = ending_of(alloc, outcome)?;
     let causes = causes_of(alloc, known.converter, known.causes)?;
     let words = RunWords {
+        version: known.version,
         texts: &texts,
         files: &files,
         ended: &ended,

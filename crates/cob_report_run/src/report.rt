@@ -51,19 +51,19 @@ impl CauseTold {
 
 /// What a run came to.
 #[derive(Clone, Copy)]
-pub struct RunReport<'a> {
+pub struct RunReport<'r, 'a> {
     /// The version of the program, a line each for its number, its commit and its toolchain.
-    pub version: &'a str,
+    pub version: &'r str,
     /// The texts.
-    pub texts: &'a [RunText<'a>],
+    pub texts: &'r [RunText<'a>],
     /// The files of records.
-    pub files: &'a [RunFile<'a>],
+    pub files: &'r [RunFile<'a>],
     /// How it ended: `done`, or its fault line.
-    pub ended: &'a str,
+    pub ended: &'r str,
     /// Its counts, where it is done.
     pub counts: Option<RunCounts>,
     /// Why records were set aside.
-    pub causes: &'a [CauseTold],
+    pub causes: &'r [CauseTold],
     /// How many more were set aside, whose places are not told.
     pub others: u64,
     /// How many records were to be passed over before the first that was converted.
