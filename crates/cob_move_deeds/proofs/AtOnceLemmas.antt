@@ -29,6 +29,8 @@ lone_is (flow.Moves number ∷ []) is = (number, refl)
 lone_is (flow.Moves number ∷ f ∷ fs) is = let no : false ≡ true = is in absurd (cc)
 lone_is (flow.Turns number ∷ fs) is = let no : false ≡ true = is in absurd (cc)
 lone_is (flow.Until bound number skip ∷ fs) is = let no : false ≡ true = is in absurd (cc)
+lone_is (flow.Where condition holding lacking ∷ fs) is = let no : false ≡ true = is in absurd (cc)
+lone_is (flow.Skip count ∷ fs) is = let no : false ≡ true = is in absurd (cc)
 
 -- it carries out those between two marks, which are all
 all_are : (on : FlowSupport) (fs : List Flow) → are_all_moves (length on.moves.marks.items) fs ≡ true → AllByRecursion (IsFlow on) fs
