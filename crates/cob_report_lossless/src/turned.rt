@@ -57,6 +57,7 @@ fn test_at<'a>(flow: &Flow, more: &'a [Flow]) -> Option<NextTest<'a>>
     match *flow {
         Flow::Moves(_) => None,
         Flow::Turns(_) => None,
+        Flow::Where { .. } | Flow::Skip(_) => None,
         Flow::Until { bound, skip, .. } => Some(NextTest {
             bound,
             skip,

@@ -4,7 +4,7 @@ use Rattle.cob_move_deeds.specs.declared.flow.Flow.{Flow}
 use Rattle.cob_move_deeds.specs.Deeds.{Deeds}
 use Rattle.cob_move_deeds.specs.Flows.{FlowSupport}
 use Rattle.cob_move_deeds.specs.Prepared.{flow_support}
-use Rattle.cob_move_deeds.specs.Tests.{Past}
+use Rattle.cob_move_deeds.specs.Tests.{Test}
 use Rattle.cob_back_runs.specs.Tested.{tested_moves}
 use Rattle.cob_back_runs.proofs.TestedLemmas.{LeftOf, marks_behind, marks_from, marks_whole}
 use Rattle.cob_back_runs.proofs.tested.move_marks.Goals as goal
@@ -27,4 +27,4 @@ returns c =
     let fs : List Flow = c.deeds-deeds.result.now.flows.items in
     let on : FlowSupport = flow_support c.deeds-deeds.result.now in
     marks_whole r on c.loop-flow.rest.now c.loop-flow.marks.items (marks_from r on (length fs) fs) c.loop-flow.invariant c.in_default.ensures.cases
-    ∙ ap (λ (d : Deeds Past). tested_moves false d) c.deeds-deeds.ensures.value
+    ∙ ap (λ (d : Deeds Test). tested_moves false d) c.deeds-deeds.ensures.value

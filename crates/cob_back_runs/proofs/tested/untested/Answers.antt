@@ -4,7 +4,7 @@ use Rattle.cob_move_deeds.specs.declared.flow.Flow.{Flow}
 use Rattle.cob_move_deeds.specs.Deeds.{Deeds}
 use Rattle.cob_move_deeds.specs.Flows.{FlowSupport}
 use Rattle.cob_move_deeds.specs.Prepared.{deeds_of, flow_support}
-use Rattle.cob_move_deeds.specs.Tests.{Past}
+use Rattle.cob_move_deeds.specs.Tests.{Test}
 use Rattle.cob_back_runs.specs.Tested.{moves_told, untested_moves}
 use Rattle.cob_back_runs.proofs.TestedLemmas.{LeftOf, untested_behind, untested_from, untested_whole}
 use Rattle.cob_back_runs.proofs.tested.untested.Goals as goal
@@ -29,4 +29,4 @@ returns-clause-moves c =
     let on : FlowSupport = flow_support c.deeds-deeds.result.now in
     untested_whole r on c.loop-flow.rest.now (map moves_told c.loop-flow.stretches.items) (untested_from r on (length fs) fs) c.loop-flow.invariant.left c.in_default.ensures.cases
     ∙ ap (λ (q : Records). untested_moves (deeds_of q c.deeds-deeds.result.now)) (sym c.layouts.ensures)
-    ∙ ap (λ (d : Deeds Past). untested_moves d) c.deeds-deeds.ensures.value
+    ∙ ap (λ (d : Deeds Test). untested_moves d) c.deeds-deeds.ensures.value
