@@ -1,4 +1,4 @@
-use Rattle.std.proofs.Common.{◌∙◌, Bool, List, [], ap, false, length, refl, subst, sym}
+use Rattle.std.proofs.Common.{◌∙◌, Bool, List, ap, false, length, subst, sym}
 use Rattle.cob_move_data.specs.Moves.{Records}
 use Rattle.cob_move_deeds.specs.declared.flow.Flow.{Flow}
 use Rattle.cob_move_deeds.specs.Deeds.{Deeds}
@@ -14,8 +14,10 @@ loop-flow-init c =
     let r : Records = c.args.conversion.now.records in
     let fs : List Flow = c.deeds-deeds.result.now.flows.items in
     let on : FlowSupport = flow_support c.deeds-deeds.result.now in
+    let so : List Bool = c.new-marks.result.items in
     let flows = c.deeds-deeds.ensures.prepared.flows in
-    subst (λ (gs : List Flow). LeftOf Bool on (marks_from r on) gs [] (marks_from r on (length fs) fs)) (sym c.flows-rest.ensures) (marks_first r on fs [] flows.each flows.nested refl)
+    subst (λ (gs : List Flow). LeftOf Bool on (marks_from r on) gs so (marks_from r on (length fs) fs)) (sym c.flows-rest.ensures)
+    (marks_first r on fs so flows.each flows.nested c.new-marks.ensures.items)
 
 pub loop-flow-preserved : goal.loop-flow-preserved
 loop-flow-preserved c =
