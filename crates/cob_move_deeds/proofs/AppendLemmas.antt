@@ -25,11 +25,11 @@ drop_few n skip fs few = omega (arith, few, length-drop skip fs)
 unless_same : (r : Records) (o : Option Bound) (number : ℕ) (d e f g : Deeds Test) → d ≡ f → e ≡ g → unless_past r o number d e ≡ unless_past r o number f g
 unless_same r o number d e f g p q = ap (λ (k : Deeds Test). unless_past r o number k e) p ∙ ap (λ (k : Deeds Test). unless_past r o number f k) q
 
-where_same : (r : Records) (on : FlowSupport) (o : Option code.Condition) (d e f g h k : Deeds Test) → d ≡ g → e ≡ h → f ≡ k → where_holds r on o d e f ≡ where_holds r on o g h k
+pub where_same : (r : Records) (on : FlowSupport) (o : Option code.Condition) (d e f g h k : Deeds Test) → d ≡ g → e ≡ h → f ≡ k → where_holds r on o d e f ≡ where_holds r on o g h k
 where_same r on o d e f g h k p q s =
     ap (λ (x : Deeds Test). where_holds r on o x e f) p ∙ ap (λ (x : Deeds Test). where_holds r on o g x f) q ∙ ap (λ (x : Deeds Test). where_holds r on o g h x) s
 
-deeds_same : (r : Records) (on : FlowSupport) (n m : ℕ) (fs : List Flow) → AreNestedFlows n fs → length fs ≤ n → length fs ≤ m → deeds_from r on n fs ≡ deeds_from r on m fs
+pub deeds_same : (r : Records) (on : FlowSupport) (n m : ℕ) (fs : List Flow) → AreNestedFlows n fs → length fs ≤ n → length fs ≤ m → deeds_from r on n fs ≡ deeds_from r on m fs
 deeds_same r on zero zero fs nested few le = refl
 deeds_same r on zero (suc m) [] nested few le = refl
 deeds_same r on zero (suc m) (f ∷ fs) nested few le = absurd (omega (arith, few))
@@ -54,7 +54,7 @@ deeds_same r on (suc n) (suc m) (flow.Where condition holding lacking ∷ fs) (s
     (deeds_same r on n m (drop lacking left) behind (drop_few n lacking left (omega (arith, few, count))) (drop_few m lacking left (omega (arith, le, count))))
 deeds_same r on (suc n) (suc m) (flow.Skip count ∷ fs) nested few le = absurd nested
 
-nested_same : (n m : ℕ) (fs : List Flow) → length fs ≤ n → length fs ≤ m → AreNestedFlows n fs → AreNestedFlows m fs
+pub nested_same : (n m : ℕ) (fs : List Flow) → length fs ≤ n → length fs ≤ m → AreNestedFlows n fs → AreNestedFlows m fs
 nested_same n zero [] few le nested = refl
 nested_same n (suc m) [] few le nested = tt
 nested_same n zero (f ∷ fs) few le nested = absurd (omega (arith, le))
@@ -93,14 +93,14 @@ unless_both r number o b d e f g next at p q =
     ∙ sym (ap (λ (k : Option Bound). both_deeds (unless_past r k number f g) next) at)
 
 -- a condition that is there, and what stands behind all of it
-where_both : (r : Records) (on : FlowSupport) (o : Option code.Condition) (c : code.Condition) (d e f g h k next : Deeds Test) → o ≡ Some c → d ≡ g → e ≡ h → f ≡ both_deeds k next
+pub where_both : (r : Records) (on : FlowSupport) (o : Option code.Condition) (c : code.Condition) (d e f g h k next : Deeds Test) → o ≡ Some c → d ≡ g → e ≡ h → f ≡ both_deeds k next
     → where_holds r on o d e f ≡ both_deeds (where_holds r on o g h k) next
 where_both r on o c d e f g h k next at p q s =
     where_same r on o d e f g h (both_deeds k next) p q s
     ∙ ap (λ (x : Option code.Condition). where_holds r on x g h (both_deeds k next)) at
     ∙ sym (ap (λ (x : Option code.Condition). both_deeds (where_holds r on x g h k) next) at)
 
-deeds_both : (r : Records) (on : FlowSupport) (n k m : ℕ) (fs gs : List Flow) → AllByRecursion (IsFlow on) fs → AreNestedFlows n fs → AreNestedFlows m gs → length fs ≤ n → length gs ≤ m → length (fs ++ gs) ≤ k
+pub deeds_both : (r : Records) (on : FlowSupport) (n k m : ℕ) (fs gs : List Flow) → AllByRecursion (IsFlow on) fs → AreNestedFlows n fs → AreNestedFlows m gs → length fs ≤ n → length gs ≤ m → length (fs ++ gs) ≤ k
     → deeds_from r on k (fs ++ gs) ≡ both_deeds (deeds_from r on n fs) (deeds_from r on m gs)
 deeds_both r on zero k m [] gs each nested more few fewer le = sym (deeds_same r on m k gs more fewer le)
 deeds_both r on (suc n) k m [] gs each nested more few fewer le = sym (deeds_same r on m k gs more fewer le)
@@ -137,7 +137,7 @@ deeds_both r on (suc n) (suc k) m (flow.Where condition holding lacking ∷ fs) 
     (drop_few n lacking left (omega (arith, few, count))) fewer (omega (arith, le, count, length-append fs gs, length-append (drop lacking left) gs, length-drop lacking left)))
 deeds_both r on (suc n) (suc k) m (flow.Skip count ∷ fs) gs each nested more few fewer le = absurd nested
 
-nested_both : (n k m : ℕ) (fs gs : List Flow) → AreNestedFlows n fs → AreNestedFlows m gs → length fs ≤ n → length gs ≤ m → length (fs ++ gs) ≤ k → AreNestedFlows k (fs ++ gs)
+pub nested_both : (n k m : ℕ) (fs gs : List Flow) → AreNestedFlows n fs → AreNestedFlows m gs → length fs ≤ n → length gs ≤ m → length (fs ++ gs) ≤ k → AreNestedFlows k (fs ++ gs)
 nested_both zero k m [] gs nested more few fewer le = nested_same m k gs fewer le more
 nested_both (suc n) k m [] gs nested more few fewer le = nested_same m k gs fewer le more
 nested_both zero k m (f ∷ fs) gs nested more few fewer le = absurd (omega (arith, few))

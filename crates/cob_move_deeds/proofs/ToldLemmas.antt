@@ -1,5 +1,5 @@
 -- Whether there is a test.
-use Rattle.std.proofs.Common.{◌≡◌, ℕ, zero, suc, ◌+◌, ◌≤◌, List, [], ◌∷◌, Option, Some, arith, drop, length, subst, take}
+use Rattle.std.proofs.Common.{◌≡◌, ℕ, zero, suc, ◌≤◌, List, [], ◌∷◌, Option, Some, arith, drop, length, subst, take}
 use Rattle.std.specs.List.{AllByRecursion, slice_get}
 use Rattle.cob_move_data.specs.Moves.{Records}
 use Rattle.cob_move_condition.specs.declared.condition.Condition as code

@@ -14,7 +14,7 @@ new-requires c =
 pub with_steady_bounds-requires : goal.with_steady_bounds-requires
 with_steady_bounds-requires c =
     let r : Records = record { input = c.args.input.now; output = c.args.output.now } in
-    let made = readied r (made_lists c.args.made) (made_lists c.close.new.self) c.in_ok-moves.moves c.new-loops.result.items c.new-deeds.result c.requires.made c.in_ok-close.ensures.closed (record {
+    let made = readied r (made_lists c.args.made) (made_lists c.close.new.self) c.in_ok-moves.moves c.new-loops.result.items c.asked c.new-deeds.result c.requires.made c.in_ok-close.ensures.closed (record {
       reading = c.in_ok-moves.ensures.reading;
       statements = c.in_ok-moves.ensures.statements;
       ends = rw c.as_slice.ensures.value at c.in_ok-moves.ensures.ends;
@@ -22,6 +22,7 @@ with_steady_bounds-requires c =
       marked = c.in_ok-moves.ensures.prepared;
       same = c.new-deeds.ensures.moves;
       deeds = c.new-deeds.ensures.deeds r;
+      none_asked = nothing_asked r c.in_ok-moves.moves (made_lists c.close.new.self).bounds c.new-loops.result.items c.asked c.new-entries.ensures.items c.new-conditions.ensures.items;
       prepared = c.new-deeds.ensures.prepared r;
     }) in record { prepared = (r, made.prepared) }
 
