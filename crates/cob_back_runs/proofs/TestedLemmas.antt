@@ -107,17 +107,24 @@ loop_marked r on (Some l) d = bound_marked r on.moves l (slice_get on.bounds l.b
 passed_behind : (holding lacking : ℕ) (fs : List Flow) → drop holding fs ≡ flow.Skip lacking ∷ behind_skip holding fs → drop (holding + 1 + lacking) fs ≡ drop lacking (behind_skip holding fs)
 passed_behind holding lacking fs e =
     ap (λ (n : ℕ). drop n fs) (sum holding lacking)
-    ∙ sym (drop-drop (1 + lacking) holding fs)
-    ∙ ap (λ (gs : List Flow). drop (1 + lacking) gs) e
+    ∙ sym (drop-drop (suc lacking) holding fs)
+    ∙ ap (λ (gs : List Flow). drop (suc lacking) gs) e
   where
-    sum : (h l : ℕ) → h + 1 + l ≡ h + (1 + l)
+    sum : (h l : ℕ) → h + 1 + l ≡ h + suc l
     sum h l = omega arith
 
 passed_front : (holding lacking : ℕ) (fs : List Flow) → drop holding fs ≡ flow.Skip lacking ∷ behind_skip holding fs
     → take (holding + 1 + lacking) fs ≡ take holding fs ++ flow.Skip lacking ∷ take lacking (behind_skip holding fs)
-passed_front zero lacking fs e = ap (λ (gs : List Flow). take (1 + lacking) gs) e
+passed_front zero lacking fs e = ap (λ (n : ℕ). take n fs) (sum lacking) ∙ ap (λ (gs : List Flow). take (suc lacking) gs) e
+  where
+    sum : (l : ℕ) → 0 + 1 + l ≡ suc l
+    sum l = omega arith
 passed_front (suc holding) lacking [] e = absurd (omega (arith, ap length e))
-passed_front (suc holding) lacking (f ∷ fs) e = ap (λ (gs : List Flow). f ∷ gs) (passed_front holding lacking fs e)
+passed_front (suc holding) lacking (f ∷ fs) e =
+    ap (λ (n : ℕ). take n (f ∷ fs)) (sum holding lacking) ∙ ap (λ (gs : List Flow). f ∷ gs) (passed_front holding lacking fs e)
+  where
+    sum : (h l : ℕ) → suc h + 1 + l ≡ suc (h + 1 + l)
+    sum h l = omega arith
 
 -- their moves are those that may be carried out, one flow's behind another's
 moves_of_flows : (r : Records) (on : FlowSupport) (n : ℕ) (fs : List Flow) → AllByRecursion (IsFlow on) fs → AreNestedFlows n fs → length fs ≤ n → moves_of_deeds (deeds_from r on n fs) ≡ flat_map (flow_moves r on) fs

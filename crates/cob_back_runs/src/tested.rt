@@ -25,7 +25,9 @@ fn passed_over(flow: &Flow, rest: &[Flow]) -> usize
     match *flow {
         Flow::Until { skip, .. } => skip.min(rest.len()),
         Flow::Where {
-            holding, lacking, ..
+            holding,
+            lacking,
+            ..
         } => holding
             .saturating_add(1)
             .saturating_add(lacking)
