@@ -14,8 +14,10 @@ ghost use Rattle.cob_report_explain.specs.Walked.{HasWalkRoom};
 
 use crate::flows::Walk;
 use crate::walk::{ConditionStop, RecordStop, WalkRoom};
+use cob_layout::Place;
 use cob_move_apply::{PlacedEntry, Stop, StopCause};
 use cob_move_condition::{Comparand, Condition};
+use cob_move_data::Side;
 
 /// Whether what is compared is the entry with this number.
 fn is_entry(comparand: &Comparand, entry: usize) -> bool {
@@ -35,7 +37,12 @@ fn asks_for(condition: &Condition, entry: usize) -> bool {
     }
 }
 
-/// Whether it is this entry that a condition stops at: what its place needs is missing, or it stands where bytes represent no number.
+/// Whether a stop tells that bytes at this place of a side represent no value.
+fn is_no_value_at(stop: Stop, side: Side, place: Place) -> bool {
+    stop.cause == StopCause::NoValue && stop.side == side && stop.offset == place.offset
+}
+
+/// Whether it is this entry that a condition stops at: what its place needs is missing, or it stands where bytes represent no value.
 fn is_stop_of(
     walk: &Walk<'_>,
     entry: &PlacedEntry,
@@ -56,11 +63,7 @@ fn is_stop_of(
         output,
         &mut room.scratch,
     ) {
-        Ok(place) => {
-            stop.cause == StopCause::NoValue
-                && stop.side == entry.side()
-                && stop.offset == place.offset
-        }
+        Ok(place) => is_no_value_at(stop, entry.side(), place),
         Err(found) => found == stop,
     }
 }
