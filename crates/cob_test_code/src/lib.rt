@@ -1,4 +1,9 @@
-//! Tests of texts and copybooks that have to be code.
+//! Tests of records, texts and copybooks that have to be code. Nothing stands on this crate, so that no crate is proved again for a test.
+//!
+//! # Records
+//!
+//! Tests of `cob_records`: ends that fail in mid-stream, and readers and writers of several kinds. What records are read and refused in a run, the stored
+//! jobs of `cob_test_jobs` show.
 //!
 //! # Texts
 //!
@@ -12,9 +17,25 @@
 #![tactic(auto)]
 
 #[cfg(test)]
+mod blocks;
+#[cfg(test)]
+mod calls;
+#[cfg(test)]
+mod faults;
+#[cfg(test)]
+mod files;
+#[cfg(test)]
+mod frames;
+#[cfg(test)]
+mod limited;
+#[cfg(test)]
 mod memory;
 #[cfg(test)]
+mod progress;
+#[cfg(test)]
 mod source;
+#[cfg(test)]
+mod streams;
 #[cfg(test)]
 mod tables;
 #[cfg(test)]
