@@ -1,6 +1,6 @@
 //! Does what its arguments ask for, and prints what comes of each: `NAME` is the stored job of the file `NAME.job`, `NAME.steps` a table
-//! of command lines on files, `FOLDER/NAME.rows` a table of rows, whose folder tells what they are about, `lanes` the single moves of `cob_test_lanes`, and
-//! `sweep/N` a line of the jobs that `cob_test_sweep` draws.
+//! of command lines on files, `FOLDER/NAME.rows` a table of rows, whose folder tells what they are about, and `sweep/N` a line of the jobs that
+//! `cob_test_sweep` draws.
 #![tactic(auto)]
 
 mod commands;
@@ -12,7 +12,6 @@ use crate::lists::ListRows;
 use cob_test_conditions::ConditionRows;
 use cob_test_copybooks::CopybookRows;
 use cob_test_items::ItemRows;
-use cob_test_lanes::print_lanes;
 use cob_test_moves::MoveRows;
 use cob_test_rows::print_table;
 use cob_test_sweep::print_sweep;
@@ -37,7 +36,6 @@ fn print_asked<R: AllocGlobal + Files + Print>(rt: &R, word: &str) -> io::Result
     }
     match word.split_once('/') {
         Some((folder, file)) => print_rows(rt, folder, file.strip_suffix(".rows").unwrap_or(file)),
-        None if word == "lanes" => print_lanes(rt),
         None if word.ends_with(".steps") => commands::print_steps(rt, word),
         None => jobs::print_job(rt, word),
     }

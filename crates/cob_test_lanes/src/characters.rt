@@ -15,11 +15,11 @@ use std::alloc::{AllocError, Global};
 use std::fmt::Write;
 
 /// No item of characters here is longer.
-pub(crate) const LONGEST: u32 = 40;
+pub const LONGEST: u32 = 40;
 
 /// Entries between which characters are moved.
 #[derive(Clone, Copy)]
-pub(crate) enum CharacterMove {
+pub enum CharacterMove {
     /// From an item to another.
     Plain,
     /// From an item to one that is JUSTIFIED.
@@ -45,7 +45,7 @@ fn item_of(picture: &str, justified: bool) -> Option<Item> {
 }
 
 /// An item of so many characters.
-pub(crate) fn characters_item(
+pub fn characters_item(
     alloc: Global,
     count: u32,
     justified: bool,
@@ -125,7 +125,7 @@ fn try_move(
 }
 
 /// Tries the moves of characters between such entries.
-pub(crate) fn try_characters(
+pub fn try_characters(
     alloc: Global,
     which: CharacterMove,
     draws: &mut Draws,
@@ -181,7 +181,7 @@ fn tally_constant(
 }
 
 /// The figurative constants.
-pub(crate) fn figuratives() -> [(&'static str, Figurative); 5] {
+pub fn figuratives() -> [(&'static str, Figurative); 5] {
     [
         ("SPACE", Figurative::Space),
         ("ZERO", Figurative::Zero),
@@ -193,7 +193,7 @@ pub(crate) fn figuratives() -> [(&'static str, Figurative); 5] {
 
 /// Tries the moves of a figurative constant: to characters from the left and from the right and to a group, of each length; to a number and to
 /// an edited one.
-pub(crate) fn try_figurative(alloc: Global, figurative: Figurative) -> Result<Tally, AllocError> {
+pub fn try_figurative(alloc: Global, figurative: Figurative) -> Result<Tally, AllocError> {
     let value = Value::Figurative(figurative);
     let mut tally = Tally::new();
     for count in 1..LONGEST + 1 {

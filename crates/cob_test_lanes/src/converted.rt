@@ -66,7 +66,7 @@ fn try_to_edited(
 }
 
 /// Tries the moves of characters to numbers of a kind.
-pub(crate) fn try_characters_to_numbers(
+pub fn try_characters_to_numbers(
     alloc: Global,
     to: &ItemKind,
     draws: &mut Draws,
@@ -85,7 +85,7 @@ pub(crate) fn try_characters_to_numbers(
 }
 
 /// Tries the moves of characters to edited items of a kind.
-pub(crate) fn try_characters_to_edited(
+pub fn try_characters_to_edited(
     alloc: Global,
     to: &EditedKind,
     draws: &mut Draws,
@@ -102,7 +102,7 @@ pub(crate) fn try_characters_to_edited(
 }
 
 /// Tries the moves of edited items of a kind to numbers of all kinds, of about half of the lengths.
-pub(crate) fn try_edited_to_numbers(
+pub fn try_edited_to_numbers(
     alloc: Global,
     from: &EditedKind,
     draws: &mut Draws,
@@ -121,7 +121,7 @@ pub(crate) fn try_edited_to_numbers(
 }
 
 /// Tries the moves of edited items of a kind to edited items of all kinds.
-pub(crate) fn try_edited_to_edited(
+pub fn try_edited_to_edited(
     alloc: Global,
     from: &EditedKind,
     draws: &mut Draws,

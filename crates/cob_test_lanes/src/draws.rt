@@ -4,18 +4,18 @@ ghost use Rattle.std.specs.Prelude.{◌<◌};
 
 /// Draws of a linear congruential generator.
 #[derive(Drop)]
-pub(crate) struct Draws {
+pub struct Draws {
     state: u64,
 }
 
 impl Draws {
     /// Draws from this beginning.
-    pub(crate) fn new(state: u64) -> Draws {
+    pub fn new(state: u64) -> Draws {
         Draws { state }
     }
 
     /// The next draw: a number below a limit.
-    pub(crate) fn below(&mut self, limit: u32) -> u32
+    pub fn below(&mut self, limit: u32) -> u32
         requires { 0 < limit }
         ensures { result < limit }
     {
@@ -27,7 +27,7 @@ impl Draws {
     }
 
     /// The next draw, of a byte.
-    pub(crate) fn byte(&mut self) -> u8 {
+    pub fn byte(&mut self) -> u8 {
         self.below(256) as u8
     }
 }

@@ -15,9 +15,9 @@ use std::alloc::{AllocError, Global};
 
 /// A picture of edited items, and whether BLANK WHEN ZERO stands with it.
 #[derive(Clone, Copy)]
-pub(crate) struct EditedKind {
-    pub(crate) picture: &'static str,
-    pub(crate) blank: bool,
+pub struct EditedKind {
+    pub picture: &'static str,
+    pub blank: bool,
 }
 
 /// Items without BLANK WHEN ZERO.
@@ -37,7 +37,7 @@ fn blank_when_zero(picture: &'static str) -> EditedKind {
 }
 
 /// Kinds of edited items of at most sixteen digits and bytes: each symbol, runs that float or are suppressed, points that print or don't.
-pub(crate) fn edited_kinds() -> [EditedKind; 18] {
+pub fn edited_kinds() -> [EditedKind; 18] {
     [
         blank_when_zero("9(3)V99"),
         edited("ZZZ9"),
@@ -61,7 +61,7 @@ pub(crate) fn edited_kinds() -> [EditedKind; 18] {
 }
 
 /// Kinds of more than sixteen bytes, behind two of digits that aren't kept.
-pub(crate) fn long_kinds() -> [EditedKind; 18] {
+pub fn long_kinds() -> [EditedKind; 18] {
     [
         blank_when_zero("9(5)P(3)"),
         blank_when_zero("VP(2)9(6)"),
@@ -85,7 +85,7 @@ pub(crate) fn long_kinds() -> [EditedKind; 18] {
 }
 
 /// Kinds of edited items of more than sixteen digits, or of more than thirty-two bytes.
-pub(crate) fn longest_kinds() -> [EditedKind; 10] {
+pub fn longest_kinds() -> [EditedKind; 10] {
     [
         edited("Z(16)9"),
         edited("Z(3),Z(3),Z(3),Z(3),Z(3),ZZ9.99-"),
@@ -101,7 +101,7 @@ pub(crate) fn longest_kinds() -> [EditedKind; 10] {
 }
 
 /// An item of a kind.
-pub(crate) fn item_of(kind: &EditedKind) -> Option<Item> {
+pub fn item_of(kind: &EditedKind) -> Option<Item> {
     match Picture::read(kind.picture.as_bytes()) {
         Ok(picture) => Some(Item {
             picture,
@@ -138,7 +138,7 @@ fn try_move(
 }
 
 /// Tries the moves of items of a kind to edited items of a kind.
-pub(crate) fn try_edited(
+pub fn try_edited(
     alloc: Global,
     from: &ItemKind,
     to: &EditedKind,
@@ -156,7 +156,7 @@ pub(crate) fn try_edited(
 }
 
 /// Tries the moves of items of all kinds to edited items of a kind; packed ones have up to thirty-one digits.
-pub(crate) fn try_all_edited(
+pub fn try_all_edited(
     alloc: Global,
     to: &EditedKind,
     draws: &mut Draws,

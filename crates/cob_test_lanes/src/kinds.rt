@@ -9,11 +9,11 @@ use std::fmt::Write;
 
 /// A kind of item: how it is stored, and whether it has a sign.
 #[derive(Clone, Copy)]
-pub(crate) struct ItemKind {
-    pub(crate) name: &'static str,
-    pub(crate) usage: Usage,
-    pub(crate) signed: bool,
-    pub(crate) sign: Option<Sign>,
+pub struct ItemKind {
+    pub name: &'static str,
+    pub usage: Usage,
+    pub signed: bool,
+    pub sign: Option<Sign>,
 }
 
 /// A zoned item or one with a separate sign.
@@ -41,7 +41,7 @@ fn packed(name: &'static str, signed: bool) -> ItemKind {
 }
 
 /// The kinds, each once.
-pub(crate) fn kinds() -> [ItemKind; 7] {
+pub fn kinds() -> [ItemKind; 7] {
     [
         display("zoned", false, false, false),
         display("zoned trailing", true, false, false),
@@ -64,7 +64,7 @@ fn binary(name: &'static str, signed: bool) -> ItemKind {
 }
 
 /// All kinds, the binary ones last.
-pub(crate) fn all_kinds() -> [ItemKind; 9] {
+pub fn all_kinds() -> [ItemKind; 9] {
     let [zoned, trailing, leading, behind, before, plain, signed] = kinds();
     [
         zoned,
@@ -81,34 +81,34 @@ pub(crate) fn all_kinds() -> [ItemKind; 9] {
 
 impl ItemKind {
     /// Whether it is binary.
-    pub(crate) fn is_binary(&self) -> bool {
+    pub fn is_binary(&self) -> bool {
         matches!(self.usage, Usage::Binary)
     }
 
     /// Whether it is packed.
-    pub(crate) fn is_packed(&self) -> bool {
+    pub fn is_packed(&self) -> bool {
         matches!(self.usage, Usage::Packed)
     }
 
     /// Whether the sign has a byte of its own.
-    pub(crate) fn is_separate(&self) -> bool {
+    pub fn is_separate(&self) -> bool {
         matches!(self.sign, Some(sign) if sign.separate)
     }
 
     /// Whether the sign stands in front.
-    pub(crate) fn leads(&self) -> bool {
+    pub fn leads(&self) -> bool {
         matches!(self.sign, Some(sign) if sign.leading)
     }
 
     /// The most digits of an item that sixteen lanes hold.
-    pub(crate) fn most_digits(&self) -> u32
+    pub fn most_digits(&self) -> u32
         ensures { result ≤ 16 }
     {
         if self.is_separate() { 15 } else { 16 }
     }
 
     /// The most digits of an item.
-    pub(crate) fn most_long_digits(&self) -> u32
+    pub fn most_long_digits(&self) -> u32
         ensures some { 0 < result }
         ensures most { result ≤ 31 }
     {
@@ -116,7 +116,7 @@ impl ItemKind {
     }
 
     /// So many digits, or the most that an item has.
-    pub(crate) fn long_digits(&self, digits: u32) -> u32
+    pub fn long_digits(&self, digits: u32) -> u32
         requires { 0 < digits }
         ensures some { 0 < result }
         ensures most { result ≤ 31 }
@@ -126,7 +126,7 @@ impl ItemKind {
     }
 
     /// The most digits of an item of at most sixteen bytes.
-    pub(crate) fn most_wide_digits(&self) -> u32
+    pub fn most_wide_digits(&self) -> u32
         ensures { result ≤ 31 }
     {
         match self.usage {
@@ -138,7 +138,7 @@ impl ItemKind {
 
 /// The scales at the edges of a picture of so many digits: none of them right of the point, all, half of them, and as many zeros of P as there may be
 /// at the right and at the left.
-pub(crate) fn edge_scales(digits: u32) -> [i32; 5]
+pub fn edge_scales(digits: u32) -> [i32; 5]
     requires { digits ≤ 31 }
 {
     let places = 31 - digits;
@@ -146,7 +146,7 @@ pub(crate) fn edge_scales(digits: u32) -> [i32; 5]
 }
 
 /// A scale of a picture of so many digits: one at an edge, or any.
-pub(crate) fn drawn_scale(draws: &mut Draws, digits: u32) -> i32
+pub fn drawn_scale(draws: &mut Draws, digits: u32) -> i32
     requires some { 0 < digits }
     requires most { digits ≤ 31 }
 {
@@ -159,7 +159,7 @@ pub(crate) fn drawn_scale(draws: &mut Draws, digits: u32) -> i32
 }
 
 /// A scale at which at most sixteen of so many digits, and of those that P stands for at the right, are left of the point.
-pub(crate) fn drawn_short_scale(draws: &mut Draws, digits: u32) -> i32
+pub fn drawn_short_scale(draws: &mut Draws, digits: u32) -> i32
     requires some { 0 < digits }
     requires most { digits ≤ 16 }
 {
@@ -182,7 +182,7 @@ fn push_symbol(text: &mut String, symbol: &str, times: u32) -> Result<(), AllocE
 }
 
 /// Writes the picture of so many digits at a scale.
-pub(crate) fn push_picture(
+pub fn push_picture(
     text: &mut String,
     signed: bool,
     digits: u32,

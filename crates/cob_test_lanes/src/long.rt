@@ -54,7 +54,7 @@ fn try_to(
 }
 
 /// Tries the moves between items of two kinds, of each number of digits.
-pub(crate) fn try_long_kinds(
+pub fn try_long_kinds(
     alloc: Global,
     from: &ItemKind,
     to: &ItemKind,
@@ -80,7 +80,7 @@ pub(crate) fn try_long_kinds(
 }
 
 /// Tries the moves of characters, of each number, to items of a kind, of each number of digits.
-pub(crate) fn try_long_characters(
+pub fn try_long_characters(
     alloc: Global,
     to: &ItemKind,
     draws: &mut Draws,
@@ -108,7 +108,7 @@ pub(crate) fn try_long_characters(
 }
 
 /// Tries the moves of items of all kinds, of each number of digits, to edited items of a kind.
-pub(crate) fn try_long_edited(
+pub fn try_long_edited(
     alloc: Global,
     to: &EditedKind,
     draws: &mut Draws,
@@ -133,7 +133,7 @@ pub(crate) fn try_long_edited(
 }
 
 /// Tries the moves of characters, of each number, to edited items of a kind.
-pub(crate) fn try_long_numerals(
+pub fn try_long_numerals(
     alloc: Global,
     to: &EditedKind,
     draws: &mut Draws,
@@ -172,7 +172,7 @@ fn try_signs(
 
 /// Tries the moves between items of two kinds and the same number of digits, each from 1 to 31 or the most that one of them has, at each two scales at
 /// the edges, with each sign.
-pub(crate) fn try_long_edges(
+pub fn try_long_edges(
     alloc: Global,
     from: &ItemKind,
     to: &ItemKind,

@@ -50,7 +50,7 @@ fn try_to_number(
 }
 
 /// Tries the moves of edited items of a kind to numbers of all kinds, of about half of the lengths.
-pub(crate) fn try_long_to_numbers(
+pub fn try_long_to_numbers(
     alloc: Global,
     from: &EditedKind,
     draws: &mut Draws,
@@ -85,7 +85,7 @@ fn try_to_edited(
 }
 
 /// Tries the moves of edited items of a kind to edited items of all kinds.
-pub(crate) fn try_long_to_edited(
+pub fn try_long_to_edited(
     alloc: Global,
     from: &EditedKind,
     draws: &mut Draws,
@@ -163,7 +163,7 @@ fn try_step(
 }
 
 /// Tries such moves of edited items of a kind to an item that has places for all digits.
-pub(crate) fn try_long_near(
+pub fn try_long_near(
     alloc: Global,
     from: &EditedKind,
     draws: &mut Draws,
@@ -210,7 +210,7 @@ fn try_shown(
 }
 
 /// Tries the moves of items of a kind, of each number of digits, to items of characters, JUSTIFIED or not.
-pub(crate) fn try_long_shown(
+pub fn try_long_shown(
     alloc: Global,
     from: &ItemKind,
     justified: bool,

@@ -10,7 +10,7 @@ use cob_move_steps::{
 use std::alloc::{AllocError, Global};
 
 /// What stands in a receiver's bytes before the move.
-pub(crate) const UNWRITTEN: u8 = 0xAA;
+pub const UNWRITTEN: u8 = 0xAA;
 
 /// Moves the number of the edited item at the end of a record to a receiver's bytes, where there is a step.
 fn deedited(
@@ -73,7 +73,7 @@ fn moved(
 }
 
 /// Moves the number at the end of a record to a receiver, and counts what came of it.
-pub(crate) fn tally_move(
+pub fn tally_move(
     alloc: Global,
     sender: &Item,
     receiver: &Item,
@@ -94,7 +94,7 @@ pub(crate) fn tally_move(
 }
 
 /// Moves the number at the end of a record to a number by a step of any number of digits, and counts what came of it.
-pub(crate) fn tally_long_move(
+pub fn tally_long_move(
     alloc: Global,
     sender: &Item,
     receiver: &Item,

@@ -14,12 +14,12 @@ use cob_move_steps::TextStep;
 use std::alloc::{AllocError, Global};
 
 /// What is put in the place of each byte: a space, 0, 1, and the bytes of symbols.
-pub(crate) const NEAR: [u8; 12] = [
+pub const NEAR: [u8; 12] = [
     0x40, 0xF0, 0xF1, 0x5C, 0x5B, 0x4E, 0x60, 0x6B, 0x4B, 0x61, 0xC3, 0xC4,
 ];
 
 /// Puts a byte in its place.
-pub(crate) fn put(record: &mut [u8], place: usize, byte: u8) {
+pub fn put(record: &mut [u8], place: usize, byte: u8) {
     if place < record.len() {
         record[place] = byte;
     }
@@ -70,11 +70,7 @@ fn try_step(
 }
 
 /// Tries such moves of edited items of a kind to an item that has places for all digits.
-pub(crate) fn try_near(
-    alloc: Global,
-    from: &EditedKind,
-    draws: &mut Draws,
-) -> Result<Tally, AllocError> {
+pub fn try_near(alloc: Global, from: &EditedKind, draws: &mut Draws) -> Result<Tally, AllocError> {
     let mut tally = Tally::new();
     let [_, zoned, _, _, _, _, _] = kinds();
     if let Some(sender) = item_of(from) {

@@ -12,10 +12,10 @@ use cob_picture::Picture;
 use std::alloc::{AllocError, Global};
 
 /// How often a move is tried between items of the same kinds and numbers of digits.
-pub(crate) const TRIES: u32 = 2;
+pub const TRIES: u32 = 2;
 
 /// An item of a kind, of so many digits at a scale.
-pub(crate) fn item_at(
+pub fn item_at(
     alloc: Global,
     kind: &ItemKind,
     digits: u32,
@@ -38,7 +38,7 @@ pub(crate) fn item_at(
 }
 
 /// An item of a kind, of so many digits and a drawn scale.
-pub(crate) fn drawn_item(
+pub fn drawn_item(
     alloc: Global,
     kind: &ItemKind,
     digits: u32,
@@ -81,7 +81,7 @@ fn try_move(
 }
 
 /// Tries the moves between items of two kinds.
-pub(crate) fn try_kinds(
+pub fn try_kinds(
     alloc: Global,
     from: &ItemKind,
     to: &ItemKind,
@@ -99,7 +99,7 @@ pub(crate) fn try_kinds(
 }
 
 /// Tries the moves between items of two kinds of which one at least has more than sixteen digits.
-pub(crate) fn try_wide_kinds(
+pub fn try_wide_kinds(
     alloc: Global,
     from: &ItemKind,
     to: &ItemKind,

@@ -9,9 +9,9 @@ use std::alloc::{AllocError, Global};
 
 /// The digits of an item, and the code and the byte of its sign.
 #[derive(Clone, Copy)]
-pub(crate) struct Drawn {
-    pub(crate) digits: [u8; 31],
-    pub(crate) count: usize,
+pub struct Drawn {
+    pub digits: [u8; 31],
+    pub count: usize,
     code: u8,
     sign: u8,
     pub ghost most: { count ≤ 31 },
@@ -19,13 +19,13 @@ pub(crate) struct Drawn {
 
 impl Drawn {
     /// Whether the code is that of a minus.
-    pub(crate) fn is_minus(&self) -> bool {
+    pub fn is_minus(&self) -> bool {
         matches!(self.code, 0xB | 0xD)
     }
 }
 
 /// The codes of signs.
-pub(crate) const SIGN_CODES: [u8; 6] = [0xA, 0xB, 0xC, 0xD, 0xE, 0xF];
+pub const SIGN_CODES: [u8; 6] = [0xA, 0xB, 0xC, 0xD, 0xE, 0xF];
 
 /// Digits: zeros alone, zeros before others, or any.
 fn drawn_digits(draws: &mut Draws, count: usize) -> [u8; 31]
@@ -70,7 +70,7 @@ fn drawn_sign_byte(draws: &mut Draws) -> u8 {
 }
 
 /// Digits and a sign.
-pub(crate) fn drawn_parts(draws: &mut Draws, count: usize, signed: bool) -> Drawn
+pub fn drawn_parts(draws: &mut Draws, count: usize, signed: bool) -> Drawn
     requires { count ≤ 31 }
 {
     let digits = drawn_digits(draws, count);
@@ -198,7 +198,7 @@ fn spoil(item: &mut [u8], draws: &mut Draws) {
 }
 
 /// Adds the bytes of an item to a record, one of them any, now and then.
-pub(crate) fn push_spoiled(
+pub fn push_spoiled(
     record: &mut Vec<u8>,
     item: &mut [u8],
     draws: &mut Draws,
@@ -211,7 +211,7 @@ pub(crate) fn push_spoiled(
 }
 
 /// The bytes of a record before those of an item.
-pub(crate) fn front(alloc: Global, draws: &mut Draws) -> Result<Vec<u8>, AllocError> {
+pub fn front(alloc: Global, draws: &mut Draws) -> Result<Vec<u8>, AllocError> {
     let mut bytes = Vec::new(alloc);
     for place in 0..draws.below(24) {
         bytes.push(draws.byte())?;
@@ -229,7 +229,7 @@ fn own_sign_byte(code: u8) -> u8 {
 }
 
 /// The bytes of a record up to those of an item at its end whose sign has this code.
-pub(crate) fn signed_record(
+pub fn signed_record(
     alloc: Global,
     kind: &ItemKind,
     count: usize,
@@ -250,7 +250,7 @@ pub(crate) fn signed_record(
 }
 
 /// The bytes of a record up to those of an item at its end, with drawn digits and a drawn sign.
-pub(crate) fn drawn_record(
+pub fn drawn_record(
     alloc: Global,
     kind: &ItemKind,
     count: usize,

@@ -50,7 +50,7 @@ fn try_move(
 }
 
 /// Tries the moves of items of a kind to items of characters, JUSTIFIED or not.
-pub(crate) fn try_shown(
+pub fn try_shown(
     alloc: Global,
     from: &ItemKind,
     justified: bool,

@@ -2,7 +2,7 @@
 
 /// What came of the moves between two kinds of items.
 #[derive(Drop)]
-pub(crate) struct Tally {
+pub struct Tally {
     moved: u32,
     no_number: u32,
     no_step: u32,
@@ -16,7 +16,7 @@ fn summed(sum: u64, byte: u8) -> u64 {
 
 impl Tally {
     /// Of no moves.
-    pub(crate) fn new() -> Tally {
+    pub fn new() -> Tally {
         Tally {
             moved: 0,
             no_number: 0,
@@ -26,7 +26,7 @@ impl Tally {
     }
 
     /// Counts a move that was made or whose sender represented no number, and sums what the receiver holds.
-    pub(crate) fn count(&mut self, moved: bool, bytes: &[u8]) {
+    pub fn count(&mut self, moved: bool, bytes: &[u8]) {
         if moved {
             self.moved = self.moved.wrapping_add(1);
         } else {
@@ -39,12 +39,12 @@ impl Tally {
     }
 
     /// Counts a move that has no step.
-    pub(crate) fn count_none(&mut self) {
+    pub fn count_none(&mut self) {
         self.no_step = self.no_step.wrapping_add(1);
     }
 
     /// The moves that were made, those whose sender represented no number, those without a step, and the sum.
-    pub(crate) fn parts(&self) -> (u32, u32, u32, u64) {
+    pub fn parts(&self) -> (u32, u32, u32, u64) {
         (self.moved, self.no_number, self.no_step, self.sum)
     }
 }

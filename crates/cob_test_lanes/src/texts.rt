@@ -29,7 +29,7 @@ fn digits_of(digits: &[u8]) -> Digits {
 }
 
 /// The text of a number, of these digits in the places of an edited item.
-pub(crate) fn text_of(
+pub fn text_of(
     alloc: Global,
     item: &Item,
     negative: bool,
@@ -66,11 +66,7 @@ fn count_of(item: &Item) -> usize
 }
 
 /// The bytes of a record up to those of an item of characters or an edited one at its end: digits, or the text of a number.
-pub(crate) fn drawn_text(
-    alloc: Global,
-    item: &Item,
-    draws: &mut Draws,
-) -> Result<Vec<u8>, AllocError> {
+pub fn drawn_text(alloc: Global, item: &Item, draws: &mut Draws) -> Result<Vec<u8>, AllocError> {
     let mut record = front(alloc, draws)?;
     let drawn = drawn_parts(draws, count_of(item), item.picture.signed());
     let digits = &drawn.digits[..drawn.count];

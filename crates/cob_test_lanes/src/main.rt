@@ -6,8 +6,8 @@
 //! digits numbers and characters of each length up to 31 are moved to each kind and to edited items; scales, bytes and signs are drawn, the same in
 //! each run. The same steps then move numbers between each two kinds, of each number of digits, at each two scales at the edges, with each sign. At the
 //! end they move edited items of each kind, and numbers to characters.
-//! A line tells how many moves were made, how many senders represented no number, how many moves had no step, and the sum. [`print_lanes`] prints them
-//! for the word `lanes` of `cob_test_jobs`. `tools/lane_sums` works the same out from the rules alone.
+//! A line tells how many moves were made, how many senders represented no number, how many moves had no step, and the sum. `tools/lane_sums` works the
+//! same out from the rules alone.
 #![tactic(auto)]
 
 mod characters;
@@ -46,7 +46,7 @@ use crate::tally::Tally;
 use std::io;
 
 /// Prints what came of moves.
-fn print_tally<R: Print>(rt: &R, from: &str, to: &str, tally: &Tally) -> io::Result<()> {
+fn print_tally(rt: HostRuntime, from: &str, to: &str, tally: &Tally) -> io::Result<()> {
     let (moved, no_number, no_step, sum) = tally.parts();
     println!(rt;
         "{from} to {to}: {moved} moved, {no_number} no number, {no_step} no step, sum {sum}"
@@ -54,7 +54,7 @@ fn print_tally<R: Print>(rt: &R, from: &str, to: &str, tally: &Tally) -> io::Res
 }
 
 /// Numbers.
-fn print_numbers<R: AllocGlobal + Print>(rt: &R, draws: &mut Draws) -> io::Result<()> {
+fn print_numbers(rt: HostRuntime, draws: &mut Draws) -> io::Result<()> {
     let kinds = kinds();
     for from in &kinds {
         for to in &kinds {
@@ -66,7 +66,7 @@ fn print_numbers<R: AllocGlobal + Print>(rt: &R, draws: &mut Draws) -> io::Resul
 }
 
 /// Numbers from and to binary items.
-fn print_binary<R: AllocGlobal + Print>(rt: &R, draws: &mut Draws) -> io::Result<()> {
+fn print_binary(rt: HostRuntime, draws: &mut Draws) -> io::Result<()> {
     let kinds = all_kinds();
     for from in &kinds {
         for to in &kinds {
@@ -80,7 +80,7 @@ fn print_binary<R: AllocGlobal + Print>(rt: &R, draws: &mut Draws) -> io::Result
 }
 
 /// Numbers from and to packed items of more than sixteen digits.
-fn print_wide<R: AllocGlobal + Print>(rt: &R, draws: &mut Draws) -> io::Result<()> {
+fn print_wide(rt: HostRuntime, draws: &mut Draws) -> io::Result<()> {
     let kinds = kinds();
     for from in &kinds {
         for to in &kinds {
@@ -94,7 +94,7 @@ fn print_wide<R: AllocGlobal + Print>(rt: &R, draws: &mut Draws) -> io::Result<(
 }
 
 /// Edited numbers.
-fn print_edited<R: AllocGlobal + Print>(rt: &R, draws: &mut Draws) -> io::Result<()> {
+fn print_edited(rt: HostRuntime, draws: &mut Draws) -> io::Result<()> {
     let kinds = all_kinds();
     for from in &kinds {
         for to in &edited_kinds() {
@@ -106,7 +106,7 @@ fn print_edited<R: AllocGlobal + Print>(rt: &R, draws: &mut Draws) -> io::Result
 }
 
 /// Characters.
-fn print_characters<R: AllocGlobal + Print>(rt: &R, draws: &mut Draws) -> io::Result<()> {
+fn print_characters(rt: HostRuntime, draws: &mut Draws) -> io::Result<()> {
     for (from, to, which) in [
         ("characters", "characters", CharacterMove::Plain),
         ("characters", "JUSTIFIED", CharacterMove::Justified),
@@ -120,7 +120,7 @@ fn print_characters<R: AllocGlobal + Print>(rt: &R, draws: &mut Draws) -> io::Re
 }
 
 /// Constants.
-fn print_constants<R: AllocGlobal + Print>(rt: &R) -> io::Result<()> {
+fn print_constants(rt: HostRuntime) -> io::Result<()> {
     for (name, figurative) in figuratives() {
         let tally = try_figurative(rt.alloc(), figurative)?;
         print_tally(rt, name, "all", &tally)?;
@@ -129,7 +129,7 @@ fn print_constants<R: AllocGlobal + Print>(rt: &R) -> io::Result<()> {
 }
 
 /// Numbers edited in more than sixteen bytes.
-fn print_long<R: AllocGlobal + Print>(rt: &R, draws: &mut Draws) -> io::Result<()> {
+fn print_long(rt: HostRuntime, draws: &mut Draws) -> io::Result<()> {
     for to in &long_kinds() {
         let tally = try_all_edited(rt.alloc(), to, draws)?;
         print_tally(rt, "numbers", to.picture, &tally)?;
@@ -138,7 +138,7 @@ fn print_long<R: AllocGlobal + Print>(rt: &R, draws: &mut Draws) -> io::Result<(
 }
 
 /// Characters that are numbers.
-fn print_numerals<R: AllocGlobal + Print>(rt: &R, draws: &mut Draws) -> io::Result<()> {
+fn print_numerals(rt: HostRuntime, draws: &mut Draws) -> io::Result<()> {
     for to in &all_kinds() {
         let tally = try_characters_to_numbers(rt.alloc(), to, draws)?;
         print_tally(rt, "characters", to.name, &tally)?;
@@ -147,8 +147,8 @@ fn print_numerals<R: AllocGlobal + Print>(rt: &R, draws: &mut Draws) -> io::Resu
 }
 
 /// The same, edited.
-fn print_edited_numerals<R: AllocGlobal + Print>(
-    rt: &R,
+fn print_edited_numerals(
+    rt: HostRuntime,
     kinds: &[EditedKind],
     draws: &mut Draws,
 ) -> io::Result<()> {
@@ -160,11 +160,7 @@ fn print_edited_numerals<R: AllocGlobal + Print>(
 }
 
 /// Numbers that were edited.
-fn print_deedited<R: AllocGlobal + Print>(
-    rt: &R,
-    kinds: &[EditedKind],
-    draws: &mut Draws,
-) -> io::Result<()> {
+fn print_deedited(rt: HostRuntime, kinds: &[EditedKind], draws: &mut Draws) -> io::Result<()> {
     for from in kinds {
         let tally = try_edited_to_numbers(rt.alloc(), from, draws)?;
         print_tally(rt, from.picture, "numbers", &tally)?;
@@ -177,7 +173,7 @@ fn print_deedited<R: AllocGlobal + Print>(
 }
 
 /// Numbers as characters.
-fn print_shown<R: AllocGlobal + Print>(rt: &R, draws: &mut Draws) -> io::Result<()> {
+fn print_shown(rt: HostRuntime, draws: &mut Draws) -> io::Result<()> {
     for from in &all_kinds() {
         let tally = try_shown(rt.alloc(), from, false, draws)?;
         print_tally(rt, from.name, "characters", &tally)?;
@@ -188,7 +184,7 @@ fn print_shown<R: AllocGlobal + Print>(rt: &R, draws: &mut Draws) -> io::Result<
 }
 
 /// Numbers from and to texts.
-fn print_texts<R: AllocGlobal + Print>(rt: &R, draws: &mut Draws) -> io::Result<()> {
+fn print_texts(rt: HostRuntime, draws: &mut Draws) -> io::Result<()> {
     print_long(rt, draws)?;
     print_numerals(rt, draws)?;
     print_edited_numerals(rt, &edited_kinds(), draws)?;
@@ -199,11 +195,7 @@ fn print_texts<R: AllocGlobal + Print>(rt: &R, draws: &mut Draws) -> io::Result<
 }
 
 /// Numbers and characters of any number of digits, edited.
-fn print_long_edited<R: AllocGlobal + Print>(
-    rt: &R,
-    kinds: &[EditedKind],
-    draws: &mut Draws,
-) -> io::Result<()> {
+fn print_long_edited(rt: HostRuntime, kinds: &[EditedKind], draws: &mut Draws) -> io::Result<()> {
     for to in kinds {
         let tally = try_long_edited(rt.alloc(), to, draws)?;
         print_tally(rt, "numbers", to.picture, &tally)?;
@@ -214,7 +206,7 @@ fn print_long_edited<R: AllocGlobal + Print>(
 }
 
 /// Numbers at the edges.
-fn print_edges<R: AllocGlobal + Print>(rt: &R, draws: &mut Draws) -> io::Result<()> {
+fn print_edges(rt: HostRuntime, draws: &mut Draws) -> io::Result<()> {
     let kinds = all_kinds();
     for from in &kinds {
         for to in &kinds {
@@ -226,7 +218,7 @@ fn print_edges<R: AllocGlobal + Print>(rt: &R, draws: &mut Draws) -> io::Result<
 }
 
 /// Numbers of any number of digits.
-fn print_long_numbers<R: AllocGlobal + Print>(rt: &R, draws: &mut Draws) -> io::Result<()> {
+fn print_long_numbers(rt: HostRuntime, draws: &mut Draws) -> io::Result<()> {
     let kinds = all_kinds();
     for from in &kinds {
         for to in &kinds {
@@ -245,11 +237,7 @@ fn print_long_numbers<R: AllocGlobal + Print>(rt: &R, draws: &mut Draws) -> io::
 }
 
 /// Edited items by steps of numbers of any number of digits.
-fn print_long_deedited<R: AllocGlobal + Print>(
-    rt: &R,
-    kinds: &[EditedKind],
-    draws: &mut Draws,
-) -> io::Result<()> {
+fn print_long_deedited(rt: HostRuntime, kinds: &[EditedKind], draws: &mut Draws) -> io::Result<()> {
     for from in kinds {
         let tally = try_long_to_numbers(rt.alloc(), from, draws)?;
         print_tally(rt, from.picture, "numbers", &tally)?;
@@ -262,7 +250,7 @@ fn print_long_deedited<R: AllocGlobal + Print>(
 }
 
 /// Numbers of any number of digits as characters.
-fn print_long_shown<R: AllocGlobal + Print>(rt: &R, draws: &mut Draws) -> io::Result<()> {
+fn print_long_shown(rt: HostRuntime, draws: &mut Draws) -> io::Result<()> {
     for from in &all_kinds() {
         let tally = try_long_shown(rt.alloc(), from, false, draws)?;
         print_tally(rt, from.name, "characters", &tally)?;
@@ -272,27 +260,18 @@ fn print_long_shown<R: AllocGlobal + Print>(rt: &R, draws: &mut Draws) -> io::Re
     Ok(())
 }
 
-/// Prints what comes of all moves.
-fn print_all<R: AllocGlobal + Print>(rt: &R, draws: &mut Draws) -> io::Result<()> {
-    print_numbers(rt, draws)?;
-    print_edited(rt, draws)?;
-    print_characters(rt, draws)?;
-    print_constants(rt)?;
-    print_binary(rt, draws)?;
-    print_wide(rt, draws)?;
-    print_texts(rt, draws)?;
-    print_long_numbers(rt, draws)?;
-    print_long_deedited(rt, &edited_kinds(), draws)?;
-    print_long_deedited(rt, &long_kinds(), draws)?;
-    print_long_deedited(rt, &longest_kinds(), draws)?;
-    print_long_shown(rt, draws)
-}
-
-/// Makes the moves, and prints the sums.
-///
-/// # Errors
-/// That a line can't be printed, or that memory is refused.
-pub fn print_lanes<R: AllocGlobal + Print>(rt: &R) -> io::Result<()> {
+fn main(rt: HostRuntime) -> io::Result<()> {
     let mut draws = Draws::new(1985);
-    print_all(rt, &mut draws)
+    print_numbers(rt, &mut draws)?;
+    print_edited(rt, &mut draws)?;
+    print_characters(rt, &mut draws)?;
+    print_constants(rt)?;
+    print_binary(rt, &mut draws)?;
+    print_wide(rt, &mut draws)?;
+    print_texts(rt, &mut draws)?;
+    print_long_numbers(rt, &mut draws)?;
+    print_long_deedited(rt, &edited_kinds(), &mut draws)?;
+    print_long_deedited(rt, &long_kinds(), &mut draws)?;
+    print_long_deedited(rt, &longest_kinds(), &mut draws)?;
+    print_long_shown(rt, &mut draws)
 }
