@@ -98,33 +98,6 @@ fn text_in<R: AllocGlobal + Files>(
     Ok(None)
 }
 
-/// The text in the first file of this name that may have it, in a folder, or where a library is named beneath it, in capitals or in small letters.
-fn text_beneath<R: AllocGlobal + Files>(
-    rt: &R,
-    folder: &str,
-    library: Option<&str>,
-    name: &str,
-    is_small: bool,
-) -> Result<Option<Found>, ShelfFault> {
-    match folder_of(rt.alloc(), folder, library, is_small) {
-        Ok(beneath) => text_in(rt, &beneath, name),
-        Err(_) => Err(ShelfFault::Memory),
-    }
-}
-
-/// The text in the first file that may have it, its name in small letters.
-fn text_in_small<R: AllocGlobal + Files>(
-    rt: &R,
-    folder: &str,
-    library: Option<&str>,
-    name: &str,
-) -> Result<Option<Found>, ShelfFault> {
-    match name.to_ascii_lowercase(rt.alloc()) {
-        Ok(small) => text_beneath(rt, folder, library, &small, true),
-        Err(_) => Err(ShelfFault::Memory),
-    }
-}
-
 /// The text in the first file that may have it, its name in capitals, or else in small letters.
 fn text_named<R: AllocGlobal + Files>(
     rt: &R,
@@ -132,10 +105,20 @@ fn text_named<R: AllocGlobal + Files>(
     library: Option<&str>,
     name: &str,
 ) -> Result<Option<Found>, ShelfFault> {
-    match text_beneath(rt, folder, library, name, false)? {
-        Some(found) => Ok(Some(found)),
-        None => text_in_small(rt, folder, library, name),
+    let alloc = rt.alloc();
+    let Ok(beneath) = folder_of(alloc, folder, library, false) else {
+        return Err(ShelfFault::Memory);
+    };
+    if let Some(found) = text_in(rt, &beneath, name)? {
+        return Ok(Some(found));
     }
+    let Ok(small_beneath) = folder_of(alloc, folder, library, true) else {
+        return Err(ShelfFault::Memory);
+    };
+    let Ok(small) = name.to_ascii_lowercase(alloc) else {
+        return Err(ShelfFault::Memory);
+    };
+    text_in(rt, &small_beneath, &small)
 }
 
 impl<R: AllocGlobal + Files> Folders<'_, R> {

@@ -13,7 +13,7 @@ use crate::outputs::Outputs;
 use crate::spacing::Spacing;
 use crate::told::{of_fetching, of_own_source, of_text};
 use cob_copybook::Role;
-use cob_copybook_text::{Copying, RecordText, RecordTextFault, record_text, text_saying};
+use cob_copybook_text::{Copying, RecordTextFault, record_text, text_saying};
 use cob_program_faults::{CommandFault, FileName, text_of};
 use cob_program_line::{Handing, Line};
 use cob_source::{SourceFault, SourceRule, TextFormat, Token, tokens_in};
@@ -138,40 +138,6 @@ fn unchanged(
     }
 }
 
-/// The text in reference format of the record that is meant, of these words; nothing where it is the whole copybook as it stands.
-fn made_of(
-    alloc: Global,
-    book: BookOption<'_>,
-    how: &Copying,
-    words: &[Token],
-) -> Result<Option<RecordText>, BookRefusal> {
-    let name = book.record.unwrap_or("").to_ascii_uppercase(alloc)?;
-    let chosen = match book.record {
-        Some(_) => Some(name.as_bytes()),
-        None => None,
-    };
-    match record_text(alloc, how, chosen, words) {
-        Ok(made) => Ok(made),
-        Err(fault) => Err(of_text(alloc, book.file, how, &name, fault)?),
-    }
-}
-
-/// The text of a copybook of these words as it is handed over: itself, where nothing is done to it.
-fn text_of_words<R: AllocGlobal + Files>(
-    rt: &R,
-    book: BookOption<'_>,
-    handing: &Asked<'_>,
-    words: &[Token],
-    text: Vec<u8>,
-) -> Result<Vec<u8>, BookRefusal> {
-    let alloc = rt.alloc();
-    let how = copying_of(rt, book.file, handing, words)?;
-    match made_of(alloc, book, &how, words)? {
-        None => unchanged(alloc, book, handing, words, text),
-        Some(made) => judged(alloc, book.telling(handing), book.role, &how, made),
-    }
-}
-
 /// The text of a copybook as it is handed over: itself, where nothing is done to it, or where it breaks a rule of the reference format, which its command tells.
 fn text_handed<R: AllocGlobal + Files>(
     rt: &R,
@@ -182,9 +148,20 @@ fn text_handed<R: AllocGlobal + Files>(
     let alloc = rt.alloc();
     let format = handing.spacing.format;
     let text = handing.spacing.spaced(alloc, text)?;
-    match tokens_in(alloc, format, text.as_slice()) {
-        Ok(words) => text_of_words(rt, book, handing, words.as_slice(), text),
-        Err(fault) => unread(alloc, book.file, format, fault, text),
+    let words = match tokens_in(alloc, format, text.as_slice()) {
+        Ok(words) => words,
+        Err(fault) => return unread(alloc, book.file, format, fault, text),
+    };
+    let how = copying_of(rt, book.file, handing, words.as_slice())?;
+    let name = book.record.unwrap_or("").to_ascii_uppercase(alloc)?;
+    let chosen = match book.record {
+        Some(_) => Some(name.as_bytes()),
+        None => None,
+    };
+    match record_text(alloc, &how, chosen, words.as_slice()) {
+        Ok(None) => unchanged(alloc, book, handing, words.as_slice(), text),
+        Ok(Some(made)) => judged(alloc, book.telling(handing), book.role, &how, made),
+        Err(fault) => Err(of_text(alloc, book.file, &how, &name, fault)?),
     }
 }
 
