@@ -155,20 +155,15 @@ fn push_comments(text: &mut Vec<u8>, size: usize) -> Result<(), AllocError> {
     Ok(())
 }
 
-/// Adds lines of comment to a text, and then the last line, so that it has so many bytes.
-fn push_last(text: &mut Vec<u8>, size: usize, last: &[u8]) -> Result<(), AllocError> {
-    text.push(b'\n')?;
-    let comments = size.saturating_sub(text.len() + last.len());
-    push_comments(text, comments)?;
-    text.extend_from_slice(last)
-}
-
 /// A text of so many bytes: the entries or statements that are parted by bars, each on a line, and lines of comment before the last.
 fn long_text(alloc: Global, size: usize, entries: &str) -> Result<Vec<u8>, AllocError> {
     let (front, last) = entries.rsplit_once('|').unwrap_or(("", entries));
-    let last = lines_of(alloc, last)?;
     let mut text = lines_of(alloc, front)?;
-    push_last(&mut text, size, &last)?;
+    text.push(b'\n')?;
+    let last = lines_of(alloc, last)?;
+    let comments = size.saturating_sub(text.len() + last.len());
+    push_comments(&mut text, comments)?;
+    text.extend_from_slice(&last)?;
     Ok(text)
 }
 
@@ -214,23 +209,18 @@ fn make_decoded<R: AllocGlobal + Files + Print>(rt: &R, name: &str, from: &str) 
     make(rt, name, decoded(rt.alloc(), text.as_str())?)
 }
 
-/// Prints bytes, or that there are none.
-fn show_bytes<R: AllocGlobal + Print>(rt: &R, bytes: &[u8]) -> io::Result<()> {
-    if bytes.is_empty() {
-        return println!(rt; "= nothing");
-    }
-    let mut digits = String::new(rt.alloc());
-    push_digits(&mut digits, bytes)?;
-    println!(rt; "= {digits}")
-}
-
 /// Prints the bytes of a file.
 fn show_file<R: AllocGlobal + Files + Print>(rt: &R, name: &str) -> io::Result<()> {
     if !fs::exists(rt, name)? {
         return println!(rt; "= no file");
     }
     let bytes = fs::read(rt, name)?;
-    show_bytes(rt, &bytes)
+    if bytes.is_empty() {
+        return println!(rt; "= nothing");
+    }
+    let mut digits = String::new(rt.alloc());
+    push_digits(&mut digits, &bytes)?;
+    println!(rt; "= {digits}")
 }
 
 /// Prints the lines of a text.

@@ -73,27 +73,17 @@ fn list_entries(
     Ok(layout_text(&layout, sink))
 }
 
-/// Writes the lines of a record's entries, as far as an output has room for them, and the fault where it has not.
-fn push_entries(
-    alloc: Global,
-    book: &Book,
-    room: &mut [u8],
-    out: &mut String,
-) -> Result<(), RowFault> {
-    let mut sink = MemSink::new(room);
-    let answer = list_entries(alloc, book, &mut sink)?;
+/// The lines of a record's entries, of which the output takes so many bytes.
+fn layout(alloc: Global, row: &Row, room: usize, out: &mut String) -> Result<(), RowFault> {
+    let book = book_of(alloc, row)?;
+    let mut room = vec![in alloc; 0u8; room]?;
+    let mut sink = MemSink::new(&mut room);
+    let answer = list_entries(alloc, &book, &mut sink)?;
     push_lines(out, sink.taken())?;
     match answer {
         Ok(()) => Ok(()),
         Err(fault) => Ok(write!(out, "{fault} after {}", fault.taken())?),
     }
-}
-
-/// The lines of a record's entries, of which the output takes so many bytes.
-fn layout(alloc: Global, row: &Row, room: usize, out: &mut String) -> Result<(), RowFault> {
-    let book = book_of(alloc, row)?;
-    let mut room = vec![in alloc; 0u8; room]?;
-    push_entries(alloc, &book, &mut room, out)
 }
 
 /// Lists the records that bytes hold.
@@ -120,41 +110,16 @@ fn push_ending(out: &mut String, answer: Result<u64, ShowFault>) -> Result<(), R
     }
 }
 
-/// Writes the lines of the records that bytes hold, as far as an output has room for them, and how they end.
-fn push_records(
-    alloc: Global,
-    book: &Book,
-    form: Form,
-    bytes: &[u8],
-    room: &mut [u8],
-    out: &mut String,
-) -> Result<(), RowFault>
-    requires { HasBlockSize form }
-{
-    let mut sink = MemSink::new(room);
-    let answer = list_records(alloc, book, form, bytes, &mut sink)?;
-    push_lines(out, sink.taken())?;
-    push_ending(out, answer)
-}
-
-/// The lines of the records of a book, of which the output takes so many bytes.
-fn records_of(
-    alloc: Global,
-    book: &Book,
-    row: &Row,
-    room: usize,
-    out: &mut String,
-) -> Result<(), RowFault> {
-    let form = form_of(row.field(2)?)?;
-    let bytes = row.bytes(alloc, 3)?;
-    let mut room = vec![in alloc; 0u8; room]?;
-    push_records(alloc, book, form, bytes.as_slice(), &mut room, out)
-}
-
 /// The lines of records, of which the output takes so many bytes.
 fn records(alloc: Global, row: &Row, room: usize, out: &mut String) -> Result<(), RowFault> {
     let book = book_of(alloc, row)?;
-    records_of(alloc, &book, row, room, out)
+    let form = form_of(row.field(2)?)?;
+    let bytes = row.bytes(alloc, 3)?;
+    let mut room = vec![in alloc; 0u8; room]?;
+    let mut sink = MemSink::new(&mut room);
+    let answer = list_records(alloc, &book, form, bytes.as_slice(), &mut sink)?;
+    push_lines(out, sink.taken())?;
+    push_ending(out, answer)
 }
 
 /// The tables on printed lines.

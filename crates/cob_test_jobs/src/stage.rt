@@ -5,12 +5,9 @@ ghost use Rattle.std.specs.Prelude.{◌≤◌, length, IfOk};
 use std::alloc::{Allocator, Global};
 use std::cell::Cell;
 use std::fmt::Display;
-use std::fs::{Metadata, OpenOptions, Permissions};
+use std::fs::{Metadata, OpenOptions};
 use std::io;
-use std::io::{BufRead, Eprint, ErrorKind, Input, Lines, PipeReader, PipeWriter, Print};
-use std::os::fd::BorrowedFd;
-use std::os::unix::net::SocketAddr;
-use std::path::PathBuf;
+use std::io::{BufRead, Eprint, ErrorKind, Input, Lines, Print};
 use std::rt::{Clock, Files};
 use std::time::Duration;
 
@@ -219,45 +216,5 @@ impl<R: Files> Files for Stage<'_, R> {
 
     fn remove_dir_all<B: Allocator>(&self, alloc: B, path: &str) -> io::Result<()> {
         self.rt.remove_dir_all(alloc, path)
-    }
-
-    fn canonicalize<B: Allocator>(&self, alloc: B, path: &str) -> io::Result<PathBuf<B>> {
-        self.rt.canonicalize(alloc, path)
-    }
-
-    fn read_link<B: Allocator>(&self, alloc: B, path: &str) -> io::Result<PathBuf<B>> {
-        self.rt.read_link(alloc, path)
-    }
-
-    fn hard_link(&self, original: &str, link: &str) -> io::Result<()> {
-        self.rt.hard_link(original, link)
-    }
-
-    fn set_permissions(&self, path: &str, perm: Permissions) -> io::Result<()> {
-        self.rt.set_permissions(path, perm)
-    }
-
-    fn symlink(&self, original: &str, link: &str) -> io::Result<()> {
-        self.rt.symlink(original, link)
-    }
-
-    fn pipe(&self) -> io::Result<(PipeReader, PipeWriter)> {
-        self.rt.pipe()
-    }
-
-    fn chown(&self, path: &str, uid: Option<u32>, gid: Option<u32>) -> io::Result<()> {
-        self.rt.chown(path, uid, gid)
-    }
-
-    fn lchown(&self, path: &str, uid: Option<u32>, gid: Option<u32>) -> io::Result<()> {
-        self.rt.lchown(path, uid, gid)
-    }
-
-    fn create_dir_with_mode(&self, path: &str, mode: u32) -> io::Result<()> {
-        self.rt.create_dir_with_mode(path, mode)
-    }
-
-    fn bind_unix(&self, socket: BorrowedFd<'_>, addr: &SocketAddr) -> io::Result<()> {
-        self.rt.bind_unix(socket, addr)
     }
 }
