@@ -8,6 +8,8 @@
 //! answered of a text that is a copybook (`none`), and a text of which nothing is answered is one (`some`). Of [`spot_at`]: that it is the place of one of the
 //! words. The definitions stand in specs/Refused.antt. Which word it is, and on which line a refusal is told, no clause says.
 //!
+//! A [`MoveRefusal`] is what is refused of a paragraph: `cob_report_refused_moves` answers them.
+//!
 //! # Where it is proved
 //!
 //! The clauses `each`, `none`, `some` of `book_refusals` and that of `spot_at`.
@@ -20,5 +22,5 @@ mod sentences;
 mod spots;
 
 pub use books::book_refusals;
-pub use refusal::Refusal;
+pub use refusal::{MoveRefusal, Refusal};
 pub use spots::{Spot, spot_at};
