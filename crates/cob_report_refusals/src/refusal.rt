@@ -7,7 +7,7 @@ use cob_move_statements::MoveFault;
 pub struct Refusal {
     /// The rule, and the line that is told: that of the entry's first word.
     pub fault: BookFault,
-    /// How many of the text's words stand before the entry that breaks it, where one does by itself.
+    /// How many of the text's words stand before the entry that breaks it, where one does by itself, and is found.
     pub from: Option<usize>,
 }
 
