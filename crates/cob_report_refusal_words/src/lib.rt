@@ -1,6 +1,6 @@
 //! Texts that are refused, in words: a block for each refusal, as a compiler prints one.
 //!
-//! [`book_blocks`] writes those of a copybook, and [`moves_blocks`] that of a paragraph. [`made_refusals`] says the same of a text that was made of others, whose
+//! [`book_blocks`] writes those of a copybook, and [`moves_blocks`] those of a paragraph. [`made_refusals`] says the same of a text that was made of others, whose
 //! lines its caller tells. A block has a line with the file, the line, the column, the rule and what is wrong; the line of the text; a line
 //! that points at the word; and what to do, where that is known:
 //!

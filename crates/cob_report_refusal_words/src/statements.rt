@@ -4,6 +4,7 @@ use crate::clauses::{Read, behind_term, is_characters, lacks};
 use crate::entry::{behind_many, front_of};
 use crate::terms::{behind, is_name_word, is_term};
 use cob_copybook_clauses::WordClass;
+use cob_report_refusals::Spot;
 use cob_source::{Token, TokenKind};
 
 /// The words behind the qualifiers of a name, or what lacks in them.
@@ -138,6 +139,16 @@ pub(crate) fn receivers_of(statement: &[Token]) -> &[Token] {
 pub(crate) fn words_on(words: &[Token], line: u32) -> &[Token] {
     for (at, word) in words.iter().enumerate() {
         if word.line == line {
+            return behind_many(words, at);
+        }
+    }
+    &[]
+}
+
+/// The words from the one at a place on.
+pub(crate) fn words_at(words: &[Token], place: Spot) -> &[Token] {
+    for (at, word) in words.iter().enumerate() {
+        if word.line == place.line && word.column == place.column {
             return behind_many(words, at);
         }
     }

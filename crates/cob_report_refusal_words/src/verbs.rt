@@ -110,7 +110,11 @@ fn lack_hint<'a>(before: &'a [Token], expected: &str, word: &'a Token) -> Option
 
 /// What is told of words that are no statements, on a line.
 pub(crate) fn told_words(words: &[Token], line: u32) -> Told<'_> {
-    let rest = broken_on(words, line);
+    told_statement_words(broken_on(words, line))
+}
+
+/// What is told of words that begin with no statement.
+pub(crate) fn told_statement_words(rest: &[Token]) -> Told<'_> {
     let Some(first) = rest.first() else {
         return said(None, Phrase::plain("no statement stands in it"));
     };
