@@ -1,15 +1,20 @@
 //! The blocks of a paragraph that is refused.
 
+ghost use Rattle.std.specs.Prelude.{IfSome};
+ghost use Rattle.cob_source.specs.Tokens.{lexemes};
+ghost use Rattle.cob_report_refusal_words.specs.Pointing.{IsUnderStatement};
+
 use crate::bearers::{BookWords, BothWords};
 use crate::blocks::push_block;
 use crate::books::{Blocks, words_of};
 use crate::operands::{told_ambiguous, told_groups, told_pair, told_receiver, told_unknown};
 use crate::phrases::{Part, Phrase};
+use crate::pointing::in_statement;
 use crate::source::{SourceText, told_source};
-use crate::statements::{is_constant, statement_in_front, statement_on, words_at};
+use crate::statements::{broken_on, is_constant, moved_on, statement_in_front, words_at};
 use crate::subscripts::told_subscripts;
 use crate::told::{Caret, Told, advised, said};
-use crate::verbs::{told_statement_words, told_words};
+use crate::verbs::told_statement_words;
 use cob_move_statements::MoveRule;
 use cob_report_refusals::{MoveRefusal, Spot};
 use cob_source::{SourceRule, Token, TokenKind, paragraph_tokens};
@@ -90,27 +95,23 @@ fn told_other(statement: &[Token], rule: MoveRule) -> Told<'_> {
     }
 }
 
-/// The statement that a refusal is of.
-fn statement_of<'a>(words: &'a [Token], refusal: &MoveRefusal) -> &'a [Token] {
+/// The words from the statement on that a refusal is told of.
+fn words_told<'a>(words: &'a [Token], refusal: &MoveRefusal) -> &'a [Token] {
+    let line = refusal.fault.line;
     match refusal.at {
-        Some(place) => statement_in_front(words_at(words, place)),
-        None => statement_on(words, refusal.fault.line),
+        Some(place) => words_at(words, place),
+        None => match refusal.fault.rule {
+            MoveRule::Grammar => broken_on(words, line),
+            _ => moved_on(words, line),
+        },
     }
 }
 
-/// What is told of words that are no statement.
-fn told_none<'a>(words: &'a [Token], refusal: &MoveRefusal) -> Told<'a> {
-    match refusal.at {
-        Some(place) => told_statement_words(words_at(words, place)),
-        None => told_words(words, refusal.fault.line),
-    }
-}
-
-/// What is told of a statement.
-fn told_statement<'a>(both: BothWords<'a>, words: &'a [Token], refusal: &MoveRefusal) -> Told<'a> {
-    let statement = statement_of(words, refusal);
-    match refusal.fault.rule {
-        MoveRule::Grammar => told_none(words, refusal),
+/// What is told of the statement in front, which breaks this rule.
+fn told_statement<'a>(both: BothWords<'a>, words: &'a [Token], rule: MoveRule) -> Told<'a> {
+    let statement = statement_in_front(words);
+    match rule {
+        MoveRule::Grammar => told_statement_words(words),
         MoveRule::Unknown => told_unknown(both, statement),
         MoveRule::Ambiguous => told_ambiguous(both, statement),
         MoveRule::Subscripts => told_subscripts(both, statement),
@@ -130,6 +131,24 @@ fn told_statement<'a>(both: BothWords<'a>, words: &'a [Token], refusal: &MoveRef
         MoveRule::Literal => told_literal(statement),
         MoveRule::Groups => told_groups(both, statement),
         rule => told_other(statement, rule),
+    }
+}
+
+/// What is told of a refusal of a paragraph with these words: of its statement, where it is no rule of the reference format.
+pub fn told_of_statement<'a>(
+    both: BothWords<'a>,
+    words: &'a [Token],
+    refusal: &MoveRefusal,
+) -> Told<'a>
+    // It points at a word of the statement that the refusal is told of, if at one.
+    ensures { IfSome result.at (λ c. IsUnderStatement refusal.now c (lexemes words.now)) }
+{
+    let rest = words_told(words, refusal);
+    let Told { at, what, hint } = told_statement(both, rest, refusal.fault.rule);
+    Told {
+        at: in_statement(words, rest, refusal, at),
+        what,
+        hint,
     }
 }
 
@@ -193,7 +212,7 @@ fn push_refusal(
         );
         return push_block(alloc, out, moves.file, moves.text, &rule, &told);
     }
-    let told = told_statement(both, words, refusal).among(words);
+    let told = told_of_statement(both, words, refusal);
     push_block(alloc, out, moves.file, moves.text, &rule, &told)
 }
 

@@ -177,14 +177,14 @@ pub(crate) fn broken_on(words: &[Token], line: u32) -> &[Token] {
     from
 }
 
-/// The first statement that begins with MOVE on a line, or what stands there.
-pub(crate) fn statement_on(words: &[Token], line: u32) -> &[Token] {
+/// The words from the first MOVE on a line on, or from the first word there where none is.
+pub(crate) fn moved_on(words: &[Token], line: u32) -> &[Token] {
     let from = words_on(words, line);
     for at in 0..line_len(from, line) {
         let rest = behind_many(from, at);
         if behind(rest, WordClass::Move).is_some() {
-            return statement_in_front(rest);
+            return rest;
         }
     }
-    statement_in_front(from)
+    from
 }

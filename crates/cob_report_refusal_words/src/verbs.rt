@@ -3,7 +3,7 @@
 use crate::clauses::Lack;
 use crate::entry::{last_words, words_before};
 use crate::phrases::{Part, Phrase};
-use crate::statements::{behind_statement, broken_on};
+use crate::statements::behind_statement;
 use crate::terms::{is_name_word, is_term};
 use crate::told::{Caret, Told, advised, said};
 use cob_copybook_clauses::WordClass;
@@ -106,11 +106,6 @@ fn lack_hint<'a>(before: &'a [Token], expected: &str, word: &'a Token) -> Option
         return Some(Phrase::of_two("{} TO {}.", Part::Words(before), Part::Word(word)));
     }
     None
-}
-
-/// What is told of words that are no statements, on a line.
-pub(crate) fn told_words(words: &[Token], line: u32) -> Told<'_> {
-    told_statement_words(broken_on(words, line))
 }
 
 /// What is told of words that begin with no statement.
