@@ -19,4 +19,5 @@ mod made;
 mod texts;
 mod told;
 
-pub use command::{Reported, do_convert_reported};
+pub use command::do_convert_reported;
+pub use told::Reported;
