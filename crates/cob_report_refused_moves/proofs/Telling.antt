@@ -1,5 +1,5 @@
 -- What is told of the statements of a paragraph.
-use Rattle.std.proofs.Common.{◌≡◌, ℕ, List, [], ◌∷◌, ◌++◌, take, drop, sym, subst, inl}
+use Rattle.std.proofs.Common.{◌≡◌, ℕ, List, [], ◌∷◌, ◌++◌, take, drop, refl, sym, subst, inl, inr}
 use Rattle.std.proofs.lemmas.List.{take-append-drop}
 use Rattle.std.specs.Prelude.{IfSome, OnOk, Option, Some, None, Result, Ok, Err}
 use Rattle.std.specs.List.{AllByRecursion}
@@ -10,8 +10,9 @@ use Rattle.cob_copybook_tree.specs.Nodes.{Resolved}
 use Rattle.cob_move_statements.specs.declared.fault.MoveFault.{MoveFault}
 use Rattle.cob_move.specs.Bodies.{IsBodyIn}
 use Rattle.cob_move.specs.Paragraphs.{IsRefusalOf}
-use Rattle.cob_report_refused_moves.specs.Statements.{AreMoveRefusals, FirstIsOf, HasRun, IsMoveRefusal, IsRunOf}
+use Rattle.cob_report_refused_moves.specs.Statements.{AreMoveRefusals, BeginsThere, FirstIsOf, HasRun, IsMoveRefusal, IsRefusedStatement, IsRefusedThere, IsRunOf}
 use Rattle.cob_report_refusals.specs.declared.refusal.MoveRefusal.{MoveRefusal}
+use Rattle.cob_report_refusals.specs.declared.spots.Spot.{Spot}
 
 all_behind : (P : MoveRefusal → Type 0) (a b : List MoveRefusal) → AllByRecursion P a → AllByRecursion P b → AllByRecursion P (a ++ b)
 all_behind P [] b ha hb = hb
@@ -28,22 +29,25 @@ all_pushed text input output a r items e all told = subst (AreMoveRefusals text 
 
 -- the statements of words that stand in the body of a text are those of the text
 pub has_run : (text : List ℕ) (input output : Forest Resolved) (words body run : List Lexeme) → AreParagraphWordsOf text words → IsBodyIn words body → IsRunOf run body → HasRun text input output run
-has_run text input output words body run are is on = λ f own one refused. record {
-  words = words;
-  body = body;
-  run = run;
-  own = own;
-  are_words = are;
-  is_body = is;
-  is_run = on;
-  is_one = one;
-  refused = refused;
-}
+has_run text input output words body run are is on = λ f own one refused. (
+  record {
+    words = words;
+    body = body;
+    run = run;
+    own = own;
+    are_words = are;
+    is_body = is;
+    is_run = on;
+    is_one = one;
+    refused = refused;
+  },
+  refl,
+)
 
 -- a refusal, and others before and behind
 pub begin_all : (text : List ℕ) (input output : Forest Resolved) (r : MoveRefusal) (before behind items : List MoveRefusal) → items ≡ (r ∷ before) ++ behind
-    → IsRefusalOf r.fault text input output → AreMoveRefusals text input output before → AreMoveRefusals text input output behind → AreMoveRefusals text input output items
-begin_all text input output r before behind items e h a b = subst (AreMoveRefusals text input output) (sym e) (inl h, all_behind (IsMoveRefusal text input output) before behind a b)
+    → IsRefusalOf r.fault text input output → IfSome r.at (IsRefusedThere r.fault text input output) → AreMoveRefusals text input output before → AreMoveRefusals text input output behind → AreMoveRefusals text input output items
+begin_all text input output r before behind items e h at a b = subst (AreMoveRefusals text input output) (sym e) ((inl h, at), all_behind (IsMoveRefusal text input output) before behind a b)
 
 pub begin_is : (fault : MoveFault) (r : MoveRefusal) (before behind items : List MoveRefusal) → items ≡ (r ∷ before) ++ behind → r.fault ≡ fault → FirstIsOf fault items
 begin_is fault r before behind items e same = subst (FirstIsOf fault) (sym e) same
@@ -61,6 +65,9 @@ all_cut P n rs front back e f all = let parts = all_parts P n rs all in (subst (
 pub all_behind_first : (P : MoveRefusal → Type 0) (r : MoveRefusal) (rest rs : List MoveRefusal) → rest ≡ r ∷ rs → AllByRecursion P rest → AllByRecursion P rs
 all_behind_first P r rest rs e all = (subst (AllByRecursion P) e all).1
 
+pub first_of : (P : MoveRefusal → Type 0) (r : MoveRefusal) (rest rs : List MoveRefusal) → rest ≡ r ∷ rs → AllByRecursion P rest → P r
+first_of P r rest rs e all = (subst (AllByRecursion P) e all).0
+
 -- what holds where an answer is Ok, and what follows from it
 pub on_wider : {A E : Type 0} {P Q : Type 0} (r : Result A E) → (P → Q) → OnOk r P → OnOk r Q
 on_wider (Ok a) f h = f h
@@ -69,3 +76,9 @@ on_wider (Err e) f h = tt
 pub some_wider : {A : Type 0} {P Q : A → Type 0} (o : Option A) → ((a : A) → P a → Q a) → IfSome o P → IfSome o Q
 some_wider (Some a) f h = f a h
 some_wider None f h = tt
+
+-- a refused statement of the text, told where it begins
+pub statement_told : (text : List ℕ) (input output : Forest Resolved) (f : MoveFault) (own : List Lexeme) (at : Option Spot) → IsRefusedStatement f text input output own
+    → IfSome at (λ s. BeginsThere s own) → IsMoveRefusal text input output (record { fault = f; at = at })
+statement_told text input output f own at h begins =
+    (inr h.0, some_wider at (λ s b. (h.0, subst (BeginsThere s) (sym h.1) b)) begins)

@@ -1,5 +1,5 @@
 -- What is told of a paragraph that is refused: its statements, each by itself.
-use Rattle.std.specs.Prelude.{◌≡◌, ◌⊎◌, ℕ, List, [], ◌∷◌, ◌++◌}
+use Rattle.std.specs.Prelude.{◌≡◌, ◌⊎◌, ℕ, List, [], ◌∷◌, ◌++◌, IfSome}
 use Rattle.std.specs.List.{AllByRecursion}
 use Rattle.cob_source.specs.Tokens.{Lexeme}
 use Rattle.cob_source.specs.Words.{AreParagraphWordsOf}
@@ -15,6 +15,7 @@ use Rattle.cob_move_statements.specs.Statements.{EndsStatement}
 use Rattle.cob_move.specs.Bodies.{IsBodyIn, RunIsRefused}
 use Rattle.cob_move.specs.Paragraphs.{IsRefusalOf}
 use Rattle.cob_report_refusals.specs.declared.refusal.MoveRefusal.{MoveRefusal}
+use Rattle.cob_report_refusals.specs.declared.spots.Spot.{Spot}
 
 -- a word behind which a statement goes on: neither MOVE nor a period
 abbrev pub GoesOn : Lexeme → Type 0
@@ -54,18 +55,32 @@ pub record IsStatementRefusal (f : MoveFault) (text : List ℕ) (input output : 
   pub is_one : IsOneWritten own run
   pub refused : RunIsRefused f (all_entries input output) input output own
 
--- the refusal names a rule that the text breaks, or one of its statements by itself
+-- the first of the words stands there
+abbrev pub BeginsThere : Spot → List Lexeme → Type 0
+BeginsThere s [] = ⊥
+BeginsThere s (w ∷ ws) = (w.line ≡ s.line) × (w.column ≡ s.column)
+
+-- a statement that is refused so by itself begins there
+abbrev pub IsRefusedThere : MoveFault → List ℕ → Forest Resolved → Forest Resolved → Spot → Type 0
+IsRefusedThere f text input output s = (r : IsStatementRefusal f text input output) × BeginsThere s r.own
+
+-- The refusal names a rule that the text breaks, or one of its statements by itself; and the place that it tells, if it tells one, is that of such a statement.
 abbrev pub IsMoveRefusal : List ℕ → Forest Resolved → Forest Resolved → MoveRefusal → Type 0
-IsMoveRefusal text input output r = IsRefusalOf r.fault text input output ⊎ IsStatementRefusal r.fault text input output
+IsMoveRefusal text input output r =
+    (IsRefusalOf r.fault text input output ⊎ IsStatementRefusal r.fault text input output) × IfSome r.at (IsRefusedThere r.fault text input output)
 
 -- Each of them does.
 abbrev pub AreMoveRefusals : List ℕ → Forest Resolved → Forest Resolved → List MoveRefusal → Type 0
 AreMoveRefusals text input output rs = AllByRecursion (IsMoveRefusal text input output) rs
 
+-- these words are one of the text's statements, which is refused so by itself
+abbrev pub IsRefusedStatement : MoveFault → List ℕ → Forest Resolved → Forest Resolved → List Lexeme → Type 0
+IsRefusedStatement f text input output own = (r : IsStatementRefusal f text input output) × (r.own ≡ own)
+
 -- whatever statement of these words is refused by itself, so it is of the text
 abbrev pub HasRun : List ℕ → Forest Resolved → Forest Resolved → List Lexeme → Type 0
 HasRun text input output run =
-    (f : MoveFault) (own : List Lexeme) → IsOneWritten own run → RunIsRefused f (all_entries input output) input output own → IsStatementRefusal f text input output
+    (f : MoveFault) (own : List Lexeme) → IsOneWritten own run → RunIsRefused f (all_entries input output) input output own → IsRefusedStatement f text input output own
 
 -- refusals of the statements of these words stand behind those before
 abbrev pub AddsOfRun : Forest Resolved → Forest Resolved → List Lexeme → (old new : List MoveRefusal) → Type 0

@@ -6,7 +6,7 @@
 //! once. Where loops can't be written out, nothing stands behind the first.
 //!
 //! What is promised: each refusal names a rule that the text breaks, by the definition that `Paragraph::read` has of it, or that one of its statements breaks by
-//! itself (clause `each`); nothing is answered of a text that is a paragraph (`none`), and a text of which nothing is answered is one (`some`). The definitions
+//! itself; and the place that it tells, if it tells one, is where such a statement begins (clause `each`); nothing is answered of a text that is a paragraph (`none`), and a text of which nothing is answered is one (`some`). The definitions
 //! stand in specs/Statements.antt. On which line a refusal is told, and that each statement that is refused is told, no clause says.
 //!
 //! # Where it is proved

@@ -8,13 +8,13 @@ ghost use Rattle.cob_copybook_tree.specs.Forests.{Forest};
 ghost use Rattle.cob_copybook_tree.specs.Nodes.{Resolved};
 ghost use Rattle.cob_move_apply.specs.Some.{SomeOf};
 ghost use Rattle.cob_move_deeds.specs.Deeds.{Deeds};
-ghost use Rattle.cob_move_deeds.specs.Tests.{Past};
+ghost use Rattle.cob_move_deeds.specs.Tests.{Test};
 ghost use Rattle.cob_move_loops.specs.Passages.{IsPassage, Passage};
 ghost use Rattle.cob_move_loops.specs.Reading.{all_runs, run_words};
 ghost use Rattle.cob_move_loops.specs.Words.{IsOther};
 ghost use Rattle.cob_move.specs.Bodies.{IsBodyIn};
 ghost use Rattle.cob_move.specs.Paragraphs.{IsParagraphOf, IsRefusalOf};
-ghost use Rattle.cob_report_refused_moves.specs.Statements.{AddsOfBody, AddsOfRun, AddsOfRuns, AreMoveRefusals, FirstIsOf};
+ghost use Rattle.cob_report_refused_moves.specs.Statements.{AddsOfBody, AddsOfRun, AddsOfRuns, AreMoveRefusals, FirstIsOf, IsMoveRefusal, IsRefusedThere};
 
 use crate::statements::{add_run, add_statements, spot_of};
 use cob_layout::Layout;
@@ -246,26 +246,50 @@ fn statement_refusals(
     Ok(out)
 }
 
+/// Whether two faults are one.
+fn is_same(fault: &MoveFault, other: &MoveFault) -> bool
+    ensures { IsTrue result → fault.now ≡ other.now }
+{
+    *fault == *other
+}
+
 /// How many refusals stand before the first of this fault, if one is of it.
 fn place_of(first: &MoveFault, found: &[MoveRefusal]) -> Option<usize> {
     for (at, refusal) in found.iter().enumerate() {
-        if refusal.fault == *first {
+        if is_same(first, &refusal.fault) {
             return Some(at);
         }
     }
     None
 }
 
-/// Where the statement stands of the refusal with this number, if there are as many, and the others: those before it, and those behind it.
-fn parted_at(found: &[MoveRefusal], number: usize) -> (Option<Spot>, &[MoveRefusal], &[MoveRefusal])
+/// Where the statement stands of a refusal, if it is of this fault.
+fn place_in(first: &MoveFault, refusal: &MoveRefusal) -> Option<Spot>
+    ensures { (text : List ℕ) (input output : Forest Resolved)
+        → IsMoveRefusal text input output refusal.now
+        → IfSome result (IsRefusedThere first.now text input output) }
+{
+    if is_same(first, &refusal.fault) {
+        return refusal.at;
+    }
+    None
+}
+
+/// Where the statement stands of the refusal with this number, if there are as many and it is of this fault, and the others: those before it, and those behind it.
+fn parted_at<'a>(
+    first: &MoveFault,
+    found: &'a [MoveRefusal],
+    number: usize,
+) -> (Option<Spot>, &'a [MoveRefusal], &'a [MoveRefusal])
     ensures { (text : List ℕ) (input output : Forest Resolved)
         → AreMoveRefusals text input output found.now
-        → AreMoveRefusals text input output result.1.now
+        → IfSome result.0 (IsRefusedThere first.now text input output)
+        × AreMoveRefusals text input output result.1.now
         × AreMoveRefusals text input output result.2.now }
 {
     let (before, rest) = found.split_at(number.min(found.len()));
     match rest.split_first() {
-        Some((head, others)) => (head.at, before, others),
+        Some((head, others)) => (place_in(first, head), before, others),
         None => (None, before, rest),
     }
 }
@@ -277,11 +301,12 @@ fn parted<'a>(
 ) -> (Option<Spot>, &'a [MoveRefusal], &'a [MoveRefusal])
     ensures { (text : List ℕ) (input output : Forest Resolved)
         → AreMoveRefusals text input output found.now
-        → AreMoveRefusals text input output result.1.now
+        → IfSome result.0 (IsRefusedThere first.now text input output)
+        × AreMoveRefusals text input output result.1.now
         × AreMoveRefusals text input output result.2.now }
 {
     match place_of(first, found) {
-        Some(number) => parted_at(found, number),
+        Some(number) => parted_at(first, found, number),
         None => (None, &[], found),
     }
 }
@@ -382,14 +407,14 @@ pub fn move_refusals(
     output: &Layout,
     text: &[u8],
 ) -> Result<Vec<MoveRefusal>, AllocError>
-    // Each names a rule that is broken.
+    // Each names a rule that is broken, and no place but that of a statement which breaks it.
     ensures each { IfOk result (λ v. AreMoveRefusals text.now input.now output.now v.items) }
     // Of a text that is a paragraph nothing is told.
-    ensures none { (d : Deeds Past) → IsParagraphOf text.now input.now output.now d
+    ensures none { (d : Deeds Test) → IsParagraphOf text.now input.now output.now d
         → IfOk result (λ v. v.items ≡ []) }
     // A text of which nothing is told is a paragraph.
     ensures some { IfOk result (λ v. v.items ≡ []
-        → (d : Deeds Past) × IsParagraphOf text.now input.now output.now d) }
+        → (d : Deeds Test) × IsParagraphOf text.now input.now output.now d) }
 {
     let Err(fault) = Paragraph::read(alloc, input, output, text) else {
         return Ok(Vec::new(alloc));

@@ -7,7 +7,7 @@ ghost use Rattle.cob_move_names.specs.Candidates.{all_entries};
 ghost use Rattle.cob_move_statements.specs.Written.{written_statements};
 ghost use Rattle.cob_move.specs.Bodies.{RunIsRefused};
 ghost use Rattle.cob_move.specs.Refusals.{AreBroken};
-ghost use Rattle.cob_report_refused_moves.specs.Statements.{AddsOfRun, AreMoveRefusals, IsStatementRefusal};
+ghost use Rattle.cob_report_refused_moves.specs.Statements.{AddsOfRun, AreMoveRefusals, BeginsThere, IsRefusedStatement};
 
 use crate::written::written_at;
 use cob_layout::Layout;
@@ -72,7 +72,9 @@ fn fault_of_words(
 }
 
 /// Where the first of these words stands, if there is one.
-pub(crate) fn spot_of(words: &[Token]) -> Option<Spot> {
+pub(crate) fn spot_of(words: &[Token]) -> Option<Spot>
+    ensures { IfSome result (λ s. BeginsThere s (lexemes words.now)) }
+{
     let first = words.first()?;
     Some(Spot {
         line: first.line,
@@ -121,7 +123,7 @@ fn add_statement(
 ) -> Result<(), AllocError>
     ensures { OnOk result ((text : List ℕ)
         → ((f : MoveFault) → RunIsRefused f (all_entries input.now output.now) input.now output.now
-        (lexemes own.now) → IsStatementRefusal f text input.now output.now)
+        (lexemes own.now) → IsRefusedStatement f text input.now output.now (lexemes own.now))
         → AreMoveRefusals text input.now output.now out.old.items
         → AreMoveRefusals text input.now output.now out.new.items) }
 {
@@ -244,7 +246,7 @@ fn add_doubtful(
 ) -> Result<(), AllocError>
     ensures { OnOk result ((text : List ℕ)
         → ((f : MoveFault) → RunIsRefused f (all_entries input.now output.now) input.now output.now
-        (lexemes own.now) → IsStatementRefusal f text input.now output.now)
+        (lexemes own.now) → IsRefusedStatement f text input.now output.now (lexemes own.now))
         → AreMoveRefusals text input.now output.now out.old.items
         → AreMoveRefusals text input.now output.now out.new.items) }
 {

@@ -9,4 +9,4 @@ returns-clause-begins c = ok_wider c.followed.result (λ v e. begin_is c.args.fi
 pub returns-clause-each : goal.returns-clause-each
 returns-clause-each c = λ text input output refused all.
     let parts = c.parted-at.ensures text input output all in
-    ok_wider c.followed.result (λ v e. begin_all text input output _ _ _ v.items e refused parts.0 parts.1) c.followed.ensures
+    ok_wider c.followed.result (λ v e. begin_all text input output _ _ _ v.items e refused parts.0 parts.1 parts.2) c.followed.ensures
