@@ -25,6 +25,7 @@ use crate::walk::{RecordStop, TestStop, WalkRoom};
 use crate::walking::each;
 use crate::watcher::Watcher;
 use cob_layout::one_outcome_of_counts;
+use cob_move_condition::one_comparison;
 use cob_move_deeds::{CountedLoop, Flow, ReadyDeeds};
 
 /// What is done to a record, and the record: the layouts of both records, what is done between them, and the storage of the input record.
@@ -197,6 +198,7 @@ fn walk_turns<W: Watcher>(
     ensures room { HasWalkRoom (records_walked walk.now) room.new }
 {
     one_outcome_of_counts();
+    one_comparison();
     let gave = bound_given(walk, one.bound, output, room)?;
     let turns = turns_up_to(one, gave);
     walk_between(walk, one.first, one.first + turns, output, room, watcher)?;

@@ -263,7 +263,7 @@ impl StopText<'_> {
                 "asked by moves line {}: UNTIL {} > {}",
                 asked.line, asked.counter, asked.bound
             ),
-            Asker::Condition { line } => write!(f, "asked by moves line {line}: IF"),
+            Asker::Condition { line } => write!(f, "asked by moves line {}: IF", *line),
             Asker::Came => write!(f, "asked before all moves, by the record that came"),
             Asker::Written => {
                 write!(

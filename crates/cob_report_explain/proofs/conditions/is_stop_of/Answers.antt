@@ -1,8 +1,6 @@
 use Rattle.std.proofs.Common.{◌∙◌, List, Option, subst, sym}
 use Rattle.cob_layout.specs.declared.counts.StoredCount.{StoredCount}
 use Rattle.cob_layout.specs.Kept.{AreKeptOf}
-use Rattle.cob_report_explain.specs.Flowing.{records_walked}
-use Rattle.cob_report_explain.specs.Walked.{HasWalkRoom}
 use Rattle.cob_report_explain.proofs.conditions.is_stop_of.Goals as goal
 
 pub place-requires-clause-room : goal.place-requires-clause-room
