@@ -1,9 +1,8 @@
 //! A run over the records that come of a source: over all, or over those that are chosen.
 
-ghost use Rattle.cob_records.specs.Device.{Told};
 ghost use Rattle.cob_records.specs.Forms.{HasBlockSize};
 ghost use Rattle.cob_records_parts.specs.Rests.{rest_inside};
-ghost use Rattle.cob_program_run.specs.Ran.{AnswersOver, AnswersOverApart, AnswersOverChosen};
+ghost use Rattle.cob_program_run.specs.Ran.{AnswersFrom, AnswersOver, AnswersOverApart, AnswersOverChosen};
 
 use crate::run::CommandRun;
 use cob_records::{Form, Progress, Source, Telling};
@@ -11,21 +10,20 @@ use cob_records_parts::{Chosen, Incoming};
 use std::io::Eprint;
 use std::rt::Clock;
 
-/// The answer of a run over a source. It tells on standard error how far it is where that is asked for.
-fn run_over_source<T: Eprint + Clock, S: Source, R: CommandRun>(
+/// The answer of a run over a source, which is let go behind it. It tells on standard error how far it is where that is asked for.
+fn run_over_source<T: Eprint + Clock, S: Source + Drop, R: CommandRun>(
     rt: &T,
     form: Form,
     telling: Option<Telling>,
-    source: &mut S,
+    mut source: S,
     run: &mut R,
 ) -> Result<R::Done, R::Fault>
     requires { HasBlockSize form }
-    ensures ran { Told (S.coming source.old) (S.coming source.new)
-        (R.means run.old run.new result) }
+    ensures ran { AnswersFrom (R.means run.old run.new) result (S.coming source) }
     ensures counts { R.counts run.old run.new result }
 {
     match telling {
-        None => run.run(source),
+        None => run.run(&mut source),
         Some(telling) => {
             let length = run.in_length();
             let mut told = Progress::new(source, rt, form, length, telling);
@@ -66,7 +64,7 @@ fn run_over_chosen<T: Eprint + Clock, S: Source + Drop, R: CommandRun>(
         (rest_inside chosen) }
 {
     match chosen.into_rest() {
-        Ok(mut rest) => run_over_source(rt, form, telling, &mut rest, run),
+        Ok(rest) => run_over_source(rt, form, telling, rest, run),
         Err(chosen) => run_over_apart(rt, form, telling, chosen, run),
     }
 }
@@ -83,7 +81,7 @@ pub(crate) fn run_over_incoming<T: Eprint + Clock, S: Source + Drop, R: CommandR
     ensures ran { AnswersOver S.coming R.cause (R.means run.old run.new) result incoming }
 {
     match incoming {
-        Incoming::All(mut source) => run_over_source(rt, form, telling, &mut source, run),
+        Incoming::All(source) => run_over_source(rt, form, telling, source, run),
         Incoming::Some(chosen) => run_over_chosen(rt, form, telling, chosen, run),
     }
 }
