@@ -220,10 +220,10 @@ fn report_with<'r, 'a>(
     words: &'r RunWords<'a>,
     run: RunDone,
 ) -> RunReport<'r, 'a>
-    ensures counts { result.counts ≡ counts_of run.outcome }
+    ensures counts { result.counts ≡ counts_of run.entry.outcome }
     ensures skipped { result.skipped ≡ skipped }
     ensures uncovered { result.uncovered ≡ counted.now.uncovered }
-    ensures milliseconds { result.milliseconds ≡ run.milliseconds }
+    ensures milliseconds { result.milliseconds ≡ run.entry.milliseconds }
 {
     RunReport {
         version,
