@@ -6,8 +6,8 @@ ghost use Rattle.cob_program_report.specs.Ends.{CameTo, EndsConvert, EndsReporte
 ghost use Rattle.cob_records.specs.Forms.{HasBlockSize};
 
 use crate::made::{ReportFault, ReportPart, close_report, leave_report, open_report};
-use crate::texts::{Counted, ReadTexts, converter_of, counted_of, read_texts};
-use crate::told::{Reported, RunDone, is_run, report_of};
+use crate::texts::{ReadTexts, converter_of, read_texts, uncovered};
+use crate::told::{RunKnown, is_run, report_of};
 use cob_convert::{Converter, RunFault, Status};
 use cob_convert_stream::Reason;
 use cob_program_convert::{convert_aside_by, convert_plain_by, tell_converted};
@@ -18,10 +18,20 @@ use cob_program_line::ConvertLine;
 use cob_program_run::RejectionWatcher;
 use cob_records::FileSink;
 use cob_report_run::Causes;
-use std::alloc::AllocError;
 use std::io::{Eprint, Input, Print, Printer};
 use std::rt::{Clock, Files};
 use std::time::Instant;
+
+/// How a conversion is reported: where, by which version of the program, and whether it is explained.
+#[derive(Clone, Copy)]
+pub struct Reported<'a> {
+    /// The file of the report.
+    pub path: &'a str,
+    /// The version of the program.
+    pub version: &'a str,
+    /// Whether it is told of a record that ends the run why it does.
+    pub explain: bool,
+}
 
 /// A watcher that counts why records are rejected.
 #[derive(Drop)]
@@ -79,26 +89,28 @@ fn tell<R: AllocGlobal + Files + Input + Print + Eprint>(
     }
 }
 
-/// Writes the text of a report, and answers how the command ends, which else ends so.
-fn write_report<'r, R: AllocGlobal + Files + Print + Eprint>(
-    rt: &'r R,
+/// Writes the report of a run that came to this, and answers how the command ends, which else ends so.
+fn report<'a, R: AllocGlobal + Files + Print + Eprint>(
+    rt: &'a R,
     line: &ConvertLine<'_>,
-    path: &str,
-    part: ReportPart<FileSink<R::File, Printer<'r, R>>>,
-    text: Result<String, AllocError>,
+    part: ReportPart<'a, FileSink<R::File, Printer<'a, R>>>,
+    known: &RunKnown<'_>,
+    outcome: Result<CommandDone, CommandFault>,
     status: Status,
 ) -> Status
     ensures { (result ≡ status) ⊎ LacksReport result }
 {
-    match text {
-        Ok(text) => match close_report(rt, line, path, part, &text) {
-            Ok(()) => status,
-            Err(fault) => tell_unreported(rt, fault),
-        },
-        Err(AllocError) => {
-            leave_report(rt, part);
-            tell_unreported(rt, ReportFault::Memory)
-        }
+    if !is_run(outcome) {
+        leave_report(rt, part);
+        return status;
+    }
+    let Ok(text) = report_of(rt, line, known, outcome) else {
+        leave_report(rt, part);
+        return tell_unreported(rt, ReportFault::Memory);
+    };
+    match close_report(rt, line, part, &text) {
+        Ok(()) => status,
+        Err(fault) => tell_unreported(rt, fault),
     }
 }
 
@@ -126,76 +138,48 @@ fn is_beside<R: Files>(rt: &R, line: &ConvertLine<'_>) -> bool {
     }
 }
 
-/// A run by a converter of these texts, behind its end.
-fn timed_run<R: AllocGlobal + Files + Input + Print + Eprint + Clock>(
-    rt: &R,
-    line: &ConvertLine<'_>,
-    converter: &mut Converter,
-    causes: &mut Causes,
-) -> RunDone
-    requires in_block { HasBlockSize line.now.forms.input }
-    ensures { CameTo line.now.rejects line.now.atomic result.outcome }
-{
-    let began = Instant::now(rt).ok();
-    let outcome = run(rt, line, converter, causes);
-    RunDone {
-        outcome,
-        milliseconds: milliseconds_since(rt, began),
-    }
-}
-
 /// Converts by a converter of these texts, prints what comes of it, writes the report into its part and puts that in its place, and answers how the program
 /// ends.
-fn convert_into<'r, R: AllocGlobal + Files + Input + Print + Eprint + Clock>(
-    rt: &'r R,
+fn convert_into<'a, R: AllocGlobal + Files + Input + Print + Eprint + Clock>(
+    rt: &'a R,
     line: &ConvertLine<'_>,
-    reported: Reported<'_>,
+    reported: Reported<'a>,
     texts: &ReadTexts,
     converter: &mut Converter,
-    counted: &mut Counted,
-    part: ReportPart<FileSink<R::File, Printer<'r, R>>>,
+    part: ReportPart<'a, FileSink<R::File, Printer<'a, R>>>,
 ) -> Status
     requires in_block { HasBlockSize line.now.forms.input }
     requires out_block { HasBlockSize line.now.forms.output }
     ensures { EndsReported (EndsConvert line.now.rejects line.now.atomic result) result }
 {
-    let run = timed_run(rt, line, converter, &mut counted.causes);
-    let status = tell(rt, line, reported.explain, is_beside(rt, line), run.outcome);
-    if is_run(run.outcome) {
-        let text = report_of(rt, line, reported, texts, converter, counted, run);
-        write_report(rt, line, reported.path, part, text, status)
-    } else {
+    let Ok(uncovered) = uncovered(rt.alloc(), converter) else {
         leave_report(rt, part);
-        status
-    }
-}
-
-/// Converts by a converter of these texts, where the report can be made.
-fn convert_counted<R: AllocGlobal + Files + Input + Print + Eprint + Clock>(
-    rt: &R,
-    line: &ConvertLine<'_>,
-    reported: Reported<'_>,
-    texts: &ReadTexts,
-    converter: &mut Converter,
-) -> Status
-    requires in_block { HasBlockSize line.now.forms.input }
-    requires out_block { HasBlockSize line.now.forms.output }
-    ensures { EndsReported (EndsConvert line.now.rejects line.now.atomic result) result }
-{
-    match counted_of(rt.alloc(), converter) {
-        Ok(mut counted) => match open_report(rt, line, reported.path) {
-            Ok(part) => { convert_into(rt, line, reported, texts, converter, &mut counted, part) }
-            Err(fault) => tell_unreported(rt, fault),
-        },
-        Err(AllocError) => tell_unreported(rt, ReportFault::Memory),
-    }
+        return tell_unreported(rt, ReportFault::Memory);
+    };
+    let Ok(mut causes) = Causes::new(rt.alloc()) else {
+        leave_report(rt, part);
+        return tell_unreported(rt, ReportFault::Memory);
+    };
+    let began = Instant::now(rt).ok();
+    let outcome = run(rt, line, converter, &mut causes);
+    let known = RunKnown {
+        path: reported.path,
+        version: reported.version,
+        texts,
+        converter: &*converter,
+        causes: &causes,
+        uncovered,
+        milliseconds: milliseconds_since(rt, began),
+    };
+    let status = tell(rt, line, reported.explain, is_beside(rt, line), outcome);
+    report(rt, line, part, &known, outcome, status)
 }
 
 /// Converts by these texts, where they are refused by none of their rules and the report can be made.
-fn convert_by<R: AllocGlobal + Files + Input + Print + Eprint + Clock>(
-    rt: &R,
+fn convert_by<'a, R: AllocGlobal + Files + Input + Print + Eprint + Clock>(
+    rt: &'a R,
     line: &ConvertLine<'_>,
-    reported: Reported<'_>,
+    reported: Reported<'a>,
     texts: &ReadTexts,
 ) -> Status
     requires in_block { HasBlockSize line.now.forms.input }
@@ -203,16 +187,19 @@ fn convert_by<R: AllocGlobal + Files + Input + Print + Eprint + Clock>(
     ensures { EndsReported (EndsConvert line.now.rejects line.now.atomic result) result }
 {
     match converter_of(rt.alloc(), line, texts) {
-        Ok(mut converter) => convert_counted(rt, line, reported, texts, &mut converter),
+        Ok(mut converter) => match open_report(rt, line, reported.path) {
+            Ok(part) => convert_into(rt, line, reported, texts, &mut converter, part),
+            Err(fault) => tell_unreported(rt, fault),
+        },
         Err(fault) => tell_fault(rt, fault),
     }
 }
 
 /// Converts, prints what comes of it, and writes the report, and answers how the program ends.
-pub fn do_convert_reported<R: AllocGlobal + Files + Input + Print + Eprint + Clock>(
-    rt: &R,
+pub fn do_convert_reported<'a, R: AllocGlobal + Files + Input + Print + Eprint + Clock>(
+    rt: &'a R,
     line: &ConvertLine<'_>,
-    reported: Reported<'_>,
+    reported: Reported<'a>,
 ) -> Status
     requires in_block { HasBlockSize line.now.forms.input }
     requires out_block { HasBlockSize line.now.forms.output }

@@ -19,5 +19,4 @@ mod made;
 mod texts;
 mod told;
 
-pub use command::do_convert_reported;
-pub use told::Reported;
+pub use command::{Reported, do_convert_reported};

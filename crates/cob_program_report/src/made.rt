@@ -53,10 +53,12 @@ impl ReportFault {
 
 /// The part of a report.
 #[derive(Drop)]
-pub(crate) struct ReportPart<K> {
-    /// Its name.
-    name: String,
-    /// Where it is written to.
+pub(crate) struct ReportPart<'a, K> {
+    /// The report's own name.
+    pub(crate) path: &'a str,
+    /// That of the part.
+    part: String,
+    /// The part.
     sink: K,
 }
 
@@ -95,33 +97,33 @@ fn remove_part<R: Files>(rt: &R, part: &str) {
 /// # Errors
 ///
 /// A report that would be one with another file of the conversion, one that is not made, want of memory.
-pub(crate) fn open_report<'r, R: AllocGlobal + Files + Print>(
-    rt: &'r R,
+pub(crate) fn open_report<'a, R: AllocGlobal + Files + Print>(
+    rt: &'a R,
     line: &ConvertLine<'_>,
-    path: &str,
-) -> Result<ReportPart<FileSink<R::File, Printer<'r, R>>>, ReportFault> {
-    if let Some(other) = other_of(rt, line, path) {
-        return Err(ReportFault::OneFile(other));
+    path: &'a str,
+) -> Result<ReportPart<'a, FileSink<R::File, Printer<'a, R>>>, ReportFault> {
+    if let Some(name) = other_of(rt, line, path) {
+        return Err(ReportFault::OneFile(name));
     }
-    let Ok(name) = part_name(rt.alloc(), path) else {
+    let Ok(part) = part_name(rt.alloc(), path) else {
         return Err(ReportFault::Memory);
     };
-    let sink = match create_part(rt, path, &name) {
+    let sink = match create_part(rt, path, &part) {
         Ok(sink) => sink,
         Err(OpenFault::NotOpened) => return Err(ReportFault::NotMade),
         Err(OpenFault::Memory) => return Err(ReportFault::Memory),
     };
     // Now that it is there, it is known by all its names.
-    if let Some(other) = other_of(rt, line, &name) {
-        remove_part(rt, &name);
-        return Err(ReportFault::OneFile(other));
+    if let Some(name) = other_of(rt, line, &part) {
+        remove_part(rt, &part);
+        return Err(ReportFault::OneFile(name));
     }
-    Ok(ReportPart { name, sink })
+    Ok(ReportPart { path, part, sink })
 }
 
 /// Takes the part of a report away, which nothing is written to.
-pub(crate) fn leave_report<R: Files, K: Drop>(rt: &R, part: ReportPart<K>) {
-    remove_part(rt, &part.name);
+pub(crate) fn leave_report<R: Files, K: Drop>(rt: &R, report: ReportPart<'_, K>) {
+    remove_part(rt, &report.part);
 }
 
 /// Writes a report to its part, and puts that in its place, where no output has come there.
@@ -129,23 +131,22 @@ pub(crate) fn leave_report<R: Files, K: Drop>(rt: &R, part: ReportPart<K>) {
 /// # Errors
 ///
 /// A report that would be one with an output that is there now, a device that fails.
-pub(crate) fn close_report<'r, R: AllocGlobal + Files + Print>(
-    rt: &'r R,
+pub(crate) fn close_report<'a, R: AllocGlobal + Files + Print>(
+    rt: &'a R,
     line: &ConvertLine<'_>,
-    path: &str,
-    part: ReportPart<FileSink<R::File, Printer<'r, R>>>,
+    report: ReportPart<'a, FileSink<R::File, Printer<'a, R>>>,
     text: &str,
 ) -> Result<(), ReportFault> {
-    let ReportPart { name, sink } = part;
-    if let Some(other) = other_of(rt, line, path) {
-        remove_part(rt, &name);
-        return Err(ReportFault::OneFile(other));
+    let ReportPart { path, part, sink } = report;
+    if let Some(name) = other_of(rt, line, path) {
+        remove_part(rt, &part);
+        return Err(ReportFault::OneFile(name));
     }
     let mut writer = sink.into_inner();
     if writer.write_all(text.as_bytes()).is_err() || writer.flush().is_err() {
         return Err(ReportFault::NotWritten);
     }
-    match put_in_place(rt, WriteSink::new(writer), &name, path) {
+    match put_in_place(rt, WriteSink::new(writer), &part, path) {
         Ok(()) => Ok(()),
         Err(_) => Err(ReportFault::NotWritten),
     }

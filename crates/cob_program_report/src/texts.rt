@@ -11,7 +11,6 @@ use cob_convert::Converter;
 use cob_program_faults::{CommandFault, FileName, fitting, text_of};
 use cob_program_line::ConvertLine;
 use cob_report_cover::bytes_covered;
-use cob_report_run::Causes;
 use std::alloc::{AllocError, Global};
 use std::rt::Files;
 
@@ -108,7 +107,11 @@ pub(crate) fn converter_of(
 }
 
 /// How many bytes of the output record no move of a converter covers.
-fn uncovered(alloc: Global, converter: &Converter) -> Result<u64, AllocError> {
+///
+/// # Errors
+///
+/// Where no memory is left.
+pub(crate) fn uncovered(alloc: Global, converter: &Converter) -> Result<u64, AllocError> {
     let covered = bytes_covered(alloc, &carried(converter.conversion()))?;
     let mut count: u64 = 0;
     for is_covered in &covered {
@@ -117,25 +120,4 @@ fn uncovered(alloc: Global, converter: &Converter) -> Result<u64, AllocError> {
         }
     }
     Ok(count)
-}
-
-/// What is counted beside the records that are converted.
-#[derive(Drop)]
-pub(crate) struct Counted {
-    /// How many bytes of the output record no move covers.
-    pub(crate) uncovered: u64,
-    /// Why records were set aside.
-    pub(crate) causes: Causes,
-}
-
-/// What is counted of a converter that has no run behind it. Counting takes no memory.
-///
-/// # Errors
-///
-/// Where no memory is left.
-pub(crate) fn counted_of(alloc: Global, converter: &Converter) -> Result<Counted, AllocError> {
-    Ok(Counted {
-        uncovered: uncovered(alloc, converter)?,
-        causes: Causes::new(alloc)?,
-    })
 }

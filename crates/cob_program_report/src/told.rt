@@ -3,7 +3,7 @@
 ghost use Rattle.std.specs.Prelude.{◌≡◌};
 ghost use Rattle.cob_program_report.specs.Counts.{counts_of};
 
-use crate::texts::{Counted, ReadText, ReadTexts};
+use crate::texts::{ReadText, ReadTexts};
 use cob_convert::{Cause, Converter, Side};
 use cob_convert_stream::Reason;
 use cob_program_faults::{CommandDone, CommandFault};
@@ -183,59 +183,51 @@ fn records_file<'a, R: Files>(rt: &R, option: &'a str, path: &'a str) -> RunFile
     }
 }
 
-/// How a conversion is reported: where, by which version of the program, and whether it is explained.
+/// What is known of a run, beside what it came to.
 #[derive(Clone, Copy)]
-pub struct Reported<'a> {
-    /// The file of the report.
-    pub path: &'a str,
-    /// The version of the program.
-    pub version: &'a str,
-    /// Whether it is told of a record that ends the run why it does.
-    pub explain: bool,
-}
-
-/// A run behind its end.
-#[derive(Clone, Copy)]
-pub(crate) struct RunDone {
-    /// What it came to.
-    pub(crate) outcome: Result<CommandDone, CommandFault>,
-    /// How long it took.
+pub(crate) struct RunKnown<'a> {
+    pub(crate) path: &'a str,
+    pub(crate) version: &'a str,
+    pub(crate) texts: &'a ReadTexts,
+    pub(crate) converter: &'a Converter,
+    pub(crate) causes: &'a Causes,
+    pub(crate) uncovered: u64,
     pub(crate) milliseconds: u64,
 }
 
 /// What is told of a run in words.
-#[derive(Drop)]
-struct RunWords<'a> {
-    texts: Vec<RunText<'a>>,
-    files: Vec<RunFile<'a>>,
-    ended: String,
-    causes: Vec<CauseTold>,
+#[derive(Clone, Copy)]
+struct RunWords<'r, 'a> {
+    version: &'r str,
+    texts: &'r [RunText<'a>],
+    files: &'r [RunFile<'a>],
+    ended: &'r str,
+    causes: &'r [CauseTold],
 }
 
 /// The report of a run that came to this, and of which this is told in words.
 fn report_with<'r, 'a>(
-    version: &'r str,
-    skipped: u64,
-    counted: &Counted,
-    words: &'r RunWords<'a>,
-    run: RunDone,
+    line: &ConvertLine<'_>,
+    known: &RunKnown<'_>,
+    words: RunWords<'r, 'a>,
+    outcome: Result<CommandDone, CommandFault>,
 ) -> RunReport<'r, 'a>
-    ensures counts { result.counts ≡ counts_of run.entry.outcome }
-    ensures skipped { result.skipped ≡ skipped }
-    ensures uncovered { result.uncovered ≡ counted.now.uncovered }
-    ensures milliseconds { result.milliseconds ≡ run.entry.milliseconds }
+    ensures counts { result.counts ≡ counts_of outcome }
+    ensures skipped { result.skipped ≡ line.now.skip }
+    ensures uncovered { result.uncovered ≡ known.now.uncovered }
+    ensures milliseconds { result.milliseconds ≡ known.now.milliseconds }
 {
     RunReport {
-        version,
-        texts: &words.texts,
-        files: &words.files,
-        ended: &words.ended,
-        counts: counts_of(run.outcome),
-        causes: &words.causes,
-        others: counted.causes.others(),
-        skipped,
-        uncovered: counted.uncovered,
-        milliseconds: run.milliseconds,
+        version: words.version,
+        texts: words.texts,
+        files: words.files,
+        ended: words.ended,
+        counts: counts_of(outcome),
+        causes: words.causes,
+        others: known.causes.others(),
+        skipped: line.skip,
+        uncovered: known.uncovered,
+        milliseconds: known.milliseconds,
     }
 }
 
@@ -266,42 +258,33 @@ fn files_of<'a, R: AllocGlobal + Files>(
     Ok(files)
 }
 
-/// What is told of a run in words.
-fn words_of<'a, R: AllocGlobal + Files>(
-    rt: &R,
-    line: &ConvertLine<'a>,
-    texts: &ReadTexts,
-    converter: &Converter,
-    causes: &Causes,
-    outcome: Result<CommandDone, CommandFault>,
-) -> Result<RunWords<'a>, AllocError> {
-    Ok(RunWords {
-        texts: texts_of(rt.alloc(), line.told, texts)?,
-        files: files_of(rt, line)?,
-        ended: ending_of(rt.alloc(), outcome)?,
-        causes: causes_of(rt.alloc(), converter, causes)?,
-    })
-}
-
 /// The report of a run that came to this, as text or as JSON by the name of its file.
 ///
 /// # Errors
 ///
 /// Where no memory is left.
-pub(crate) fn report_of<R: AllocGlobal + Files>(
+pub(crate) fn report_of<'a, R: AllocGlobal + Files>(
     rt: &R,
-    line: &ConvertLine<'_>,
-    reported: Reported<'_>,
-    texts: &ReadTexts,
-    converter: &Converter,
-    counted: &Counted,
-    run: RunDone,
+    line: &ConvertLine<'a>,
+    known: &RunKnown<'_>,
+    outcome: Result<CommandDone, CommandFault>,
 ) -> Result<String, AllocError> {
-    let words = words_of(rt, line, texts, converter, &counted.causes, run.outcome)?;
-    let report = report_with(reported.version, line.skip, counted, &words, run);
-    if is_json(reported.path) {
-        report_json(rt.alloc(), &report)
+    let alloc = rt.alloc();
+    let texts = texts_of(alloc, line.told, known.texts)?;
+    let files = files_of(rt, line)?;
+    let ended = ending_of(alloc, outcome)?;
+    let causes = causes_of(alloc, known.converter, known.causes)?;
+    let words = RunWords {
+        version: known.version,
+        texts: &texts,
+        files: &files,
+        ended: &ended,
+        causes: &causes,
+    };
+    let report = report_with(line, known, words, outcome);
+    if is_json(known.path) {
+        report_json(alloc, &report)
     } else {
-        report_text(rt.alloc(), &report)
+        report_text(alloc, &report)
     }
 }
