@@ -64,11 +64,7 @@ fn push_cause(alloc: Global, out: &mut String, told: &CauseTold) -> Result<(), A
 }
 
 /// Adds the lines of what is counted.
-fn push_counts(
-    alloc: Global,
-    out: &mut String,
-    report: &RunReport<'_, '_>,
-) -> Result<(), AllocError> {
+fn push_counts(alloc: Global, out: &mut String, report: &RunReport<'_, '_>) -> Result<(), AllocError> {
     if let Some(counts) = report.counts {
         out.push_str(&format!(in alloc;
             "converted {}\nrejected {}\n",

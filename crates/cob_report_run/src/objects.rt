@@ -103,11 +103,7 @@ fn put_seconds(alloc: Global, out: &mut Writer, milliseconds: u64) -> Result<(),
 }
 
 /// Adds what is counted.
-fn put_counts(
-    alloc: Global,
-    out: &mut Writer,
-    report: &RunReport<'_, '_>,
-) -> Result<(), AllocError> {
+fn put_counts(alloc: Global, out: &mut Writer, report: &RunReport<'_, '_>) -> Result<(), AllocError> {
     if let Some(counts) = report.counts {
         put_number(out, "converted", counts.converted)?;
         put_number(out, "rejected", counts.set_aside)?;
