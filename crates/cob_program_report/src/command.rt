@@ -92,9 +92,9 @@ fn tell<R: AllocGlobal + Files + Input + Print + Eprint>(
 /// Writes the report of a run that came to this, and answers how the command ends, which else ends so.
 fn report<'a, R: AllocGlobal + Files + Print + Eprint>(
     rt: &'a R,
-    line: &ConvertLine<'_>,
+    line: &ConvertLine<'a>,
     part: ReportPart<'a, FileSink<R::File, Printer<'a, R>>>,
-    known: &RunKnown<'_>,
+    known: RunKnown<'a>,
     outcome: Result<CommandDone, CommandFault>,
     status: Status,
 ) -> Status
@@ -142,10 +142,10 @@ fn is_beside<R: Files>(rt: &R, line: &ConvertLine<'_>) -> bool {
 /// ends.
 fn convert_into<'a, R: AllocGlobal + Files + Input + Print + Eprint + Clock>(
     rt: &'a R,
-    line: &ConvertLine<'_>,
+    line: &ConvertLine<'a>,
     reported: Reported<'a>,
-    texts: &ReadTexts,
-    converter: &mut Converter,
+    texts: &'a ReadTexts,
+    converter: &'a mut Converter,
     part: ReportPart<'a, FileSink<R::File, Printer<'a, R>>>,
 ) -> Status
     requires in_block { HasBlockSize line.now.forms.input }
@@ -166,20 +166,20 @@ fn convert_into<'a, R: AllocGlobal + Files + Input + Print + Eprint + Clock>(
         path: reported.path,
         version: reported.version,
         texts,
-        converter: &*converter,
+        converter,
         causes: &causes,
         uncovered,
         milliseconds: milliseconds_since(rt, began),
     };
     let status = tell(rt, line, reported.explain, is_beside(rt, line), outcome);
-    report(rt, line, part, &known, outcome, status)
+    report(rt, line, part, known, outcome, status)
 }
 
 /// Converts by these texts, where they are refused by none of their rules and the report can be made.
-fn convert_by<'a, R: AllocGlobal + Files + Input + Print + Eprint + Clock>(
-    rt: &'a R,
+fn convert_by<R: AllocGlobal + Files + Input + Print + Eprint + Clock>(
+    rt: &R,
     line: &ConvertLine<'_>,
-    reported: Reported<'a>,
+    reported: Reported<'_>,
     texts: &ReadTexts,
 ) -> Status
     requires in_block { HasBlockSize line.now.forms.input }
@@ -196,10 +196,10 @@ fn convert_by<'a, R: AllocGlobal + Files + Input + Print + Eprint + Clock>(
 }
 
 /// Converts, prints what comes of it, and writes the report, and answers how the program ends.
-pub fn do_convert_reported<'a, R: AllocGlobal + Files + Input + Print + Eprint + Clock>(
-    rt: &'a R,
+pub fn do_convert_reported<R: AllocGlobal + Files + Input + Print + Eprint + Clock>(
+    rt: &R,
     line: &ConvertLine<'_>,
-    reported: Reported<'a>,
+    reported: Reported<'_>,
 ) -> Status
     requires in_block { HasBlockSize line.now.forms.input }
     requires out_block { HasBlockSize line.now.forms.output }

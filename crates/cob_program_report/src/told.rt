@@ -197,28 +197,27 @@ pub(crate) struct RunKnown<'a> {
 
 /// What is told of a run in words.
 #[derive(Clone, Copy)]
-struct RunWords<'r, 'a> {
-    version: &'r str,
-    texts: &'r [RunText<'a>],
-    files: &'r [RunFile<'a>],
-    ended: &'r str,
-    causes: &'r [CauseTold],
+struct RunWords<'a> {
+    texts: &'a [RunText<'a>],
+    files: &'a [RunFile<'a>],
+    ended: &'a str,
+    causes: &'a [CauseTold],
 }
 
 /// The report of a run that came to this, and of which this is told in words.
-fn report_with<'r, 'a>(
+fn report_with<'a>(
     line: &ConvertLine<'_>,
-    known: &RunKnown<'_>,
-    words: RunWords<'r, 'a>,
+    known: RunKnown<'a>,
+    words: RunWords<'a>,
     outcome: Result<CommandDone, CommandFault>,
-) -> RunReport<'r, 'a>
+) -> RunReport<'a>
     ensures counts { result.counts ≡ counts_of outcome }
     ensures skipped { result.skipped ≡ line.now.skip }
-    ensures uncovered { result.uncovered ≡ known.now.uncovered }
-    ensures milliseconds { result.milliseconds ≡ known.now.milliseconds }
+    ensures uncovered { result.uncovered ≡ known.entry.uncovered }
+    ensures milliseconds { result.milliseconds ≡ known.entry.milliseconds }
 {
     RunReport {
-        version: words.version,
+        version: known.version,
         texts: words.texts,
         files: words.files,
         ended: words.ended,
@@ -266,7 +265,7 @@ fn files_of<'a, R: AllocGlobal + Files>(
 pub(crate) fn report_of<'a, R: AllocGlobal + Files>(
     rt: &R,
     line: &ConvertLine<'a>,
-    known: &RunKnown<'_>,
+    known: RunKnown<'a>,
     outcome: Result<CommandDone, CommandFault>,
 ) -> Result<String, AllocError> {
     let alloc = rt.alloc();
@@ -275,7 +274,6 @@ pub(crate) fn report_of<'a, R: AllocGlobal + Files>(
     let ended = ending_of(alloc, outcome)?;
     let causes = causes_of(alloc, known.converter, known.causes)?;
     let words = RunWords {
-        version: known.version,
         texts: &texts,
         files: &files,
         ended: &ended,

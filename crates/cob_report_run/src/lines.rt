@@ -64,7 +64,7 @@ fn push_cause(alloc: Global, out: &mut String, told: &CauseTold) -> Result<(), A
 }
 
 /// Adds the lines of what is counted.
-fn push_counts(alloc: Global, out: &mut String, report: &RunReport<'_, '_>) -> Result<(), AllocError> {
+fn push_counts(alloc: Global, out: &mut String, report: &RunReport<'_>) -> Result<(), AllocError> {
     if let Some(counts) = report.counts {
         out.push_str(&format!(in alloc;
             "converted {}\nrejected {}\n",
@@ -91,7 +91,7 @@ fn push_counts(alloc: Global, out: &mut String, report: &RunReport<'_, '_>) -> R
 /// # Errors
 ///
 /// Where no memory is left.
-pub fn report_text(alloc: Global, report: &RunReport<'_, '_>) -> Result<String, AllocError> {
+pub fn report_text(alloc: Global, report: &RunReport<'_>) -> Result<String, AllocError> {
     let mut out = String::new(alloc);
     push_version(&mut out, report.version)?;
     for text in report.texts {

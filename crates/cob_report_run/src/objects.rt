@@ -103,7 +103,7 @@ fn put_seconds(alloc: Global, out: &mut Writer, milliseconds: u64) -> Result<(),
 }
 
 /// Adds what is counted.
-fn put_counts(alloc: Global, out: &mut Writer, report: &RunReport<'_, '_>) -> Result<(), AllocError> {
+fn put_counts(alloc: Global, out: &mut Writer, report: &RunReport<'_>) -> Result<(), AllocError> {
     if let Some(counts) = report.counts {
         put_number(out, "converted", counts.converted)?;
         put_number(out, "rejected", counts.set_aside)?;
@@ -131,7 +131,7 @@ fn text_of(alloc: Global, out: Writer) -> Result<String, AllocError> {
 /// # Errors
 ///
 /// Where no memory is left.
-pub fn report_json(alloc: Global, report: &RunReport<'_, '_>) -> Result<String, AllocError> {
+pub fn report_json(alloc: Global, report: &RunReport<'_>) -> Result<String, AllocError> {
     let mut out = Writer::new(Vec::new(alloc));
     out.begin_object()?;
     put_version(&mut out, report.version)?;

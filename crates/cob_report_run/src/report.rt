@@ -51,19 +51,19 @@ impl CauseTold {
 
 /// What a run came to.
 #[derive(Clone, Copy)]
-pub struct RunReport<'r, 'a> {
+pub struct RunReport<'a> {
     /// The version of the program, a line each for its number, its commit and its toolchain.
-    pub version: &'r str,
+    pub version: &'a str,
     /// The texts.
-    pub texts: &'r [RunText<'a>],
+    pub texts: &'a [RunText<'a>],
     /// The files of records.
-    pub files: &'r [RunFile<'a>],
+    pub files: &'a [RunFile<'a>],
     /// How it ended: `done`, or its fault line.
-    pub ended: &'r str,
+    pub ended: &'a str,
     /// Its counts, where it is done.
     pub counts: Option<RunCounts>,
     /// Why records were set aside.
-    pub causes: &'r [CauseTold],
+    pub causes: &'a [CauseTold],
     /// How many more were set aside, whose places are not told.
     pub others: u64,
     /// How many records were to be passed over before the first that was converted.
