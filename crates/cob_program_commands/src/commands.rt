@@ -2,7 +2,7 @@ ghost use Rattle.std.specs.Prelude.{◌≡◌, map, string_bytes};
 ghost use Rattle.cob_program_line.specs.Lines.{HasBlocks};
 ghost use Rattle.cob_records.specs.Forms.{HasBlockSize};
 ghost use Rattle.cob_program_texts.specs.CheckEnds.{EndsCheck};
-ghost use Rattle.cob_program_commands.specs.Commands.{EndsAsked, EndsConvert, IsEndOfLine, IsEndOfMeant, IsEndOfRefusal, IsEndOfSaid, IsEndOfWords, status_of_refusal};
+ghost use Rattle.cob_program_commands.specs.Commands.{EndsConvert, IsEndOfLine, IsEndOfMeant, IsEndOfRefusal, IsEndOfSaid, IsEndOfWords, status_of_refusal};
 
 use crate::handed::with_handed_books;
 use crate::refusals::{tell_refused, tells_in_words};
@@ -61,32 +61,8 @@ fn do_conversion_explained<R: AllocGlobal + Files + Input + Print + Eprint + Clo
     }
 }
 
-/// Converts a file of records, and explains where that is asked for, or reports what the run came to.
-fn do_asked_conversion<R: AllocGlobal + Files + Input + Print + Eprint + Clock>(
-    rt: &R,
-    line: &ConvertLine<'_>,
-    explain: bool,
-) -> Status
-    requires in_block { HasBlockSize line.now.forms.input }
-    requires out_block { HasBlockSize line.now.forms.output }
-    ensures { EndsAsked line.now.report line.now.rejects line.now.atomic result }
-{
-    match line.report {
-        None => do_plain_conversion(rt, line, explain),
-        Some(path) => do_convert_reported(
-            rt,
-            line,
-            Reported {
-                path,
-                version: VERSION,
-                explain,
-            },
-        ),
-    }
-}
-
 /// Converts a file of records, and explains where that is asked for.
-fn do_plain_conversion<R: AllocGlobal + Files + Input + Print + Eprint + Clock>(
+fn do_asked_conversion<R: AllocGlobal + Files + Input + Print + Eprint + Clock>(
     rt: &R,
     line: &ConvertLine<'_>,
     explain: bool,
