@@ -21,7 +21,6 @@ use cob_program_line::{CheckLine, CommandLine, ConvertLine, Handing, Line, LineF
 use cob_program_list::{do_layout, do_pieces, do_show};
 use cob_program_manual::{do_completion, do_manual};
 use cob_program_map::do_map;
-use cob_program_report::{Reported, do_convert_reported};
 use cob_program_runtime::{NamedFile, Noted};
 use cob_program_texts::{do_check, do_cover, do_draft, do_lossless};
 use cob_program_words::meant_words;
