@@ -23,7 +23,7 @@ use Rattle.cob_move_apply.specs.Marked.{AreMarkedPrepared, RiseUpTo, ends_of_mar
 use Rattle.cob_move_apply.specs.Prepared.{moves_of}
 use Rattle.cob_move_deeds.specs.Tests.{IsBound, Test}
 use Rattle.cob_move_loops.specs.Bounded.{AreBounded, LacksBound}
-use Rattle.cob_move_loops.specs.Few.{loop_line}
+use Rattle.cob_move_loops.specs.Few.{opening_line}
 use Rattle.cob_move_loops.specs.Passages.{IsPassage, Passage}
 use Rattle.cob_move_statements.specs.declared.fault.MoveFault.{MoveFault}
 use Rattle.cob_move_statements.specs.declared.fault.MoveRule.{MoveRule}

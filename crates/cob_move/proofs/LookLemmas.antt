@@ -8,6 +8,7 @@ use Rattle.cob_move_deeds.specs.Tests.{Test}
 use Rattle.cob_move_loops.specs.Passages.{APause, ARun, FrontStands, IsPassage, Looped, Passage, PassageFront, ToItem, ToNumber, WrittenBound, WrittenLoop}
 use Rattle.cob_move_loops.specs.Reading.{Within}
 use Rattle.cob_move_loops.specs.Turns.{Counted, in_turn, turns_between}
+use Rattle.cob_move_loops.specs.declared.parts.Place.TheVariants as standing
 use Rattle.cob_move_loops.proofs.FrontLemmas.{front_smaller}
 use Rattle.cob_move_loops.proofs.PassageLemmas.{IsOnlyFront, Parted, joined, nothing_left, parted}
 use Rattle.cob_move_statements.specs.Laws.{OneListOfEnded, OneReference}
@@ -72,21 +73,21 @@ LeftOfLook e ns words rest = (p : Passage) → IsPassage p words → (q : Passag
 pub look_first : (e : Entries) (ns : List Counted) (words : List Lexeme) → LeftOfLook e ns words words
 look_first e ns words p is = (p, is, λ f k. k)
 
-pub look_more : (e : Entries) (ns : List Counted) (words rest more : List Lexeme) (f : PassageFront) → LeftOfLook e ns words rest → 0 < length rest → IsOnlyFront f rest more → LeftOfLook e ns words more
+pub look_more : (e : Entries) (ns : List Counted) (words rest more : List Lexeme) (f : PassageFront) → LeftOfLook e ns words rest → 0 < length rest → IsOnlyFront standing.Statements f rest more → LeftOfLook e ns words more
 look_more e ns words rest more f left some only p is =
     let (q, are, so) = left p is in
-    let k : Parted f more q = parted f rest more q are some only in
+    let k : Parted standing.Statements f more q = parted standing.Statements f rest more q are some only in
     (k.others, k.is, λ g x. so g (subst (λ (t : Passage). IsRefusedIn g e ns t) (sym k.same) (refused_behind g e ns f k.body k.others x)))
 
-pub look_stops : (n : NotRead) (e : Entries) (ns : List Counted) (words rest more : List Lexeme) (f : PassageFront) → LeftOfLook e ns words rest → 0 < length rest → IsOnlyFront f rest more → FrontStops n e ns f → WordsStop n e ns words
+pub look_stops : (n : NotRead) (e : Entries) (ns : List Counted) (words rest more : List Lexeme) (f : PassageFront) → LeftOfLook e ns words rest → 0 < length rest → IsOnlyFront standing.Statements f rest more → FrontStops n e ns f → WordsStop n e ns words
 look_stops why.Memory e ns words rest more f left some only stops p is = tt
 look_stops why.TooMany e ns words rest more f left some only stops p is =
     let (q, are, so) = left p is in
-    let k : Parted f more q = parted f rest more q are some only in
+    let k : Parted standing.Statements f more q = parted standing.Statements f rest more q are some only in
     stops k.body k.within
 look_stops (why.Broken g) e ns words rest more f left some only stops p is =
     let (q, are, so) = left p is in
-    let k : Parted f more q = parted f rest more q are some only in
+    let k : Parted standing.Statements f more q = parted standing.Statements f rest more q are some only in
     let (other, refused) = stops k.body k.within in
     (other, so g (subst (λ (t : Passage). IsRefusedIn g e ns t) (sym k.same) (refused_joined g e ns f k.body k.others refused)))
 
@@ -104,11 +105,11 @@ LeftOfDeep most words rest = (p : Passage) → IsPassage p words → (q : Passag
 pub deep_first : (words : List Lexeme) → LeftOfDeep 0 words words
 deep_first words p is = (p, is, λ n some k. k)
 
-pub deep_more : (most here then_most : ℕ) (words rest more : List Lexeme) (f : PassageFront) → LeftOfDeep most words rest → 0 < length rest → IsOnlyFront f rest more → ((p : Passage) → Within f p → deep_front f p ≤ here)
+pub deep_more : (most here then_most : ℕ) (words rest more : List Lexeme) (f : PassageFront) → LeftOfDeep most words rest → 0 < length rest → IsOnlyFront standing.Statements f rest more → ((p : Passage) → Within f p → deep_front f p ≤ here)
     → most ≤ then_most → here ≤ then_most → LeftOfDeep then_most words more
 deep_more most here then_most words rest more f left some only front before own p is =
     let (q, are, behind) = left p is in
-    let k : Parted f more q = parted f rest more q are some only in (
+    let k : Parted standing.Statements f more q = parted standing.Statements f rest more q are some only in (
       k.others,
       k.is,
       λ n greater others. behind n (omega (arith, greater, before))
@@ -118,12 +119,12 @@ deep_more most here then_most words rest more f left some only front before own 
 pub deep_end : (most : ℕ) (words rest : List Lexeme) → LeftOfDeep most words rest → ((f : PassageFront) (more : List Lexeme) → FrontStands f rest more → ⊥) → (p : Passage) → IsPassage p words → deep p ≤ most
 deep_end most words rest left none p is =
     let (q, are, behind) = left p is in
-    behind most (omega arith) (subst (λ (t : Passage). deep t ≤ most) (sym (nothing_left q rest are none)) (omega arith))
+    behind most (omega arith) (subst (λ (t : Passage). deep t ≤ most) (sym (nothing_left standing.Statements q rest are none)) (omega arith))
 
 pub words_smaller : (f : PassageFront) (ws more : List Lexeme) → FrontStands f ws more → words_in_front f < length ws
-words_smaller (ARun own) ws more stands = front_smaller (ARun own) ws more stands
-words_smaller APause ws more stands = front_smaller APause ws more stands
-words_smaller (Looped l own) ws more stands = front_smaller (Looped l own) ws more stands
+words_smaller (ARun own) ws more stands = front_smaller standing.Statements (ARun own) ws more stands
+words_smaller APause ws more stands = front_smaller standing.Statements APause ws more stands
+words_smaller (Looped l own) ws more stands = front_smaller standing.Statements (Looped l own) ws more stands
 
 -- ---- a turn that is sure to come to few
 

@@ -11,13 +11,13 @@ use Rattle.cob_copybook_names.specs.Naming.{named}
 use Rattle.cob_copybook_tree.specs.Forests.{Forest}
 use Rattle.cob_copybook_tree.specs.Nodes.{Resolved}
 use Rattle.cob_move_loops.specs.Passages.{IsPassage, Passage, WrittenLoop}
-use Rattle.cob_move_loops.specs.Few.{Clashes, IsFew, IsShallow, loop_line, loops_of}
+use Rattle.cob_move_loops.specs.Few.{Clashes, IsFew, IsShallow, opening_line, loops_of}
 use Rattle.cob_move_loops.specs.Laws.{NoTurn}
 use Rattle.cob_move_loops.specs.Reading.{ClashesIn, all_runs, counters, run_words}
 use Rattle.cob_move_loops.specs.declared.turn.Counter.{Counter}
 use Rattle.cob_move_loops.specs.declared.writing.Run.{Run}
 use Rattle.cob_move_loops.specs.Turns.{in_turn, words_by_turn}
-use Rattle.cob_move_loops.specs.Words.{IsOther, IsPeriod, loop_word_of_kind}
+use Rattle.cob_move_loops.specs.Words.{IsOther, IsPeriod, passage_word_of_kind}
 use Rattle.cob_move_names.specs.Candidates.{Candidate, all_entries}
 use Rattle.cob_move_names.specs.References.{BreaksReference, NamesOperand}
 use Rattle.cob_move_apply.specs.Some.{SomeOf}
@@ -49,13 +49,13 @@ not_true b f t = let never : true ≡ false = sym t ∙ f in cc
 pub grammar_refused : (f : MoveFault) (line : ℕ) (body : List Lexeme) → f.rule ≡ rule.Grammar → f.line ≡ line → BreaksPassage body line → BreaksAnywhere f body
 grammar_refused f line body same at broken = λ all. subst (λ (r : MoveRule). IsPassageRefusal r f.line all body) (sym same) (subst (λ (n : ℕ). BreaksPassage body n) (sym at) broken)
 
-many_refused : (f : MoveFault) (body : List Lexeme) → f.rule ≡ rule.TooMany → f.line ≡ loop_line body → BreaksFew body → BreaksAnywhere f body
+many_refused : (f : MoveFault) (body : List Lexeme) → f.rule ≡ rule.TooMany → f.line ≡ opening_line body → BreaksFew body → BreaksAnywhere f body
 many_refused f body same at many = λ all. subst (λ (r : MoveRule). IsPassageRefusal r f.line all body) (sym same) (many, at)
 
-pub deep_refused : (f : MoveFault) (line : ℕ) (body : List Lexeme) (shallow : Bool) → f.rule ≡ rule.TooMany → f.line ≡ line → line ≡ loop_line body → shallow ≡ false → (IsShallow body → shallow ≡ true) → BreaksAnywhere f body
+pub deep_refused : (f : MoveFault) (line : ℕ) (body : List Lexeme) (shallow : Bool) → f.rule ≡ rule.TooMany → f.line ≡ line → line ≡ opening_line body → shallow ≡ false → (IsShallow body → shallow ≡ true) → BreaksAnywhere f body
 deep_refused f line body shallow same at first no_so must = many_refused f body same (at ∙ first) (inl (λ is. not_true shallow no_so (must is)))
 
-pub long_refused : (f : MoveFault) (line : ℕ) (body : List Lexeme) (few : Bool) (p : Passage) → IsPassage p body → f.rule ≡ rule.TooMany → f.line ≡ line → line ≡ loop_line body → few ≡ false → (IsFew p → few ≡ true)
+pub long_refused : (f : MoveFault) (line : ℕ) (body : List Lexeme) (few : Bool) (p : Passage) → IsPassage p body → f.rule ≡ rule.TooMany → f.line ≡ line → line ≡ opening_line body → few ≡ false → (IsFew p → few ≡ true)
     → BreaksAnywhere f body
 long_refused f line body few p says same at first no_so must = many_refused f body same (at ∙ first) (inr (p, says, λ is. not_true few no_so (must is)))
 
@@ -196,7 +196,7 @@ named_entry all w side o is none = let never : is.bearer ∷ [] ≡ [] = sym is.
 -- ---- the words behind the heading
 
 period_other : (w : Lexeme) → IsPeriod w → IsOther w
-period_other w is = ap (λ (k : TokenKind). loop_word_of_kind k w.text) is
+period_other w is = ap (λ (k : TokenKind). passage_word_of_kind k w.text) is
 
 heading_other : (words heading body : List Lexeme) (w : Lexeme) (more : List Lexeme) → words ≡ w ∷ more → IsOther w → IsHeading heading → words ≡ heading ++ body → AllByRecursion IsOther heading
 heading_other words [] body w more e other are is = tt

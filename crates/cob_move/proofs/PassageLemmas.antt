@@ -9,12 +9,12 @@ use Rattle.cob_copybook_clauses.specs.declared.term.WordClass.TheVariants as ter
 use Rattle.cob_copybook_tree.specs.Forests.{Forest}
 use Rattle.cob_copybook_tree.specs.Nodes.{Resolved}
 use Rattle.cob_move_data.specs.Moves.{Move}
-use Rattle.cob_move_loops.specs.declared.words.LoopWord.{LoopWord}
-use Rattle.cob_move_loops.specs.declared.words.LoopWord.TheVariants as loop
+use Rattle.cob_move_loops.specs.declared.words.PassageWord.{PassageWord}
+use Rattle.cob_move_loops.specs.declared.words.PassageWord.TheVariants as mark
 use Rattle.cob_move_loops.specs.Few.{AreLoopsApart, Clashes, IsFew, IsShallow, loops_of}
 use Rattle.cob_move_loops.specs.Laws.{BreaksNone, OnePassage}
 use Rattle.cob_move_loops.specs.Passages.{ALoop, IsPassage, IsRun, Moves, NoMore, Passage, Pause, WrittenLoop}
-use Rattle.cob_move_loops.specs.Words.{IsLoopWord, IsOther}
+use Rattle.cob_move_loops.specs.Words.{IsPassageWord, IsOther}
 use Rattle.cob_move_loops.proofs.PassageLemmas.{head_first}
 use Rattle.cob_move_statements.specs.declared.fault.MoveFault.{MoveFault}
 use Rattle.cob_move_statements.specs.declared.fault.MoveRule.{MoveRule}
@@ -38,7 +38,7 @@ NoOtherName (w ∷ ws) = IsNameWord w → IsOther w → ⊥
 move_no_name : (w : Lexeme) → word_class w ≡ term.Move → IsNameWord w → ⊥
 move_no_name w is named = let never : term.Move ≡ term.Plain = sym is ∙ name_plain w named in cc
 
-loop_no_other : (l : LoopWord) (w : Lexeme) → IsLoopWord l w → IsOther w → ⊥
+loop_no_other : (l : PassageWord) (w : Lexeme) → IsPassageWord l w → IsOther w → ⊥
 loop_no_other l w is other = let never : Some l ≡ None = sym is ∙ other in cc
 
 run_first : (own rest : List Lexeme) → IsRun own → NoOtherName (own ++ rest)
@@ -48,10 +48,10 @@ run_first (w ∷ own) rest is = λ named other. move_no_name w is.0 named
 passage_first : (p : Passage) (ws : List Lexeme) → IsPassage p ws → NoOtherName ws
 passage_first NoMore ws e = subst NoOtherName (sym e) tt
 passage_first (Moves own more) ws (rest, run, first, e, is) = subst NoOtherName (sym e) (run_first own rest run)
-passage_first (Pause more) ws (pause, stops, rest, word, are, e, is) = subst NoOtherName (sym e) (λ named other. loop_no_other loop.Continue pause word other)
+passage_first (Pause more) ws (pause, stops, rest, word, are, e, is) = subst NoOtherName (sym e) (λ named other. loop_no_other mark.Continue pause word other)
 passage_first (ALoop l body more) ws (head, own, stops, rest, end, h, b, inner, word, are, e, is) =
     let (w, tail, first, f) = head_first l head h in
-    subst NoOtherName (sym (e ∙ ap (λ (t : List Lexeme). t ++ (own ++ end ∷ (stops ++ rest))) f)) (λ named other. loop_no_other loop.Perform w first other)
+    subst NoOtherName (sym (e ∙ ap (λ (t : List Lexeme). t ++ (own ++ end ∷ (stops ++ rest))) f)) (λ named other. loop_no_other mark.Perform w first other)
 
 -- behind two headings stand the same words, where no other name comes first there
 body_one : (h k a b : List Lexeme) → IsHeading h → IsHeading k → AllByRecursion IsOther h → AllByRecursion IsOther k → NoOtherName a → NoOtherName b → h ++ a ≡ k ++ b → a ≡ b

@@ -11,6 +11,7 @@ use Rattle.cob_move_loops.specs.Bounded.{AreBounded, BoundedFront}
 use Rattle.cob_move_loops.specs.Passages.{ALoop, APause, ARun, FrontStands, IsPassage, Looped, Moves, NoMore, Passage, PassageFront, Pause, WrittenLoop}
 use Rattle.cob_move_loops.specs.Reading.{Within}
 use Rattle.cob_move_loops.specs.Turns.{Counted}
+use Rattle.cob_move_loops.specs.declared.parts.Place.TheVariants as standing
 use Rattle.cob_move_loops.proofs.PassageLemmas.{IsOnlyFront, Parted, joined, nothing_left, parted}
 use Rattle.cob_move_statements.specs.declared.fault.MoveFault.{MoveFault}
 use Rattle.cob_move.specs.declared.made.NotRead.{NotRead}
@@ -120,18 +121,18 @@ more_left law e ns p q f body others old now after same left grown a = record {
   few = left_few_more law e ns p q f body others old.read now.read after.read a.deeds a.many same a.are a.longer a.fits a.few left.few;
 }
 
-pub deeds_more : OneDeeds → (e : Entries) (ns : List Counted) (words rest more : List Lexeme) (f : PassageFront) (old now after : MadeLists) → LeftOfDeeds e ns words rest old now → 0 < length rest → IsOnlyFront f rest more
+pub deeds_more : OneDeeds → (e : Entries) (ns : List Counted) (words rest more : List Lexeme) (f : PassageFront) (old now after : MadeLists) → LeftOfDeeds e ns words rest old now → 0 < length rest → IsOnlyFront standing.Statements f rest more
     → HasGrown now after → AddsFront e ns f now after → LeftOfDeeds e ns words more old after
 deeds_more law e ns words rest more f old now after left some only grown adds p is =
     let (q, are, so) = left p is in
-    let k : Parted f more q = parted f rest more q are some only in
+    let k : Parted standing.Statements f more q = parted standing.Statements f rest more q are some only in
     (k.others, k.is, more_left law e ns p q f k.body k.others old now after k.same so grown (adds k.body k.within))
 
 pub deeds_end : (e : Entries) (ns : List Counted) (words rest : List Lexeme) (old now : MadeLists) → IsMade (records_of e) now → LeftOfDeeds e ns words rest old now
     → ((f : PassageFront) (more : List Lexeme) → FrontStands f rest more → ⊥) → AddsDeeds e ns words old now
 deeds_end e ns words rest old now made left none p is =
     let (q, are, so) = left p is in
-    let nothing : q ≡ NoMore = nothing_left q rest are none in
+    let nothing : q ≡ NoMore = nothing_left standing.Statements q rest are none in
     let (k, n, comes, makes, size, all, straight) = so.comes Nothing 0 (subst (λ (t : Passage). PassageComesTo e ns t Nothing 0) (sym nothing) (refl, refl)) in
     record {
       deeds = k;
@@ -158,10 +159,10 @@ left_refused law why.TooMany e ns p q f body others old now named same left (m, 
     (n, is, subst (λ (k : ℕ). most_written_out < k) size most)
 
 pub deeds_refused : DeedsBreakNoRule → (n : NotRead) (e : Entries) (ns : List Counted) (words rest more : List Lexeme) (f : PassageFront) (old now : MadeLists) → AllMayBeNamed e → LeftOfDeeds e ns words rest old now → 0 < length rest
-    → IsOnlyFront f rest more → FrontRefused n e ns f now → TurnRefused n e ns words old
+    → IsOnlyFront standing.Statements f rest more → FrontRefused n e ns f now → TurnRefused n e ns words old
 deeds_refused law n e ns words rest more f old now named left some only refused p is =
     let (q, are, so) = left p is in
-    let k : Parted f more q = parted f rest more q are some only in
+    let k : Parted standing.Statements f more q = parted standing.Statements f rest more q are some only in
     left_refused law n e ns p q f k.body k.others old now named k.same so (refused k.body k.within)
 
 -- ---- bounds of loops
@@ -172,9 +173,9 @@ bounded_parts APause body others are = (tt, are)
 bounded_parts (Looped l own) body others are = ((are.0, are.1), are.2)
 
 -- what stands in front is bounded, and so are the others
-pub bounds_parted : (f : PassageFront) (rest more : List Lexeme) → HasBounds rest → 0 < length rest → IsOnlyFront f rest more → FrontHasBounds f × HasBounds more
+pub bounds_parted : (f : PassageFront) (rest more : List Lexeme) → HasBounds rest → 0 < length rest → IsOnlyFront standing.Statements f rest more → FrontHasBounds f × HasBounds more
 bounds_parted f rest more (q, are, bounded) some only =
-    let k : Parted f more q = parted f rest more q are some only in
+    let k : Parted standing.Statements f more q = parted standing.Statements f rest more q are some only in
     let both = bounded_parts f k.body k.others (subst AreBounded k.same bounded) in
     ((k.body, k.within, both.0), (k.others, k.is, both.1))
 

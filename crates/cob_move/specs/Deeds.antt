@@ -9,7 +9,7 @@ use Rattle.cob_move_data.specs.Moves.{Move}
 use Rattle.cob_move_deeds.specs.Deeds.{Deeds, Nothing}
 use Rattle.cob_move_deeds.specs.Tests.{IsBoundItem, Past, Test, Until, with_number}
 use Rattle.cob_move_deeds.specs.Turns.{turns_from}
-use Rattle.cob_move_loops.specs.Passages.{ALoop, Moves, NoMore, Passage, Pause, ToItem, ToNumber, WrittenBound, WrittenLoop}
+use Rattle.cob_move_loops.specs.Passages.{ABranch, AChoice, ALoop, Moves, NoMore, Passage, Pause, ToItem, ToNumber, WrittenBound, WrittenLoop, line_of}
 use Rattle.cob_move_loops.specs.Turns.{Counted, counter_at, in_turn, turns_between}
 use Rattle.cob_move_names.specs.Candidates.{Candidate}
 use Rattle.cob_move_names.specs.References.{BreaksReference, NamesOperand}
@@ -70,6 +70,8 @@ AreDeeds all input output ns (Pause more) d many = AreDeeds all input output ns 
 AreDeeds all input output ns (ALoop l body more) d many = (f : ℕ → Deeds Test) × (count : ℕ → ℕ) × (own next : Deeds Test) × (turned rest : ℕ)
     × IsLoopOf all ns l l.bound (λ i e c. AreDeeds all input output (ns ++ counter_at l i ∷ []) body e c) f count own turned
     × AreDeeds all input output ns more next rest × (d ≡ joined_deeds own next) × (many ≡ turned + rest)
+AreDeeds all input output ns (AChoice c branches more) d many = ⊥
+AreDeeds all input output ns (ABranch t own more) d many = ⊥
 
 -- ---- how much is read
 
@@ -97,6 +99,8 @@ ComeFirst all input output ns (ALoop l body more) many =
     ⊎ ((f : ℕ → Deeds Test) × (count : ℕ → ℕ) × (own : Deeds Test) × (turned rest : ℕ)
     × IsLoopOf all ns l l.bound (λ i e c. AreDeeds all input output (ns ++ counter_at l i ∷ []) body e c) f count own turned
     × ComeFirst all input output ns more rest × (many ≡ turned + rest)))
+ComeFirst all input output ns (AChoice c branches more) many = many ≡ 0
+ComeFirst all input output ns (ABranch t own more) many = many ≡ 0
 
 -- M12: however far a passage with loops to items is read, it comes to few statements
 abbrev pub IsFewRead : List Candidate → Forest Resolved → Forest Resolved → Passage → Type 0
@@ -133,3 +137,5 @@ IsTurnRefused f all input output ns (ALoop l body more) =
     IsLoopRefused f all ns l l.bound (λ i. IsTurnRefused f all input output (ns ++ counter_at l i ∷ []) body)
     (λ i. (d : Deeds Test) × (c : ℕ) × AreDeeds all input output (ns ++ counter_at l i ∷ []) body d c)
     ⊎ IsTurnRefused f all input output ns more
+IsTurnRefused f all input output ns (AChoice c branches more) = ((f.rule ≡ rule.Grammar) × (f.line ≡ line_of c)) ⊎ IsTurnRefused f all input output ns more
+IsTurnRefused f all input output ns (ABranch t own more) = ⊥

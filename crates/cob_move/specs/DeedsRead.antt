@@ -19,8 +19,8 @@ use Rattle.cob_move_deeds.specs.declared.ready.ReadyDeeds.{ReadyDeeds}
 use Rattle.cob_move_apply.specs.Prepared.{moves_of}
 use Rattle.cob_move_deeds.specs.Tests.{IsBound, IsBoundItem, Test}
 use Rattle.cob_move_loops.specs.Bounded.{AreBounded, BoundedFront}
-use Rattle.cob_move_loops.specs.Few.{loop_line}
-use Rattle.cob_move_loops.specs.Passages.{ALoop, APause, ARun, IsPassage, IsRun, Looped, Moves, NoMore, Passage, PassageFront, Pause, WrittenLoop}
+use Rattle.cob_move_loops.specs.Few.{opening_line}
+use Rattle.cob_move_loops.specs.Passages.{ABranch, AChoice, ALoop, APause, ARun, Branched, Chosen, IsPassage, IsRun, Looped, Moves, NoMore, Passage, PassageFront, Pause, WrittenLoop, line_of}
 use Rattle.cob_move_loops.specs.Reading.{Within}
 use Rattle.cob_move_loops.specs.Turns.{Counted, counter_at, in_turn, turns as loop_turns}
 use Rattle.cob_move_statements.specs.declared.fault.MoveFault.{MoveFault}
@@ -152,6 +152,8 @@ abbrev pub IsFrontRead : PassageFront → Type 0
 IsFrontRead (ARun own) = IsRun own
 IsFrontRead APause = Unit {0}
 IsFrontRead (Looped l own) = Unit {0}
+IsFrontRead (Chosen c own) = Unit {0}
+IsFrontRead (Branched t own) = Unit {0}
 
 -- words are a passage whose loops to items are bounded
 abbrev pub HasBounds : List Lexeme → Type 0
@@ -202,7 +204,7 @@ LeavesFront (why.Broken f) old new = HasGrown old new
 -- the fault of words behind a heading that are not read: where they come to too much, on the line of the first loop
 abbrev pub TellsFault : NotRead → MoveFault → List Lexeme → Type 0
 TellsFault why.Memory f body = IsRefusedMemory f
-TellsFault why.TooMany f body = (f.rule ≡ rule.TooMany) × (f.line ≡ loop_line body)
+TellsFault why.TooMany f body = (f.rule ≡ rule.TooMany) × (f.line ≡ opening_line body)
 TellsFault (why.Broken g) f body = f ≡ g
 
 -- words of MOVE statements, in a turn, come to one thing
@@ -227,6 +229,8 @@ abbrev pub FrontComesTo : Entries → List Counted → PassageFront → Passage 
 FrontComesTo e ns (ARun own) p d many = RunComesTo e ns own d many
 FrontComesTo e ns APause p d many = (d ≡ Nothing) × (many ≡ 0)
 FrontComesTo e ns (Looped l own) p d many = LoopComesTo e ns l p d many
+FrontComesTo e ns (Chosen c own) p d many = ⊥
+FrontComesTo e ns (Branched t own) p d many = ⊥
 
 -- words of MOVE statements are refused in a turn
 abbrev pub RunRefusedIn : MoveFault → Entries → List Counted → List Lexeme → Type 0
@@ -247,6 +251,8 @@ abbrev pub FrontIsRefused : MoveFault → Entries → List Counted → PassageFr
 FrontIsRefused f e ns (ARun own) p = RunRefusedIn f e ns own
 FrontIsRefused f e ns APause p = ⊥
 FrontIsRefused f e ns (Looped l own) p = LoopIsRefused f e ns l p
+FrontIsRefused f e ns (Chosen c own) p = (f.rule ≡ rule.Grammar) × (f.line ≡ line_of c)
+FrontIsRefused f e ns (Branched t own) p = ⊥
 
 -- so many statements come first in a passage
 abbrev pub FirstIn : Entries → List Counted → Passage → ℕ → Type 0
@@ -278,6 +284,8 @@ abbrev pub FirstInFront : Entries → List Counted → PassageFront → Passage 
 FirstInFront e ns (ARun own) p many = FirstInRun e ns own many
 FirstInFront e ns APause p many = ⊥
 FirstInFront e ns (Looped l own) p many = FirstInLoop e ns l p many
+FirstInFront e ns (Chosen c own) p many = ⊥
+FirstInFront e ns (Branched t own) p many = ⊥
 
 -- Whatever passage words are, what it comes to in a turn stands behind what was made before.
 abbrev pub AddsDeeds : Entries → List Counted → List Lexeme → (old new : MadeLists) → Type 0
@@ -333,18 +341,24 @@ deep NoMore = 0
 deep (Moves own more) = deep more
 deep (Pause more) = deep more
 deep (ALoop l body more) = max (deep body + 1) (deep more)
+deep (AChoice c branches more) = deep more
+deep (ABranch t own more) = deep more
 
 -- the same of what stands in front, where its statements, if it is a loop, are this passage
 abbrev pub deep_front : PassageFront → Passage → ℕ
 deep_front (ARun own) p = 0
 deep_front APause p = 0
 deep_front (Looped l own) p = deep p + 1
+deep_front (Chosen c own) p = 0
+deep_front (Branched t own) p = 0
 
 -- the words of its statements, if it is a loop
 abbrev pub words_in_front : PassageFront → ℕ
 words_in_front (ARun own) = 0
 words_in_front APause = 0
 words_in_front (Looped l own) = length own
+words_in_front (Chosen c own) = 0
+words_in_front (Branched t own) = 0
 
 -- ---- turns that are looked at
 

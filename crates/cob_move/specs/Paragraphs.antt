@@ -7,7 +7,7 @@ use Rattle.cob_source.specs.Words.{AreParagraphWordsOf, BreaksSourceRule as Brea
 use Rattle.cob_copybook_tree.specs.Forests.{Forest}
 use Rattle.cob_copybook_tree.specs.Nodes.{Resolved}
 use Rattle.cob_move_loops.specs.Bounded.{AreBounded, LacksBound}
-use Rattle.cob_move_loops.specs.Few.{loop_line, loops_of}
+use Rattle.cob_move_loops.specs.Few.{opening_line, loops_of}
 use Rattle.cob_move_loops.specs.Passages.{IsPassage, Passage, ToItem, ToNumber, WrittenBound}
 use Rattle.cob_move_loops.specs.Turns.{words_by_turn}
 use Rattle.cob_move_names.specs.Candidates.{Candidate, all_entries}
@@ -86,7 +86,7 @@ AreDone ms d = (d ≡ Moving ms Nothing) ⊎ ((d ≡ Nothing) × (ms ≡ []))
 abbrev pub PassageRefused : MoveFault → List Candidate → Forest Resolved → Forest Resolved → List Lexeme → Passage → Type 0
 PassageRefused f all input output body p =
     ((f.rule ≡ rule.Counter) × LacksBound p f.line)
-    ⊎ (((f.rule ≡ rule.TooMany) × (f.line ≡ loop_line body) × (IsLiteral p → ⊥) × ((many : ℕ) × ComeFirst all input output [] p many × (most_written_out < many)))
+    ⊎ (((f.rule ≡ rule.TooMany) × (f.line ≡ opening_line body) × (IsLiteral p → ⊥) × ((many : ℕ) × ComeFirst all input output [] p many × (most_written_out < many)))
     ⊎ IsTurnRefused f all input output [] p)
 
 -- The words behind the heading are refused: they break a rule of passages; or they are one, and it is refused.

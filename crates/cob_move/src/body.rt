@@ -24,7 +24,7 @@ use cob_layout::Layout;
 use cob_move_apply::MarkedMoves;
 use cob_move_data::StatementMoves;
 use cob_move_deeds::{Asked, ReadyDeeds};
-use cob_move_loops::{check_bounds, loop_line};
+use cob_move_loops::{check_bounds, opening_line};
 use cob_move_names::Correspondences;
 use cob_move_statements::{MoveFault, MoveRule};
 use cob_source::Token;
@@ -51,7 +51,7 @@ fn fault_told(why: NotRead, body: &[Token]) -> MoveFault
 {
     match why {
         NotRead::Memory => refused_memory(),
-        NotRead::TooMany => fault_of(MoveRule::TooMany, loop_line(body)),
+        NotRead::TooMany => fault_of(MoveRule::TooMany, opening_line(body)),
         NotRead::Broken(fault) => fault,
     }
 }

@@ -33,8 +33,8 @@ use cob_move_apply::PlacedEntry;
 use cob_move_data::StatementMoves;
 use cob_move_deeds::{Bound, Flow};
 use cob_move_loops::{
-    Counter, Loop, LoopBound, PassageItem, in_turn, item_at, no_turn, one_passage, turns_to_write,
-    with_counter,
+    Counter, Loop, LoopBound, PassageItem, in_turn, item_at, line_of, no_turn, one_passage,
+    turns_to_write, with_counter,
 };
 use cob_move_names::{Correspondences, named_break_no_rule, one_named};
 use cob_move_statements::{MoveFault, MoveRule, one_list_of_ended, one_reference, whole_reference};
@@ -505,6 +505,10 @@ fn add_item<'a>(
                 alloc, entries, pairs, head, words, body, turn, made,
             ),
         },
+        PassageItem::Choice { choice, .. } => {
+            Err(not_read(fault_of(MoveRule::Grammar, line_of(choice))))
+        }
+        PassageItem::Branch { .. } => Ok(()),
     }
 }
 

@@ -12,11 +12,12 @@ ghost use Rattle.cob_move.specs.declared.made.NotRead.TheVariants as unread;
 
 use crate::deeds::{add_words_in, not_read, read_bound};
 use crate::entries::Entries;
+use crate::loops::fault_of;
 use crate::made::NotRead;
 use cob_limits::MAX_WRITTEN_OUT;
-use cob_move_loops::{Counter, Loop, LoopBound, PassageItem, item_at, with_counter};
+use cob_move_loops::{Counter, Loop, LoopBound, PassageItem, item_at, line_of, with_counter};
 use cob_move_names::Correspondences;
-use cob_move_statements::MoveFault;
+use cob_move_statements::{MoveFault, MoveRule};
 use cob_source::Token;
 use std::alloc::Global;
 
@@ -131,6 +132,10 @@ fn look_at_item<'a>(
         PassageItem::Run(words) => look_at_run(alloc, entries, pairs, words, turn),
         PassageItem::Pause => Ok(()),
         PassageItem::Loop { head, body } => look_at_loop(alloc, entries, pairs, head, body, turn),
+        PassageItem::Choice { choice, .. } => {
+            Err(not_read(fault_of(MoveRule::Grammar, line_of(choice))))
+        }
+        PassageItem::Branch { .. } => Ok(()),
     }
 }
 
@@ -206,6 +211,8 @@ fn depth_of_item(item: &PassageItem<'_>) -> u64
         PassageItem::Run(_) => 0,
         PassageItem::Pause => 0,
         PassageItem::Loop { body, .. } => depth(body) + 1,
+        PassageItem::Choice { .. } => 0,
+        PassageItem::Branch { .. } => 0,
     }
 }
 

@@ -1,6 +1,8 @@
 //! Paragraphs with loops, read run by run.
 
-ghost use Rattle.std.specs.Prelude.{◌≡◌, ◌↔◌, IfErr, IfOk, IsTrue, OnOk};
+ghost use Rattle.std.specs.Prelude.{◌≡◌, ◌↔◌, IfErr, IfOk, IsTrue, None, OnOk, Some};
+ghost use Rattle.cob_move_loops.specs.Few.{choice_line};
+ghost use Rattle.cob_move_statements.specs.declared.fault.MoveRule.TheVariants.{Grammar};
 ghost use Rattle.std.specs.List.{AllByRecursion};
 ghost use Rattle.cob_move_loops.specs.Passages.{IsPassage, Passage};
 ghost use Rattle.cob_move_loops.specs.Reading.{all_runs, run_words, written_loop, written_loops};
@@ -19,8 +21,8 @@ use crate::meaning::meanings_of;
 use crate::pieces::{is_other, refused_memory};
 use cob_move_data::StatementMoves;
 use cob_move_loops::{
-    Loop, LoopBound, LoopFault, Run, check, in_turn, is_few, is_shallow, loop_line, loops, no_turn,
-    write_out,
+    Loop, LoopBound, LoopFault, Run, check, choice_line, in_turn, is_few, is_shallow, loops,
+    no_turn, opening_line, write_out,
 };
 use cob_move_names::{Correspondences, Names};
 use cob_move_statements::{MoveFault, MoveRule, Reference, behind_heading, ended_statements};
@@ -104,7 +106,23 @@ fn apart_loops(alloc: Global, body: &[Token]) -> Result<Vec<Loop<'_>>, MoveFault
     }
 }
 
-/// Checks that words are a passage.
+/// Checks that no IF and no EVALUATE stands among words: conditions are not read.
+///
+/// # Errors
+///
+/// `Grammar`, with the line of the first.
+fn check_no_choice(body: &[Token]) -> Result<(), MoveFault>
+    ensures plain { OnOk result (choice_line (lexemes body.now) ≡ None) }
+    ensures fault { IfErr result (λ f. (f.rule ≡ Grammar)
+        × (choice_line (lexemes body.now) ≡ Some f.line)) }
+{
+    match choice_line(body) {
+        None => Ok(()),
+        Some(line) => Err(fault_of(MoveRule::Grammar, line)),
+    }
+}
+
+/// Checks that words are a passage without choices.
 ///
 /// # Errors
 ///
@@ -114,7 +132,7 @@ fn check_grammar(body: &[Token]) -> Result<(), MoveFault>
     ensures fault { IfErr result (λ f. BreaksAnywhere f (lexemes body.now)) }
 {
     match check(body) {
-        Ok(()) => Ok(()),
+        Ok(()) => check_no_choice(body),
         Err(line) => Err(fault_of(MoveRule::Grammar, line)),
     }
 }
@@ -132,11 +150,11 @@ fn check_passage(body: &[Token]) -> Result<(), MoveFault>
         return Err(fault_of(MoveRule::Grammar, 1));
     }
     if !is_shallow(body) {
-        return Err(fault_of(MoveRule::TooMany, loop_line(body)));
+        return Err(fault_of(MoveRule::TooMany, opening_line(body)));
     }
     check_grammar(body)?;
     if !is_few(body) {
-        return Err(fault_of(MoveRule::TooMany, loop_line(body)));
+        return Err(fault_of(MoveRule::TooMany, opening_line(body)));
     }
     Ok(())
 }

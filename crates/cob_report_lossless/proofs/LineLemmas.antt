@@ -15,8 +15,8 @@ use Rattle.cob_move_loops.specs.Reading.{all_runs, counters, run_words}
 use Rattle.cob_move_loops.specs.Passages.{ALoop, Breaks, IsPassage, Moves, NoMore, Passage, Pause}
 use Rattle.cob_move_loops.specs.Turns.{in_turn, words_by_turn}
 use Rattle.cob_move_loops.specs.declared.turn.Counter.{Counter}
-use Rattle.cob_move_loops.specs.Words.{IsLoopWord, IsPeriod}
-use Rattle.cob_move_loops.specs.declared.words.LoopWord.TheVariants as loop
+use Rattle.cob_move_loops.specs.Words.{IsPassageWord, IsPeriod}
+use Rattle.cob_move_loops.specs.declared.words.PassageWord.TheVariants as mark
 use Rattle.cob_move_loops.specs.declared.writing.Run.{Run}
 use Rattle.cob_move_statements.specs.Statements.{IsBody, IsEndedStatement, IsHeading, Several}
 use Rattle.cob_move_statements.specs.Written.{WrittenStatement}
@@ -116,7 +116,7 @@ named_passage one w stop body (Moves (v ∷ own) more) p named is (rest, run, fi
     absurd (move_no_name w (subst (λ (u : Lexeme). word_class u ≡ term.Move) same run.0) named)
 named_passage one w stop body (Pause more) p named is (pause, stops, rest, word, are, e, others) behind =
     let same : pause ≡ w = cc in
-    let also : IsPassage (Pause p) (w ∷ stop ∷ body) = (w, stop ∷ [], body, subst (IsLoopWord loop.Continue) same word, (is, tt), refl, behind) in
+    let also : IsPassage (Pause p) (w ∷ stop ∷ body) = (w, stop ∷ [], body, subst (IsPassageWord mark.Continue) same word, (is, tt), refl, behind) in
     ap (words_by_turn []) (one (Pause more) (Pause p) (w ∷ stop ∷ body) (pause, stops, rest, word, are, e, others) also)
 named_passage one w stop body (ALoop l inner more) p named is (head, own, stops, rest, end, (varying, stepping, until, (perform, second, counter, word, line, is_word, counts, v), step, tests, h), b, within, ends, are, e, others) behind =
     let whole : w ∷ stop ∷ body ≡ ((perform ∷ second ∷ counter ∷ []) ++ (stepping ++ until)) ++ (own ++ end ∷ (stops ++ rest)) =

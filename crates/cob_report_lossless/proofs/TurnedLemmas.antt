@@ -6,6 +6,7 @@ use Rattle.cob_move_loops.specs.Few.{statements_of}
 use Rattle.cob_move_loops.specs.Passages.{ALoop, APause, ARun, FrontStands, IsPassage, Looped, Moves, NoMore, Passage, PassageFront, Pause, WrittenLoop}
 use Rattle.cob_move_loops.specs.Reading.{Within}
 use Rattle.cob_move_loops.specs.Turns.{Counted, counter_at, in_turn, turns_of}
+use Rattle.cob_move_loops.specs.declared.parts.Place.TheVariants as standing
 use Rattle.cob_move_loops.proofs.PassageLemmas.{IsOnlyFront, Parted, joined, nothing_left, parted}
 use Rattle.cob_report_lossless.specs.Turned.{FoundTest, TellFront, TellLast, TellPassage, TellTested, TellTests, TellTurned, TellTurns, Telling, ToldLines, ToldLoop, first_test, told_loop, unknown_lines, unknown_loop, with_loop, with_statements}
 use Rattle.cob_report_lossless.specs.declared.turned.LoopLine.{LoopLine}
@@ -29,11 +30,11 @@ LeftToTell ns words rest fs left start now = (p : Passage) → IsPassage p words
 pub tell_first : (ns : List Counted) (words : List Lexeme) (fs : List Flow) (start : ToldLines) → LeftToTell ns words words fs fs start start
 tell_first ns words fs start p is = (p, is, λ end after told. told)
 
-pub tell_more : (ns : List Counted) (words rest more : List Lexeme) (f : PassageFront) (fs left next : List Flow) (start now after : ToldLines) → LeftToTell ns words rest fs left start now → 0 < length rest → IsOnlyFront f rest more
+pub tell_more : (ns : List Counted) (words rest more : List Lexeme) (f : PassageFront) (fs left next : List Flow) (start now after : ToldLines) → LeftToTell ns words rest fs left start now → 0 < length rest → IsOnlyFront standing.Statements f rest more
     → ((body : Passage) → Within f body → TellFront ns f body left now next after) → LeftToTell ns words more fs next start after
 tell_more ns words rest more f fs left next start now after so some only made p is =
     let (q, are, told) = so p is in
-    let k : Parted f more q = parted f rest more q are some only in (
+    let k : Parted standing.Statements f more q = parted standing.Statements f rest more q are some only in (
       k.others,
       k.is,
       λ end last behind. told end last (subst (λ (d : Passage). TellPassage ns d left now end last) (sym k.same)
@@ -44,7 +45,7 @@ pub tell_end : (ns : List Counted) (words rest : List Lexeme) (fs left : List Fl
     → ((f : PassageFront) (more : List Lexeme) → FrontStands f rest more → ⊥) → (p : Passage) → IsPassage p words → TellPassage ns p fs start left now
 tell_end ns words rest fs left start now so none p is =
     let (q, are, told) = so p is in
-    told left now (subst (λ (d : Passage). TellPassage ns d left now left now) (sym (nothing_left q rest are none)) (refl, refl))
+    told left now (subst (λ (d : Passage). TellPassage ns d left now left now) (sym (nothing_left standing.Statements q rest are none)) (refl, refl))
 
 -- ---- turns of a loop to a number
 

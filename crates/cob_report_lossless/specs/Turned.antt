@@ -5,7 +5,7 @@ use Rattle.cob_source.specs.Words.{AreParagraphWordsOf}
 use Rattle.cob_move_deeds.specs.declared.flow.Flow.{Flow}
 use Rattle.cob_move_deeds.specs.declared.flow.Flow.TheVariants as flow
 use Rattle.cob_move_loops.specs.Few.{statements_of}
-use Rattle.cob_move_loops.specs.Passages.{ALoop, APause, ARun, Looped, Moves, NoMore, Passage, PassageFront, Pause, ToItem, ToNumber, WrittenBound, WrittenLoop}
+use Rattle.cob_move_loops.specs.Passages.{ABranch, AChoice, ALoop, APause, ARun, Branched, Chosen, Looped, Moves, NoMore, Passage, PassageFront, Pause, ToItem, ToNumber, WrittenBound, WrittenLoop}
 use Rattle.cob_move_loops.specs.Turns.{Counted, counter_at, in_turn, turns_of}
 use Rattle.cob_report_lossless.specs.Lines.{AreStatementLines, HasBody}
 use Rattle.cob_report_lossless.specs.declared.turned.DeedLines.{DeedLines}
@@ -115,6 +115,8 @@ TellPassage ns (Moves own more) fs before left after = (lines : List ℕ)
 TellPassage ns (Pause more) fs before left after = TellPassage ns more fs before left after
 TellPassage ns (ALoop l body more) fs before left after = (rest : List Flow) × (between : ToldLines)
     × TellLoop (λ i. TellPassage (ns ++ counter_at l i ∷ []) body) l body l.bound fs before rest between × TellPassage ns more rest between left after
+TellPassage ns (AChoice c branches more) fs before left after = TellPassage ns more fs before left after
+TellPassage ns (ABranch t own more) fs before left after = TellPassage ns more fs before left after
 
 -- what stands in front of a passage, where its statements, if it is a loop, are this passage
 abbrev pub TellFront : List Counted → PassageFront → Passage → List Flow → ToldLines → List Flow → ToldLines → Type 0
@@ -122,6 +124,8 @@ TellFront ns (ARun own) body fs before left after = (lines : List ℕ)
     × AreStatementLines (in_turn ns false 0 own) lines × (left ≡ fs) × (after ≡ with_statements lines before)
 TellFront ns APause body fs before left after = (left ≡ fs) × (after ≡ before)
 TellFront ns (Looped l own) body fs before left after = TellLoop (λ i. TellPassage (ns ++ counter_at l i ∷ []) body) l body l.bound fs before left after
+TellFront ns (Chosen c own) body fs before left after = (left ≡ fs) × (after ≡ before)
+TellFront ns (Branched t own) body fs before left after = (left ≡ fs) × (after ≡ before)
 
 -- The words of the text have a passage behind their heading. Beside the flows that it comes to, with so many bounds, this is told of it.
 pub record AreDeedLinesOf (text : List ℕ) (bounds : ℕ) (flows : List Flow) (lines : ToldLines) : Type 0 where

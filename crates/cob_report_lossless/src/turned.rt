@@ -261,6 +261,8 @@ fn read_item<'a>(
             LoopBound::Number(_) => read_turns(alloc, head, body, turn, flows, lines),
             LoopBound::Item(_) => read_tested(alloc, head, body, turn, flows, lines),
         },
+        PassageItem::Choice { .. } => Ok(flows),
+        PassageItem::Branch { .. } => Ok(flows),
     }
 }
 

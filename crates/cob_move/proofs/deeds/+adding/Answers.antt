@@ -10,6 +10,7 @@ use Rattle.cob_move_loops.specs.Turns.{Counted, counter_at, in_turn}
 use Rattle.cob_move_deeds.specs.declared.flow.Bound.{Bound}
 use Rattle.cob_move_deeds.specs.declared.flow.Flow.{Flow}
 use Rattle.cob_move.specs.declared.made.NotRead.{NotRead}
+use Rattle.cob_move_loops.specs.declared.parts.Place.TheVariants as standing
 use Rattle.cob_move_loops.proofs.FrontLemmas.{front_size, front_smaller}
 use Rattle.cob_move_loops.proofs.PassageLemmas.{shorter}
 use Rattle.cob_move_loops.proofs.WritingLemmas.{counters_more}
@@ -38,7 +39,7 @@ add_passage-loop-item-preserved t c =
     let f = item_front c.in-Some.item in
     let rest = lexemes c.loop-item.rest.now in
     let more = lexemes c.in-Some.more.now in
-    let less = shorter f rest more c.in-Some.ensures.found in record {
+    let less = shorter standing.Statements f rest more c.in-Some.ensures.found in record {
       left = deeds_more c.one_deeds.ensures c.args.entries.now (counters c.args.turn.now) (lexemes c.args.words.now) rest more f (made_lists c.args.made.now) (made_lists c.loop-item.made) (made_lists c.add_item.new.made)
           c.loop-item.invariant.left (omega (arith, less)) c.in-Some.ensures.only c.in_ok-add_item.ensures.grown c.in_ok-add_item.ensures.added;
       fewer = omega (arith, c.loop-item.invariant.fewer, less);
@@ -49,14 +50,14 @@ add_passage-loop-item-preserved t c =
     }
 
 pub add_passage-loop-item-smaller : goal.add_passage-loop-item-smaller
-add_passage-loop-item-smaller t c = shorter (item_front c.in-Some.item) (lexemes c.loop-item.rest.now) (lexemes c.in-Some.more.now) c.in-Some.ensures.found
+add_passage-loop-item-smaller t c = shorter standing.Statements (item_front c.in-Some.item) (lexemes c.loop-item.rest.now) (lexemes c.in-Some.more.now) c.in-Some.ensures.found
 
 pub add_passage-returns-in_err-add_item-clause-fault : goal.add_passage-returns-in_err-add_item-clause-fault
 add_passage-returns-in_err-add_item-clause-fault t c =
     let f = item_front c.in-Some.item in
     let rest = lexemes c.loop-item.rest.now in
     let more = lexemes c.in-Some.more.now in
-    let less = shorter f rest more c.in-Some.ensures.found in
+    let less = shorter standing.Statements f rest more c.in-Some.ensures.found in
     let p = err_from_is_err_and c.from_residual.result c.from_residual.ensures.1 in
     rw (p.1, p.2) (deeds_refused c.deeds_break_no_rule.ensures c.in_err-add_item.field-0.0 c.args.entries.now (counters c.args.turn.now) (lexemes c.args.words.now) rest more f (made_lists c.args.made.now) (made_lists c.loop-item.made)
     c.requires.named c.loop-item.invariant.left (omega (arith, less)) c.in-Some.ensures.only c.in_err-add_item.ensures.fault)
@@ -358,8 +359,8 @@ add_tested-returns-clause-grown t c =
 
 pub add_passage-add_item-requires : goal.add_passage-add_item-requires
 add_passage-add_item-requires t c =
-    let less = front_smaller (item_front c.in-Some.item) (lexemes c.loop-item.rest.now) (lexemes c.in-Some.more.now) c.in-Some.ensures.found in
-    let short = shorter (item_front c.in-Some.item) (lexemes c.loop-item.rest.now) (lexemes c.in-Some.more.now) c.in-Some.ensures.found in (
+    let less = front_smaller standing.Statements (item_front c.in-Some.item) (lexemes c.loop-item.rest.now) (lexemes c.in-Some.more.now) c.in-Some.ensures.found in
+    let short = shorter standing.Statements (item_front c.in-Some.item) (lexemes c.loop-item.rest.now) (lexemes c.in-Some.more.now) c.in-Some.ensures.found in (
       omega (arith, c.decreases, less, c.loop-item.invariant.fewer),
       (
         c.requires.named,

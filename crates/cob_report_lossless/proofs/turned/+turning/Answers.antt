@@ -3,6 +3,7 @@ use Rattle.cob_source.specs.Tokens.{lexemes}
 use Rattle.cob_move_loops.specs.Passages.{Passage}
 use Rattle.cob_move_loops.specs.Reading.{counters, item_front, written_loop}
 use Rattle.cob_move_loops.specs.Turns.{counter_at}
+use Rattle.cob_move_loops.specs.declared.parts.Place.TheVariants as standing
 use Rattle.cob_move_loops.proofs.PassageLemmas.{shorter}
 use Rattle.cob_report_lossless.specs.Turned.{TellPassage, Telling, found_test, told_lines}
 use Rattle.cob_report_lossless.proofs.TurnedLemmas.{last_told, none_told, tell_end, tell_more, tests_more, turns_more}
@@ -11,7 +12,7 @@ use Rattle.cob_report_lossless.proofs.turned.+turning.Goals as goal
 pub read_passage-loop-item-preserved : goal.read_passage-loop-item-preserved
 read_passage-loop-item-preserved t c =
     let f = item_front c.in-Some.item in
-    let less = shorter f (lexemes c.loop-item.left.now) (lexemes c.in-Some.more.now) c.in-Some.ensures.found in record {
+    let less = shorter standing.Statements f (lexemes c.loop-item.left.now) (lexemes c.in-Some.more.now) c.in-Some.ensures.found in record {
       fewer = omega (arith, c.loop-item.invariant.fewer, less);
       flows = omega (arith, c.loop-item.invariant.flows, c.in_ok-rest.ensures.fewer);
       told = tell_more (counters c.args.turn.now) (lexemes c.args.words.now) (lexemes c.loop-item.left.now) (lexemes c.in-Some.more.now) f c.args.flows.now c.loop-item.rest.now c.in_ok-rest.rest.now
