@@ -32,10 +32,9 @@ use Rattle.std.specs.Global.{Vec}
 use Rattle.cob_move.specs.declared.made.Made.{Made}
 use Rattle.cob_move.specs.declared.made.NotRead.{NotRead}
 use Rattle.cob_move.specs.declared.made.NotRead.TheVariants as why
-use Rattle.cob_move.specs.declared.entries.Entries.{Entries}
-use Rattle.cob_move.specs.Among.{nameable}
+use Rattle.cob_move_tests.specs.declared.entries.Entries.{Entries}
+use Rattle.cob_move_tests.specs.Entries.{nameable, records_of}
 use Rattle.cob_move.specs.DeedsRead.{AddsDeeds, DeedsRefused, HasItemLoop, IsFrontOf, IsMade, MadeLists, IsReadied, SaysDeeds, TellsFault, TurnRefused, all_deeds, closed, closed_where, last_marked, made_deeds, made_lists, nothing_made, open_deeds}
-use Rattle.cob_move.specs.Entries.{records_of}
 use Rattle.cob_move.specs.Loops.{HasJudged}
 use Rattle.cob_move.specs.Bodies.{IsPassageRefusal}
 use Rattle.cob_move.specs.Paragraphs.{AreReady}

@@ -178,6 +178,7 @@ bound_refused reference named none rule.Groups all ws t is refused = refused
 bound_refused reference named none rule.Twice all ws t is refused = refused
 bound_refused reference named none rule.TooLong all ws t is refused = refused
 bound_refused reference named none rule.TooMany all ws t is refused = refused
+bound_refused reference named none rule.NotComparable all ws t is refused = refused
 bound_refused reference named none rule.Memory all ws t is refused = refused
 
 loop_refused : OneReference → OneNamed → NamedBreakNoRule → (f : MoveFault) (all : List Candidate) (ns : List Counted) (l : WrittenLoop) (b : WrittenBound) (meant : ℕ → Deeds Test → ℕ → Type 0) (refused : ℕ → Type 0)

@@ -18,13 +18,12 @@ use Rattle.cob_move_statements.specs.declared.fault.MoveRule.{MoveRule}
 use Rattle.cob_move_statements.specs.Laws.{OneListOfEnded, OneReference}
 use Rattle.cob_move_statements.specs.Statements.{IsEndedStatement, Several}
 use Rattle.cob_move_statements.specs.Written.{WrittenStatement}
-use Rattle.cob_move.specs.declared.entries.Entries.{Entries}
-use Rattle.cob_move.specs.Among.{nameable}
+use Rattle.cob_move_tests.specs.declared.entries.Entries.{Entries}
+use Rattle.cob_move_tests.specs.Entries.{AllMayBeNamed, nameable, records_of}
 use Rattle.cob_move.specs.Bodies.{RunIsRefused}
 use Rattle.cob_move.specs.Deeds.{AreDeeds, ComeFirstInLoop, IsBoundRefusal, IsTurnRefused, count_of_turns}
 use Rattle.cob_move.specs.DeedsLaws.{DeedsBreakNoRule, OneDeeds}
 use Rattle.cob_move.specs.DeedsRead.{AreKept, AreTurnsMeant, FewWith, FirstIn, FirstInFront, FirstInLoop, FirstInRun, FirstInTurns, FirstBelow, FrontComesTo, FrontIsRefused, IsRefusedIn, PassageComesTo, TurnComesTo, in_its_turn}
-use Rattle.cob_move.specs.Entries.{AllMayBeNamed, records_of}
 use Rattle.cob_move.specs.Joined.{joined_deeds}
 use Rattle.cob_move.specs.Loops.{RunRefused}
 use Rattle.cob_move.specs.MeaningLaws.{MeantBreakNoRule}

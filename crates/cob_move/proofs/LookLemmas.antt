@@ -17,8 +17,8 @@ use Rattle.cob_move_statements.specs.declared.fault.MoveRule.TheVariants as rule
 use Rattle.cob_move.specs.declared.made.NotRead.{NotRead}
 use Rattle.cob_move.specs.declared.made.NotRead.TheVariants as why
 use Rattle.cob_move.specs.declared.made.Sizes.{Sizes}
-use Rattle.cob_move.specs.declared.entries.Entries.{Entries}
-use Rattle.cob_move.specs.Among.{nameable}
+use Rattle.cob_move_tests.specs.declared.entries.Entries.{Entries}
+use Rattle.cob_move_tests.specs.Entries.{nameable}
 use Rattle.cob_move.specs.Deeds.{IsLoopRefused}
 use Rattle.cob_move.specs.DeedsLaws.{OneDeeds}
 use Rattle.cob_move.specs.DeedsRead.{AddsDeeds, BoundNotRead, BreaksInTurn, FrontStops, IsRefusedIn, IsSure, LoopStops, MadeLists, PassageComesTo, RunRefusedIn, StopsAt, WordsStop, closed, closed_where, deep, deep_front, in_its_turn, last_marked, taken_back, without_flows, words_in_front}

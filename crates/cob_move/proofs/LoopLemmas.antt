@@ -31,9 +31,9 @@ use Rattle.cob_move_data.specs.Moves.{Move, moves, statement_moves}
 use Rattle.cob_move_data.specs.declared.operands.Operand.{Operand}
 use Rattle.cob_move_data.specs.declared.operands.Side.{Side}
 use Rattle.cob_source.specs.Words.{AreParagraphWordsOf}
-use Rattle.cob_move.specs.declared.entries.Entries.{Entries}
-use Rattle.cob_move.specs.Among.{AreMeaningsAmong, nameable}
-use Rattle.cob_move.specs.Entries.{AllMayBeNamed, records_of}
+use Rattle.cob_move_tests.specs.declared.entries.Entries.{Entries}
+use Rattle.cob_move.specs.Among.{AreMeaningsAmong}
+use Rattle.cob_move_tests.specs.Entries.{AllMayBeNamed, nameable, records_of}
 use Rattle.cob_move.specs.Meaning.{AreMeanings}
 use Rattle.cob_move.specs.Loops.{AddsRun, AreItsLoops, BodyRefused, BreaksAnywhere, HasChecked, HasJudged, IsClashOf, RunRefused, SayRuns, SaysBody}
 use Rattle.cob_move.specs.Bodies.{AreSpelled, BreaksCounters, BreaksFew, BreaksPassage, IsBodyIn, IsNoEntry, IsPassageRefusal, IsRunRefusal}
@@ -105,6 +105,7 @@ run_refused rule.Twice line ws fault is = absurd is
 run_refused rule.TooLong line ws fault is = absurd is
 run_refused rule.Counter line ws fault is = absurd is
 run_refused rule.TooMany line ws fault is = absurd is
+run_refused rule.NotComparable line ws fault is = absurd is
 
 -- words of a run outside of loops
 pub none_in : {A : Type 0} (xs : List A) → length xs ≡ 0 → xs ≡ []
@@ -184,6 +185,7 @@ unknown_entry all w rule.Twice broken none = absurd broken
 unknown_entry all w rule.TooLong broken none = absurd broken
 unknown_entry all w rule.Counter broken none = absurd broken
 unknown_entry all w rule.TooMany broken none = absurd broken
+unknown_entry all w rule.NotComparable broken none = absurd broken
 unknown_entry all w rule.Memory broken none = absurd broken
 
 pub entry_unknown : (all : List Candidate) (w : WrittenReference) (r : MoveRule) → BreaksReference r all w → r ≡ rule.Unknown → named w.name w.qualifiers all ≡ []

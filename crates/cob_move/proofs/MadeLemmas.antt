@@ -23,11 +23,10 @@ use Rattle.cob_move_statements.specs.Written.{WrittenStatement}
 use Rattle.cob_move.specs.declared.made.NotRead.{NotRead}
 use Rattle.cob_move.specs.declared.made.NotRead.TheVariants as why
 use Rattle.cob_move.specs.declared.made.Sizes.{Sizes}
-use Rattle.cob_move.specs.declared.entries.Entries.{Entries}
+use Rattle.cob_move_tests.specs.declared.entries.Entries.{Entries}
 use Rattle.cob_move.specs.Deeds.{IsRunMeant}
-use Rattle.cob_move.specs.Among.{nameable}
+use Rattle.cob_move_tests.specs.Entries.{AllMayBeNamed, nameable, records_of}
 use Rattle.cob_move.specs.DeedsRead.{AddsMoved, AreParted, IsNotBroken, LeavesFront, LoopRefused, MovedRefused, TurnRefused, HasGrown, IsFrontOf, IsMade, IsSizeOf, FirstInRun, MadeLists, all_deeds, forgotten, last_marked, made_deeds, open_deeds, open_statements, taken_back}
-use Rattle.cob_move.specs.Entries.{AllMayBeNamed, records_of}
 use Rattle.cob_move.specs.Joined.{joined_deeds}
 use Rattle.cob_move.specs.Loops.{AddsRun, RunRefused}
 use Rattle.cob_move.specs.Meaning.{AreMeant}
@@ -256,6 +255,7 @@ either_memory rule.Twice = inr (λ e. absurd (let never : rule.Twice ≡ rule.Me
 either_memory rule.TooLong = inr (λ e. absurd (let never : rule.TooLong ≡ rule.Memory = e in cc))
 either_memory rule.Counter = inr (λ e. absurd (let never : rule.Counter ≡ rule.Memory = e in cc))
 either_memory rule.TooMany = inr (λ e. absurd (let never : rule.TooMany ≡ rule.Memory = e in cc))
+either_memory rule.NotComparable = inr (λ e. absurd (let never : rule.NotComparable ≡ rule.Memory = e in cc))
 
 pub told_refused : (f : MoveFault) (e : Entries) (ns : List Counted) (ws : List Lexeme) → ((f.rule ≡ rule.Memory) → ⊥) → (f.rule ≡ rule.Memory) ⊎ RunRefused f e (in_turn ns false 0 ws) → RunRefused f e (in_turn ns false 0 ws)
 told_refused f e ns ws other (inl is) = absurd (other is)

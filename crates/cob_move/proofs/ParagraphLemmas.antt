@@ -23,13 +23,12 @@ use Rattle.cob_move_loops.specs.Bounded.{AreBounded, IsBounded, LacksBound}
 use Rattle.cob_move_loops.specs.Laws.{BreaksNone, OnePassage}
 use Rattle.cob_move_loops.specs.Passages.{ALoop, IsPassage, Moves, NoMore, Passage, Pause}
 use Rattle.cob_move_loops.specs.Turns.{words_by_turn}
-use Rattle.cob_move.specs.declared.entries.Entries.{Entries}
-use Rattle.cob_move.specs.Among.{nameable}
+use Rattle.cob_move_tests.specs.declared.entries.Entries.{Entries}
+use Rattle.cob_move_tests.specs.Entries.{AllMayBeNamed, nameable, records_of}
 use Rattle.cob_move.specs.Bodies.{AreCounters, HasPassage, IsBodyIn}
 use Rattle.cob_move.specs.Deeds.{AreDeeds, ComeFirst, IsTurnRefused}
 use Rattle.cob_move.specs.DeedsLaws.{DeedsBreakNoRule, OneDeeds}
 use Rattle.cob_move.specs.DeedsRead.{DeedsRefused, PassageComesTo, SaysDeeds, open_deeds}
-use Rattle.cob_move.specs.Entries.{AllMayBeNamed, records_of}
 use Rattle.cob_move.specs.Loops.{AreLiteralWords, BodyRefused, SaysBody}
 use Rattle.cob_move.specs.MeaningLaws.{MeantAreMoves}
 use Rattle.cob_move.specs.Paragraphs.{AreDone, BreaksFormat, ComesToFew, IsBodyRefusal, IsLiteral, IsLiteralParagraphOf, IsParagraphOf, IsRefusalOf, PassageRefused}
@@ -174,6 +173,7 @@ text_unbroken rule.Twice line text input output d p broken = absurd broken
 text_unbroken rule.TooLong line text input output d p broken = absurd broken
 text_unbroken rule.Counter line text input output d p broken = absurd broken
 text_unbroken rule.TooMany line text input output d p broken = absurd broken
+text_unbroken rule.NotComparable line text input output d p broken = absurd broken
 
 -- a passage whose loops are bounded lacks no bound
 none_lacks : (p : Passage) (line : ℕ) → AreBounded p → LacksBound p line → ⊥

@@ -120,6 +120,7 @@ run_unbroken one unbroken f rule.Twice line all input output ws own ms same is b
 run_unbroken one unbroken f rule.TooLong line all input output ws own ms same is broken = absurd broken
 run_unbroken one unbroken f rule.Counter line all input output ws own ms same is broken = absurd broken
 run_unbroken one unbroken f rule.TooMany line all input output ws own ms same is broken = absurd broken
+run_unbroken one unbroken f rule.NotComparable line all input output ws own ms same is broken = absurd broken
 run_unbroken one unbroken f rule.Memory line all input output ws own ms same is broken = same
 
 -- runs that spell statements which mean moves are refused for want of memory alone
@@ -177,3 +178,4 @@ passage_unbroken one none rule.Literal line all words body p h counters same ref
 passage_unbroken one none rule.Groups line all words body p h counters same refused = absurd refused
 passage_unbroken one none rule.Twice line all words body p h counters same refused = absurd refused
 passage_unbroken one none rule.TooLong line all words body p h counters same refused = absurd refused
+passage_unbroken one none rule.NotComparable line all words body p h counters same refused = absurd refused

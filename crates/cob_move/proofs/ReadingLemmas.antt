@@ -16,11 +16,11 @@ use Rattle.cob_move_loops.proofs.PassageLemmas.{IsOnlyFront, Parted, joined, not
 use Rattle.cob_move_statements.specs.declared.fault.MoveFault.{MoveFault}
 use Rattle.cob_move.specs.declared.made.NotRead.{NotRead}
 use Rattle.cob_move.specs.declared.made.NotRead.TheVariants as why
-use Rattle.cob_move.specs.declared.entries.Entries.{Entries}
+use Rattle.cob_move_tests.specs.declared.entries.Entries.{Entries}
 use Rattle.cob_move.specs.Deeds.{AreDeeds}
 use Rattle.cob_move.specs.DeedsRead.{AddsDeeds, AddsFront, AddsMade, AreParted, FirstIn, FirstInFront, FrontComesTo, FrontHasBounds, FrontIsRefused, FrontRefused, HasBounds, HasGrown, IsFrontOf, IsFrontRead, IsMade, IsRefusedIn, MadeLists, PassageComesTo, RefusedMade, TurnRefused, all_deeds, made_deeds, open_deeds, open_statements}
 use Rattle.cob_move.specs.DeedsLaws.{DeedsBreakNoRule, OneDeeds}
-use Rattle.cob_move.specs.Entries.{AllMayBeNamed, records_of}
+use Rattle.cob_move_tests.specs.Entries.{AllMayBeNamed, records_of}
 use Rattle.cob_move.proofs.FewLemmas.{LeftFew, comes_joined, left_few_end, left_few_first, left_few_more, left_few_refused, refused_joined}
 use Rattle.cob_move.specs.Joined.{joined_deeds}
 use Rattle.cob_move.proofs.FlowLemmas.{joined_assoc, parted_joined}

@@ -20,12 +20,11 @@ use Rattle.cob_move_loops.specs.Turns.{Counted, turns_between, turns_of, turns_u
 use Rattle.cob_move_statements.specs.declared.fault.MoveFault.{MoveFault}
 use Rattle.cob_move.specs.declared.made.NotRead.{NotRead}
 use Rattle.cob_move.specs.declared.made.NotRead.TheVariants as why
-use Rattle.cob_move.specs.declared.entries.Entries.{Entries}
-use Rattle.cob_move.specs.Among.{nameable}
+use Rattle.cob_move_tests.specs.declared.entries.Entries.{Entries}
+use Rattle.cob_move_tests.specs.Entries.{AllMayBeNamed, nameable, records_of}
 use Rattle.cob_move.specs.Deeds.{ComeFirstInLoop, IsLoopOf, IsLoopRefused, count_of_turns, deeds_of_turns}
 use Rattle.cob_move.specs.DeedsRead.{AddsDeeds, AddsLoop, AddsMade, AddsTurns, AreTurnsMeant, FewWith, FirstIn, FirstInLoop, FirstInTurns, HasBounds, HasGrown, IsFrontOf, IsMade, IsRefusedIn, LoopComesTo, LoopIsRefused, LoopRefused, MadeLists, PassageComesTo, RefusedMade, TurnComesTo, TurnRefused, in_its_turn, made_deeds}
 use Rattle.cob_move.specs.DeedsLaws.{DeedsBreakNoRule, OneDeeds}
-use Rattle.cob_move.specs.Entries.{AllMayBeNamed, records_of}
 use Rattle.cob_move.specs.Joined.{joined_deeds}
 use Rattle.cob_move.proofs.DeedsLemmas.{counted_same, turned_same}
 use Rattle.cob_move.proofs.FlowLemmas.{joined_assoc}

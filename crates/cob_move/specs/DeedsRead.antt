@@ -32,11 +32,10 @@ use Rattle.cob_move.specs.declared.made.Made.{Made}
 use Rattle.cob_move.specs.declared.made.NotRead.{NotRead}
 use Rattle.cob_move.specs.declared.made.NotRead.TheVariants as why
 use Rattle.cob_move.specs.declared.made.Sizes.{Sizes}
-use Rattle.cob_move.specs.declared.entries.Entries.{Entries}
-use Rattle.cob_move.specs.declared.entries.NamedEntry.{NamedEntry}
-use Rattle.cob_move.specs.Among.{NamesAmong, nameable}
+use Rattle.cob_move_tests.specs.declared.entries.Entries.{Entries}
+use Rattle.cob_move_tests.specs.declared.entries.NamedEntry.{NamedEntry}
+use Rattle.cob_move_tests.specs.Entries.{NamesAmong, nameable, records_of}
 use Rattle.cob_move.specs.Deeds.{AreDeeds, ComeFirst, ComeFirstInLoop, IsBoundRefusal, IsLoopOf, IsLoopRefused, IsRunMeant, IsTurnRefused, count_of_turns}
-use Rattle.cob_move.specs.Entries.{records_of}
 use Rattle.cob_move.specs.Joined.{joined_deeds}
 use Rattle.cob_move.specs.Loops.{HasJudged}
 use Rattle.cob_move.specs.Bodies.{RunIsRefused}

@@ -7,15 +7,14 @@ ghost use Rattle.cob_move_loops.specs.Bounded.{AreBounded, LacksBound};
 ghost use Rattle.cob_move_loops.specs.Passages.{IsPassage, Passage};
 ghost use Rattle.cob_move_statements.specs.declared.fault.MoveRule.TheVariants.{Counter};
 ghost use Rattle.cob_source.specs.Tokens.{lexemes};
-ghost use Rattle.cob_move.specs.Among.{both, nameable};
+ghost use Rattle.cob_move.specs.Among.{both};
+ghost use Rattle.cob_move_tests.specs.Entries.{AllMayBeNamed, nameable, records_of};
 ghost use Rattle.cob_move.specs.Between.{ArePairsOf};
 ghost use Rattle.cob_move.specs.DeedsRead.{AddsDeeds, DeedsRefused, HasBounds, HasItemLoop, IsMade, IsReadied, SaysDeeds, TellsFault, made_lists, nothing_made, open_deeds};
-ghost use Rattle.cob_move.specs.Entries.{AllMayBeNamed, records_of};
 ghost use Rattle.cob_move.specs.Loops.{AreLiteralWords, HasJudged};
 ghost use Rattle.cob_move.specs.Paragraphs.{AreReady};
 
 use crate::deeds::add_passage;
-use crate::entries::Entries;
 use crate::loops::{fault_of, judge, moves_of_body};
 use crate::made::{Made, NotRead};
 use crate::meaning_laws::meant_are_moves;
@@ -27,6 +26,7 @@ use cob_move_deeds::{Asked, ReadyDeeds};
 use cob_move_loops::{check_bounds, opening_line};
 use cob_move_names::Correspondences;
 use cob_move_statements::{MoveFault, MoveRule};
+use cob_move_tests::Entries;
 use cob_source::Token;
 use std::alloc::{AllocError, Global};
 

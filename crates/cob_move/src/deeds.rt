@@ -12,16 +12,14 @@ ghost use Rattle.cob_move_loops.specs.Turns.{in_turn};
 ghost use Rattle.cob_move_statements.specs.declared.fault.MoveRule.TheVariants.{Memory};
 ghost use Rattle.cob_source.specs.Tokens.{Lexeme, lexemes};
 ghost use Rattle.cob_move_deeds.specs.Tests.{Past};
-ghost use Rattle.cob_move.specs.Among.{nameable};
+ghost use Rattle.cob_move_tests.specs.Entries.{AllMayBeNamed, nameable, records_of};
 ghost use Rattle.cob_move.specs.Deeds.{IsBoundOf};
 ghost use Rattle.cob_move.specs.Between.{ArePairsOf};
 ghost use Rattle.cob_move.specs.DeedsRead.{AddsDeeds, AddsFront, AddsLoop, AddsMoved, AreKept, BoundNotRead, BoundRefused, BreaksInTurn, FrontHasBounds, FrontRefused, HasBounds, HasGrown, HasNoTurn, IsBoundRead, IsFrontRead, IsMade, IsNotBroken, IsSure, LeavesFront, LoopRefused, MovedRefused, ReadsTurns, TurnRefused, closed, flow_lists, in_its_turn, last_marked, linked_size, linked_turns, made_lists, open_statements, taken_back, without_flows};
-ghost use Rattle.cob_move.specs.Entries.{AllMayBeNamed, records_of};
 ghost use Rattle.cob_move.specs.Loops.{AddsRun, RunRefused};
 ghost use Rattle.cob_move.specs.declared.made.NotRead.TheVariants as unread;
 
 use crate::deeds_laws::{deeds_break_no_rule, one_deeds};
-use crate::entries::{Entries, NamedEntry};
 use crate::linking::{link_turns, next_number};
 use crate::looking::{depth, is_sure, look_at_turn};
 use crate::loops::{add_words, fault_of};
@@ -38,6 +36,7 @@ use cob_move_loops::{
 };
 use cob_move_names::{Correspondences, named_break_no_rule, one_named};
 use cob_move_statements::{MoveFault, MoveRule, one_list_of_ended, one_reference, whole_reference};
+use cob_move_tests::{Entries, NamedEntry};
 use cob_source::Token;
 use std::alloc::Global;
 use std::mem::replace;

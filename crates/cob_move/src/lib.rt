@@ -53,7 +53,6 @@ mod body;
 mod corresponding;
 mod deeds;
 mod deeds_laws;
-mod entries;
 mod laws;
 mod linking;
 mod looking;
@@ -63,7 +62,6 @@ mod meaning;
 mod meaning_laws;
 mod paragraph;
 mod pieces;
-mod senders;
 mod single;
 
 pub use cob_codec::Reading;

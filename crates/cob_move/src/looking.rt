@@ -7,17 +7,17 @@ ghost use Rattle.cob_move_loops.specs.Reading.{Within, counters, item_front, wri
 ghost use Rattle.cob_source.specs.Tokens.{lexemes};
 ghost use Rattle.cob_move.specs.Between.{ArePairsOf};
 ghost use Rattle.cob_move.specs.DeedsRead.{FrontStops, LoopStops, RunRefusedIn, StopsAt, WordsStop, deep, deep_front, in_its_turn, words_in_front};
-ghost use Rattle.cob_move.specs.Entries.{AllMayBeNamed, records_of};
+ghost use Rattle.cob_move_tests.specs.Entries.{AllMayBeNamed, records_of};
 ghost use Rattle.cob_move.specs.declared.made.NotRead.TheVariants as unread;
 
 use crate::deeds::{add_words_in, not_read, read_bound};
-use crate::entries::Entries;
 use crate::loops::fault_of;
 use crate::made::NotRead;
 use cob_limits::MAX_WRITTEN_OUT;
 use cob_move_loops::{Counter, Loop, LoopBound, PassageItem, item_at, line_of, with_counter};
 use cob_move_names::Correspondences;
 use cob_move_statements::{MoveFault, MoveRule};
+use cob_move_tests::Entries;
 use cob_source::Token;
 use std::alloc::Global;
 

@@ -9,14 +9,12 @@ ghost use Rattle.cob_move_loops.specs.Reading.{all_runs, run_words, written_loop
 ghost use Rattle.cob_move_names.specs.Directory.{entries_named};
 ghost use Rattle.cob_move_apply.specs.Some.{SomeOf};
 ghost use Rattle.cob_move.specs.Between.{ArePairsOf};
-ghost use Rattle.cob_move.specs.Entries.{AllMayBeNamed, records_of};
+ghost use Rattle.cob_move_tests.specs.Entries.{AllMayBeNamed, nameable, records_of};
 ghost use Rattle.cob_move.specs.Loops.{AddsRun, AreItsLoops, BodyRefused, BreaksAnywhere, HasChecked, HasJudged, IsClashOf, RunRefused, SayRuns, SaysBody};
-ghost use Rattle.cob_move.specs.Among.{nameable};
 ghost use Rattle.cob_move.specs.Bodies.{BreaksCounters, IsBodyIn, IsNoEntry, IsPassageRefusal};
 ghost use Rattle.cob_move.specs.Paragraphs.{EndsByNumber, IsLiteral};
 ghost use Rattle.cob_source.specs.Tokens.{lexemes};
 
-use crate::entries::Entries;
 use crate::meaning::meanings_of;
 use crate::pieces::{is_other, refused_memory};
 use cob_move_data::StatementMoves;
@@ -26,6 +24,7 @@ use cob_move_loops::{
 };
 use cob_move_names::{Correspondences, Names};
 use cob_move_statements::{MoveFault, MoveRule, Reference, behind_heading, ended_statements};
+use cob_move_tests::Entries;
 use cob_source::Token;
 use std::alloc::Global;
 

@@ -5,14 +5,13 @@ ghost use Rattle.std.specs.List.{AllByRecursion};
 ghost use Rattle.cob_move_loops.specs.Words.{IsOther};
 ghost use Rattle.cob_move.specs.Among.{AreMeaningsAmong};
 ghost use Rattle.cob_move.specs.Between.{ArePairsOf};
-ghost use Rattle.cob_move.specs.Entries.{AllMayBeNamed, records_of};
+ghost use Rattle.cob_move_tests.specs.Entries.{AllMayBeNamed, records_of};
 ghost use Rattle.cob_move.specs.Pieces.{AddsMoves, IsParagraphAmong, IsRefusedMemory, ReadsPiece, SaysMoves, SaysNext, SaysSoFar};
 ghost use Rattle.cob_move_statements.specs.Statements.{FollowsStatements, IsParagraph};
 ghost use Rattle.cob_move_statements.specs.Written.{written_statements};
 ghost use Rattle.cob_source.specs.Ahead.{HaveLineNumbers, IsNoted, IsReadTo};
 ghost use Rattle.cob_source.specs.Tokens.{lexeme, lexemes};
 
-use crate::entries::Entries;
 use crate::meaning::meanings_of;
 use cob_copybook_clauses::{WordClass, is_term};
 use cob_layout::Layout;
@@ -20,6 +19,7 @@ use cob_move_data::StatementMoves;
 use cob_move_loops::{no_turn, passage_word};
 use cob_move_names::{Correspondences, Names};
 use cob_move_statements::{MoveFault, MoveRule, Statement, statements};
+use cob_move_tests::Entries;
 use cob_source::{SourceRule, Token, WordsAhead};
 use std::alloc::Global;
 

@@ -15,7 +15,7 @@ use Rattle.cob_move_loops.proofs.FrontLemmas.{front_size, front_smaller}
 use Rattle.cob_move_loops.proofs.PassageLemmas.{shorter}
 use Rattle.cob_move_loops.proofs.WritingLemmas.{counters_more}
 use Rattle.cob_move.specs.DeedsRead.{AddsDeeds, AddsFront, AddsMoved, AddsTurns, FrontHasBounds, FrontRefused, HasGrown, IsMade, LeavesFront, LoopRefused, MadeLists, MovedRefused, ReadsTurns, TurnRefused, closed, flow_lists, in_its_turn, linked_turns, made_lists, open_statements, without_flows}
-use Rattle.cob_move.specs.Entries.{records_of}
+use Rattle.cob_move_tests.specs.Entries.{records_of}
 use Rattle.cob_move.proofs.MadeLemmas.{forgotten_again, grown_both, grown_none, leaves_more, leaves_same, leaves_unbroken}
 use Rattle.cob_move.proofs.ReadingLemmas.{bounds_parted, deeds_end, deeds_first, deeds_more, deeds_refused, front_read, loop_bounds, pause_added}
 use Rattle.cob_move.proofs.TestedLemmas.{HasReadLoop, bound_for, bound_not_read, breaks_first, breaks_same, broken_left, closed_refused, emptied, first_refused, later_refused, loop_left, loop_same, never_refused, no_turn_comes, past_of, tested_added, tested_grown, tested_made, tried_first, tried_now, tried_step}

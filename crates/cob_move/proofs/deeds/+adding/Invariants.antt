@@ -5,7 +5,7 @@ use Rattle.cob_move_loops.specs.Reading.{counters, item_front, written_loop}
 use Rattle.cob_move_loops.proofs.FrontLemmas.{front_size}
 use Rattle.cob_move.specs.Between.{ArePairsOf}
 use Rattle.cob_move.specs.DeedsRead.{AddsTurns, HasBounds, HasGrown, IsMade, IsSure, flow_lists, in_its_turn, made_lists}
-use Rattle.cob_move.specs.Entries.{records_of}
+use Rattle.cob_move_tests.specs.Entries.{records_of}
 use Rattle.cob_move.proofs.ReadingLemmas.{LeftOfDeeds}
 use Rattle.cob_move.proofs.TestedLemmas.{HasTried}
 use Rattle.cob_move.proofs.deeds.+adding.Given as goal

@@ -6,8 +6,7 @@ ghost use Rattle.cob_move_data.specs.declared.operands.Side.TheVariants.{Out};
 ghost use Rattle.cob_move_names.specs.Directory.{entries_named};
 ghost use Rattle.cob_move_names.specs.References.{BreaksReceiver, BreaksReference};
 ghost use Rattle.cob_move_statements.specs.Written.{written_reference};
-ghost use Rattle.cob_move.specs.Among.{NamesAmong};
-ghost use Rattle.cob_move.specs.Entries.{AllMayBeNamed, records_of};
+ghost use Rattle.cob_move_tests.specs.Entries.{AllMayBeNamed, NamesAmong, records_of};
 
 use cob_copybook_tree::Kind;
 use cob_layout::{Layout, records_are_sound};
@@ -18,7 +17,7 @@ use cob_move_statements::{MoveRule, Reference};
 
 /// The entries of the input record and of the output record: by their names, and by their numbers.
 #[derive(Clone, Copy)]
-pub(crate) struct Entries<'n, 'a> {
+pub struct Entries<'n, 'a> {
     pub names: &'n Names<'a>,
     pub input: &'a Layout,
     pub output: &'a Layout,
@@ -26,14 +25,14 @@ pub(crate) struct Entries<'n, 'a> {
 
 /// An entry of one of the two records, with its subscripts.
 #[derive(Drop)]
-pub(crate) struct NamedEntry {
+pub struct NamedEntry {
     pub side: Side,
     pub entry: Ref,
 }
 
 impl Entries<'_, '_> {
     /// The layout of a side's record.
-    pub(crate) fn layout(&self, side: Side) -> &Layout
+    pub fn layout(&self, side: Side) -> &Layout
         ensures { result.now ≡ record_of (records_of self.now) side }
     {
         match side {
@@ -43,7 +42,7 @@ impl Entries<'_, '_> {
     }
 
     /// What an entry of a side's record describes.
-    pub(crate) fn kind(&self, side: Side, entry: &Ref) -> &Kind
+    pub fn kind(&self, side: Side, entry: &Ref) -> &Kind
         requires operand { IsOperand (record_of (records_of self.now) side)
             (operand_in (record_of (records_of self.now) side) entry.now) }
         ensures { result.now ≡ (operand_in (record_of (records_of self.now) side) entry.now).kind }
@@ -61,7 +60,7 @@ impl Entries<'_, '_> {
     /// # Errors
     ///
     /// `Unknown`, `Ambiguous`, `Subscripts`.
-    pub(crate) fn named(&self, reference: &Reference<'_>) -> Result<NamedEntry, MoveRule>
+    pub fn named(&self, reference: &Reference<'_>) -> Result<NamedEntry, MoveRule>
         requires named { AllMayBeNamed self.now }
         ensures found { IfOk result (λ n. NamesAmong self.now
             (written_reference reference.now) n.side n.entry) }
@@ -87,7 +86,7 @@ impl Entries<'_, '_> {
     /// # Errors
     ///
     /// `Unknown`, `Ambiguous`, `Subscripts`, `Receiver`.
-    pub(crate) fn named_receiver(&self, reference: &Reference<'_>) -> Result<Ref, MoveRule>
+    pub fn named_receiver(&self, reference: &Reference<'_>) -> Result<Ref, MoveRule>
         requires named { AllMayBeNamed self.now }
         ensures found { IfOk result (λ entry. NamesAmong self.now
             (written_reference reference.now) Out entry) }

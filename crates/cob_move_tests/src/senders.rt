@@ -4,11 +4,10 @@ ghost use Rattle.std.specs.Prelude.{◌≡◌, List, IfErr, IfOk};
 ghost use Rattle.cob_copybook_clauses.specs.Written.{written_value};
 ghost use Rattle.cob_copybook_entry.specs.Described.{plain_value};
 ghost use Rattle.cob_copybook_entries.specs.Meaning.{IsConstantOf};
-ghost use Rattle.cob_move.specs.Among.{IsSenderAmong};
-ghost use Rattle.cob_move.specs.Meaning.{IsSenderOf};
-ghost use Rattle.cob_move.specs.Refusals.{BreaksSender};
+ghost use Rattle.cob_move_tests.specs.Entries.{AllMayBeNamed, IsSenderAmong, records_of};
+ghost use Rattle.cob_move_names.specs.Senders.{BreaksSender, IsSenderOf, kind_of_sender};
+ghost use Rattle.cob_move_receive.specs.Table.{sender_kind};
 ghost use Rattle.cob_move_data.specs.Moves.{IsSender, sender};
-ghost use Rattle.cob_move.specs.Entries.{AllMayBeNamed, records_of};
 ghost use Rattle.cob_move_names.specs.Candidates.{Candidate};
 ghost use Rattle.cob_move_names.specs.Directory.{entries_named};
 ghost use Rattle.cob_move_statements.specs.Written.{SentConstant, SentReference, written_reference, written_sender};
@@ -18,6 +17,7 @@ use cob_copybook_clauses::ValueClause;
 use cob_copybook_entries::value_of;
 use cob_copybook_entry::{BookRule, Value};
 use cob_move_data::Sender;
+use cob_move_receive::SenderKind;
 use cob_move_statements::{MoveRule, Reference, StatementSender};
 
 /// What the constant of a sender means.
@@ -63,7 +63,7 @@ fn entry_of(entries: &Entries<'_, '_>, reference: &Reference<'_>) -> Result<Send
 /// # Errors
 ///
 /// `Unknown`, `Ambiguous`, `Subscripts` for a reference; `Grammar`, `Literal` for a constant.
-pub(crate) fn sender_of(
+pub fn sender_of(
     entries: &Entries<'_, '_>,
     written: &StatementSender<'_>,
 ) -> Result<Sender, MoveRule>
@@ -81,5 +81,16 @@ pub(crate) fn sender_of(
             let value = constant_of(literal)?;
             Ok(Sender::Constant(value))
         }
+    }
+}
+
+/// What the table of categories asks of a sender.
+pub fn kind_of_sender<'a>(entries: &'a Entries<'_, '_>, from: &'a Sender) -> SenderKind<'a>
+    requires sender { IsSender (records_of entries.now) (sender (records_of entries.now) from.now) }
+    ensures { sender_kind result ≡ kind_of_sender (sender (records_of entries.now) from.now) }
+{
+    match from {
+        Sender::Entry { side, entry } => SenderKind::Entry(entries.kind(*side, entry)),
+        Sender::Constant(value) => SenderKind::Constant(value),
     }
 }

@@ -3,9 +3,9 @@ use Rattle.cob_move_data.specs.Moves.{Records, record_of}
 use Rattle.cob_move_data.specs.declared.operands.Side.TheVariants.{Out}
 use Rattle.cob_move_names.specs.Directory.{entries_named}
 use Rattle.cob_move_statements.specs.Written.{written_reference}
-use Rattle.cob_move.specs.Entries.{records_of}
-use Rattle.cob_move.proofs.OwnLemmas.{named_is, own_is, own_named}
-use Rattle.cob_move.proofs.entries.Entries.named_receiver.Goals as goal
+use Rattle.cob_move_tests.specs.Entries.{records_of}
+use Rattle.cob_move_tests.proofs.OwnLemmas.{named_is, own_is, own_named}
+use Rattle.cob_move_tests.proofs.entries.Entries.named_receiver.Goals as goal
 
 pub returns-clause-found : goal.returns-clause-found
 returns-clause-found c =

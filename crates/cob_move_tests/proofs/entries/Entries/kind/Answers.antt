@@ -3,9 +3,9 @@ use Rattle.cob_copybook.specs.Books.{IsRecordDescription}
 use Rattle.cob_copybook_tree.specs.Forests.{Forest}
 use Rattle.cob_copybook_tree.specs.Nodes.{Resolved}
 use Rattle.cob_move_data.specs.Moves.{record_of}
-use Rattle.cob_move.specs.Entries.{records_of}
-use Rattle.cob_move.proofs.OwnLemmas.{kind_is, number_is}
-use Rattle.cob_move.proofs.entries.Entries.kind.Goals as goal
+use Rattle.cob_move_tests.specs.Entries.{records_of}
+use Rattle.cob_move_tests.proofs.OwnLemmas.{kind_is, number_is}
+use Rattle.cob_move_tests.proofs.entries.Entries.kind.Goals as goal
 
 pub kind-requires : goal.kind-requires
 kind-requires c =
