@@ -34,7 +34,7 @@ use Rattle.cob_move.specs.declared.made.NotRead.{NotRead}
 use Rattle.cob_move.specs.declared.made.NotRead.TheVariants as why
 use Rattle.cob_move_tests.specs.declared.entries.Entries.{Entries}
 use Rattle.cob_move_tests.specs.Entries.{nameable, records_of}
-use Rattle.cob_move.specs.DeedsRead.{AddsDeeds, DeedsRefused, HasItemLoop, IsFrontOf, IsMade, MadeLists, IsReadied, SaysDeeds, TellsFault, TurnRefused, all_deeds, closed, closed_where, last_marked, made_deeds, made_lists, nothing_made, open_deeds}
+use Rattle.cob_move.specs.DeedsRead.{AddsDeeds, DeedsRefused, HasTests, IsFrontOf, IsMade, MadeLists, IsReadied, SaysDeeds, TellsFault, TurnRefused, all_deeds, closed, closed_where, last_marked, made_deeds, made_lists, nothing_made, open_deeds}
 use Rattle.cob_move.specs.Loops.{HasJudged}
 use Rattle.cob_move.specs.Bodies.{IsPassageRefusal}
 use Rattle.cob_move.specs.Paragraphs.{AreReady}
@@ -59,7 +59,7 @@ empty_made r = record {
 pub memory_refuses : (f : MoveFault) (e : Entries) (body : List Lexeme) → IsRefusedMemory f → DeedsRefused f e body
 memory_refuses f e body is = subst (λ (g : MoveFault). DeedsRefused g e body) (sym is) (inl refl)
 
-pub body_refused : (n : NotRead) (f : MoveFault) (e : Entries) (body : List Lexeme) (p : Passage) → IsPassage p body → HasItemLoop body → TellsFault n f body → TurnRefused n e [] body nothing_made → DeedsRefused f e body
+pub body_refused : (n : NotRead) (f : MoveFault) (e : Entries) (body : List Lexeme) (p : Passage) → IsPassage p body → HasTests body → TellsFault n f body → TurnRefused n e [] body nothing_made → DeedsRefused f e body
 body_refused why.Memory f e body p is item told refused = memory_refuses f e body told
 body_refused why.TooMany f e body p is item told refused =
     let (m, first, most) = refused p is in

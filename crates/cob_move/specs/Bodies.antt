@@ -1,11 +1,11 @@
 -- What stands behind a paragraph's heading: which words are a passage, and which rules they break.
-use Rattle.std.specs.Prelude.{◌≡◌, ◌⊎◌, ℕ, ◌<◌, List, [], ◌∷◌, ◌++◌, length, Some, None}
+use Rattle.std.specs.Prelude.{◌≡◌, ◌⊎◌, ℕ, ◌<◌, List, [], ◌∷◌, ◌++◌, length}
 use Rattle.std.specs.List.{AllByRecursion}
 use Rattle.cob_source.specs.Tokens.{Lexeme}
 use Rattle.cob_copybook_names.specs.Naming.{named}
 use Rattle.cob_copybook_tree.specs.Forests.{Forest}
 use Rattle.cob_copybook_tree.specs.Nodes.{Resolved}
-use Rattle.cob_move_loops.specs.Few.{AreLoopsApart, Clashes, IsFew, IsShallow, choice_line, loops_of, opening_line}
+use Rattle.cob_move_loops.specs.Few.{AreLoopsApart, Clashes, IsFew, IsShallow, loops_of, opening_line}
 use Rattle.cob_move_loops.specs.Passages.{Breaks, IsPassage, Passage, ToItem, ToNumber, WrittenBound, WrittenLoop}
 use Rattle.cob_move_loops.specs.Words.{IsOther}
 use Rattle.cob_move_names.specs.Candidates.{Candidate}
@@ -40,7 +40,6 @@ pub record HasPassage (words : List Lexeme) (p : Passage) : Type 0 where
   pub words_are : words ≡ heading ++ body
   pub some : 0 < length body
   pub says : IsPassage p body
-  pub plain : choice_line body ≡ None
   pub shallow : IsShallow body
   pub few : IsFew p
 
@@ -52,10 +51,9 @@ pub record IsBodyIn (words body : List Lexeme) : Type 0 where
   pub words_are : words ≡ heading ++ body
   pub longest : (other more : List Lexeme) → IsHeading other → AllByRecursion IsOther other → 0 < length other → words ≡ other ++ more → body ≡ more
 
--- M1: the words behind the heading are no passage, and this is the line where it breaks off, or 1 where there are none; or a choice is among them, and this is
--- the line of the first, since conditions are not read
+-- M1: the words behind the heading are no passage, and this is the line where it breaks off, or 1 where there are none
 abbrev pub BreaksPassage : List Lexeme → ℕ → Type 0
-BreaksPassage body line = ((body ≡ []) × (line ≡ 1)) ⊎ (Breaks body line ⊎ (choice_line body ≡ Some line))
+BreaksPassage body line = ((body ≡ []) × (line ≡ 1)) ⊎ Breaks body line
 
 -- M12: too many loops hold one another, or the loops of the passage come to too many statements
 abbrev pub BreaksFew : List Lexeme → Type 0

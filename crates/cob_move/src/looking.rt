@@ -11,12 +11,11 @@ ghost use Rattle.cob_move_tests.specs.Entries.{AllMayBeNamed, records_of};
 ghost use Rattle.cob_move.specs.declared.made.NotRead.TheVariants as unread;
 
 use crate::deeds::{add_words_in, not_read, read_bound};
-use crate::loops::fault_of;
 use crate::made::NotRead;
 use cob_limits::MAX_WRITTEN_OUT;
-use cob_move_loops::{Counter, Loop, LoopBound, PassageItem, item_at, line_of, with_counter};
+use cob_move_loops::{Counter, Loop, LoopBound, PassageItem, item_at, with_counter};
 use cob_move_names::Correspondences;
-use cob_move_statements::{MoveFault, MoveRule};
+use cob_move_statements::MoveFault;
 use cob_move_tests::Entries;
 use cob_source::Token;
 use std::alloc::Global;
@@ -132,9 +131,8 @@ fn look_at_item<'a>(
         PassageItem::Run(words) => look_at_run(alloc, entries, pairs, words, turn),
         PassageItem::Pause => Ok(()),
         PassageItem::Loop { head, body } => look_at_loop(alloc, entries, pairs, head, body, turn),
-        PassageItem::Choice { choice, .. } => {
-            Err(not_read(fault_of(MoveRule::Grammar, line_of(choice))))
-        }
+        // A turn is sure to come to few statements only where it has no choice, so nothing is looked at here.
+        PassageItem::Choice { .. } => Ok(()),
         PassageItem::Branch { .. } => Ok(()),
     }
 }

@@ -1,8 +1,6 @@
 //! Paragraphs with loops, read run by run.
 
-ghost use Rattle.std.specs.Prelude.{◌≡◌, ◌↔◌, IfErr, IfOk, IsTrue, None, OnOk, Some};
-ghost use Rattle.cob_move_loops.specs.Few.{choice_line};
-ghost use Rattle.cob_move_statements.specs.declared.fault.MoveRule.TheVariants.{Grammar};
+ghost use Rattle.std.specs.Prelude.{◌≡◌, ◌↔◌, IfErr, IfOk, IsTrue, OnOk};
 ghost use Rattle.std.specs.List.{AllByRecursion};
 ghost use Rattle.cob_move_loops.specs.Passages.{IsPassage, Passage};
 ghost use Rattle.cob_move_loops.specs.Reading.{all_runs, run_words, written_loop, written_loops};
@@ -15,11 +13,12 @@ ghost use Rattle.cob_move.specs.Bodies.{BreaksCounters, IsBodyIn, IsNoEntry, IsP
 ghost use Rattle.cob_move.specs.Paragraphs.{EndsByNumber, IsLiteral};
 ghost use Rattle.cob_source.specs.Tokens.{lexemes};
 
+use crate::choosing::has_choice;
 use crate::meaning::meanings_of;
 use crate::pieces::{is_other, refused_memory};
 use cob_move_data::StatementMoves;
 use cob_move_loops::{
-    Loop, LoopBound, LoopFault, Run, check, choice_line, in_turn, is_few, is_shallow, loops,
+    Loop, LoopBound, LoopFault, Run, check, in_turn, is_few, is_shallow, loops,
     no_turn, opening_line, write_out,
 };
 use cob_move_names::{Correspondences, Names};
@@ -105,23 +104,7 @@ fn apart_loops(alloc: Global, body: &[Token]) -> Result<Vec<Loop<'_>>, MoveFault
     }
 }
 
-/// Checks that no IF and no EVALUATE stands among words: conditions are not read.
-///
-/// # Errors
-///
-/// `Grammar`, with the line of the first.
-fn check_no_choice(body: &[Token]) -> Result<(), MoveFault>
-    ensures plain { OnOk result (choice_line (lexemes body.now) ≡ None) }
-    ensures fault { IfErr result (λ f. (f.rule ≡ Grammar)
-        × (choice_line (lexemes body.now) ≡ Some f.line)) }
-{
-    match choice_line(body) {
-        None => Ok(()),
-        Some(line) => Err(fault_of(MoveRule::Grammar, line)),
-    }
-}
-
-/// Checks that words are a passage without choices.
+/// Checks that words are a passage.
 ///
 /// # Errors
 ///
@@ -131,7 +114,7 @@ fn check_grammar(body: &[Token]) -> Result<(), MoveFault>
     ensures fault { IfErr result (λ f. BreaksAnywhere f (lexemes body.now)) }
 {
     match check(body) {
-        Ok(()) => check_no_choice(body),
+        Ok(()) => Ok(()),
         Err(line) => Err(fault_of(MoveRule::Grammar, line)),
     }
 }
@@ -181,7 +164,8 @@ fn end_by_numbers(heads: &[Loop<'_>]) -> bool
     true
 }
 
-/// Checks that the words behind a heading are a passage, and keep the rules of loops. The answer is whether its loops all end by numbers.
+/// Checks that the words behind a heading are a passage, and keep the rules of loops. The answer is whether its loops all end by numbers and no choice stands in
+/// it.
 ///
 /// # Errors
 ///
@@ -196,7 +180,7 @@ pub(crate) fn judge(alloc: Global, names: &Names<'_>, body: &[Token]) -> Result<
     check_passage(body)?;
     let heads = apart_loops(alloc, body)?;
     check_names(names, heads.as_slice())?;
-    Ok(end_by_numbers(heads.as_slice()))
+    Ok(end_by_numbers(heads.as_slice()) && !has_choice(body))
 }
 
 /// Puts the moves of words behind those so far.
@@ -280,7 +264,7 @@ fn moves_of_runs(
     Ok(list)
 }
 
-/// The moves that words behind a heading say, whose loops all end by numbers.
+/// The moves that words behind a heading say, which have no choice and whose loops all end by numbers.
 ///
 /// # Errors
 ///

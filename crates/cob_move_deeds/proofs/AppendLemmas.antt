@@ -29,7 +29,7 @@ where_same : (r : Records) (on : FlowSupport) (o : Option code.Condition) (d e f
 where_same r on o d e f g h k p q s =
     ap (λ (x : Deeds Test). where_holds r on o x e f) p ∙ ap (λ (x : Deeds Test). where_holds r on o g x f) q ∙ ap (λ (x : Deeds Test). where_holds r on o g h x) s
 
-deeds_same : (r : Records) (on : FlowSupport) (n m : ℕ) (fs : List Flow) → AreNestedFlows n fs → length fs ≤ n → length fs ≤ m → deeds_from r on n fs ≡ deeds_from r on m fs
+pub deeds_same : (r : Records) (on : FlowSupport) (n m : ℕ) (fs : List Flow) → AreNestedFlows n fs → length fs ≤ n → length fs ≤ m → deeds_from r on n fs ≡ deeds_from r on m fs
 deeds_same r on zero zero fs nested few le = refl
 deeds_same r on zero (suc m) [] nested few le = refl
 deeds_same r on zero (suc m) (f ∷ fs) nested few le = absurd (omega (arith, few))
@@ -54,7 +54,7 @@ deeds_same r on (suc n) (suc m) (flow.Where condition holding lacking ∷ fs) (s
     (deeds_same r on n m (drop lacking left) behind (drop_few n lacking left (omega (arith, few, count))) (drop_few m lacking left (omega (arith, le, count))))
 deeds_same r on (suc n) (suc m) (flow.Skip count ∷ fs) nested few le = absurd nested
 
-nested_same : (n m : ℕ) (fs : List Flow) → length fs ≤ n → length fs ≤ m → AreNestedFlows n fs → AreNestedFlows m fs
+pub nested_same : (n m : ℕ) (fs : List Flow) → length fs ≤ n → length fs ≤ m → AreNestedFlows n fs → AreNestedFlows m fs
 nested_same n zero [] few le nested = refl
 nested_same n (suc m) [] few le nested = tt
 nested_same n zero (f ∷ fs) few le nested = absurd (omega (arith, le))

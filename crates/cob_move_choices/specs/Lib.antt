@@ -1,0 +1,5 @@
+pub mod Counters
+pub mod Values
+pub mod Choices
+pub mod Asked
+pub mod Laws
