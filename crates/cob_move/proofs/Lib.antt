@@ -11,7 +11,10 @@ pub mod PieceLemmas
 pub mod PassageLemmas
 pub mod PlainLemmas
 pub mod LoopLemmas
+mod AskedLemmas
 mod FlowLemmas
+mod BranchLemmas
+mod ChoiceLemmas
 mod DeedsLemmas
 mod FewLemmas
 mod WholeLemmas

@@ -5,12 +5,12 @@ use Rattle.cob_limits.specs.Limits.{most_written_out}
 use Rattle.cob_source.specs.Tokens.{Lexeme}
 use Rattle.cob_move_deeds.specs.Deeds.{Deeds}
 use Rattle.cob_move_deeds.specs.Tests.{Test}
-use Rattle.cob_move_loops.specs.Passages.{APause, ARun, FrontStands, IsPassage, Looped, Passage, PassageFront, ToItem, ToNumber, WrittenBound, WrittenLoop}
+use Rattle.cob_move_loops.specs.Passages.{APause, ARun, Branched, Chosen, FrontStands, IsPassage, Looped, Passage, PassageFront, ToItem, ToNumber, WrittenBound, WrittenLoop}
 use Rattle.cob_move_loops.specs.Reading.{Within}
 use Rattle.cob_move_loops.specs.Turns.{Counted, in_turn, turns_between}
 use Rattle.cob_move_loops.specs.declared.parts.Place.TheVariants as standing
 use Rattle.cob_move_loops.proofs.FrontLemmas.{front_smaller}
-use Rattle.cob_move_loops.proofs.PassageLemmas.{IsOnlyFront, Parted, joined, nothing_left, parted}
+use Rattle.cob_move_loops.proofs.PassageLemmas.{IsOnlyFront, Parted, joined, nothing_left, parted, shorter}
 use Rattle.cob_move_statements.specs.Laws.{OneListOfEnded, OneReference}
 use Rattle.cob_move_statements.specs.declared.fault.MoveFault.{MoveFault}
 use Rattle.cob_move_statements.specs.declared.fault.MoveRule.TheVariants as rule
@@ -26,7 +26,8 @@ use Rattle.cob_move.specs.Loops.{RunRefused}
 use Rattle.cob_move.proofs.DeedsLemmas.{either_side, up_to_some}
 use Rattle.cob_move.proofs.FewLemmas.{refused_joined}
 use Rattle.cob_move.proofs.MadeLemmas.{either_memory, told_refused}
-use Rattle.cob_move.proofs.MixedTurns.{late_within}
+use Rattle.cob_move.specs.Paragraphs.{has_choice}
+use Rattle.cob_move.proofs.MixedTurns.{late_within, plain_so}
 use Rattle.cob_move.proofs.ReadingLemmas.{refused_behind}
 
 -- ---- words of MOVE statements
@@ -97,6 +98,8 @@ deep_joined : (f : PassageFront) (body others : Passage) (n : ℕ) → deep_fron
 deep_joined (ARun ws) body others n front behind = behind
 deep_joined APause body others n front behind = behind
 deep_joined (Looped l ws) body others n front behind = max-le front behind
+deep_joined (Chosen c ws) body others n front behind = behind
+deep_joined (Branched t ws) body others n front behind = behind
 
 -- of what is behind what was passed, no more hold one another than of all, and of what was passed no more than so many
 abbrev pub LeftOfDeep : ℕ → (words rest : List Lexeme) → Type 0
@@ -125,6 +128,8 @@ pub words_smaller : (f : PassageFront) (ws more : List Lexeme) → FrontStands f
 words_smaller (ARun own) ws more stands = front_smaller standing.Statements (ARun own) ws more stands
 words_smaller APause ws more stands = front_smaller standing.Statements APause ws more stands
 words_smaller (Looped l own) ws more stands = front_smaller standing.Statements (Looped l own) ws more stands
+words_smaller (Chosen c own) ws more stands = omega (arith, shorter standing.Statements (Chosen c own) ws more stands)
+words_smaller (Branched t own) ws more stands = absurd stands
 
 -- ---- a turn that is sure to come to few
 
@@ -146,12 +151,12 @@ reads_same number next size mid after kept passed = elim (either_side number nex
 ]
 
 pub next_sure : OneDeeds → OneListOfEnded → OneReference → (e : Entries) (ns : List Counted) (l : WrittenLoop) (body : List Lexeme) (step number next deepest before : ℕ) (size : Sizes) (now mid after : MadeLists) → number ≡ l.from + step
-    → AddsDeeds e (in_its_turn ns l number) body now mid → ((p : Passage) → IsPassage p body → deep p ≤ deepest) → before ≡ mid.read - now.read → mid.read + before * (deepest + 1) ≤ most_written_out
+    → AddsDeeds e (in_its_turn ns l number) body now mid → ((p : Passage) → IsPassage p body → (has_choice p ≡ false) × (deep p ≤ deepest)) → before ≡ mid.read - now.read → mid.read + before * (deepest + 1) ≤ most_written_out
     → (number ≡ next → after ≡ without_flows (closed mid)) → ((number ≡ next → ⊥) → after ≡ taken_back size mid) → IsSure e (in_its_turn ns l (l.from + (step + 1))) body after.read
 next_sure law ended one e ns l body step number next deepest before size now mid after at adds low own few kept passed p is le many first =
     let a = adds p is in
     let within : many ≤ a.many * suc deepest =
-    late_within law ended one e.input.now e.output.now (nameable e) ns l p number (l.from + (step + 1)) a.deeds a.many many deepest (low p is) a.are first in
+    late_within law ended one e.input.now e.output.now (nameable e) ns l p number (l.from + (step + 1)) a.deeds a.many many deepest (plain_so p (low p is).0) (low p is).1 a.are first in
     let product : before * (deepest + 1) ≡ a.many * suc deepest =
     ap (λ (t : ℕ). t * (deepest + 1)) (omega (arith, own, a.longer)) ∙ ap (λ (t : ℕ). a.many * t) (omega arith) in
     omega (arith, within, few, product, reads_same number next size mid after kept passed)

@@ -82,9 +82,63 @@ pub names_refused : (all : List Candidate) (body : List Lexeme) (ls : List Writt
 names_refused all body ls f h are same broken =
     subst (λ (r : MoveRule). IsPassageRefusal r f.line all body) (sym same) (h.passage, h.says, inr (subst (λ (ks : List WrittenLoop). BreaksCounters all f.line ks) (are h.passage h.says).1 broken))
 
--- whether its loops end by numbers is so of the passage
-pub literal_so : (literal : Bool) (p : Passage) (ls : List WrittenLoop) → ls ≡ loops_of p → ((literal ≡ true) ↔ AllByRecursion (λ (l : WrittenLoop). EndsByNumber l.bound) ls) → ((literal ≡ true) ↔ IsLiteral p)
-literal_so literal p ls same is = subst (λ (ks : List WrittenLoop). ((literal ≡ true) ↔ AllByRecursion (λ (l : WrittenLoop). EndsByNumber l.bound) ks)) same is
+all_front : {A : Type 0} (P : A → Type 0) (xs ys : List A) → AllByRecursion P (xs ++ ys) → AllByRecursion P xs
+all_front P [] ys all = tt
+all_front P (x ∷ xs) ys all = (all.0, all_front P xs ys all.1)
+
+all_behind : {A : Type 0} (P : A → Type 0) (xs ys : List A) → AllByRecursion P (xs ++ ys) → AllByRecursion P ys
+all_behind P [] ys all = all
+all_behind P (x ∷ xs) ys all = all_behind P xs ys all.1
+
+all_both : {A : Type 0} (P : A → Type 0) (xs ys : List A) → AllByRecursion P xs → AllByRecursion P ys → AllByRecursion P (xs ++ ys)
+all_both P [] ys all more = more
+all_both P (x ∷ xs) ys all more = (all.0, all_both P xs ys all.1 more)
+
+-- neither the one nor the other
+pub neither : (b c : Bool) → (b || c) ≡ false → (b ≡ false) × (c ≡ false)
+neither true c e = absurd (let never : true ≡ false = e in cc)
+neither false c e = (refl, e)
+
+-- a passage without choices whose loops all end by numbers has no test, and back
+literal_yes : (p : Passage) → AllByRecursion (λ (l : WrittenLoop). EndsByNumber l.bound) (loops_of p) → has_choice p ≡ false → IsLiteral p
+literal_yes NoMore all none = tt
+literal_yes (Moves own more) all none = literal_yes more all none
+literal_yes (Pause more) all none = literal_yes more all none
+literal_yes (ALoop l body more) all none =
+    let both = neither (has_choice body) (has_choice more) none in (
+      all.0,
+      literal_yes body (all_front (λ (k : WrittenLoop). EndsByNumber k.bound) (loops_of body) (loops_of more) all.1) both.0,
+      literal_yes more (all_behind (λ (k : WrittenLoop). EndsByNumber k.bound) (loops_of body) (loops_of more) all.1) both.1,
+    )
+literal_yes (AChoice c branches more) all none = absurd (let never : true ≡ false = none in cc)
+literal_yes (ABranch t own others) all none = absurd (let never : true ≡ false = none in cc)
+
+literal_ends : (p : Passage) → IsLiteral p → AllByRecursion (λ (l : WrittenLoop). EndsByNumber l.bound) (loops_of p)
+literal_ends NoMore is = tt
+literal_ends (Moves own more) is = literal_ends more is
+literal_ends (Pause more) is = literal_ends more is
+literal_ends (ALoop l body more) is = (is.0, all_both (λ (k : WrittenLoop). EndsByNumber k.bound) (loops_of body) (loops_of more) (literal_ends body is.1) (literal_ends more is.2))
+literal_ends (AChoice c branches more) is = absurd is
+literal_ends (ABranch t own others) is = absurd is
+
+literal_none : (p : Passage) → IsLiteral p → has_choice p ≡ false
+literal_none NoMore is = refl
+literal_none (Moves own more) is = literal_none more is
+literal_none (Pause more) is = literal_none more is
+literal_none (ALoop l body more) is = ap (λ (b : Bool). b || has_choice more) (literal_none body is.1) ∙ literal_none more is.2
+literal_none (AChoice c branches more) is = absurd is
+literal_none (ABranch t own others) is = absurd is
+
+literal_by : (ends choice : Bool) (p : Passage) → choice ≡ has_choice p → ((ends ≡ true) ↔ AllByRecursion (λ (l : WrittenLoop). EndsByNumber l.bound) (loops_of p)) → (((ends && not choice) ≡ true) ↔ IsLiteral p)
+literal_by true true p same is = (λ e. absurd (let never : false ≡ true = e in cc), λ literal. absurd (let never : true ≡ false = same ∙ literal_none p literal in cc))
+literal_by true false p same is = (λ e. literal_yes p (is.0 refl) (sym same), λ literal. refl)
+literal_by false choice p same is = (λ e. absurd (let never : false ≡ true = e in cc), λ literal. is.1 (literal_ends p literal))
+
+-- whether its loops end by numbers and no choice stands in it is so of the passage
+pub literal_so : (ends choice : Bool) (p : Passage) (ls : List WrittenLoop) → ls ≡ loops_of p → choice ≡ has_choice p → ((ends ≡ true) ↔ AllByRecursion (λ (l : WrittenLoop). EndsByNumber l.bound) ls)
+    → (((ends && not choice) ≡ true) ↔ IsLiteral p)
+literal_so ends choice p ls same none is =
+    literal_by ends choice p none (subst (λ (ks : List WrittenLoop). ((ends ≡ true) ↔ AllByRecursion (λ (l : WrittenLoop). EndsByNumber l.bound) ks)) same is)
 
 -- words that are no statements refuse a run
 pub run_refused : (r : MoveRule) (line : ℕ) (ws : List Lexeme)

@@ -13,7 +13,7 @@ use Rattle.cob_move_loops.specs.declared.words.PassageWord.{PassageWord}
 use Rattle.cob_move_loops.specs.declared.words.PassageWord.TheVariants as mark
 use Rattle.cob_move_loops.specs.Few.{AreLoopsApart, Clashes, IsFew, IsShallow, loops_of}
 use Rattle.cob_move_loops.specs.Laws.{BreaksNone, OnePassage}
-use Rattle.cob_move_loops.specs.Passages.{ALoop, IsPassage, IsRun, Moves, NoMore, Passage, Pause, WrittenLoop}
+use Rattle.cob_move_loops.specs.Passages.{ABranch, AChoice, ALoop, AnEvaluate, AnIf, IsPassage, IsRun, Moves, NoMore, Passage, Pause, WrittenLoop}
 use Rattle.cob_move_loops.specs.Words.{IsPassageWord, IsOther}
 use Rattle.cob_move_loops.proofs.PassageLemmas.{head_first}
 use Rattle.cob_move_statements.specs.declared.fault.MoveFault.{MoveFault}
@@ -52,6 +52,11 @@ passage_first (Pause more) ws (pause, stops, rest, word, are, e, is) = subst NoO
 passage_first (ALoop l body more) ws (head, own, stops, rest, end, h, b, inner, word, are, e, is) =
     let (w, tail, first, f) = head_first l head h in
     subst NoOtherName (sym (e ∙ ap (λ (t : List Lexeme). t ++ (own ++ end ∷ (stops ++ rest))) f)) (λ named other. loop_no_other mark.Perform w first other)
+passage_first (AChoice (AnIf line) branches more) ws (head, own, stops, rest, end, (begins, word, at, h), b, inner, closes, are, e, is) =
+    subst NoOtherName (sym (e ∙ ap (λ (t : List Lexeme). t ++ (own ++ end ∷ (stops ++ rest))) h)) (λ named other. loop_no_other mark.If begins word other)
+passage_first (AChoice (AnEvaluate line subject) branches more) ws (head, own, stops, rest, end, (begins, word, at, tests, h), b, inner, closes, are, e, is) =
+    subst NoOtherName (sym (e ∙ ap (λ (t : List Lexeme). t ++ (own ++ end ∷ (stops ++ rest))) h)) (λ named other. loop_no_other mark.Evaluate begins word other)
+passage_first (ABranch t own others) ws is = absurd is
 
 -- behind two headings stand the same words, where no other name comes first there
 body_one : (h k a b : List Lexeme) → IsHeading h → IsHeading k → AllByRecursion IsOther h → AllByRecursion IsOther k → NoOtherName a → NoOtherName b → h ++ a ≡ k ++ b → a ≡ b
@@ -146,6 +151,10 @@ no_clash around (Pause more) line apart clash = no_clash around more line apart 
 no_clash around (ALoop l body more) line apart (inl own_clash) = own_clash.1 apart.0
 no_clash around (ALoop l body more) line apart (inr (inl inner)) = no_clash (around ++ l ∷ []) body line apart.1 inner
 no_clash around (ALoop l body more) line apart (inr (inr behind)) = no_clash around more line apart.2 behind
+no_clash around (AChoice c branches more) line apart (inl inner) = no_clash around branches line apart.0 inner
+no_clash around (AChoice c branches more) line apart (inr behind) = no_clash around more line apart.1 behind
+no_clash around (ABranch t own others) line apart (inl inner) = no_clash around own line apart.0 inner
+no_clash around (ABranch t own others) line apart (inr behind) = no_clash around others line apart.1 behind
 
 none_named : (all : List Candidate) (line : ℕ) (ls : List WrittenLoop) → AllByRecursion (λ (l : WrittenLoop). IsNoEntry all l.counter) ls → BreaksCounters all line ls → ⊥
 none_named all line [] none broken = broken

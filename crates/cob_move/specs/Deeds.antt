@@ -92,9 +92,9 @@ AreDeedsAt all input output ns (InBranches a) waiting (ABranch Otherwise own oth
 AreDeedsAt all input output ns (InBranches a) waiting (ABranch (Tested ws) own others) d many = (t : Condition)
     × IsBranchTestOf (record { input = input; output = output }) ns a ws t
     × (((own ≡ NoMore) × AreDeedsAt all input output ns (InBranches a) (Some (joined_test waiting t)) others d many)
-    ⊎ ((own ≡ NoMore → ⊥) × ((holding lacking : Deeds Test) × (some rest : ℕ)
+    ⊎ ((own ≡ NoMore → ⊥) × (holding lacking : Deeds Test) × (some rest : ℕ)
     × AreDeedsAt all input output ns InStatements None own holding some × AreDeedsAt all input output ns (InBranches a) None others lacking rest
-    × (d ≡ Choice (Holds (joined_test waiting t)) holding lacking Nothing) × (many ≡ some + rest))))
+    × (d ≡ Choice (Holds (joined_test waiting t)) holding lacking Nothing) × (many ≡ some + rest)))
 
 -- What a passage of statements comes to where the counters round it have these numbers, and to how many statements.
 abbrev pub AreDeeds : List Candidate → Forest Resolved → Forest Resolved → List Counted → Passage → Deeds Test → ℕ → Type 0
@@ -186,7 +186,7 @@ IsTurnRefusedAt f all input output ns InStatements (AChoice c branches more) =
     ((BreaksSubject f.rule (record { input = input; output = output }) ns c × (f.line ≡ line_of c))
     ⊎ ((a : Against) × IsSubjectOf (record { input = input; output = output }) ns c a × IsTurnRefusedAt f all input output ns (InBranches a) branches))
     ⊎ IsTurnRefusedAt f all input output ns InStatements more
-IsTurnRefusedAt f all input output ns InStatements (ABranch t own others) = ⊥
+IsTurnRefusedAt f all input output ns InStatements (ABranch t own others) = IsTurnRefusedAt f all input output ns InStatements others
 IsTurnRefusedAt f all input output ns (InBranches a) (Moves own more) = ⊥
 IsTurnRefusedAt f all input output ns (InBranches a) (Pause more) = ⊥
 IsTurnRefusedAt f all input output ns (InBranches a) (ALoop l body more) = ⊥

@@ -642,6 +642,7 @@ pub record ReadsBranches (e : Entries) (ns : List Counted) (a : Against) (p q : 
   pub longer : new.read ≡ old.read + count
   pub whole : moves (records_of e) new.list ≡ moves (records_of e) old.list ++ moves_of_whens whens
   pub fits : old.read ≤ most_written_out → new.read ≤ most_written_out
+  pub first : (m : ℕ) → FirstInBranches e ns a q m → (n : ℕ) × FirstInBranches e ns a p n × (new.read + m ≡ old.read + n)
   pub few : old.read ≤ most_written_out → (many : ℕ) → FirstInBranches e ns a p many
       → (old.read + many ≤ most_written_out) ⊎ ((k : ℕ) × FirstInBranches e ns a q k × (old.read + many ≡ new.read + k))
 

@@ -128,11 +128,11 @@ fn ready_deeds(
     let entries = placed_entries(alloc, asked, input, output)?;
     let moves = MarkedMoves::new(alloc, list, ends.as_slice(), input, output)?;
     let loops = Vec::new(alloc);
-    let asked = Asked {
+    let tests = Asked {
         entries,
         conditions,
     };
-    let deeds = ReadyDeeds::new(moves, bounds, loops, asked, flows);
+    let deeds = ReadyDeeds::new(moves, bounds, loops, tests, flows);
     let steady = deeds.with_steady_bounds(alloc, output)?;
     Ok(steady)
 }

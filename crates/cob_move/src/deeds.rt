@@ -21,9 +21,9 @@ ghost use Rattle.cob_move.specs.Loops.{AddsRun, RunRefused};
 ghost use Rattle.cob_move.specs.declared.made.NotRead.TheVariants as unread;
 
 use crate::deeds_laws::{deeds_break_no_rule, one_deeds};
-use crate::choosing::{count_choice, has_choice, joined, read_subject, read_test};
+use crate::choosing::{count_choice, joined, read_subject, read_test};
 use crate::linking::{link_branches, link_turns, next_number};
-use crate::looking::{depth, is_sure, look_at_turn};
+use crate::looking::{is_sure, look_at_turn, plain_depth};
 use crate::loops::{add_words, fault_of};
 use crate::made::{BranchFlows, Made, NotRead, keep_turn, taken_flows};
 use crate::meaning_laws::{meant_are_moves, meant_break_no_rule};
@@ -399,7 +399,7 @@ fn try_turns<'a>(
     one_list_of_ended();
     one_reference();
     // A turn with a choice is never sure: it is read at once.
-    let deep = if has_choice(body) { 0 } else { depth(body) };
+    let deep = plain_depth(body);
     let mut next = head.from;
     let mut sure = false;
     for step in 0..MAX_RECORD + 1 {

@@ -165,8 +165,8 @@ try_turns-loop-step-preserved t c = record {
   tried = tried_step c.one_deeds.ensures c.args.entries.now (counters c.args.turn.now) (written_loop c.args.head.now) (lexemes c.args.body.now) c.loop-step.step c.in_ok-number.number c.loop-step.next _ (flow_lists c.loop-step.turns.items) (flow_lists c.keep_turn.new.turns.items) c.sizes-before.result (made_lists c.args.made.now) (made_lists c.loop-step.made) (made_lists c.try_turn.new.made) (made_lists c.keep_turn.new.made)
       c.args.head.now.steps c.in_ok-number.ensures c.loop-step.invariant.tried c.sizes-before.ensures c.in_ok-fault.ensures.made c.in_ok-fault.ensures.grown (rw c.in_default.is at c.in_ok-fault.ensures.added) c.in_ok-next.ensures.kept
       (λ other. let k = c.in_ok-next.ensures.passed other in (k.0, k.1, ap flow_lists k.2));
-  sure = λ yes. next_sure c.one_deeds.ensures c.one_list_of_ended.ensures c.one_reference.ensures c.args.entries.now (counters c.args.turn.now) (written_loop c.args.head.now) (lexemes c.args.body.now) c.loop-step.step c.in_ok-number.number c.loop-step.next c.depth-deep.result c.saturating_sub.result c.sizes-before.result
-      (made_lists c.loop-step.made) (made_lists c.try_turn.new.made) (made_lists c.keep_turn.new.made) c.in_ok-number.ensures (rw c.in_default.is at c.in_ok-fault.ensures.added) c.depth-deep.ensures.deep c.saturating_sub.ensures (c.is_sure-sure.ensures yes)
+  sure = λ yes. next_sure c.one_deeds.ensures c.one_list_of_ended.ensures c.one_reference.ensures c.args.entries.now (counters c.args.turn.now) (written_loop c.args.head.now) (lexemes c.args.body.now) c.loop-step.step c.in_ok-number.number c.loop-step.next c.plain_depth-deep.result c.saturating_sub.result c.sizes-before.result
+      (made_lists c.loop-step.made) (made_lists c.try_turn.new.made) (made_lists c.keep_turn.new.made) c.in_ok-number.ensures (rw c.in_default.is at c.in_ok-fault.ensures.added) (c.plain_depth-deep.ensures (c.is_sure-sure.ensures yes).0) c.saturating_sub.ensures (c.is_sure-sure.ensures yes).1
       (λ here. (c.in_ok-next.ensures.kept here).1) (λ other. (c.in_ok-next.ensures.passed other).1);
   pairs = c.in_ok-fault.ensures.pairs;
 }
@@ -307,7 +307,7 @@ add_tested-returns-clause-added t c =
     let same = loop_same (made_lists c.args.made.now) now bound c.push.new.self.items c.link_turns.new.flows.items c.replace-outside.result.items linked c.in_ok-push.ensures.items
     (c.in_ok-link_turns.ensures ∙ ap (λ (k : ℕ). c.replace-outside.result.items ++ linked_turns k c.args.head.now.by c.args.head.now.from (flow_lists c.as_slice.result.now)) (c.len-bound.ensures ∙ c.try_turns-read.new.made.bounds.ok.0)
     ∙ ap (λ (ts : List (Vec Flow)). c.replace-outside.result.items ++ linked_turns (length now.bounds) c.args.head.now.by c.args.head.now.from (flow_lists ts)) c.as_slice.ensures.value) outside in
-    tested_added c.args.entries.now (counters c.args.turn.now) (written_loop c.args.head.now) (lexemes c.args.words.now) (lexemes c.args.body.now) c.in_ok-found.found c.in_ok-behind.behind c.in_ok-behind.ensures.read.0 turns bound (made_lists c.args.made.now) now (made_lists (record { list = c.try_turns-read.new.made.list; ends = c.try_turns-read.new.made.ends; bounds = c.push.new.self; flows = c.link_turns.new.flows; read = c.try_turns-read.new.made.read })) c.requires.item c.in_ok-found.ensures.found c.in_ok-behind.ensures.read.1
+    tested_added c.args.entries.now (counters c.args.turn.now) (written_loop c.args.head.now) (lexemes c.args.words.now) (lexemes c.args.body.now) c.in_ok-found.found c.in_ok-behind.behind c.in_ok-behind.ensures.read.0 turns bound (made_lists c.args.made.now) now (made_lists (record { list = c.try_turns-read.new.made.list; ends = c.try_turns-read.new.made.ends; bounds = c.push.new.self; asked = c.try_turns-read.new.made.asked; conditions = c.try_turns-read.new.made.conditions; flows = c.link_turns.new.flows; read = c.try_turns-read.new.made.read })) c.requires.item c.in_ok-found.ensures.found c.in_ok-behind.ensures.read.1
     c.in_ok-behind.ensures.some.0 c.in_ok-behind.ensures.some.1
     (λ p is. no_turn_comes c.deeds_break_no_rule.ensures c.args.entries.now (in_its_turn (counters c.args.turn.now) (written_loop c.args.head.now) c.in_ok-behind.behind) p (lexemes c.args.body.now) c.requires.named now.read c.in_ok-behind.ensures.past is) so c.in_ok-behind.ensures.past c.one_deeds.ensures same
 
@@ -332,7 +332,7 @@ add_tested-returns-clause-made t c =
     let same = loop_same (made_lists c.args.made.now) now bound c.push.new.self.items c.link_turns.new.flows.items c.replace-outside.result.items linked c.in_ok-push.ensures.items
     (c.in_ok-link_turns.ensures ∙ ap (λ (k : ℕ). c.replace-outside.result.items ++ linked_turns k c.args.head.now.by c.args.head.now.from (flow_lists c.as_slice.result.now)) (c.len-bound.ensures ∙ c.try_turns-read.new.made.bounds.ok.0)
     ∙ ap (λ (ts : List (Vec Flow)). c.replace-outside.result.items ++ linked_turns (length now.bounds) c.args.head.now.by c.args.head.now.from (flow_lists ts)) c.as_slice.ensures.value) outside in
-    tested_made c.args.entries.now (counters c.args.turn.now) (written_loop c.args.head.now) (lexemes c.args.body.now) c.in_ok-found.found c.in_ok-behind.behind turns bound (made_lists c.args.made.now) now (made_lists (record { list = c.try_turns-read.new.made.list; ends = c.try_turns-read.new.made.ends; bounds = c.push.new.self; flows = c.link_turns.new.flows; read = c.try_turns-read.new.made.read })) c.requires.bounds so same
+    tested_made c.args.entries.now (counters c.args.turn.now) (written_loop c.args.head.now) (lexemes c.args.body.now) c.in_ok-found.found c.in_ok-behind.behind turns bound (made_lists c.args.made.now) now (made_lists (record { list = c.try_turns-read.new.made.list; ends = c.try_turns-read.new.made.ends; bounds = c.push.new.self; asked = c.try_turns-read.new.made.asked; conditions = c.try_turns-read.new.made.conditions; flows = c.link_turns.new.flows; read = c.try_turns-read.new.made.read })) c.requires.bounds so same
 
 pub add_tested-returns-clause-grown : goal.add_tested-returns-clause-grown
 add_tested-returns-clause-grown t c =
@@ -355,7 +355,7 @@ add_tested-returns-clause-grown t c =
     let same = loop_same (made_lists c.args.made.now) now bound c.push.new.self.items c.link_turns.new.flows.items c.replace-outside.result.items linked c.in_ok-push.ensures.items
     (c.in_ok-link_turns.ensures ∙ ap (λ (k : ℕ). c.replace-outside.result.items ++ linked_turns k c.args.head.now.by c.args.head.now.from (flow_lists c.as_slice.result.now)) (c.len-bound.ensures ∙ c.try_turns-read.new.made.bounds.ok.0)
     ∙ ap (λ (ts : List (Vec Flow)). c.replace-outside.result.items ++ linked_turns (length now.bounds) c.args.head.now.by c.args.head.now.from (flow_lists ts)) c.as_slice.ensures.value) outside in
-    tested_grown (made_lists c.args.made.now) now (made_lists (record { list = c.try_turns-read.new.made.list; ends = c.try_turns-read.new.made.ends; bounds = c.push.new.self; flows = c.link_turns.new.flows; read = c.try_turns-read.new.made.read })) bound linked so.grown same
+    tested_grown (made_lists c.args.made.now) now (made_lists (record { list = c.try_turns-read.new.made.list; ends = c.try_turns-read.new.made.ends; bounds = c.push.new.self; asked = c.try_turns-read.new.made.asked; conditions = c.try_turns-read.new.made.conditions; flows = c.link_turns.new.flows; read = c.try_turns-read.new.made.read })) bound linked so.grown same
 
 pub add_passage-add_item-requires : goal.add_passage-add_item-requires
 add_passage-add_item-requires t c =
