@@ -1,1 +1,5 @@
 pub mod OwnLemmas
+mod AskedLemmas
+mod ReadLemmas
+mod OneLemmas
+mod NoRuleLemmas

@@ -1,1 +1,7 @@
 pub mod Entries
+pub mod Qualities
+pub mod Meant
+pub mod Broken
+pub mod Asked
+pub mod Compared
+pub mod Laws

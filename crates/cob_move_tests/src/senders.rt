@@ -1,16 +1,15 @@
 //! What a sender means.
 
-ghost use Rattle.std.specs.Prelude.{◌≡◌, List, IfErr, IfOk};
+ghost use Rattle.std.specs.Prelude.{◌≡◌, IfErr, IfOk};
 ghost use Rattle.cob_copybook_clauses.specs.Written.{written_value};
 ghost use Rattle.cob_copybook_entry.specs.Described.{plain_value};
 ghost use Rattle.cob_copybook_entries.specs.Meaning.{IsConstantOf};
 ghost use Rattle.cob_move_tests.specs.Entries.{AllMayBeNamed, IsSenderAmong, records_of};
-ghost use Rattle.cob_move_names.specs.Senders.{BreaksSender, IsSenderOf, kind_of_sender};
+ghost use Rattle.cob_move_names.specs.Senders.{BreaksSender, BreaksSentConstant, IsSenderOf, kind_of_sender};
 ghost use Rattle.cob_move_receive.specs.Table.{sender_kind};
 ghost use Rattle.cob_move_data.specs.Moves.{IsSender, sender};
-ghost use Rattle.cob_move_names.specs.Candidates.{Candidate};
 ghost use Rattle.cob_move_names.specs.Directory.{entries_named};
-ghost use Rattle.cob_move_statements.specs.Written.{SentConstant, SentReference, written_reference, written_sender};
+ghost use Rattle.cob_move_statements.specs.Written.{SentReference, written_reference, written_sender};
 
 use crate::entries::Entries;
 use cob_copybook_clauses::ValueClause;
@@ -25,10 +24,9 @@ use cob_move_statements::{MoveRule, Reference, StatementSender};
 /// # Errors
 ///
 /// `Grammar` for a word that is no numeric literal; `Literal` for a literal of too many characters or digits, or an empty one behind ALL.
-fn constant_of(written: &ValueClause<'_>) -> Result<Value, MoveRule>
+pub(crate) fn constant_of(written: &ValueClause<'_>) -> Result<Value, MoveRule>
     ensures found { IfOk result (λ v. IsConstantOf (written_value written.now) (plain_value v)) }
-    ensures fault { IfErr result (λ r. (all : List Candidate)
-        → BreaksSender r all (SentConstant (written_value written.now))) }
+    ensures fault { IfErr result (λ r. BreaksSentConstant r (written_value written.now)) }
 {
     match value_of(written) {
         Ok(value) => Ok(value),
