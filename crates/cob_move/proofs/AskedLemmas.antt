@@ -9,7 +9,8 @@ use Rattle.cob_codec.specs.declared.reading.Reading.TheVariants.{Pictured}
 use Rattle.cob_copybook_tree.specs.declared.node.Kind.{Kind}
 use Rattle.cob_move_apply.specs.declared.placed.PlacedEntry.{PlacedEntry}
 use Rattle.cob_move_apply.specs.Entries.{IsPlacedEntry}
-use Rattle.cob_move_choices.specs.Asked.{AsksMore, IsAsked, IsNamedOperand, IsSubjectAsked, against, kind_named, kind_of_entry, sender_named, sender_of_entry}
+use Rattle.cob_move_tests.specs.Asked.{AsksMore, IsAsked, IsNamed, kind_named, kind_asked, sender_named, sender_asked}
+use Rattle.cob_move_choices.specs.Asked.{IsSubjectAsked, against}
 use Rattle.cob_move_choices.specs.Choices.{Against, AnEntry, Truth, joined_test}
 use Rattle.cob_move_choices.specs.declared.subjects.Subject.{Subject}
 use Rattle.cob_move_choices.specs.declared.subjects.Subject.TheVariants as subject
@@ -81,10 +82,10 @@ get_front (x ∷ xs) more (suc n) less = get_front xs more n (omega (arith, less
 
 -- entries keep their numbers where more are asked for
 pub named_front : (r : Records) (asked more : List NamedEntry) (n : ℕ) → n < length asked → sender_named r asked n ≡ sender_named r (asked ++ more) n
-named_front r asked more n less = ap (λ (o : Option NamedEntry). sender_of_entry r o) (sym (get_front asked more n less))
+named_front r asked more n less = ap (λ (o : Option NamedEntry). sender_asked r o) (sym (get_front asked more n less))
 
 pub kind_front : (r : Records) (asked more : List NamedEntry) (n : ℕ) → n < length asked → kind_named r asked n ≡ kind_named r (asked ++ more) n
-kind_front r asked more n less = ap (λ (o : Option NamedEntry). kind_of_entry r o) (sym (get_front asked more n less))
+kind_front r asked more n less = ap (λ (o : Option NamedEntry). kind_asked r o) (sym (get_front asked more n less))
 
 asked_more : (asked more : List NamedEntry) (n : ℕ) → IsAsked asked n → IsAsked (asked ++ more) n
 asked_more asked more n less = omega (arith, less, length-append asked more)
@@ -116,9 +117,9 @@ subject_front r old new subject.Truth more there = tt
 subject_front r old new (subject.Entry number) (more, is) there = omega (arith, there, ap length is, length-append old more)
 
 pub asks_both : (r : Records) (a b c : List NamedEntry) → AsksMore r a b → AsksMore r b c → AsksMore r a c
-asks_both r a b c (own, is, all) (more, si, lla) = (own ++ more, si ∙ ap (λ (t : List NamedEntry). t ++ more) is ∙ append_assoc a own more, both own all)
+asks_both r a b c (own, all, is) (more, lla, si) = (own ++ more, both own all, si ∙ ap (λ (t : List NamedEntry). t ++ more) is ∙ append_assoc a own more)
   where
-    both : (xs : List NamedEntry) → AllByRecursion (IsNamedOperand r) xs → AllByRecursion (IsNamedOperand r) (xs ++ more)
+    both : (xs : List NamedEntry) → AllByRecursion (IsNamed r) xs → AllByRecursion (IsNamed r) (xs ++ more)
     both [] every = lla
     both (x ∷ xs) every = (every.0, both xs every.1)
 
@@ -150,11 +151,11 @@ get_named [] n = refl
 get_named (e ∷ es) zero = refl
 get_named (e ∷ es) (suc n) = get_named es n
 
-placed_sender : (r : Records) (o : Option PlacedEntry) → sender_placed r Pictured o ≡ sender_of_entry r (option_map named_of o)
+placed_sender : (r : Records) (o : Option PlacedEntry) → sender_placed r Pictured o ≡ sender_asked r (option_map named_of o)
 placed_sender r None = refl
 placed_sender r (Some e) = refl
 
-placed_kind : (r : Records) (o : Option PlacedEntry) → kind_placed r o ≡ kind_of_entry r (option_map named_of o)
+placed_kind : (r : Records) (o : Option PlacedEntry) → kind_placed r o ≡ kind_asked r (option_map named_of o)
 placed_kind r None = refl
 placed_kind r (Some e) = refl
 
@@ -163,7 +164,7 @@ pub sender_stands : (r : Records) (m : MadeLists) (on : FlowSupport) (n : ℕ) �
 sender_stands r m on n f less =
     ap (λ (x : Reading). sender_placed r x (slice_get on.entries n)) f.reading
     ∙ placed_sender r (slice_get on.entries n)
-    ∙ ap (λ (o : Option NamedEntry). sender_of_entry r o) (sym (get_named on.entries n))
+    ∙ ap (λ (o : Option NamedEntry). sender_asked r o) (sym (get_named on.entries n))
     ∙ ap (λ (t : List NamedEntry). sender_named r t n) f.asked.1
     ∙ sym (named_front r m.asked f.asked.0 n less)
 
@@ -183,7 +184,7 @@ may_be_asked r on asked cs named same placed tested = record {
     size = sym (length-map on.entries named_of) ∙ ap length named
 
     kinds : (n : ℕ) → IsAsked asked n → kind_named r asked n ≡ kind_at r on n
-    kinds n less = ap (λ (t : List NamedEntry). kind_named r t n) (sym named) ∙ ap (λ (o : Option NamedEntry). kind_of_entry r o) (get_named on.entries n) ∙ sym (placed_kind r (slice_get on.entries n))
+    kinds n less = ap (λ (t : List NamedEntry). kind_named r t n) (sym named) ∙ ap (λ (o : Option NamedEntry). kind_asked r o) (get_named on.entries n) ∙ sym (placed_kind r (slice_get on.entries n))
 
     all_there : (ds : List code.Condition) → AllByRecursion (MayBeTested (IsAsked asked) (kind_named r asked)) ds → AllByRecursion (MayBeTested (IsThere on) (kind_at r on)) ds
     all_there [] all = tt

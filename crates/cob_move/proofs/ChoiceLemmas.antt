@@ -2,10 +2,11 @@
 use Rattle.std.proofs.Common.{◌≡◌, ◌⊎◌, inl, inr, ℕ, zero, suc, ◌+◌, ◌<◌, ◌≤◌, nat_eq, Bool, true, false, List, [], ◌∷◌, ◌++◌, length, map, refl, sym, ap, subst, ◌∙◌, append_assoc, append-nil, arith, Option, Some, None}
 use Rattle.std.specs.Prelude.{codes, option_map}
 use Rattle.std.specs.List.{AllByRecursion, slice_get}
+use Rattle.std.proofs.lemmas.List.{length-append}
 use Rattle.cob_limits.specs.Limits.{most_written_out}
 use Rattle.cob_source.specs.Tokens.{Lexeme}
 use Rattle.cob_copybook_clauses.specs.Clauses.{IsWord}
-use Rattle.cob_move_choices.specs.Asked.{AsksMore, IsAsked, IsNamedOperand, kind_named, sender_named}
+use Rattle.cob_move_tests.specs.Asked.{AsksMore, IsAsked, IsNamed, kind_named, sender_named}
 use Rattle.cob_move_choices.specs.Choices.{Against, BreaksBranchTest, BreaksSubject, IsBranchTestOf, IsSubjectOf, joined_test}
 use Rattle.cob_move_choices.specs.Laws.{BranchTestsBreakNoRule, OneBranchTest, OneSubject, SubjectsBreakNoRule}
 use Rattle.cob_move_condition.specs.declared.condition.Condition as code
@@ -24,7 +25,8 @@ use Rattle.cob_move_loops.specs.declared.parts.ChoiceKind.{ChoiceKind}
 use Rattle.cob_move_loops.specs.declared.parts.ChoiceKind.TheVariants as kind
 use Rattle.cob_move_loops.specs.declared.parts.Place.TheVariants as standing
 use Rattle.cob_move_loops.specs.declared.words.BranchWord.TheVariants as branch
-use Rattle.cob_move_loops.specs.Passages.{ABranch, AChoice, ALoop, AnEvaluate, AnIf, BranchEnds, BranchesBegin, Branched, IsPassage, IsPassageAt, Moves, NextWhen, NoMore, Otherwise, Passage, PassageFront, Pause, TestFirst, Tested, WrittenChoice, WrittenTest, kind_of, line_of}
+use Rattle.cob_move_loops.specs.Passages.{ABranch, AChoice, ALoop, AnEvaluate, AnIf, BranchEnds, BranchesBegin, Branched, FrontAt, IsPassage, IsPassageAt, Moves, NextWhen, NoMore, Otherwise, Passage, PassageFront, Pause, TestFirst, Tested, WrittenChoice, WrittenTest, kind_of, line_of}
+use Rattle.cob_move_loops.proofs.PassageLemmas.{IsOnlyFront, Parted, nothing_left, parted, shorter}
 use Rattle.cob_move_loops.specs.Turns.{Counted}
 use Rattle.cob_move_loops.specs.Words.{branch_word, first_line}
 use Rattle.cob_move_statements.specs.declared.fault.MoveFault.{MoveFault}
@@ -35,7 +37,7 @@ use Rattle.cob_move_tests.specs.Entries.{AllMayBeNamed, nameable, records_of}
 use Rattle.cob_move.specs.declared.made.NotRead.{NotRead}
 use Rattle.cob_move.specs.declared.made.NotRead.TheVariants as why
 use Rattle.cob_move.specs.DeedsLaws.{DeedsBreakNoRule, OneDeeds}
-use Rattle.cob_move.specs.DeedsRead.{AddsMade, AreParted, AreTaken, BranchesAreRefused, BranchesComeTo, ChoiceComesTo, ChoiceIsRefused, FewWith, FirstIn, FirstInBranches, FirstInChoice, HasGrown, HasReadBranches, IsConditionAt, IsFrontOf, IsMade, IsRefusedIn, IsWaiting, LeavesFront, MadeLists, PassageComesTo, ReadsBranches, RefusedMade, SubjectNotRead, TakenBranch, TestNotRead, all_deeds, closed, closed_where, last_marked, linked_branches, made_deeds, moves_of_whens, open_deeds, open_statements, with_asked, with_condition, with_one_more, without_flows}
+use Rattle.cob_move.specs.DeedsRead.{AddsBranch, AddsBranches, AddsChoice, AddsMade, AreParted, AreTaken, BeginsTested, BranchesAreRefused, BranchesComeTo, BranchesRefused, ChoiceComesTo, ChoiceIsRefused, ChoiceRefused, FewWith, FirstIn, FirstInBranches, FirstInChoice, HasGrown, HasReadBranches, HaveBounds, IsConditionAt, IsFrontOf, IsMade, IsRefusedIn, IsWaiting, LeavesFront, LeftOfBranches, MadeLists, PassageComesTo, ReadsApart, ReadsBranches, RefusedMade, SubjectNotRead, TakenBranch, TestNotRead, TurnRefused, all_deeds, closed, closed_where, last_marked, linked_branches, made_deeds, moves_of_whens, open_deeds, open_statements, with_asked, with_condition, with_one_more, without_flows}
 use Rattle.cob_move.specs.Joined.{before_deeds, joined_deeds}
 use Rattle.cob_move.proofs.AskedLemmas.{all_tested_front, condition_stands, tested_front, waiting_means}
 use Rattle.cob_move.proofs.BranchLemmas.{branches_deeds, branches_flows, moves_of_selection, selection_more, selection_not_straight, selection_parted, taken_more, whens_more}
@@ -43,21 +45,12 @@ use Rattle.cob_move.proofs.CloseLemmas.{closed_deeds, closed_flows, closed_grown
 use Rattle.cob_move.proofs.FewLemmas.{count_one, turn_unbroken}
 use Rattle.cob_move.proofs.FlowLemmas.{both_assoc, both_flows, both_nothing, both_parted, no_flows, parted_joined}
 use Rattle.cob_move.proofs.MadeLemmas.{front_back, grown_both}
+use Rattle.cob_move.proofs.PlainLemmas.{no_words}
 use Rattle.cob_move.proofs.ReadingLemmas.{none_first}
 use Rattle.cob_move.proofs.SomeLemmas.{all_append}
 use Rattle.cob_move.proofs.TestedLemmas.{closed_after, closed_list, front_closed, nothing_open}
 
 -- ---- the first branch has a test
-
--- a branch with a test comes first
-abbrev pub BeginsTested : Passage → Type 0
-BeginsTested NoMore = ⊥
-BeginsTested (Moves own more) = ⊥
-BeginsTested (Pause more) = ⊥
-BeginsTested (ALoop l body more) = ⊥
-BeginsTested (AChoice c branches more) = ⊥
-BeginsTested (ABranch (Tested ws) own others) = Unit {0}
-BeginsTested (ABranch Otherwise own others) = ⊥
 
 none_begins : (c : WrittenChoice) → BranchesBegin c [] → ⊥
 none_begins (AnIf line) begin = begin
@@ -97,13 +90,13 @@ asked_grown m asked more = record {
 }
 
 pub asked_made : (r : Records) (m : MadeLists) (asked : List NamedEntry) → AsksMore r m.asked asked → IsMade r m → IsMade r (with_asked m asked)
-asked_made r m asked (more, is, all) made =
+asked_made r m asked (more, all, is) made =
     let grown = asked_grown m asked (more, is) in record {
       moves = made.moves;
       ends = made.ends;
       behind = made.behind;
       bounds = made.bounds;
-      asked = subst (λ (t : List NamedEntry). AllByRecursion (IsNamedOperand r) t) (sym is) (all_append (IsNamedOperand r) m.asked more made.asked all);
+      asked = subst (λ (t : List NamedEntry). AllByRecursion (IsNamed r) t) (sym is) (all_append (IsNamed r) m.asked more made.asked all);
       conditions = all_tested_front r m.asked asked m.conditions (more, is) made.conditions;
       flows = λ on f. made.flows on (front_back m (with_asked m asked) on grown f);
       parted = λ on f. made.parted on (front_back m (with_asked m asked) on grown f);
@@ -180,6 +173,7 @@ branches_begin e ns a p m = record {
   count = 0;
   comes = λ d n is. branches_as e ns a p d d n (0 + n) refl (omega arith) is;
   waited = tt;
+  some = λ begins. inr begins;
   are = λ on f. tt;
   refuses = λ f is. is;
   longer = omega arith;
@@ -193,14 +187,15 @@ branches_begin e ns a p m = record {
 pub branch_waits : (e : Entries) (ns : List Counted) (a : Against) (p q : Passage) (ws : List Lexeme) (body others : Passage) (waiting : Option code.Condition) (own c : code.Condition) (taken : List TakenBranch) (old now : MadeLists) (asked : List NamedEntry)
     → q ≡ ABranch (Tested ws) body others → body ≡ NoMore → ((more : List NamedEntry) × (asked ≡ now.asked ++ more)) → IsBranchTestOf (records_of e) ns a ws (condition_of (sender_named (records_of e) asked) own)
     → (so : ReadsBranches e ns a p q waiting taken old now) → condition_of (sender_named (records_of e) asked) c ≡ joined_test so.waits (condition_of (sender_named (records_of e) asked) own)
-    → MayBeTested (IsAsked asked) (kind_named (records_of e) asked) c → ReadsBranches e ns a p others (Some c) taken old (with_asked now asked)
-branch_waits e ns a p q ws body others waiting own c taken old now asked same empty more is so means tested =
+    → MayBeTested (IsAsked asked) (kind_named (records_of e) asked) c → BeginsTested others → ReadsBranches e ns a p others (Some c) taken old (with_asked now asked)
+branch_waits e ns a p q ws body others waiting own c taken old now asked same empty more is so means tested begins =
     let t : Condition = condition_of (sender_named (records_of e) asked) own in record {
       whens = so.whens;
       waits = Some (joined_test so.waits t);
       count = so.count;
       comes = λ d n x. so.comes d n (subst (λ (k : Passage). BranchesComeTo e ns a so.waits k d n) (sym same) (t, is, inl (empty, x)));
       waited = (tested, means);
+      some = λ first. inr begins;
       are = λ on f. so.are on (front_back now (with_asked now asked) on (asked_grown now asked more) f);
       refuses = λ f x. so.refuses f (subst (λ (k : Passage). BranchesAreRefused f e ns a k) (sym same) (inr (inr x)));
       longer = so.longer;
@@ -272,6 +267,7 @@ branch_taken law e ns a p q ws body others waiting own c taken old before mid as
           (so.comes (Choice (Holds w.condition) w.deeds d Nothing) (b.adds.many + n)
           (subst (λ (k : Passage). BranchesComeTo e ns a so.waits k (Choice (Holds w.condition) w.deeds d Nothing) (b.adds.many + n)) (sym same) (t, is, inr (some, b.adds.deeds, d, b.adds.many, n, b.adds.are, x, refl, refl))));
       waited = tt;
+      some = λ first. inl (omega (arith, length-append so.whens (w ∷ [])));
       are = λ on f.
           let stands : IsFrontOf (closed mid) on = front_closed (closed mid) on (front_back (without_flows (closed mid)) new on (condition_grown (without_flows (closed mid)) c) f) in
           let here : IsFrontOf now on = front_back now new on (branch_grown now mid c b.none b.grown) f in
@@ -314,6 +310,10 @@ branches_other e ns a p q body others waiting taken old now mid same so b =
       last = b.adds.deeds;
       many = so.count + b.adds.many;
       comes = so.comes b.adds.deeds b.adds.many (subst (λ (k : Passage). BranchesComeTo e ns a so.waits k b.adds.deeds b.adds.many) (sym same) b.adds.are);
+      some = λ begins. elim (so.some begins) [
+        | inl more ↦ more
+        | inr first ↦ absurd (subst BeginsTested same first)
+      ];
       are = λ on f. so.are on (front_back now (without_flows (closed mid)) on (closed_after now mid b.none b.grown) f);
       flows = λ on f. closed_flows r mid b.made on (front_closed (closed mid) on f);
       deeds = λ on f. apart_deeds e ns body now mid b on (front_closed (closed mid) on f);
@@ -337,6 +337,10 @@ branches_end e ns a p q waiting taken old now same so = record {
   last = Nothing;
   many = so.count + 0;
   comes = so.comes Nothing 0 (subst (λ (k : Passage). BranchesComeTo e ns a so.waits k Nothing 0) (sym same) (refl, refl));
+  some = λ begins. elim (so.some begins) [
+    | inl more ↦ more
+    | inr first ↦ absurd (subst BeginsTested same first)
+  ];
   are = so.are;
   flows = λ on f. no_flows on;
   deeds = λ on f. refl;
@@ -576,11 +580,163 @@ choice_added law e ns c a p taken other begin old now is so grown makes list rea
           omega (arith, cut, read, within, closed_read old);
     }
 
--- ---- what is left where a choice isn't read
+-- ---- so it is of whatever passage the words are
 
-left_choice : (n : NotRead) (old now : MadeLists) → LeavesFront n (without_flows (closed old)) now → LeavesFront n old (record { list = now.list; ends = now.ends; bounds = now.bounds; asked = now.asked; conditions = now.conditions; flows = (closed old).flows; read = now.read })
-left_choice why.Memory old now left = tt
-left_choice why.TooMany old now left = tt
-left_choice (why.Broken f) old now g =
-    let k = choice_grown old now [] g in
-    record { list = k.list; ends = k.ends; bounds = k.bounds; asked = k.asked; conditions = k.conditions; flows = (closed_grown old).flows }
+pub record HasReadChoice (e : Entries) (ns : List Counted) (a : Against) (k : ChoiceKind) (words : List Lexeme) (taken : List TakenBranch) (other : List Flow) (old now : MadeLists) : Type 0 where
+  pub made : IsMade (records_of e) old
+  pub after : IsMade (records_of e) now
+  pub grown : HasGrown (without_flows (closed old)) now
+  pub none : now.flows ≡ []
+  pub marked : open_statements now ≡ []
+  pub reads : AddsBranches e ns a k words taken other (without_flows (closed old)) now
+
+choice_read : (e : Entries) (ns : List Counted) (c : WrittenChoice) (a : Against) (words : List Lexeme) (taken : List TakenBranch) (other : List Flow) (old now : MadeLists) → BranchesBegin c words → HasReadChoice e ns a (kind_of c) words taken other old now
+    → (p : Passage) → IsPassageAt (standing.Branches (kind_of c)) p words → IsChoiceRead e ns a p taken other old now
+choice_read e ns c a words taken other old now begin so p is = record {
+  made = so.made;
+  after = so.after;
+  grown = so.grown;
+  none = so.none;
+  marked = so.marked;
+  reads = so.reads p is;
+  some = (so.reads p is).some (begins_tested c p words begin is);
+}
+
+-- what is made before the branches are read: what the choice asks for, and that it was read itself
+abbrev pub begun : MadeLists → List NamedEntry → MadeLists
+begun m asked = with_one_more (with_asked m asked)
+
+pub begun_grown : (m : MadeLists) (asked : List NamedEntry) → ((more : List NamedEntry) × (asked ≡ m.asked ++ more)) → HasGrown m (begun m asked)
+begun_grown m asked more = grown_both m (with_asked m asked) (begun m asked) (asked_grown m asked more) (one_more_grown (with_asked m asked))
+
+pub begun_made : (r : Records) (m : MadeLists) (asked : List NamedEntry) → AsksMore r m.asked asked → m.read + 1 ≤ most_written_out → IsMade r m → IsMade r (begun m asked)
+begun_made r m asked more few made = one_more_made r (with_asked m asked) few (asked_made r m asked more made)
+
+pub choice_adds : OneSubject → (e : Entries) (ns : List Counted) (c : WrittenChoice) (a : Against) (words : List Lexeme) (taken : List TakenBranch) (other : List Flow) (begin now new : MadeLists) (asked : List NamedEntry)
+    → BranchesBegin c words → IsSubjectOf (records_of e) ns c a → ((more : List NamedEntry) × (asked ≡ begin.asked ++ more)) → begin.read + 1 ≤ most_written_out
+    → HasReadChoice e ns a (kind_of c) words taken other (begun begin asked) now → new ≡ with_choice (begun begin asked) now (linked_branches taken other) → AddsChoice e ns c words begin new
+choice_adds law e ns c a words taken other begin now new asked begins is more few so same p at =
+    subst (λ (m : MadeLists). AddsMade e (λ d many. ChoiceComesTo e ns c p d many) (λ many. FirstInChoice e ns c p many) begin m) (sym same)
+    (choice_added law e ns c a p taken other begin (begun begin asked) now is (choice_read e ns c a words taken other (begun begin asked) now begins so p at) (begun_grown begin asked more) (λ on f. refl) refl refl few)
+
+pub choice_is_made : (e : Entries) (ns : List Counted) (c : WrittenChoice) (a : Against) (words : List Lexeme) (taken : List TakenBranch) (other : List Flow) (old now new : MadeLists) → BranchesBegin c words → HaveBounds (kind_of c) words
+    → HasReadChoice e ns a (kind_of c) words taken other old now → new ≡ with_choice old now (linked_branches taken other) → IsMade (records_of e) new
+choice_is_made e ns c a words taken other old now new begins (p, at, bounded) so same =
+    subst (λ (m : MadeLists). IsMade (records_of e) m) (sym same) (choice_made e ns a p taken other old now (choice_read e ns c a words taken other old now begins so p at))
+
+pub choice_has_grown : (begin now new : MadeLists) (asked : List NamedEntry) (linked : List Flow) → ((more : List NamedEntry) × (asked ≡ begin.asked ++ more)) → HasGrown (without_flows (closed (begun begin asked))) now
+    → new ≡ with_choice (begun begin asked) now linked → HasGrown begin new
+choice_has_grown begin now new asked linked more g same =
+    subst (λ (m : MadeLists). HasGrown begin m) (sym same) (grown_both begin (begun begin asked) (with_choice (begun begin asked) now linked) (begun_grown begin asked more) (choice_grown (begun begin asked) now linked g))
+
+-- why it isn't read
+pub choice_not_read : OneSubject → (n : NotRead) (e : Entries) (ns : List Counted) (c : WrittenChoice) (a : Against) (words : List Lexeme) (begin now : MadeLists) → IsSubjectOf (records_of e) ns c a → now.read ≡ begin.read + 1 → now.read ≤ most_written_out
+    → BranchesRefused n e ns a (kind_of c) words now → ChoiceRefused n e ns c words begin
+choice_not_read law n e ns c a words begin now is size few refused p at = branches_refused law n e ns c a p begin now is size few (refused p at)
+
+pub subject_not_read : SubjectsBreakNoRule → (n : NotRead) (e : Entries) (ns : List Counted) (c : WrittenChoice) (words : List Lexeme) (begin : MadeLists) → SubjectNotRead n e ns c → ChoiceRefused n e ns c words begin
+subject_not_read law n e ns c words begin refused p at = subject_refused law n e ns c p begin refused
+
+pub count_not_read : (n : NotRead) (e : Entries) (ns : List Counted) (c : WrittenChoice) (a : Against) (words : List Lexeme) (begin : MadeLists) → IsSubjectOf (records_of e) ns c a → n ≡ why.TooMany → most_written_out < begin.read + 1
+    → ChoiceRefused n e ns c words begin
+count_not_read n e ns c a words begin is same most = subst (λ (k : NotRead). ChoiceRefused k e ns c words begin) (sym same) (λ p at. choice_too_many e ns c a p begin is most)
+
+pub memory_choice : (n : NotRead) (e : Entries) (ns : List Counted) (c : WrittenChoice) (words : List Lexeme) (begin : MadeLists) → n ≡ why.Memory → ChoiceRefused n e ns c words begin
+memory_choice n e ns c words begin is = subst (λ (k : NotRead). ChoiceRefused k e ns c words begin) (sym is) (λ p at. tt)
+
+-- ---- one branch of those that are left
+
+-- what stands in front of the words that are left
+abbrev IsInFront : ChoiceKind → WrittenTest → List Lexeme → (rest more : List Lexeme) → Type 0
+IsInFront k t own rest more = FrontAt (standing.Branches k) (Branched t own) rest more × IsOnlyFront (standing.Branches k) (Branched t own) rest more
+
+in_front_some : (k : ChoiceKind) (t : WrittenTest) (own rest more : List Lexeme) → IsInFront k t own rest more → 0 < length rest
+in_front_some k t own rest more (stands, only) = omega (arith, shorter (standing.Branches k) (Branched t own) rest more stands)
+
+pub left_begin : (e : Entries) (ns : List Counted) (a : Against) (k : ChoiceKind) (words : List Lexeme) (m : MadeLists) → LeftOfBranches e ns a k words words None [] m m
+left_begin e ns a k words m p is = (p, is, branches_begin e ns a p m)
+
+pub left_waits : (e : Entries) (ns : List Counted) (a : Against) (k : ChoiceKind) (words rest more ws body : List Lexeme) (waiting : Option code.Condition) (own c : code.Condition) (taken : List TakenBranch) (old now : MadeLists) (asked : List NamedEntry)
+    → LeftOfBranches e ns a k words rest waiting taken old now → IsInFront k (Tested ws) body rest more → body ≡ [] → ((others : List NamedEntry) × (asked ≡ now.asked ++ others))
+    → IsBranchTestOf (records_of e) ns a ws (condition_of (sender_named (records_of e) asked) own)
+    → ((waits : Option Condition) → IsWaiting (records_of e) now.asked waiting waits → condition_of (sender_named (records_of e) asked) c ≡ joined_test waits (condition_of (sender_named (records_of e) asked) own))
+    → MayBeTested (IsAsked asked) (kind_named (records_of e) asked) c → LeftOfBranches e ns a k words more (Some c) taken old (with_asked now asked)
+left_waits e ns a k words rest more ws body waiting own c taken old now asked left front empty others is means tested p at =
+    let (q, are, so) = left p at in
+    let part : Parted (standing.Branches k) (Branched (Tested ws) body) more q = parted (standing.Branches k) (Branched (Tested ws) body) rest more q are (in_front_some k (Tested ws) body rest more front) front.1 in
+    let (head, h, inner, e_is) = front.0 in (
+      part.others,
+      part.is,
+      branch_waits e ns a p q ws part.body part.others waiting own c taken old now asked part.same (no_words part.body body part.within empty) others is so (means so.waits so.waited) tested
+          (next_tested k ws body more part.others empty inner.ends part.is),
+    )
+
+pub left_taken : OneDeeds → (e : Entries) (ns : List Counted) (a : Against) (k : ChoiceKind) (words rest more ws body : List Lexeme) (waiting : Option code.Condition) (own c : code.Condition) (taken : List TakenBranch) (old now new : MadeLists) (asked : List NamedEntry) (after : List TakenBranch)
+    → LeftOfBranches e ns a k words rest waiting taken old now → IsInFront k (Tested ws) body rest more → 0 < length body → ((others : List NamedEntry) × (asked ≡ now.asked ++ others))
+    → IsBranchTestOf (records_of e) ns a ws (condition_of (sender_named (records_of e) asked) own)
+    → ((waits : Option Condition) → IsWaiting (records_of e) now.asked waiting waits → condition_of (sender_named (records_of e) asked) c ≡ joined_test waits (condition_of (sender_named (records_of e) asked) own))
+    → MayBeTested (IsAsked asked) (kind_named (records_of e) asked) c → now.flows ≡ [] → open_statements now ≡ [] → AddsBranch e ns c body taken after (with_asked now asked) new
+    → LeftOfBranches e ns a k words more None after old new
+left_taken law e ns a k words rest more ws body waiting own c taken old now new asked after left front some others is means tested none marked adds p at =
+    let (q, are, so) = left p at in
+    let part : Parted (standing.Branches k) (Branched (Tested ws) body) more q = parted (standing.Branches k) (Branched (Tested ws) body) rest more q are (in_front_some k (Tested ws) body rest more front) front.1 in
+    let apart = adds.apart in
+    let read : BranchRead e ns part.body (with_asked now asked) apart.mid = record { none = none; marked = marked; grown = apart.grown; made = apart.made; adds = apart.adds part.body part.within } in
+    let not_none : (part.body ≡ NoMore) → ⊥ = λ same. absurd (omega (arith, some, ap length (subst (λ (x : Passage). IsPassage x body) same part.within))) in
+    let new_is : new ≡ with_branch apart.mid c = adds.new_is ∙ ap (λ (m : MadeLists). with_condition m c) apart.after in
+    let after_is : after ≡ taken ++ record { condition = length (closed apart.mid).conditions; flows = (closed apart.mid).flows } ∷ [] =
+    adds.taken ∙ ap (λ (m : MadeLists). taken ++ record { condition = length m.conditions; flows = adds.own } ∷ []) apart.after
+    ∙ ap (λ (fs : List Flow). taken ++ record { condition = length (closed apart.mid).conditions; flows = fs } ∷ []) apart.flows in (
+      part.others,
+      part.is,
+      subst (λ (bs : List TakenBranch). ReadsBranches e ns a p part.others None bs old new) (sym after_is)
+          (subst (λ (m : MadeLists). ReadsBranches e ns a p part.others None (taken ++ record { condition = length (closed apart.mid).conditions; flows = (closed apart.mid).flows } ∷ []) old m) (sym new_is)
+          (branch_taken law e ns a p q ws part.body part.others waiting own c taken old now apart.mid asked part.same not_none others is so (means so.waits so.waited) tested read)),
+    )
+
+pub left_other : (e : Entries) (ns : List Counted) (a : Against) (k : ChoiceKind) (words rest more body : List Lexeme) (waiting : Option code.Condition) (taken : List TakenBranch) (old now new : MadeLists) (own : List Flow)
+    → LeftOfBranches e ns a k words rest waiting taken old now → IsInFront k Otherwise body rest more → now.flows ≡ [] → open_statements now ≡ [] → ReadsApart e ns body own now new → AddsBranches e ns a k words taken own old new
+left_other e ns a k words rest more body waiting taken old now new own left front none marked apart p at =
+    let (q, are, so) = left p at in
+    let part : Parted (standing.Branches k) (Branched Otherwise body) more q = parted (standing.Branches k) (Branched Otherwise body) rest more q are (in_front_some k Otherwise body rest more front) front.1 in
+    let read : BranchRead e ns part.body now apart.mid = record { none = none; marked = marked; grown = apart.grown; made = apart.made; adds = apart.adds part.body part.within } in
+    subst (λ (m : MadeLists). HasReadBranches e ns a p taken own old m) (sym apart.after)
+    (subst (λ (fs : List Flow). HasReadBranches e ns a p taken fs old (without_flows (closed apart.mid))) (sym apart.flows)
+    (branches_other e ns a p q part.body part.others waiting taken old now apart.mid part.same so read))
+
+pub left_end : (e : Entries) (ns : List Counted) (a : Against) (k : ChoiceKind) (words rest : List Lexeme) (waiting : Option code.Condition) (taken : List TakenBranch) (old now : MadeLists) → LeftOfBranches e ns a k words rest waiting taken old now
+    → ((f : PassageFront) (more : List Lexeme) → FrontAt (standing.Branches k) f rest more → ⊥) → AddsBranches e ns a k words taken [] old now
+left_end e ns a k words rest waiting taken old now left none p at =
+    let (q, are, so) = left p at in
+    branches_end e ns a p q waiting taken old now (nothing_left (standing.Branches k) q rest are none) so
+
+-- ---- why one of them isn't read
+
+pub left_test_refused : BranchTestsBreakNoRule → (n : NotRead) (e : Entries) (ns : List Counted) (a : Against) (k : ChoiceKind) (words rest more ws body : List Lexeme) (waiting : Option code.Condition) (taken : List TakenBranch) (old now : MadeLists)
+    → LeftOfBranches e ns a k words rest waiting taken old now → IsInFront k (Tested ws) body rest more → TestNotRead n e ns a ws → BranchesRefused n e ns a k words old
+left_test_refused law n e ns a k words rest more ws body waiting taken old now left front refused p at =
+    let (q, are, so) = left p at in
+    let part : Parted (standing.Branches k) (Branched (Tested ws) body) more q = parted (standing.Branches k) (Branched (Tested ws) body) rest more q are (in_front_some k (Tested ws) body rest more front) front.1 in
+    test_refused law n e ns a p q ws part.body part.others waiting taken old now part.same so refused
+
+pub left_statements_refused : DeedsBreakNoRule → (n : NotRead) (e : Entries) (ns : List Counted) (a : Against) (k : ChoiceKind) (words rest more ws body : List Lexeme) (waiting : Option code.Condition) (t : Condition) (taken : List TakenBranch) (old now : MadeLists) (asked : List NamedEntry)
+    → AllMayBeNamed e → LeftOfBranches e ns a k words rest waiting taken old now → IsInFront k (Tested ws) body rest more → IsBranchTestOf (records_of e) ns a ws t → TurnRefused n e ns body (with_asked now asked) → BranchesRefused n e ns a k words old
+left_statements_refused law n e ns a k words rest more ws body waiting t taken old now asked named left front is refused p at =
+    let (q, are, so) = left p at in
+    let part : Parted (standing.Branches k) (Branched (Tested ws) body) more q = parted (standing.Branches k) (Branched (Tested ws) body) rest more q are (in_front_some k (Tested ws) body rest more front) front.1 in
+    statements_refused law n e ns a p q ws part.body part.others waiting t taken old now named part.same is so (same_refused n part.body (refused part.body part.within))
+  where
+    same_refused : (n : NotRead) (b : Passage) → RefusedMade n (λ f. IsRefusedIn f e ns b) (λ many. FirstIn e ns b many) (with_asked now asked) → RefusedMade n (λ f. IsRefusedIn f e ns b) (λ many. FirstIn e ns b many) now
+    same_refused why.Memory b r = tt
+    same_refused why.TooMany b r = r
+    same_refused (why.Broken f) b r = r
+
+pub left_other_refused : (n : NotRead) (e : Entries) (ns : List Counted) (a : Against) (k : ChoiceKind) (words rest more body : List Lexeme) (waiting : Option code.Condition) (taken : List TakenBranch) (old now : MadeLists)
+    → LeftOfBranches e ns a k words rest waiting taken old now → IsInFront k Otherwise body rest more → TurnRefused n e ns body now → BranchesRefused n e ns a k words old
+left_other_refused n e ns a k words rest more body waiting taken old now left front refused p at =
+    let (q, are, so) = left p at in
+    let part : Parted (standing.Branches k) (Branched Otherwise body) more q = parted (standing.Branches k) (Branched Otherwise body) rest more q are (in_front_some k Otherwise body rest more front) front.1 in
+    other_refused n e ns a p q part.body part.others waiting taken old now part.same so (refused part.body part.within)
+
+pub memory_branches : (n : NotRead) (e : Entries) (ns : List Counted) (a : Against) (k : ChoiceKind) (words : List Lexeme) (m : MadeLists) → n ≡ why.Memory → BranchesRefused n e ns a k words m
+memory_branches n e ns a k words m is = subst (λ (j : NotRead). BranchesRefused j e ns a k words m) (sym is) (λ p at. tt)

@@ -25,7 +25,7 @@ use Rattle.cob_move_names.specs.References.{NamesOperand}
 use Rattle.cob_move.specs.declared.corresponding.TwoGroups.{TwoGroups}
 use Rattle.cob_move_tests.specs.declared.entries.Entries.{Entries}
 use Rattle.cob_move.specs.Between.{numbered}
-use Rattle.cob_move_tests.specs.Entries.{records_of}
+use Rattle.cob_move_tests.specs.Entries.{nameable, records_of}
 use Rattle.cob_move.specs.Meaning.{AreMeanings, AreMeant, AreMovesOf, AreReceiversOf, IsMeaning, IsMoveOf}
 use Rattle.cob_move_names.specs.Senders.{IsSenderOf, kind_of_sender}
 use Rattle.cob_move.specs.Refusals.{BreaksOn, BreaksReceipt, BreaksStatement, SomeBroken}

@@ -9,7 +9,7 @@ use Rattle.cob_limits.specs.Limits.{longest_record, most_written_out}
 use Rattle.cob_source.specs.Tokens.{Lexeme}
 use Rattle.cob_move_apply.specs.declared.placed.PlacedEntry.{PlacedEntry}
 use Rattle.cob_move_apply.specs.Marked.{RiseUpTo, ends_of_marks}
-use Rattle.cob_move_choices.specs.Asked.{IsAsked, IsNamedOperand, kind_named, sender_named}
+use Rattle.cob_move_tests.specs.Asked.{IsAsked, IsNamed, kind_named, sender_named}
 use Rattle.cob_move_choices.specs.Choices.{Against, BreaksBranchTest, BreaksSubject, IsSubjectOf}
 use Rattle.cob_move_condition.specs.declared.condition.Condition.{Condition}
 use Rattle.cob_move_condition.specs.Conditions.{Condition as Meant, condition_of}
@@ -28,7 +28,7 @@ use Rattle.cob_move_apply.specs.Prepared.{moves_of}
 use Rattle.cob_move_deeds.specs.Tests.{IsBound, IsBoundItem, Test}
 use Rattle.cob_move_loops.specs.Bounded.{AreBounded, BoundedFront}
 use Rattle.cob_move_loops.specs.Few.{opening_line}
-use Rattle.cob_move_loops.specs.Passages.{ABranch, AChoice, ALoop, APause, ARun, Branched, BranchesBegin, Chosen, IsPassage, IsPassageAt, IsRun, Looped, Moves, NoMore, Passage, PassageFront, Pause, WrittenChoice, WrittenLoop, kind_of, line_of}
+use Rattle.cob_move_loops.specs.Passages.{ABranch, AChoice, ALoop, APause, ARun, Branched, BranchesBegin, Chosen, IsPassage, IsPassageAt, IsRun, Looped, Moves, NoMore, Otherwise, Passage, PassageFront, Pause, Tested, WrittenChoice, WrittenLoop, kind_of, line_of}
 use Rattle.cob_move_loops.specs.declared.parts.ChoiceKind.{ChoiceKind}
 use Rattle.cob_move_loops.specs.declared.parts.Place.TheVariants as place
 use Rattle.cob_move_loops.specs.Words.{first_line}
@@ -123,7 +123,7 @@ pub record IsMade (r : Records) (m : MadeLists) : Type 0 where
   pub ends : RiseUpTo 0 (last_marked 0 m.ends) m.ends
   pub behind : last_marked 0 m.ends ≤ length m.list
   pub bounds : AllByRecursion (IsBound r) m.bounds
-  pub asked : AllByRecursion (IsNamedOperand r) m.asked
+  pub asked : AllByRecursion (IsNamed r) m.asked
   pub conditions : AllByRecursion (MayBeTested (IsAsked m.asked) (kind_named r m.asked)) m.conditions
   pub flows : (on : FlowSupport) → IsFrontOf m on → AreFlows on m.flows
   pub parted : (on : FlowSupport) → IsFrontOf m on → AreParted (all_deeds r on m.flows)
@@ -576,6 +576,16 @@ abbrev pub moves_of_whens : List When → List Move
 moves_of_whens [] = []
 moves_of_whens (w ∷ ws) = moves_of_deeds w.deeds ++ moves_of_whens ws
 
+-- a branch with a test comes first
+abbrev pub BeginsTested : Passage → Type 0
+BeginsTested NoMore = ⊥
+BeginsTested (Moves own more) = ⊥
+BeginsTested (Pause more) = ⊥
+BeginsTested (ALoop l body more) = ⊥
+BeginsTested (AChoice c branches more) = ⊥
+BeginsTested (ABranch (Tested ws) own others) = Unit {0}
+BeginsTested (ABranch Otherwise own others) = ⊥
+
 -- What waits for the statements of the next branch: nothing, or a condition over the entries that are asked for, which means this.
 abbrev pub IsWaiting : Records → List NamedEntry → Option Condition → Option Meant → Type 0
 IsWaiting r asked None None = Unit {0}
@@ -637,6 +647,7 @@ pub record ReadsBranches (e : Entries) (ns : List Counted) (a : Against) (p q : 
   pub count : ℕ
   pub comes : (d : Deeds Test) (many : ℕ) → BranchesComeTo e ns a waits q d many → BranchesComeTo e ns a None p (selection whens d) (count + many)
   pub waited : IsWaiting (records_of e) new.asked waiting waits
+  pub some : BeginsTested p → (0 < length whens) ⊎ BeginsTested q
   pub are : (on : FlowSupport) → IsFrontOf new on → AreTaken (records_of e) on whens taken
   pub refuses : (f : MoveFault) → BranchesAreRefused f e ns a q → BranchesAreRefused f e ns a p
   pub longer : new.read ≡ old.read + count
@@ -646,12 +657,18 @@ pub record ReadsBranches (e : Entries) (ns : List Counted) (a : Against) (p q : 
   pub few : old.read ≤ most_written_out → (many : ℕ) → FirstInBranches e ns a p many
       → (old.read + many ≤ most_written_out) ⊎ ((k : ℕ) × FirstInBranches e ns a q k × (old.read + many ≡ new.read + k))
 
+-- whatever branches words are, those in front are read, and these words are left
+abbrev pub LeftOfBranches : Entries → List Counted → Against → ChoiceKind → (words rest : List Lexeme) → Option Condition → List TakenBranch → (old new : MadeLists) → Type 0
+LeftOfBranches e ns a kind words rest waiting taken old new =
+    (p : Passage) → IsPassageAt (place.Branches kind) p words → (q : Passage) × IsPassageAt (place.Branches kind) q rest × ReadsBranches e ns a p q waiting taken old new
+
 -- Branches are read, behind what was made before: those that were taken, and the flows of the one that is taken where none of them holds.
 pub record HasReadBranches (e : Entries) (ns : List Counted) (a : Against) (p : Passage) (taken : List TakenBranch) (other : List Flow) (old new : MadeLists) : Type 0 where
   pub whens : List When
   pub last : Deeds Test
   pub many : ℕ
   pub comes : BranchesComeTo e ns a None p (selection whens last) many
+  pub some : BeginsTested p → 0 < length whens
   pub are : (on : FlowSupport) → IsFrontOf new on → AreTaken (records_of e) on whens taken
   pub flows : (on : FlowSupport) → IsFrontOf new on → AreFlows on other
   pub deeds : (on : FlowSupport) → IsFrontOf new on → all_deeds (records_of e) on other ≡ last

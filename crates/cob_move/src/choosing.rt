@@ -3,7 +3,8 @@
 ghost use Rattle.std.specs.Prelude.{◌≡◌, ◌⊎◌, ◌+◌, ◌<◌, ◌≤◌, ℕ, false, true, map, option_map, Option, IfErr, IfOk, OnOk};
 ghost use Rattle.cob_limits.specs.Limits.{most_written_out};
 ghost use Rattle.cob_copybook_tree.specs.declared.node.Kind.{Kind as TreeKind};
-ghost use Rattle.cob_move_choices.specs.Asked.{AsksMore, IsAsked, IsSubjectAsked, against, kind_named, sender_named};
+ghost use Rattle.cob_move_tests.specs.Asked.{AsksMore, IsAsked, kind_named, sender_named};
+ghost use Rattle.cob_move_choices.specs.Asked.{IsSubjectAsked, against};
 ghost use Rattle.cob_move_choices.specs.Choices.{IsBranchTestOf, IsSubjectOf, joined_test};
 ghost use Rattle.cob_move_condition.specs.Conditions.{condition_of};
 ghost use Rattle.cob_move_condition.specs.Tested.{MayBeTested};

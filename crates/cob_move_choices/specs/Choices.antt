@@ -17,9 +17,9 @@ use Rattle.cob_move_statements.specs.declared.fault.MoveRule.{MoveRule}
 use Rattle.cob_move_statements.specs.declared.fault.MoveRule.TheVariants as rule
 use Rattle.cob_move_statements.specs.Written.{SentConstant, SentReference, WrittenReference}
 use Rattle.cob_move_tests.specs.Broken.{BreaksOperand, BreaksWords}
-use Rattle.cob_move_tests.specs.Meant.{IsConditionOf, Span, within}
-use Rattle.cob_move_choices.specs.Counters.{HasNoCounter}
-use Rattle.cob_move_choices.specs.Values.{FromToWritten, IsSpanOf, IsSpanWritten, MayBeWithin, OneWritten, WrittenSpan}
+use Rattle.cob_move_tests.specs.Counters.{HasNoCounter}
+use Rattle.cob_move_tests.specs.Meant.{IsConditionOf}
+use Rattle.cob_move_choices.specs.Values.{FromToWritten, IsSpanOf, IsSpanWritten, MayBeWithin, OneWritten, Span, WrittenSpan, within}
 
 -- any entry of the two records
 abbrev pub all_of : Records → List Candidate

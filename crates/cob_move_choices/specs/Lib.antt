@@ -1,4 +1,3 @@
-pub mod Counters
 pub mod Values
 pub mod Choices
 pub mod Asked

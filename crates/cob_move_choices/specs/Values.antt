@@ -5,11 +5,13 @@ use Rattle.cob_copybook_clauses.specs.Clauses.{IsWord}
 use Rattle.cob_copybook_clauses.specs.Written.{WrittenValue}
 use Rattle.cob_move_condition.specs.Comparable.{may_compare}
 use Rattle.cob_move_conditions.specs.Operands.{IsWrittenOperand}
+use Rattle.std.specs.declared.cmp.Ordering.TheVariants.{Equal, Greater, Less}
+use Rattle.cob_move_condition.specs.Conditions.{Both, Compares, Condition, Not}
 use Rattle.cob_move_data.specs.Moves.{Sender}
 use Rattle.cob_move_names.specs.Candidates.{Candidate}
 use Rattle.cob_move_names.specs.Senders.{kind_of_sender}
 use Rattle.cob_move_statements.specs.Written.{SentConstant}
-use Rattle.cob_move_tests.specs.Meant.{FromTo, IsOperandOf, One, Span}
+use Rattle.cob_move_tests.specs.Meant.{IsOperandOf}
 
 -- a value, or two with THRU between them, as they are written
 pub data WrittenSpan : Type 0 where
@@ -29,6 +31,16 @@ abbrev pub IsSpanWritten : WrittenSpan → List Lexeme → Type 0
 IsSpanWritten (OneWritten v) ws = IsValueWritten v ws
 IsSpanWritten (FromToWritten v w) ws = (from to : List Lexeme) × (thru : Lexeme)
     × IsValueWritten v from × IsThru thru × IsValueWritten w to × (ws ≡ from ++ thru ∷ to)
+
+-- a value, or all from one to another
+pub data Span : Type 0 where
+  One : Sender → Span
+  FromTo : Sender → Sender → Span
+
+-- a sender is within a span: it is the value, or neither less than the first nor greater than the last
+abbrev pub within : Sender → Span → Condition
+within a (One v) = Compares a Equal v
+within a (FromTo v w) = Both (Not (Compares a Less v)) (Not (Compares a Greater w))
 
 -- what is written means these values
 abbrev pub IsSpanOf : List Candidate → WrittenSpan → Span → Type 0

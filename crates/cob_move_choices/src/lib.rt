@@ -16,7 +16,6 @@
 //! The clauses `found`, `fault`, `tested`, `asks` of `subject_of` and `branch_test`; its laws.
 #![tactic(auto)]
 
-mod counters;
 mod laws;
 mod subjects;
 mod tests;

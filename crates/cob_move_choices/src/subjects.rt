@@ -4,7 +4,8 @@ ghost use Rattle.std.specs.Prelude.{◌≡◌, ◌⊎◌, IfErr, IfOk, OnOk};
 ghost use Rattle.cob_move_loops.specs.Reading.{counters, written_choice};
 ghost use Rattle.cob_move_statements.specs.declared.fault.MoveRule.TheVariants.{Memory};
 ghost use Rattle.cob_move_tests.specs.Entries.{AllMayBeNamed, records_of};
-ghost use Rattle.cob_move_choices.specs.Asked.{AsksMore, IsSubjectAsked, against, sender_named};
+ghost use Rattle.cob_move_tests.specs.Asked.{AsksMore, sender_named};
+ghost use Rattle.cob_move_choices.specs.Asked.{IsSubjectAsked, against};
 ghost use Rattle.cob_move_choices.specs.Choices.{BreaksSubject, IsSubjectOf};
 
 use cob_move_loops::{Choice, Counter};

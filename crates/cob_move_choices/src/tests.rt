@@ -2,12 +2,12 @@
 
 ghost use Rattle.std.specs.Prelude.{◌≡◌, ◌⊎◌, IfErr, IfOk, OnOk};
 ghost use Rattle.cob_move_condition.specs.Conditions.{condition_of as meant};
-ghost use Rattle.cob_move_condition.specs.Tested.{MayBeTested};
 ghost use Rattle.cob_move_loops.specs.Reading.{counters};
 ghost use Rattle.cob_move_statements.specs.declared.fault.MoveRule.TheVariants.{Memory};
 ghost use Rattle.cob_source.specs.Tokens.{lexemes};
 ghost use Rattle.cob_move_tests.specs.Entries.{AllMayBeNamed, records_of};
-ghost use Rattle.cob_move_choices.specs.Asked.{AsksMore, IsAsked, IsSubjectAsked, against, kind_named, sender_named};
+ghost use Rattle.cob_move_tests.specs.Asked.{AsksMore, IsTestable, sender_named};
+ghost use Rattle.cob_move_choices.specs.Asked.{IsSubjectAsked, against};
 ghost use Rattle.cob_move_choices.specs.Choices.{BreaksBranchTest, IsBranchTestOf};
 
 use crate::subjects::Subject;
@@ -37,8 +37,7 @@ pub fn branch_test(
         (against (sender_named (records_of entries.now) asked.old.items) subject)
         (lexemes words.now)
         (meant (sender_named (records_of entries.now) asked.new.items) c)) }
-    ensures tested { IfOk result (λ c. MayBeTested (IsAsked asked.new.items)
-        (kind_named (records_of entries.now) asked.new.items) c) }
+    ensures tested { IfOk result (IsTestable (records_of entries.now) asked.new.items) }
     // What was asked for before keeps its number, also where the words are refused.
     ensures asks { AsksMore (records_of entries.now) asked.old.items asked.new.items }
     ensures fault { IfErr result (λ r. (r ≡ Memory) ⊎ BreaksBranchTest r
