@@ -116,13 +116,6 @@ pub subject_front : (r : Records) (old new : List NamedEntry) (s : Subject) → 
 subject_front r old new subject.Truth more there = tt
 subject_front r old new (subject.Entry number) (more, is) there = omega (arith, there, ap length is, length-append old more)
 
-pub asks_both : (r : Records) (a b c : List NamedEntry) → AsksMore r a b → AsksMore r b c → AsksMore r a c
-asks_both r a b c (own, all, is) (more, lla, si) = (own ++ more, both own all, si ∙ ap (λ (t : List NamedEntry). t ++ more) is ∙ append_assoc a own more)
-  where
-    both : (xs : List NamedEntry) → AllByRecursion (IsNamed r) xs → AllByRecursion (IsNamed r) (xs ++ more)
-    both [] every = lla
-    both (x ∷ xs) every = (every.0, both xs every.1)
-
 -- ---- what waits
 
 pub waiting_front : (r : Records) (old new : List NamedEntry) (waiting : Option code.Condition) (waits : Option Condition) → ((more : List NamedEntry) × (new ≡ old ++ more)) → IsWaiting r old waiting waits → IsWaiting r new waiting waits

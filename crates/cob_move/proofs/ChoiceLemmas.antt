@@ -740,3 +740,9 @@ left_other_refused n e ns a k words rest more body waiting taken old now left fr
 
 pub memory_branches : (n : NotRead) (e : Entries) (ns : List Counted) (a : Against) (k : ChoiceKind) (words : List Lexeme) (m : MadeLists) → n ≡ why.Memory → BranchesRefused n e ns a k words m
 memory_branches n e ns a k words m is = subst (λ (j : NotRead). BranchesRefused j e ns a k words m) (sym is) (λ p at. tt)
+
+-- what is left where the head of a choice isn't read
+pub leaves_asked : (n : NotRead) (m : MadeLists) (asked : List NamedEntry) → ((more : List NamedEntry) × (asked ≡ m.asked ++ more)) → LeavesFront n m (with_asked m asked)
+leaves_asked why.Memory m asked more = tt
+leaves_asked why.TooMany m asked more = tt
+leaves_asked (why.Broken f) m asked more = asked_grown m asked more

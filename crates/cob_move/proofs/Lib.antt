@@ -12,6 +12,7 @@ pub mod PassageLemmas
 pub mod PlainLemmas
 pub mod LoopLemmas
 mod AskedLemmas
+mod ChoosingLemmas
 mod FlowLemmas
 mod BranchLemmas
 mod ChoiceLemmas

@@ -1,14 +1,14 @@
 //! Choices: whether there are some, and what they test.
 
-ghost use Rattle.std.specs.Prelude.{◌≡◌, ◌⊎◌, ◌+◌, ◌<◌, ◌≤◌, ℕ, false, true, map, option_map, Option, IfErr, IfOk, OnOk};
+ghost use Rattle.std.specs.Prelude.{◌≡◌, ◌⊎◌, ◌+◌, ◌<◌, ◌≤◌, ℕ, List, option_map, IfErr, IfOk, OnOk};
 ghost use Rattle.cob_limits.specs.Limits.{most_written_out};
-ghost use Rattle.cob_copybook_tree.specs.declared.node.Kind.{Kind as TreeKind};
-ghost use Rattle.cob_move_tests.specs.Asked.{AsksMore, IsAsked, kind_named, sender_named};
+ghost use Rattle.std.specs.List.{AllByRecursion};
+ghost use Rattle.cob_move_tests.specs.Asked.{AsksMore, IsAsked, IsNamed, IsTestable, kind_named, sender_named};
+ghost use Rattle.cob_move_tests.specs.declared.entries.NamedEntry.{NamedEntry};
 ghost use Rattle.cob_move_choices.specs.Asked.{IsSubjectAsked, against};
 ghost use Rattle.cob_move_choices.specs.Choices.{IsBranchTestOf, IsSubjectOf, joined_test};
 ghost use Rattle.cob_move_condition.specs.Conditions.{condition_of};
-ghost use Rattle.cob_move_condition.specs.Tested.{MayBeTested};
-ghost use Rattle.cob_move_data.specs.Moves.{Sender};
+ghost use Rattle.cob_move_data.specs.Moves.{Records, Sender};
 ghost use Rattle.cob_move_loops.specs.Passages.{IsPassage, Passage};
 ghost use Rattle.cob_move_loops.specs.Reading.{Within, counters, item_front, written_choice};
 ghost use Rattle.cob_source.specs.Tokens.{lexemes};
@@ -101,12 +101,12 @@ pub(crate) fn read_test(
 ) -> Result<Condition, NotRead>
     requires named { AllMayBeNamed entries.now }
     requires there { IsSubjectAsked made.old.asked.items subject }
+    requires operands { AllByRecursion (IsNamed (records_of entries.now)) made.old.asked.items }
     ensures found { IfOk result (λ c. IsBranchTestOf (records_of entries.now) (counters turn.now)
         (against (sender_named (records_of entries.now) made.old.asked.items) subject)
         (lexemes words.now)
         (condition_of (sender_named (records_of entries.now) made.new.asked.items) c)) }
-    ensures tested { IfOk result (λ c. MayBeTested (IsAsked made.new.asked.items)
-        (kind_named (records_of entries.now) made.new.asked.items) c) }
+    ensures tested { IfOk result (IsTestable (records_of entries.now) made.new.asked.items) }
     ensures asks { AsksMore (records_of entries.now) made.old.asked.items made.new.asked.items }
     ensures same { made_lists made.new ≡ with_asked (made_lists made.old) made.new.asked.items }
     ensures fault { IfErr result (λ n. TestNotRead n entries.now (counters turn.now)
@@ -131,9 +131,9 @@ pub(crate) fn joined(
 ) -> Result<Condition, AllocError>
     ensures means { IfOk result (λ c. (entry : ℕ → Sender) → condition_of entry c
         ≡ joined_test (option_map (condition_of entry) waiting.entry) (condition_of entry test.entry)) }
-    ensures tested { IfOk result (λ c. (there : ℕ → Type 0) (kind : ℕ → TreeKind)
-        → MayBeTestedOr there kind waiting.entry → MayBeTested there kind test.entry
-        → MayBeTested there kind c) }
+    ensures tested { IfOk result (λ c. (r : Records) (asked : List NamedEntry)
+        → MayBeTestedOr (IsAsked asked) (kind_named r asked) waiting.entry
+        → IsTestable r asked test.entry → IsTestable r asked c) }
 {
     let Some(first) = waiting else {
         return Ok(test);

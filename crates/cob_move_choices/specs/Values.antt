@@ -2,7 +2,7 @@
 use Rattle.std.specs.Prelude.{◌≡◌, ◌⊎◌, true, codes, List, [], ◌∷◌, ◌++◌}
 use Rattle.cob_source.specs.Tokens.{Lexeme}
 use Rattle.cob_copybook_clauses.specs.Clauses.{IsWord}
-use Rattle.cob_copybook_clauses.specs.Written.{WrittenValue}
+use Rattle.cob_copybook_clauses.specs.Written.{WrittenValue, written_value}
 use Rattle.cob_move_condition.specs.Comparable.{may_compare}
 use Rattle.cob_move_conditions.specs.Operands.{IsWrittenOperand}
 use Rattle.std.specs.declared.cmp.Ordering.TheVariants.{Equal, Greater, Less}
@@ -12,11 +12,18 @@ use Rattle.cob_move_names.specs.Candidates.{Candidate}
 use Rattle.cob_move_names.specs.Senders.{kind_of_sender}
 use Rattle.cob_move_statements.specs.Written.{SentConstant}
 use Rattle.cob_move_tests.specs.Meant.{IsOperandOf}
+use Rattle.cob_move_choices.specs.declared.values.Listed.{Listed}
+use Rattle.cob_move_choices.specs.declared.values.Listed.TheVariants as listed
 
 -- a value, or two with THRU between them, as they are written
 pub data WrittenSpan : Type 0 where
   OneWritten : WrittenValue → WrittenSpan
   FromToWritten : WrittenValue → WrittenValue → WrittenSpan
+
+-- the values that words list, without where their texts lie in memory
+abbrev pub written_span : Listed → WrittenSpan
+written_span (listed.One v) = OneWritten (written_value v)
+written_span (listed.FromTo v w) = FromToWritten (written_value v) (written_value w)
 
 -- THRU, or THROUGH
 abbrev pub IsThru : Lexeme → Type 0

@@ -19,6 +19,7 @@
 mod laws;
 mod subjects;
 mod tests;
+mod values;
 
 pub use laws::{
     branch_tests_break_no_rule, one_branch_test, one_subject, subjects_break_no_rule,

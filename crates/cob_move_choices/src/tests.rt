@@ -6,15 +6,17 @@ ghost use Rattle.cob_move_loops.specs.Reading.{counters};
 ghost use Rattle.cob_move_statements.specs.declared.fault.MoveRule.TheVariants.{Memory};
 ghost use Rattle.cob_source.specs.Tokens.{lexemes};
 ghost use Rattle.cob_move_tests.specs.Entries.{AllMayBeNamed, records_of};
-ghost use Rattle.cob_move_tests.specs.Asked.{AsksMore, IsTestable, sender_named};
+ghost use Rattle.std.specs.List.{AllByRecursion};
+ghost use Rattle.cob_move_tests.specs.Asked.{AsksMore, IsNamed, IsTestable, sender_named};
 ghost use Rattle.cob_move_choices.specs.Asked.{IsSubjectAsked, against};
 ghost use Rattle.cob_move_choices.specs.Choices.{BreaksBranchTest, IsBranchTestOf};
 
 use crate::subjects::Subject;
+use crate::values::listed;
 use cob_move_condition::Condition;
-use cob_move_loops::Counter;
+use cob_move_loops::{Counter, in_turn};
 use cob_move_statements::MoveRule;
-use cob_move_tests::{Entries, NamedEntry};
+use cob_move_tests::{Entries, NamedEntry, condition_of, has_no_counter};
 use cob_source::Token;
 use std::alloc::Global;
 
@@ -33,6 +35,7 @@ pub fn branch_test(
 ) -> Result<Condition, MoveRule>
     requires named { AllMayBeNamed entries.now }
     requires there { IsSubjectAsked asked.old.items subject }
+    requires operands { AllByRecursion (IsNamed (records_of entries.now)) asked.old.items }
     ensures found { IfOk result (λ c. IsBranchTestOf (records_of entries.now) (counters turn.now)
         (against (sender_named (records_of entries.now) asked.old.items) subject)
         (lexemes words.now)
@@ -45,5 +48,12 @@ pub fn branch_test(
         (against (sender_named (records_of entries.now) asked.old.items) subject)
         (lexemes words.now)) }
 {
-    loop {}
+    if !has_no_counter(turn, words) {
+        return Err(MoveRule::Grammar);
+    }
+    let own = in_turn(alloc, words, turn)?;
+    match subject {
+        Subject::Truth => condition_of(alloc, entries, own.as_slice(), asked),
+        Subject::Entry(number) => listed(alloc, entries, number, own.as_slice(), asked.as_slice()),
+    }
 }

@@ -1,10 +1,17 @@
-use Rattle.std.proofs.Common.{◌≡◌, ◌+◌, ◌-◌, ◌++◌, ◌∷◌, [], List, ℕ, ◌∙◌, ap, arith, false, length, refl, subst, sym, true}
+use Rattle.std.proofs.Common.{◌≡◌, ◌+◌, ◌-◌, ◌<◌, ◌≤◌, ◌++◌, ◌∷◌, [], List, ℕ, ◌∙◌, ap, arith, false, length, refl, subst, sym, true, None}
+use Rattle.std.proofs.lemmas.List.{map-append}
+use Rattle.cob_limits.specs.Limits.{most_written_out}
+use Rattle.cob_move_choices.specs.Asked.{IsSubjectAsked, against}
+use Rattle.cob_move_condition.specs.declared.condition.Condition.{Condition}
+use Rattle.cob_move_loops.specs.declared.parts.ChoiceKind.{ChoiceKind}
+use Rattle.cob_move_tests.specs.Asked.{sender_named}
+use Rattle.cob_move_tests.specs.declared.entries.NamedEntry.{NamedEntry}
 use Rattle.std.specs.Prelude.{IfErr, OnOk}
 use Rattle.std.specs.Global.{Vec}
 use Rattle.std.proofs.lemmas.Result.{IfErr-weaker, IfOk-weaker, err_from_is_err_and}
 use Rattle.cob_source.specs.Tokens.{lexemes}
 use Rattle.cob_move_loops.specs.declared.front.PassageItem.{PassageItem}
-use Rattle.cob_move_loops.specs.Reading.{counters, item_front, written_bound, written_loop}
+use Rattle.cob_move_loops.specs.Reading.{counters, item_front, written_bound, written_choice, written_loop}
 use Rattle.cob_move_loops.specs.Passages.{ARun, PassageFront}
 use Rattle.cob_move_loops.specs.Turns.{Counted, counter_at, in_turn}
 use Rattle.cob_move_deeds.specs.declared.flow.Bound.{Bound}
@@ -14,10 +21,11 @@ use Rattle.cob_move_loops.specs.declared.parts.Place.TheVariants as standing
 use Rattle.cob_move_loops.proofs.FrontLemmas.{front_size, front_smaller}
 use Rattle.cob_move_loops.proofs.PassageLemmas.{shorter}
 use Rattle.cob_move_loops.proofs.WritingLemmas.{counters_more}
-use Rattle.cob_move.specs.DeedsRead.{AddsDeeds, AddsFront, AddsMoved, AddsTurns, FrontHasBounds, FrontRefused, HasGrown, IsMade, LeavesFront, LoopRefused, MadeLists, MovedRefused, ReadsTurns, TurnRefused, closed, flow_lists, in_its_turn, linked_turns, made_lists, open_statements, without_flows}
+use Rattle.cob_move.specs.DeedsRead.{AddsDeeds, AddsFront, AddsMoved, AddsTurns, FrontHasBounds, FrontRefused, HasGrown, HaveBounds, IsFrontRead, IsMade, LeavesFront, LeftOfBranches, LoopRefused, MadeLists, MovedRefused, ReadsTurns, TurnRefused, closed, flow_lists, in_its_turn, linked_turns, made_lists, open_statements, TakenBranch, taken_branch, taken_branches, with_one_more, without_flows}
 use Rattle.cob_move_tests.specs.Entries.{records_of}
+use Rattle.cob_move.proofs.ChoiceLemmas.{begun, begun_made, closed_asked, count_not_read, leaves_asked, left_begin, subject_not_read}
 use Rattle.cob_move.proofs.MadeLemmas.{forgotten_again, grown_both, grown_none, leaves_more, leaves_same, leaves_unbroken}
-use Rattle.cob_move.proofs.ReadingLemmas.{bounds_parted, deeds_end, deeds_first, deeds_more, deeds_refused, front_read, loop_bounds, pause_added}
+use Rattle.cob_move.proofs.ReadingLemmas.{bounds_parted, choice_bounds, deeds_end, deeds_first, deeds_more, deeds_refused, front_read, loop_bounds, pause_added}
 use Rattle.cob_move.proofs.TestedLemmas.{HasReadLoop, bound_for, bound_not_read, breaks_first, breaks_same, broken_left, closed_refused, emptied, first_refused, later_refused, loop_left, loop_same, never_refused, no_turn_comes, past_of, tested_added, tested_grown, tested_made, tried_first, tried_now, tried_step}
 use Rattle.cob_move.proofs.CloseLemmas.{closed_made, closed_open}
 use Rattle.cob_move.proofs.LookLemmas.{next_sure, sure_breaks}
@@ -518,3 +526,134 @@ add_item-returns-in-Item-clause-fault t c =
 pub add_item-returns-in-Item-clause-added : goal.add_item-returns-in-Item-clause-added
 add_item-returns-in-Item-clause-added t c =
     subst (λ (f : PassageFront). OnOk c.add_tested.result (AddsFront c.args.entries.now (counters c.args.turn.now) f (made_lists c.args.made.now) (made_lists c.add_tested.new.made))) (sym (ap item_front c.in-Loop.is)) c.add_tested.ensures.added
+
+-- ---- branches and choices
+
+pub add_apart-returns-clause-apart : goal.add_apart-returns-clause-apart
+add_apart-returns-clause-apart t c = record {
+  mid = made_lists c.add_passage.new.made;
+  adds = c.in_ok-add_passage.ensures.added;
+  made = c.in_ok-add_passage.ensures.made;
+  grown = c.in_ok-add_passage.ensures.grown;
+  after = c.in_ok-own.ensures.left;
+  flows = c.in_ok-own.ensures.flows;
+}
+
+pub add_apart-returns-in_err-own-clause-fault : goal.add_apart-returns-in_err-own-clause-fault
+add_apart-returns-in_err-own-clause-fault t c =
+    let p = err_from_is_err_and c.from_residual-in_err-own.result c.from_residual-in_err-own.ensures.1 in
+    rw (p.1, p.2) (λ p is. tt)
+
+pub add_apart-returns-in_err-own-clause-kept : goal.add_apart-returns-in_err-own-clause-kept
+add_apart-returns-in_err-own-clause-kept t c =
+    let p = err_from_is_err_and c.from_residual-in_err-own.result c.from_residual-in_err-own.ensures.1 in
+    rw (p.1, p.2) tt
+
+pub add_branch-returns-clause-added : goal.add_branch-returns-clause-added
+add_branch-returns-clause-added t c =
+    let read = made_lists c.add_apart.new.made in
+    let own = c.in_ok-flows.flows.items in record {
+      own = own;
+      read = read;
+      apart = c.in_ok-flows.ensures.apart;
+      new_is = ap (λ (cs : List Condition). record { list = read.list; ends = read.ends; bounds = read.bounds; asked = read.asked; conditions = cs; flows = read.flows; read = read.read }) c.in_ok-push.ensures.items;
+      taken = ap taken_branches c.in_ok-push-2.ensures.items ∙ map-append taken_branch c.args.taken.now.items _
+          ∙ ap (λ (n : ℕ). taken_branches c.args.taken.now.items ++ record { condition = n; flows = own } ∷ []) c.len-condition.ensures;
+    }
+
+pub add_choice-returns-in_err-subject-clause-fault : goal.add_choice-returns-in_err-subject-clause-fault
+add_choice-returns-in_err-subject-clause-fault t c =
+    let p = err_from_is_err_and c.from_residual.result c.from_residual.ensures.1 in
+    rw (p.1, p.2) (subject_not_read c.subjects_break_no_rule.ensures c.in_err-subject.field-0.0 c.args.entries.now (counters c.args.turn.now) (written_choice c.args.choice.now) (lexemes c.args.branches.now) (made_lists c.args.made.now) c.in_err-subject.ensures.fault)
+
+pub add_choice-returns-in_err-subject-clause-kept : goal.add_choice-returns-in_err-subject-clause-kept
+add_choice-returns-in_err-subject-clause-kept t c =
+    let p = err_from_is_err_and c.from_residual.result c.from_residual.ensures.1 in
+    let begin = made_lists c.args.made.now in
+    let asked = c.read_subject.new.made.asked.items in
+    let (more, all, is) = c.in_err-subject.ensures.asks in
+    rw (p.1, p.2) (leaves_more c.in_err-subject.field-0.0 begin begin (made_lists c.read_subject.new.made) (grown_none begin)
+    (subst (λ (m : MadeLists). LeavesFront c.in_err-subject.field-0.0 begin m) (sym c.in_err-subject.ensures.same) (leaves_asked c.in_err-subject.field-0.0 begin asked (more, is))))
+
+pub add_choice-returns-in_err-count_choice-clause-fault : goal.add_choice-returns-in_err-count_choice-clause-fault
+add_choice-returns-in_err-count_choice-clause-fault t c =
+    let p = err_from_is_err_and c.from_residual-in_err-count_choice.result c.from_residual-in_err-count_choice.ensures.1 in
+    let begin = made_lists c.args.made.now in
+    rw (p.1, p.2) (count_not_read c.in_err-count_choice.field-0.0 c.args.entries.now (counters c.args.turn.now) (written_choice c.args.choice.now) _ (lexemes c.args.branches.now) begin c.in_ok-subject.ensures.found c.in_err-count_choice.ensures.fault.0
+    (subst (λ (m : MadeLists). most_written_out < m.read + 1) c.in_ok-subject.ensures.same c.in_err-count_choice.ensures.fault.1))
+
+pub add_choice-add_branches-read-requires : goal.add_choice-add_branches-read-requires
+add_choice-add_branches-read-requires t c =
+    let r = records_of c.args.entries.now in
+    let begin = made_lists c.args.made.now in
+    let asked = c.read_subject.new.made.asked.items in
+    let (more, all, is) = c.in_ok-subject.ensures.asks in
+    let counted : made_lists c.count_choice.new.made ≡ begun begin asked = c.in_ok-count_choice.ensures.counted ∙ ap with_one_more c.in_ok-subject.ensures.same in
+    let few : begin.read + 1 ≤ most_written_out = subst (λ (m : MadeLists). m.read ≤ most_written_out) counted c.in_ok-count_choice.ensures.few in
+    let made : IsMade r (begun begin asked) = begun_made r begin asked (more, all, is) few c.requires.made in
+    let empty : c.replace-outside.new.dest.items ≡ [] = ap (λ (v : Vec Flow). v.items) c.replace-outside.ensures.after ∙ c.new.ensures.items in
+    let start = emptied (made_lists c.close.new.self) c.replace-outside.new.dest.items empty ∙ ap without_flows (c.in_ok-close.ensures.closed ∙ ap closed counted) in (
+      omega (arith, c.decreases),
+      (
+        c.requires.named,
+        (
+          c.requires.pairs,
+          (
+            subst (λ (m : MadeLists). IsMade r m) (sym start) (closed_made r (begun begin asked) made),
+            (
+              subst (λ (k : ChoiceKind). HaveBounds k (lexemes c.args.branches.now)) (sym c.kind_of-kind.ensures) c.requires.bounds,
+              (
+                subst (λ (ns : List NamedEntry). IsSubjectAsked ns c.in_ok-subject.subject) (sym (ap (λ (m : MadeLists). m.asked) start ∙ closed_asked (begun begin asked))) c.in_ok-subject.ensures.there,
+                ((empty, c.new-taken.ensures.items), ap open_statements start ∙ closed_open (begun begin asked)),
+              ),
+            ),
+          ),
+        ),
+      ),
+    )
+
+pub add_item-add_choice-requires : goal.add_item-add_choice-requires
+add_item-add_choice-requires t c =
+    let size : front_size (item_front c.args.item.now) ≡ length (lexemes c.in-Choice.branches.now) = ap (λ (i : PassageItem). front_size (item_front i)) c.in-Choice.is in (
+      omega (arith, c.decreases, size),
+      (
+        c.requires.named,
+        (
+          c.requires.pairs,
+          (
+            c.requires.made,
+            (
+              subst (λ (f : PassageFront). IsFrontRead f) (ap item_front c.in-Choice.is) c.requires.run,
+              choice_bounds (written_choice c.in-Choice.choice) (lexemes c.in-Choice.branches.now) (subst (λ (f : PassageFront). FrontHasBounds f) (ap item_front c.in-Choice.is) c.requires.bounds),
+            ),
+          ),
+        ),
+      ),
+    )
+
+pub add_item-returns-in-Choice-clause-fault : goal.add_item-returns-in-Choice-clause-fault
+add_item-returns-in-Choice-clause-fault t c =
+    subst (λ (f : PassageFront). IfErr c.add_choice.result (λ n. FrontRefused n c.args.entries.now (counters c.args.turn.now) f (made_lists c.args.made.now))) (sym (ap item_front c.in-Choice.is)) c.add_choice.ensures.fault
+
+pub add_item-returns-in-Choice-clause-added : goal.add_item-returns-in-Choice-clause-added
+add_item-returns-in-Choice-clause-added t c =
+    subst (λ (f : PassageFront). OnOk c.add_choice.result (AddsFront c.args.entries.now (counters c.args.turn.now) f (made_lists c.args.made.now) (made_lists c.add_choice.new.made))) (sym (ap item_front c.in-Choice.is)) c.add_choice.ensures.added
+
+pub add_branches-loop-item-init : goal.add_branches-loop-item-init
+add_branches-loop-item-init t c =
+    let e = c.args.entries.now in
+    let m = made_lists c.args.made.now in record {
+      left = subst (λ (bs : List TakenBranch). LeftOfBranches e (counters c.args.turn.now) (against (sender_named (records_of e) m.asked) c.args.subject) c.args.kind (lexemes c.args.branches.now) (lexemes c.args.branches.now) None bs m m)
+          (sym (ap taken_branches c.requires.none.1)) (left_begin e (counters c.args.turn.now) (against (sender_named (records_of e) m.asked) c.args.subject) c.args.kind (lexemes c.args.branches.now) m);
+      fewer = omega arith;
+      bounds = c.requires.bounds;
+      waits = tt;
+      made = c.requires.made;
+      grown = grown_none m;
+      none = c.requires.none.0;
+      marked = c.requires.marked;
+      pairs = c.requires.pairs;
+    }
+
+pub add_branches-loop-item-smaller : goal.add_branches-loop-item-smaller
+add_branches-loop-item-smaller t c = shorter (standing.Branches c.args.kind) (item_front c.in-Some.item) (lexemes c.loop-item.rest.now) (lexemes c.in-Some.more.now) c.in-Some.ensures.found

@@ -60,3 +60,11 @@ pub depth_of_item-depth-requires : goal.depth_of_item-depth-requires
 depth_of_item-depth-requires t c =
     let size : words_in_front (item_front c.args.item.now) ≡ length (lexemes c.in-Loop.body.now) = ap (λ (i : PassageItem). words_in_front (item_front i)) c.in-Loop.is in
     omega (arith, c.decreases, size)
+
+pub depth_of_item-returns-in-Choice-clause-deep : goal.depth_of_item-returns-in-Choice-clause-deep
+depth_of_item-returns-in-Choice-clause-deep t c =
+    subst (λ (f : PassageFront). (p : Passage) → Within f p → deep_front f p ≤ 0) (sym (ap item_front c.in-Choice.is)) (λ p within. omega arith)
+
+pub depth_of_item-returns-in-Branch-clause-deep : goal.depth_of_item-returns-in-Branch-clause-deep
+depth_of_item-returns-in-Branch-clause-deep t c =
+    subst (λ (f : PassageFront). (p : Passage) → Within f p → deep_front f p ≤ 0) (sym (ap item_front c.in-Branch.is)) (λ p within. omega arith)
