@@ -124,6 +124,11 @@ waiting_front r old new None (Some t) more is = absurd is
 waiting_front r old new (Some c) None more is = absurd is
 waiting_front r old new (Some c) (Some t) more is = (tested_front r old new c more is.0, sym (condition_front r old new c more is.0) ∙ is.1)
 
+pub or_tested_front : (r : Records) (old new : List NamedEntry) (waiting : Option code.Condition) → ((more : List NamedEntry) × (new ≡ old ++ more)) → MayBeTestedOr (IsAsked old) (kind_named r old) waiting
+    → MayBeTestedOr (IsAsked new) (kind_named r new) waiting
+or_tested_front r old new None more is = tt
+or_tested_front r old new (Some c) more is = tested_front r old new c more is
+
 -- a test joined to what waits means what it does joined to that
 pub waiting_means : (r : Records) (asked : List NamedEntry) (waiting : Option code.Condition) (waits : Option Condition) (own c : code.Condition) (t : Condition) → IsWaiting r asked waiting waits → condition_of (sender_named r asked) own ≡ t
     → condition_of (sender_named r asked) c ≡ joined_test (option_map (condition_of (sender_named r asked)) waiting) (condition_of (sender_named r asked) own) → condition_of (sender_named r asked) c ≡ joined_test waits t
@@ -131,11 +136,6 @@ waiting_means r asked None None own c t is same e = e ∙ same
 waiting_means r asked None (Some w) own c t is same e = absurd is
 waiting_means r asked (Some d) None own c t is same e = absurd is
 waiting_means r asked (Some d) (Some w) own c t is same e = e ∙ ap (λ (x : Condition). Either x (condition_of (sender_named r asked) own)) is.1 ∙ ap (λ (x : Condition). Either w x) same
-
-pub waiting_tested : (r : Records) (asked : List NamedEntry) (waiting : Option code.Condition) (waits : Option Condition) → IsWaiting r asked waiting waits → MayBeTestedOr (IsAsked asked) (kind_named r asked) waiting
-waiting_tested r asked None waits is = tt
-waiting_tested r asked (Some c) None is = absurd is
-waiting_tested r asked (Some c) (Some t) is = is.0
 
 -- ---- entries that are placed
 

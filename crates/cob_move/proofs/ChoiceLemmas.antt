@@ -647,11 +647,16 @@ memory_choice n e ns c words begin is = subst (λ (k : NotRead). ChoiceRefused k
 -- ---- one branch of those that are left
 
 -- what stands in front of the words that are left
-abbrev IsInFront : ChoiceKind → WrittenTest → List Lexeme → (rest more : List Lexeme) → Type 0
+abbrev pub IsInFront : ChoiceKind → WrittenTest → List Lexeme → (rest more : List Lexeme) → Type 0
 IsInFront k t own rest more = FrontAt (standing.Branches k) (Branched t own) rest more × IsOnlyFront (standing.Branches k) (Branched t own) rest more
 
 in_front_some : (k : ChoiceKind) (t : WrittenTest) (own rest more : List Lexeme) → IsInFront k t own rest more → 0 < length rest
 in_front_some k t own rest more (stands, only) = omega (arith, shorter (standing.Branches k) (Branched t own) rest more stands)
+
+pub in_front_by : (k : ChoiceKind) (f : PassageFront) (t : WrittenTest) (own rest more : List Lexeme) → f ≡ Branched t own → FrontAt (standing.Branches k) f rest more → IsOnlyFront (standing.Branches k) f rest more
+    → FrontAt (standing.Branches k) (Branched t own) rest more × IsOnlyFront (standing.Branches k) (Branched t own) rest more
+in_front_by k f t own rest more same stands only =
+    (subst (λ (g : PassageFront). FrontAt (standing.Branches k) g rest more) same stands, subst (λ (g : PassageFront). IsOnlyFront (standing.Branches k) g rest more) same only)
 
 pub left_begin : (e : Entries) (ns : List Counted) (a : Against) (k : ChoiceKind) (words : List Lexeme) (m : MadeLists) → LeftOfBranches e ns a k words words None [] m m
 left_begin e ns a k words m p is = (p, is, branches_begin e ns a p m)
