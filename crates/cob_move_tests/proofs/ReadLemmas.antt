@@ -113,7 +113,7 @@ relation_read all r before now subject object a b q w c of_subject of_object the
           means,
           may_of r before now subject object true grown there there_too may,
           says f ∙ ap (λ (x : Sender). opposite_if q.opposite (Compares x q.order (sender_compared f b))) first
-          ∙ ap (λ (x : Sender). opposite_if q.opposite (Compares (sender_in r before subject) q.order x)) second,
+              ∙ ap (λ (x : Sender). opposite_if q.opposite (Compares (sender_in r before subject) q.order x)) second,
         ),
         ap (λ (x : Sender). StatedAs x q) same.sender,
       );
@@ -121,7 +121,7 @@ relation_read all r before now subject object a b q w c of_subject of_object the
         compared_there r now subject a of_subject same.there,
         compared_there r now object b of_object there_too,
         ap (λ (k : SenderKind). may_compare k (kind_compared (kind_named r now) b)) (compared_kind r now subject a of_subject same.there)
-        ∙ ap (λ (k : SenderKind). may_compare (kind_of_compared subject) k) (compared_kind r now object b of_object there_too) ∙ sym may,
+            ∙ ap (λ (k : SenderKind). may_compare (kind_of_compared subject) k) (compared_kind r now object b of_object there_too) ∙ sym may,
       );
       there = same.there;
     }

@@ -47,11 +47,7 @@ use std::alloc::{AllocError, Global};
 /// # Errors
 ///
 /// Memory was refused.
-fn opposite_if(
-    alloc: Global,
-    opposite: bool,
-    condition: Condition,
-) -> Result<Condition, AllocError>
+fn opposite_if(alloc: Global, opposite: bool, condition: Condition) -> Result<Condition, AllocError>
     ensures means { IfOk result (λ c. (entry : ℕ → Sender)
         → condition_of entry c ≡ opposite_if opposite (condition_of entry condition)) }
     ensures testable { IfOk result (λ c. (r : Records) (asked : List Named)
@@ -228,7 +224,12 @@ fn test_of(
         },
         TestPhrase::StandsAlone(second) => match last {
             Some(stated) => relation_of(
-                alloc, entries, stated.subject, stated.relation, second, asked,
+                alloc,
+                entries,
+                stated.subject,
+                stated.relation,
+                second,
+                asked,
             ),
             None => Err(alone(entries, second)),
         },
