@@ -31,7 +31,7 @@ one_relation : OneNamed → (all : List Candidate) (a : Sender) (q : Relation) (
 one_relation law all a q w c d (b, is, may, e) (x, it, might, f) = e ∙ ap (λ (s : Sender). related a q s) (one_operand law all w b x is it) ∙ sym f
 
 one_quality : OneNamed → (all : List Candidate) (r : Records) (w : WrittenReference) (opposite : Bool) (q : Quality) (c d : Condition) → HasQuality all r w opposite q c → HasQuality all r w opposite q d → c ≡ d
-one_quality law all r w opposite q c d (side, o, names, may, e) (other, p, names_too, might, f) =
+one_quality law all r w opposite q c d (side, o, names, (may, e)) (other, p, names_too, (might, f)) =
     let same : (side ≡ other) × (o ≡ p) = law all w side other o p names names_too in
     e ∙ ap (λ (x : Side). opposite_if opposite (quality_asked q (Entry x Pictured o))) same.0
     ∙ ap (λ (x : Operand). opposite_if opposite (quality_asked q (Entry other Pictured x))) same.1 ∙ sym f
