@@ -56,8 +56,8 @@ no_quality one law rule all r w opposite q c (side, o, names, (may, e)) (inr (sa
 
 no_test : OneNamed → NamedBreakNoRule → (rule : MoveRule) (all : List Candidate) (r : Records) (t : WrittenTest) (s : Stated) (c : Condition) (next : Stated)
     → IsTestOf all r t s c next → BreaksTest rule all r t s → ⊥
-no_test one law rule all r (Relates w q v) s c next (a, is, relates, e) (inl broken) = no_operand law rule all w a is broken
-no_test one law rule all r (Relates w q v) s c next (a, is, relates, e) (inr (b, it, broken)) =
+no_test one law rule all r (Relates w q v) s c next (a, is, (relates, e)) (inl broken) = no_operand law rule all w a is broken
+no_test one law rule all r (Relates w q v) s c next (a, is, (relates, e)) (inr (b, it, broken)) =
     no_relation one law rule all a q v c relates (subst (λ (x : Sender). BreaksRelation rule all x v) (one_operand one all w b a it is) broken)
 no_test one law rule all r (RelatesTo q v) NoneStated c next is broken = is
 no_test one law rule all r (RelatesTo q v) (StatedAs a last) c next (relates, e) broken = no_relation one law rule all a q v c relates broken

@@ -24,9 +24,8 @@ ghost use Rattle.cob_move_tests.specs.Meant.{
   HasQuality,
   IsConditionOf,
   IsMeantBy,
-  IsRelationOf,
   IsTestOf,
-  StatedAs,
+  StatesRelation,
   opposite_if,
   quality_asked,
 };
@@ -108,10 +107,9 @@ fn relation_of(
     requires named { AllMayBeNamed entries.now }
     requires there { IsThere (records_of entries.now) asked.old.items subject }
     ensures found { IfOk result (IsRead (records_of entries.now) asked.new.items
-        (λ c next. IsRelationOf (nameable entries.now)
+        (StatesRelation (nameable entries.now)
         (sender_in (records_of entries.now) asked.old.items subject) relation
-        (written_sender written.now) c
-        × (next ≡ StatedAs (sender_in (records_of entries.now) asked.old.items subject) relation))) }
+        (written_sender written.now))) }
     ensures grown { AsksMore (records_of entries.now) asked.old.items asked.new.items }
     ensures fault { IfErr result (λ r. (r ≡ Memory) ⊎ BreaksRelation r (nameable entries.now)
         (sender_in (records_of entries.now) asked.old.items subject) (written_sender written.now)) }
