@@ -185,12 +185,10 @@ begin_split t words ws left is e = e ∙ ap (λ (x : List Lexeme). x ++ left) is
 begin_one : (t u : WrittenTest) (words ws left vs more : List Lexeme) → BeginsWithOperand t ws → BeginsWithOperand u vs → EndsTest left → EndsTest more → words ≡ ws ++ left → words ≡ vs ++ more
     → (t ≡ u) × (left ≡ more)
 begin_one t u words ws left vs more is it x y e f =
-    let (same, rest) = sender_one is.first it.first is.operand it.operand (is.behind ++ left) (it.behind ++ more) is.compared.0 it.compared.0
-    (
+    let (same, rest) = sender_one is.first it.first is.operand it.operand (is.behind ++ left) (it.behind ++ more) is.compared.0 it.compared.0 (
       behind_not term.Of is.first t is.behind left refl (λ g. cc) (λ g. cc) (λ g. cc) is.goes_on x,
       behind_not term.OpenBracket is.first t is.behind left refl (λ g. cc) (λ g. cc) (λ g. cc) is.goes_on x,
-    )
-    (
+    ) (
       behind_not term.Of it.first u it.behind more refl (λ g. cc) (λ g. cc) (λ g. cc) it.goes_on y,
       behind_not term.OpenBracket it.first u it.behind more refl (λ g. cc) (λ g. cc) (λ g. cc) it.goes_on y,
     )

@@ -1,5 +1,6 @@
 pub mod OwnLemmas
 mod AskedLemmas
 mod ReadLemmas
+mod StepLemmas
 mod OneLemmas
 mod NoRuleLemmas

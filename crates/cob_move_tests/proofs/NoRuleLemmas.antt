@@ -43,21 +43,21 @@ no_operand law r all w s is (inr b) = b.1 is.1
 
 no_relation : OneNamed → NamedBreakNoRule → (r : MoveRule) (all : List Candidate) (a : Sender) (q : Relation) (w : WrittenSender) (c : Condition) → IsRelationOf all a q w c → BreaksRelation r all a w → ⊥
 no_relation one law r all a q w c (b, is, may, e) (inl broken) = no_operand law r all w b is broken
-no_relation one law r all a q w c (b, is, may, e) (inr (same, x, it, lacks)) =
+no_relation one law r all a q w c (b, is, may, e) (inr (same, (x, it, lacks))) =
     both (may_compare (kind_of_sender a) (kind_of_sender x)) (ap (λ (s : Sender). may_compare (kind_of_sender a) (kind_of_sender s)) (one_operand one all w x b it is) ∙ may) lacks
 
 no_quality : OneNamed → NamedBreakNoRule → (rule : MoveRule) (all : List Candidate) (r : Records) (w : WrittenReference) (opposite : Bool) (q : Quality) (c : Condition)
     → HasQuality all r w opposite q c → BreaksQuality rule all r w q → ⊥
-no_quality one law rule all r w opposite q c (side, o, names, may, e) (inl broken) = law all w side o rule names broken
-no_quality one law rule all r w opposite q c (side, o, names, may, e) (inr (same, other, p, names_too, lacks)) =
+no_quality one law rule all r w opposite q c (side, o, names, (may, e)) (inl broken) = law all w side o rule names broken
+no_quality one law rule all r w opposite q c (side, o, names, (may, e)) (inr (same, (other, p, names_too, lacks))) =
     let k : (other ≡ side) × (p ≡ o) = one all w other side p o names_too names in
     both (may_have (record_of r other) q p)
     (ap (λ (x : Side). may_have (record_of r x) q p) k.0 ∙ ap (λ (x : Operand). may_have (record_of r side) q x) k.1 ∙ may) lacks
 
 no_test : OneNamed → NamedBreakNoRule → (rule : MoveRule) (all : List Candidate) (r : Records) (t : WrittenTest) (s : Stated) (c : Condition) (next : Stated)
     → IsTestOf all r t s c next → BreaksTest rule all r t s → ⊥
-no_test one law rule all r (Relates w q v) s c next (a, is, relates, e) (inl broken) = no_operand law rule all w a is broken
-no_test one law rule all r (Relates w q v) s c next (a, is, relates, e) (inr (b, it, broken)) =
+no_test one law rule all r (Relates w q v) s c next (a, is, (relates, e)) (inl broken) = no_operand law rule all w a is broken
+no_test one law rule all r (Relates w q v) s c next (a, is, (relates, e)) (inr (b, it, broken)) =
     no_relation one law rule all a q v c relates (subst (λ (x : Sender). BreaksRelation rule all x v) (one_operand one all w b a it is) broken)
 no_test one law rule all r (RelatesTo q v) NoneStated c next is broken = is
 no_test one law rule all r (RelatesTo q v) (StatedAs a last) c next (relates, e) broken = no_relation one law rule all a q v c relates broken

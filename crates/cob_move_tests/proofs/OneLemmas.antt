@@ -31,13 +31,13 @@ one_relation : OneNamed → (all : List Candidate) (a : Sender) (q : Relation) (
 one_relation law all a q w c d (b, is, may, e) (x, it, might, f) = e ∙ ap (λ (s : Sender). related a q s) (one_operand law all w b x is it) ∙ sym f
 
 one_quality : OneNamed → (all : List Candidate) (r : Records) (w : WrittenReference) (opposite : Bool) (q : Quality) (c d : Condition) → HasQuality all r w opposite q c → HasQuality all r w opposite q d → c ≡ d
-one_quality law all r w opposite q c d (side, o, names, may, e) (other, p, names_too, might, f) =
+one_quality law all r w opposite q c d (side, o, names, (may, e)) (other, p, names_too, (might, f)) =
     let same : (side ≡ other) × (o ≡ p) = law all w side other o p names names_too in
     e ∙ ap (λ (x : Side). opposite_if opposite (quality_asked q (Entry x Pictured o))) same.0
     ∙ ap (λ (x : Operand). opposite_if opposite (quality_asked q (Entry other Pictured x))) same.1 ∙ sym f
 
 one_test : OneNamed → (all : List Candidate) (r : Records) (t : WrittenTest) (s : Stated) (c d : Condition) (m n : Stated) → IsTestOf all r t s c m → IsTestOf all r t s d n → (c ≡ d) × (m ≡ n)
-one_test law all r (Relates w q v) s c d m n (a, is, relates, e) (b, it, relates_too, f) =
+one_test law all r (Relates w q v) s c d m n (a, is, (relates, e)) (b, it, (relates_too, f)) =
     let same : a ≡ b = one_operand law all w a b is it in
     (one_relation law all b q v c d (subst (λ (x : Sender). IsRelationOf all x q v c) same relates) relates_too, e ∙ ap (λ (x : Sender). StatedAs x q) same ∙ sym f)
 one_test law all r (RelatesTo q v) NoneStated c d m n h k = absurd h

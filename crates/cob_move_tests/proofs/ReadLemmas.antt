@@ -28,7 +28,7 @@ use Rattle.cob_move_tests.specs.declared.compared.LastRelation.{LastRelation}
 use Rattle.cob_move_tests.specs.declared.compared.Reading.{Reading}
 use Rattle.cob_move_tests.specs.Asked.{AsksMore, IsAsked, IsNamed, IsTestable, kind_asked, kind_named, sender_asked, sender_named}
 use Rattle.cob_move_tests.specs.Compared.{IsComparandOf, IsRead, IsStatedThere, IsThere, kind_of_compared, sender_in, stated_in}
-use Rattle.cob_move_tests.specs.Meant.{IsMeantBy, IsOperandOf, IsRelationOf, IsTestOf, NoneStated, Stated, StatedAs, opposite_if, related}
+use Rattle.cob_move_tests.specs.Meant.{IsMeantBy, IsOperandOf, IsRelationOf, IsTestOf, NoneStated, Stated, StatedAs, StatesRelation, opposite_if}
 use Rattle.cob_move_tests.proofs.AskedLemmas.{compared_same, condition_same, last_get, stated_same}
 
 -- ---- an entry that is asked for
@@ -101,7 +101,7 @@ pub relation_read : (all : List Candidate) (r : Records) (before now : List Name
     → true ≡ may_compare (kind_of_compared subject) (kind_of_compared object)
     → ((entry : ℕ → Sender) → condition_of entry c ≡ opposite_if q.opposite (Compares (sender_compared entry a) q.order (sender_compared entry b)))
     → ((s : Records) (asked : List NamedEntry) → IsTestable s asked (code_condition.Compares a q.order b) → IsTestable s asked c)
-    → IsRead r now (λ d next. IsRelationOf all (sender_in r before subject) q w d × (next ≡ StatedAs (sender_in r before subject) q)) (record { condition = c; last = Some (record { subject = subject; relation = q }) })
+    → IsRead r now (StatesRelation all (sender_in r before subject) q w) (record { condition = c; last = Some (record { subject = subject; relation = q }) })
 relation_read all r before now subject object a b q w c of_subject of_object there grown means there_too may says testable =
     let same = compared_same r before now subject grown there in
     let f : ℕ → Sender = sender_named r now in
@@ -113,7 +113,7 @@ relation_read all r before now subject object a b q w c of_subject of_object the
           means,
           may_of r before now subject object true grown there there_too may,
           says f ∙ ap (λ (x : Sender). opposite_if q.opposite (Compares x q.order (sender_compared f b))) first
-          ∙ ap (λ (x : Sender). opposite_if q.opposite (Compares (sender_in r before subject) q.order x)) second,
+              ∙ ap (λ (x : Sender). opposite_if q.opposite (Compares (sender_in r before subject) q.order x)) second,
         ),
         ap (λ (x : Sender). StatedAs x q) same.sender,
       );
@@ -121,7 +121,7 @@ relation_read all r before now subject object a b q w c of_subject of_object the
         compared_there r now subject a of_subject same.there,
         compared_there r now object b of_object there_too,
         ap (λ (k : SenderKind). may_compare k (kind_compared (kind_named r now) b)) (compared_kind r now subject a of_subject same.there)
-        ∙ ap (λ (k : SenderKind). may_compare (kind_of_compared subject) k) (compared_kind r now object b of_object there_too) ∙ sym may,
+            ∙ ap (λ (k : SenderKind). may_compare (kind_of_compared subject) k) (compared_kind r now object b of_object there_too) ∙ sym may,
       );
       there = same.there;
     }

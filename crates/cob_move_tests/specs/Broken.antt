@@ -13,7 +13,7 @@ use Rattle.cob_move_names.specs.References.{BreaksReference, NamesOperand}
 use Rattle.cob_move_names.specs.Senders.{BreaksSender, kind_of_sender}
 use Rattle.cob_move_statements.specs.declared.fault.MoveRule.{MoveRule}
 use Rattle.cob_move_statements.specs.declared.fault.MoveRule.TheVariants as rule
-use Rattle.cob_move_statements.specs.Written.{SentConstant, SentReference, WrittenSender}
+use Rattle.cob_move_statements.specs.Written.{SentConstant, SentReference, WrittenReference, WrittenSender}
 use Rattle.cob_source.specs.Tokens.{Lexeme}
 use Rattle.cob_move_tests.specs.Qualities.{may_have}
 use Rattle.cob_move_tests.specs.Meant.{HasCharacters, IsMeantBy, IsOperandOf, NoneStated, Stated, StatedAs}

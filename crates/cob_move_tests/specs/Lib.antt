@@ -4,4 +4,5 @@ pub mod Meant
 pub mod Broken
 pub mod Asked
 pub mod Compared
+pub mod Counters
 pub mod Laws

@@ -72,19 +72,23 @@ pub data Stated : Type 0 where
   NoneStated : Stated
   StatedAs : Sender → Relation → Stated
 
--- a relation whose subject is left out means that of the subject stated last, and states itself
+-- a sender, a relation and what stands behind it mean this, and state the sender and the relation
+abbrev pub StatesRelation : List Candidate → Sender → Relation → WrittenSender → Condition → Stated → Type 0
+StatesRelation all a r w c next = IsRelationOf all a r w c × (next ≡ StatedAs a r)
+
+-- a relation whose subject is left out means that of the subject stated last
 abbrev pub IsRelationBehind : List Candidate → Relation → WrittenSender → Stated → Condition → Stated → Type 0
 IsRelationBehind all r w NoneStated c next = ⊥
-IsRelationBehind all r w (StatedAs a last) c next = IsRelationOf all a r w c × (next ≡ StatedAs a r)
+IsRelationBehind all r w (StatedAs a last) c next = StatesRelation all a r w c next
 
 -- an operand alone means the relation stated last to it; where none was stated it is the name of a condition
 abbrev pub IsOperandBehind : List Candidate → WrittenSender → Stated → Condition → Stated → Type 0
 IsOperandBehind all w NoneStated c next = ⊥
-IsOperandBehind all w (StatedAs a r) c next = IsRelationOf all a r w c × (next ≡ StatedAs a r)
+IsOperandBehind all w (StatedAs a r) c next = StatesRelation all a r w c next
 
 -- A simple condition means this behind what was stated, and states that: a relation its own subject and relation, a class or a sign nothing.
 abbrev pub IsTestOf : List Candidate → Records → WrittenTest → Stated → Condition → Stated → Type 0
-IsTestOf all records (Relates w r v) s c next = (a : Sender) × IsOperandOf all w a × IsRelationOf all a r v c × (next ≡ StatedAs a r)
+IsTestOf all records (Relates w r v) s c next = (a : Sender) × IsOperandOf all w a × StatesRelation all a r v c next
 IsTestOf all records (RelatesTo r v) s c next = IsRelationBehind all r v s c next
 IsTestOf all records (StandsAlone v) s c next = IsOperandBehind all v s c next
 IsTestOf all records (Has w opposite q) s c next = HasQuality all records w opposite q c × (next ≡ NoneStated)

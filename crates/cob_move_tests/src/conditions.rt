@@ -24,9 +24,8 @@ ghost use Rattle.cob_move_tests.specs.Meant.{
   HasQuality,
   IsConditionOf,
   IsMeantBy,
-  IsRelationOf,
   IsTestOf,
-  StatedAs,
+  StatesRelation,
   opposite_if,
   quality_asked,
 };
@@ -47,11 +46,7 @@ use std::alloc::{AllocError, Global};
 /// # Errors
 ///
 /// Memory was refused.
-fn opposite_if(
-    alloc: Global,
-    opposite: bool,
-    condition: Condition,
-) -> Result<Condition, AllocError>
+fn opposite_if(alloc: Global, opposite: bool, condition: Condition) -> Result<Condition, AllocError>
     ensures means { IfOk result (λ c. (entry : ℕ → Sender)
         → condition_of entry c ≡ opposite_if opposite (condition_of entry condition)) }
     ensures testable { IfOk result (λ c. (r : Records) (asked : List Named)
@@ -112,10 +107,9 @@ fn relation_of(
     requires named { AllMayBeNamed entries.now }
     requires there { IsThere (records_of entries.now) asked.old.items subject }
     ensures found { IfOk result (IsRead (records_of entries.now) asked.new.items
-        (λ c next. IsRelationOf (nameable entries.now)
+        (StatesRelation (nameable entries.now)
         (sender_in (records_of entries.now) asked.old.items subject) relation
-        (written_sender written.now) c
-        × (next ≡ StatedAs (sender_in (records_of entries.now) asked.old.items subject) relation))) }
+        (written_sender written.now))) }
     ensures grown { AsksMore (records_of entries.now) asked.old.items asked.new.items }
     ensures fault { IfErr result (λ r. (r ≡ Memory) ⊎ BreaksRelation r (nameable entries.now)
         (sender_in (records_of entries.now) asked.old.items subject) (written_sender written.now)) }
@@ -228,7 +222,12 @@ fn test_of(
         },
         TestPhrase::StandsAlone(second) => match last {
             Some(stated) => relation_of(
-                alloc, entries, stated.subject, stated.relation, second, asked,
+                alloc,
+                entries,
+                stated.subject,
+                stated.relation,
+                second,
+                asked,
             ),
             None => Err(alone(entries, second)),
         },

@@ -14,24 +14,28 @@
 //! brackets, and with no class or sign between. Laws: words mean one condition ([`one_condition_of`]), and where they mean one, break no rule
 //! ([`conditions_break_no_rule`]).
 //!
+//! [`has_no_counter`] tells whether a counter of a loop is no operand of a condition: it may stand in subscripts alone (`HasNoCounter` of specs/Counters.antt).
+//!
 //! [`Entries`] are the entries of two records, as statements name them: by names, and by numbers. [`sender_of`] answers what a sender means (clause `found`;
 //! `IsSenderOf` of cob_move_names): the operand that its reference names, or the constant that its literal means; a refusal names a rule that it breaks
 //! (`fault`; `BreaksSender`).
 //!
 //! # Where it is proved
 //!
-//! The clauses of `condition_of`; the laws `one_condition_of`, `conditions_break_no_rule`; the clauses of `Entries::named`, `Entries::named_receiver` and
+//! The clauses of `condition_of` and `has_no_counter`; the laws `one_condition_of`, `conditions_break_no_rule`; the clauses of `Entries::named`, `Entries::named_receiver` and
 //! `sender_of`.
 #![tactic(auto)]
 
 mod compared;
 mod conditions;
+mod counters;
 mod entries;
 mod laws;
 mod qualities;
 mod senders;
 
 pub use conditions::condition_of;
+pub use counters::has_no_counter;
 pub use entries::{Entries, NamedEntry};
 pub use laws::{conditions_break_no_rule, one_condition_of};
 pub use senders::{kind_of_sender, sender_of};

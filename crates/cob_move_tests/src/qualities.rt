@@ -90,12 +90,7 @@ fn may_be_numeric_over(beneath: &[Node], kind: &Kind) -> bool
 }
 
 /// Whether a class may be asked of an entry.
-fn may_be_of_class(
-    entries: &Entries<'_, '_>,
-    named: &NamedEntry,
-    kind: &Kind,
-    class: Class,
-) -> bool
+fn may_be_of_class(entries: &Entries<'_, '_>, named: &NamedEntry, kind: &Kind, class: Class) -> bool
     requires kind { kind.now ≡ (operand_in (record_of (records_of entries.now) named.now.side)
         named.now.entry).kind }
     ensures { result ≡ may_be_of_class (record_of (records_of entries.now) named.now.side) class
