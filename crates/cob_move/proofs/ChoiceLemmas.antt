@@ -715,6 +715,35 @@ left_end e ns a k words rest waiting taken old now left none p at =
     let (q, are, so) = left p at in
     branches_end e ns a p q waiting taken old now (nothing_left (standing.Branches k) q rest are none) so
 
+-- ---- what is left behind a branch
+
+-- what is known of what is made behind a branch, or behind the last
+pub record IsKeptBehind (r : Records) (now new : MadeLists) : Type 0 where
+  pub made : IsMade r new
+  pub grown : HasGrown now new
+  pub none : new.flows ≡ []
+  pub marked : open_statements new ≡ []
+
+pub apart_kept : (e : Entries) (ns : List Counted) (words : List Lexeme) (own : List Flow) (now new : MadeLists) → now.flows ≡ [] → ReadsApart e ns words own now new → IsKeptBehind (records_of e) now new
+apart_kept e ns words own now new none apart = subst (λ (m : MadeLists). IsKeptBehind (records_of e) now m) (sym apart.after) (record {
+  made = closed_made (records_of e) apart.mid apart.made;
+  grown = closed_after now apart.mid none apart.grown;
+  none = refl;
+  marked = closed_open apart.mid;
+})
+
+pub branch_kept : (e : Entries) (ns : List Counted) (c : code.Condition) (words : List Lexeme) (taken after : List TakenBranch) (now new : MadeLists) → now.flows ≡ [] → MayBeTested (IsAsked now.asked) (kind_named (records_of e) now.asked) c
+    → AddsBranch e ns c words taken after now new → IsKeptBehind (records_of e) now new
+branch_kept e ns c words taken after now new none tested adds =
+    let apart = adds.apart in
+    let new_is : new ≡ with_branch apart.mid c = adds.new_is ∙ ap (λ (m : MadeLists). with_condition m c) apart.after in
+    subst (λ (m : MadeLists). IsKeptBehind (records_of e) now m) (sym new_is) (record {
+      made = branch_made (records_of e) now apart.mid c apart.grown tested apart.made;
+      grown = branch_grown now apart.mid c none apart.grown;
+      none = refl;
+      marked = closed_open apart.mid;
+    })
+
 -- ---- why one of them isn't read
 
 pub left_test_refused : BranchTestsBreakNoRule → (n : NotRead) (e : Entries) (ns : List Counted) (a : Against) (k : ChoiceKind) (words rest more ws body : List Lexeme) (waiting : Option code.Condition) (taken : List TakenBranch) (old now : MadeLists)
@@ -751,3 +780,7 @@ pub leaves_asked : (n : NotRead) (m : MadeLists) (asked : List NamedEntry) → (
 leaves_asked why.Memory m asked more = tt
 leaves_asked why.TooMany m asked more = tt
 leaves_asked (why.Broken f) m asked more = asked_grown m asked more
+
+pub nothing_there : (ws : List Lexeme) → length ws ≡ 0 → ws ≡ []
+nothing_there [] none = refl
+nothing_there (w ∷ ws) none = absurd (omega (arith, none))

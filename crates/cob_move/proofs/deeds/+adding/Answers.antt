@@ -1,7 +1,9 @@
-use Rattle.std.proofs.Common.{◌≡◌, ◌+◌, ◌-◌, ◌<◌, ◌≤◌, ◌++◌, ◌∷◌, [], List, ℕ, ◌∙◌, ap, arith, false, length, refl, subst, sym, true, None}
+use Rattle.std.proofs.Common.{◌≡◌, ◌+◌, ◌-◌, ◌<◌, ◌≤◌, ◌++◌, ◌∷◌, [], List, ℕ, ◌∙◌, ap, arith, false, length, refl, subst, sym, true, Option, None, Some}
 use Rattle.std.proofs.lemmas.List.{map-append}
 use Rattle.cob_limits.specs.Limits.{most_written_out}
 use Rattle.cob_move_choices.specs.Asked.{IsSubjectAsked, against}
+use Rattle.cob_move_choices.specs.Choices.{Against, IsBranchTestOf}
+use Rattle.cob_move_condition.specs.Conditions.{Condition as Meant, condition_of}
 use Rattle.cob_move_condition.specs.declared.condition.Condition.{Condition}
 use Rattle.cob_move_loops.specs.declared.parts.ChoiceKind.{ChoiceKind}
 use Rattle.cob_move_tests.specs.Asked.{sender_named}
@@ -11,8 +13,9 @@ use Rattle.std.specs.Global.{Vec}
 use Rattle.std.proofs.lemmas.Result.{IfErr-weaker, IfOk-weaker, err_from_is_err_and}
 use Rattle.cob_source.specs.Tokens.{lexemes}
 use Rattle.cob_move_loops.specs.declared.front.PassageItem.{PassageItem}
-use Rattle.cob_move_loops.specs.Reading.{counters, item_front, written_bound, written_choice, written_loop}
-use Rattle.cob_move_loops.specs.Passages.{ARun, PassageFront}
+use Rattle.cob_move_loops.specs.Reading.{counters, item_front, written_bound, written_choice, written_loop, written_test}
+use Rattle.cob_move_loops.specs.declared.parts.BranchTest.{BranchTest}
+use Rattle.cob_move_loops.specs.Passages.{ARun, Branched, PassageFront, Tested}
 use Rattle.cob_move_loops.specs.Turns.{Counted, counter_at, in_turn}
 use Rattle.cob_move_deeds.specs.declared.flow.Bound.{Bound}
 use Rattle.cob_move_deeds.specs.declared.flow.Flow.{Flow}
@@ -21,11 +24,12 @@ use Rattle.cob_move_loops.specs.declared.parts.Place.TheVariants as standing
 use Rattle.cob_move_loops.proofs.FrontLemmas.{front_size, front_smaller}
 use Rattle.cob_move_loops.proofs.PassageLemmas.{shorter}
 use Rattle.cob_move_loops.proofs.WritingLemmas.{counters_more}
-use Rattle.cob_move.specs.DeedsRead.{AddsDeeds, AddsFront, AddsMoved, AddsTurns, FrontHasBounds, FrontRefused, HasGrown, HaveBounds, IsFrontRead, IsMade, LeavesFront, LeftOfBranches, LoopRefused, MadeLists, MovedRefused, ReadsTurns, TurnRefused, closed, flow_lists, in_its_turn, linked_turns, made_lists, open_statements, TakenBranch, taken_branch, taken_branches, with_one_more, without_flows}
+use Rattle.cob_move.specs.DeedsRead.{AddsBranch, AddsBranches, AddsDeeds, AddsFront, AddsMoved, AddsTurns, FrontHasBounds, FrontRefused, HasGrown, HaveBounds, IsFrontRead, IsMade, IsWaiting, LeavesFront, LeftOfBranches, LoopRefused, MadeLists, MovedRefused, ReadsTurns, TurnRefused, closed, flow_lists, in_its_turn, linked_turns, made_lists, open_statements, TakenBranch, taken_branch, taken_branches, TestNotRead, with_asked, with_one_more, without_flows}
 use Rattle.cob_move_tests.specs.Entries.{records_of}
-use Rattle.cob_move.proofs.ChoiceLemmas.{begun, begun_made, closed_asked, count_not_read, leaves_asked, left_begin, subject_not_read}
+use Rattle.cob_move.proofs.AskedLemmas.{against_front, or_tested_front, waiting_front, waiting_means}
+use Rattle.cob_move.proofs.ChoiceLemmas.{asked_grown, asked_made, begun, begun_made, branch_kept, closed_asked, count_not_read, in_front_by, leaves_asked, left_begin, left_end, left_statements_refused, left_taken, left_test_refused, left_waits, nothing_there, subject_not_read}
 use Rattle.cob_move.proofs.MadeLemmas.{forgotten_again, grown_both, grown_none, leaves_more, leaves_same, leaves_unbroken}
-use Rattle.cob_move.proofs.ReadingLemmas.{bounds_parted, choice_bounds, deeds_end, deeds_first, deeds_more, deeds_refused, front_read, loop_bounds, pause_added}
+use Rattle.cob_move.proofs.ReadingLemmas.{bounds_parted, branch_bounds, choice_bounds, deeds_end, deeds_first, deeds_more, deeds_refused, front_read, loop_bounds, pause_added}
 use Rattle.cob_move.proofs.TestedLemmas.{HasReadLoop, bound_for, bound_not_read, breaks_first, breaks_same, broken_left, closed_refused, emptied, first_refused, later_refused, loop_left, loop_same, never_refused, no_turn_comes, past_of, tested_added, tested_grown, tested_made, tried_first, tried_now, tried_step}
 use Rattle.cob_move.proofs.CloseLemmas.{closed_made, closed_open}
 use Rattle.cob_move.proofs.LookLemmas.{next_sure, sure_breaks}
@@ -657,3 +661,178 @@ add_branches-loop-item-init t c =
 
 pub add_branches-loop-item-smaller : goal.add_branches-loop-item-smaller
 add_branches-loop-item-smaller t c = shorter (standing.Branches c.args.kind) (item_front c.in-Some.item) (lexemes c.loop-item.rest.now) (lexemes c.in-Some.more.now) c.in-Some.ensures.found
+
+pub add_branches-loop-item-preserved-then-is_empty : goal.add_branches-loop-item-preserved-then-is_empty
+add_branches-loop-item-preserved-then-is_empty t c =
+    let e = c.args.entries.now in
+    let r = records_of e in
+    let ns = counters c.args.turn.now in
+    let begin = made_lists c.args.made.now in
+    let before = made_lists c.loop-item.made in
+    let asked = c.read_test.new.made.asked.items in
+    let now = with_asked before asked in
+    let rest = lexemes c.loop-item.rest.now in
+    let more = lexemes c.in-Some.more.now in
+    let ws = lexemes c.in-Tested.words.now in
+    let body = lexemes c.in-Branch.body.now in
+    let a = against (sender_named r begin.asked) c.args.subject in
+    let (others, all, grows) = c.in_ok-own.ensures.asks in
+    let front = in_front_by c.args.kind (item_front c.in-Some.item) (Tested ws) body rest more (ap item_front c.in-Branch.is ∙ ap (λ (x : BranchTest). Branched (written_test x) body) c.in-Tested.is) c.in-Some.ensures.found c.in-Some.ensures.only in
+    let less = shorter (standing.Branches c.args.kind) (item_front c.in-Some.item) rest more c.in-Some.ensures.found in
+    let held : against (sender_named r before.asked) c.args.subject ≡ a = sym (against_front r begin.asked before.asked c.args.subject c.loop-item.invariant.grown.asked c.requires.there) in
+    let is = subst (λ (x : Against). IsBranchTestOf r ns x ws (condition_of (sender_named r asked) c.in_ok-own.own)) held c.in_ok-own.ensures.found in
+    let means = λ (waits : Option Meant) (w : IsWaiting r before.asked c.loop-item.waiting waits).
+    waiting_means r asked c.loop-item.waiting waits c.in_ok-own.own c.in_ok-test.test (condition_of (sender_named r asked) c.in_ok-own.own) (waiting_front r before.asked asked c.loop-item.waiting waits (others, grows) w) refl
+    (c.in_ok-test.ensures.means (sender_named r asked)) in
+    let tested = c.in_ok-test.ensures.tested r asked (or_tested_front r before.asked asked c.loop-item.waiting (others, grows) c.loop-item.invariant.waits) c.in_ok-own.ensures.tested in
+    let bounds = branch_bounds c.args.kind (Tested ws) body rest more c.loop-item.invariant.bounds (omega (arith, less)) front.1 in
+    let new = made_lists c.read_test.new.made in
+    let same = c.in_ok-own.ensures.same in record {
+      left = subst (λ (m : MadeLists). LeftOfBranches e ns a c.args.kind (lexemes c.args.branches.now) more (Some c.in_ok-test.test) (taken_branches c.loop-item.taken.items) begin m) (sym same)
+          (left_waits e ns a c.args.kind (lexemes c.args.branches.now) rest more ws body c.loop-item.waiting c.in_ok-own.own c.in_ok-test.test (taken_branches c.loop-item.taken.items) begin before asked c.loop-item.invariant.left front
+          (nothing_there body (omega (arith, c.if-is_empty.true))) (others, grows) is means tested);
+      fewer = omega (arith, c.loop-item.invariant.fewer, less);
+      bounds = bounds.1;
+      waits = tested;
+      made = subst (λ (m : MadeLists). IsMade r m) (sym same) (asked_made r before asked (others, all, grows) c.loop-item.invariant.made);
+      grown = subst (λ (m : MadeLists). HasGrown begin m) (sym same) (grown_both begin before now c.loop-item.invariant.grown (asked_grown before asked (others, grows)));
+      none = ap (λ (m : MadeLists). m.flows) same ∙ c.loop-item.invariant.none;
+      marked = ap open_statements same ∙ c.loop-item.invariant.marked;
+      pairs = c.loop-item.invariant.pairs;
+    }
+
+pub add_branches-loop-item-preserved : goal.add_branches-loop-item-preserved
+add_branches-loop-item-preserved t c =
+    let e = c.args.entries.now in
+    let r = records_of e in
+    let ns = counters c.args.turn.now in
+    let begin = made_lists c.args.made.now in
+    let before = made_lists c.loop-item.made in
+    let asked = c.read_test.new.made.asked.items in
+    let now = with_asked before asked in
+    let rest = lexemes c.loop-item.rest.now in
+    let more = lexemes c.in-Some.more.now in
+    let ws = lexemes c.in-Tested.words.now in
+    let body = lexemes c.in-Branch.body.now in
+    let a = against (sender_named r begin.asked) c.args.subject in
+    let (others, all, grows) = c.in_ok-own.ensures.asks in
+    let front = in_front_by c.args.kind (item_front c.in-Some.item) (Tested ws) body rest more (ap item_front c.in-Branch.is ∙ ap (λ (x : BranchTest). Branched (written_test x) body) c.in-Tested.is) c.in-Some.ensures.found c.in-Some.ensures.only in
+    let less = shorter (standing.Branches c.args.kind) (item_front c.in-Some.item) rest more c.in-Some.ensures.found in
+    let held : against (sender_named r before.asked) c.args.subject ≡ a = sym (against_front r begin.asked before.asked c.args.subject c.loop-item.invariant.grown.asked c.requires.there) in
+    let is = subst (λ (x : Against). IsBranchTestOf r ns x ws (condition_of (sender_named r asked) c.in_ok-own.own)) held c.in_ok-own.ensures.found in
+    let means = λ (waits : Option Meant) (w : IsWaiting r before.asked c.loop-item.waiting waits).
+    waiting_means r asked c.loop-item.waiting waits c.in_ok-own.own c.in_ok-test.test (condition_of (sender_named r asked) c.in_ok-own.own) (waiting_front r before.asked asked c.loop-item.waiting waits (others, grows) w) refl
+    (c.in_ok-test.ensures.means (sender_named r asked)) in
+    let tested = c.in_ok-test.ensures.tested r asked (or_tested_front r before.asked asked c.loop-item.waiting (others, grows) c.loop-item.invariant.waits) c.in_ok-own.ensures.tested in
+    let bounds = branch_bounds c.args.kind (Tested ws) body rest more c.loop-item.invariant.bounds (omega (arith, less)) front.1 in
+    let new = made_lists c.add_branch.new.made in
+    let taken = taken_branches c.loop-item.taken.items in
+    let after = taken_branches c.add_branch.new.taken.items in
+    let adds = subst (λ (m : MadeLists). AddsBranch e ns c.in_ok-test.test body taken after m new) c.in_ok-own.ensures.same c.in_ok-add_branch.ensures.added in
+    let kept = branch_kept e ns c.in_ok-test.test body taken after now new c.loop-item.invariant.none tested adds in record {
+      left = left_taken c.one_deeds.ensures e ns a c.args.kind (lexemes c.args.branches.now) rest more ws body c.loop-item.waiting c.in_ok-own.own c.in_ok-test.test taken begin before new asked after c.loop-item.invariant.left front
+          (omega (arith, c.if-is_empty.false)) (others, grows) is means tested c.loop-item.invariant.none c.loop-item.invariant.marked adds;
+      fewer = omega (arith, c.loop-item.invariant.fewer, less);
+      bounds = bounds.1;
+      waits = tt;
+      made = kept.made;
+      grown = grown_both begin before new c.loop-item.invariant.grown (grown_both before now new (asked_grown before asked (others, grows)) kept.grown);
+      none = kept.none;
+      marked = kept.marked;
+      pairs = c.in_ok-add_branch.ensures.pairs;
+    }
+
+pub add_branches-add_branch-requires : goal.add_branches-add_branch-requires
+add_branches-add_branch-requires t c =
+    let e = c.args.entries.now in
+    let r = records_of e in
+    let ns = counters c.args.turn.now in
+    let begin = made_lists c.args.made.now in
+    let before = made_lists c.loop-item.made in
+    let asked = c.read_test.new.made.asked.items in
+    let now = with_asked before asked in
+    let rest = lexemes c.loop-item.rest.now in
+    let more = lexemes c.in-Some.more.now in
+    let ws = lexemes c.in-Tested.words.now in
+    let body = lexemes c.in-Branch.body.now in
+    let a = against (sender_named r begin.asked) c.args.subject in
+    let (others, all, grows) = c.in_ok-own.ensures.asks in
+    let front = in_front_by c.args.kind (item_front c.in-Some.item) (Tested ws) body rest more (ap item_front c.in-Branch.is ∙ ap (λ (x : BranchTest). Branched (written_test x) body) c.in-Tested.is) c.in-Some.ensures.found c.in-Some.ensures.only in
+    let less = shorter (standing.Branches c.args.kind) (item_front c.in-Some.item) rest more c.in-Some.ensures.found in
+    let held : against (sender_named r before.asked) c.args.subject ≡ a = sym (against_front r begin.asked before.asked c.args.subject c.loop-item.invariant.grown.asked c.requires.there) in
+    let is = subst (λ (x : Against). IsBranchTestOf r ns x ws (condition_of (sender_named r asked) c.in_ok-own.own)) held c.in_ok-own.ensures.found in
+    let means = λ (waits : Option Meant) (w : IsWaiting r before.asked c.loop-item.waiting waits).
+    waiting_means r asked c.loop-item.waiting waits c.in_ok-own.own c.in_ok-test.test (condition_of (sender_named r asked) c.in_ok-own.own) (waiting_front r before.asked asked c.loop-item.waiting waits (others, grows) w) refl
+    (c.in_ok-test.ensures.means (sender_named r asked)) in
+    let tested = c.in_ok-test.ensures.tested r asked (or_tested_front r before.asked asked c.loop-item.waiting (others, grows) c.loop-item.invariant.waits) c.in_ok-own.ensures.tested in
+    let bounds = branch_bounds c.args.kind (Tested ws) body rest more c.loop-item.invariant.bounds (omega (arith, less)) front.1 in
+    let small = front_smaller (standing.Branches c.args.kind) (Branched (Tested ws) body) rest more front.0 in (
+      omega (arith, c.decreases, small, c.loop-item.invariant.fewer),
+      (
+        c.requires.named,
+        (
+          c.loop-item.invariant.pairs,
+          (
+            subst (λ (m : MadeLists). IsMade r m) (sym c.in_ok-own.ensures.same) (asked_made r before asked (others, all, grows) c.loop-item.invariant.made),
+            bounds.0,
+          ),
+        ),
+      ),
+    )
+
+pub add_branches-returns-in_err-own-clause-fault : goal.add_branches-returns-in_err-own-clause-fault
+add_branches-returns-in_err-own-clause-fault t c =
+    let e = c.args.entries.now in
+    let r = records_of e in
+    let ns = counters c.args.turn.now in
+    let begin = made_lists c.args.made.now in
+    let before = made_lists c.loop-item.made in
+    let rest = lexemes c.loop-item.rest.now in
+    let more = lexemes c.in-Some.more.now in
+    let ws = lexemes c.in-Tested.words.now in
+    let body = lexemes c.in-Branch.body.now in
+    let a = against (sender_named r begin.asked) c.args.subject in
+    let n = c.in_err-own.field-0.0 in
+    let front = in_front_by c.args.kind (item_front c.in-Some.item) (Tested ws) body rest more (ap item_front c.in-Branch.is ∙ ap (λ (x : BranchTest). Branched (written_test x) body) c.in-Tested.is) c.in-Some.ensures.found c.in-Some.ensures.only in
+    let held : against (sender_named r before.asked) c.args.subject ≡ a = sym (against_front r begin.asked before.asked c.args.subject c.loop-item.invariant.grown.asked c.requires.there) in
+    let p = err_from_is_err_and c.from_residual-in_err-own.result c.from_residual-in_err-own.ensures.1 in
+    rw (p.1, p.2) (left_test_refused c.branch_tests_break_no_rule.ensures n e ns a c.args.kind (lexemes c.args.branches.now) rest more ws body c.loop-item.waiting (taken_branches c.loop-item.taken.items) begin before c.loop-item.invariant.left front
+    (subst (λ (x : Against). TestNotRead n e ns x ws) held c.in_err-own.ensures.fault))
+
+pub add_branches-returns-in_err-add_branch-clause-fault : goal.add_branches-returns-in_err-add_branch-clause-fault
+add_branches-returns-in_err-add_branch-clause-fault t c =
+    let e = c.args.entries.now in
+    let r = records_of e in
+    let ns = counters c.args.turn.now in
+    let begin = made_lists c.args.made.now in
+    let before = made_lists c.loop-item.made in
+    let asked = c.read_test.new.made.asked.items in
+    let now = with_asked before asked in
+    let rest = lexemes c.loop-item.rest.now in
+    let more = lexemes c.in-Some.more.now in
+    let ws = lexemes c.in-Tested.words.now in
+    let body = lexemes c.in-Branch.body.now in
+    let a = against (sender_named r begin.asked) c.args.subject in
+    let (others, all, grows) = c.in_ok-own.ensures.asks in
+    let front = in_front_by c.args.kind (item_front c.in-Some.item) (Tested ws) body rest more (ap item_front c.in-Branch.is ∙ ap (λ (x : BranchTest). Branched (written_test x) body) c.in-Tested.is) c.in-Some.ensures.found c.in-Some.ensures.only in
+    let less = shorter (standing.Branches c.args.kind) (item_front c.in-Some.item) rest more c.in-Some.ensures.found in
+    let held : against (sender_named r before.asked) c.args.subject ≡ a = sym (against_front r begin.asked before.asked c.args.subject c.loop-item.invariant.grown.asked c.requires.there) in
+    let is = subst (λ (x : Against). IsBranchTestOf r ns x ws (condition_of (sender_named r asked) c.in_ok-own.own)) held c.in_ok-own.ensures.found in
+    let means = λ (waits : Option Meant) (w : IsWaiting r before.asked c.loop-item.waiting waits).
+    waiting_means r asked c.loop-item.waiting waits c.in_ok-own.own c.in_ok-test.test (condition_of (sender_named r asked) c.in_ok-own.own) (waiting_front r before.asked asked c.loop-item.waiting waits (others, grows) w) refl
+    (c.in_ok-test.ensures.means (sender_named r asked)) in
+    let tested = c.in_ok-test.ensures.tested r asked (or_tested_front r before.asked asked c.loop-item.waiting (others, grows) c.loop-item.invariant.waits) c.in_ok-own.ensures.tested in
+    let bounds = branch_bounds c.args.kind (Tested ws) body rest more c.loop-item.invariant.bounds (omega (arith, less)) front.1 in
+    let n = c.in_err-add_branch.field-0.0 in
+    let p = err_from_is_err_and c.from_residual-in_err-add_branch.result c.from_residual-in_err-add_branch.ensures.1 in
+    rw (p.1, p.2) (left_statements_refused c.deeds_break_no_rule.ensures n e ns a c.args.kind (lexemes c.args.branches.now) rest more ws body c.loop-item.waiting (condition_of (sender_named r asked) c.in_ok-own.own) (taken_branches c.loop-item.taken.items)
+    begin before asked c.requires.named c.loop-item.invariant.left front is (subst (λ (m : MadeLists). TurnRefused n e ns body m) c.in_ok-own.ensures.same c.in_err-add_branch.ensures.fault))
+
+pub add_branches-returns-clause-added : goal.add_branches-returns-clause-added
+add_branches-returns-clause-added t c =
+    let e = c.args.entries.now in
+    let begin = made_lists c.args.made.now in
+    subst (λ (fs : List Flow). AddsBranches e (counters c.args.turn.now) (against (sender_named (records_of e) begin.asked) c.args.subject) c.args.kind (lexemes c.args.branches.now) (taken_branches c.loop-item.taken.items) fs begin (made_lists c.loop-item.made))
+    (sym c.new.ensures.items)
+    (left_end e (counters c.args.turn.now) (against (sender_named (records_of e) begin.asked) c.args.subject) c.args.kind (lexemes c.args.branches.now) (lexemes c.loop-item.rest.now) c.loop-item.waiting (taken_branches c.loop-item.taken.items) begin
+    (made_lists c.loop-item.made) c.loop-item.invariant.left c.in_default.ensures.only)
