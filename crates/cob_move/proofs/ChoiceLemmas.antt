@@ -784,3 +784,20 @@ leaves_asked (why.Broken f) m asked more = asked_grown m asked more
 pub nothing_there : (ws : List Lexeme) → length ws ≡ 0 → ws ≡ []
 nothing_there [] none = refl
 nothing_there (w ∷ ws) none = absurd (omega (arith, none))
+
+-- what is made with a choice, by its parts
+pub choice_same : (old now : MadeLists) (flows outside linked : List Flow) → flows ≡ outside ++ linked → outside ≡ (closed old).flows
+    → record { list = now.list; ends = now.ends; bounds = now.bounds; asked = now.asked; conditions = now.conditions; flows = flows; read = now.read } ≡ with_choice old now linked
+choice_same old now flows outside linked behind same =
+    let all : flows ≡ (closed old).flows ++ linked = behind ∙ ap (λ (t : List Flow). t ++ linked) same in
+    λ i. record { list = now.list; ends = now.ends; bounds = now.bounds; asked = now.asked; conditions = now.conditions; flows = all i; read = now.read }
+
+-- the mark that was put before the branches changes nothing of why they aren't read
+pub closed_branches : (n : NotRead) (e : Entries) (ns : List Counted) (a : Against) (k : ChoiceKind) (words : List Lexeme) (old : MadeLists) → BranchesRefused n e ns a k words (without_flows (closed old)) → BranchesRefused n e ns a k words old
+closed_branches why.Memory e ns a k words old refused p at = tt
+closed_branches why.TooMany e ns a k words old refused p at =
+    let (m, first, most) = refused p at in
+    (m, first, subst (λ (n : ℕ). most_written_out < n + m) (closed_read old) most)
+closed_branches (why.Broken f) e ns a k words old refused p at =
+    let x = refused p at in
+    (x.0, x.1, subst (λ (n : ℕ). FewWith (λ many. FirstInBranches e ns a p many) n) (closed_read old) x.2)

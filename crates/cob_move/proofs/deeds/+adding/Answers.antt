@@ -15,7 +15,7 @@ use Rattle.cob_source.specs.Tokens.{lexemes}
 use Rattle.cob_move_loops.specs.declared.front.PassageItem.{PassageItem}
 use Rattle.cob_move_loops.specs.Reading.{counters, item_front, written_bound, written_choice, written_loop, written_test}
 use Rattle.cob_move_loops.specs.declared.parts.BranchTest.{BranchTest}
-use Rattle.cob_move_loops.specs.Passages.{ARun, Branched, PassageFront, Tested}
+use Rattle.cob_move_loops.specs.Passages.{ARun, Branched, PassageFront, Tested, kind_of}
 use Rattle.cob_move_loops.specs.Turns.{Counted, counter_at, in_turn}
 use Rattle.cob_move_deeds.specs.declared.flow.Bound.{Bound}
 use Rattle.cob_move_deeds.specs.declared.flow.Flow.{Flow}
@@ -24,10 +24,11 @@ use Rattle.cob_move_loops.specs.declared.parts.Place.TheVariants as standing
 use Rattle.cob_move_loops.proofs.FrontLemmas.{front_size, front_smaller}
 use Rattle.cob_move_loops.proofs.PassageLemmas.{shorter}
 use Rattle.cob_move_loops.proofs.WritingLemmas.{counters_more}
-use Rattle.cob_move.specs.DeedsRead.{AddsBranch, AddsBranches, AddsDeeds, AddsFront, AddsMoved, AddsTurns, FrontHasBounds, FrontRefused, HasGrown, HaveBounds, IsFrontRead, IsMade, IsWaiting, LeavesFront, LeftOfBranches, LoopRefused, MadeLists, MovedRefused, ReadsTurns, TurnRefused, closed, flow_lists, in_its_turn, linked_turns, made_lists, open_statements, TakenBranch, taken_branch, taken_branches, TestNotRead, with_asked, with_one_more, without_flows}
+use Rattle.cob_move.specs.declared.made.BranchFlows.{BranchFlows}
+use Rattle.cob_move.specs.DeedsRead.{AddsBranch, AddsBranches, AddsDeeds, AddsFront, AddsMoved, AddsTurns, BranchesRefused, FrontHasBounds, FrontRefused, HasGrown, HaveBounds, IsFrontRead, IsMade, IsWaiting, LeavesFront, LeftOfBranches, LoopRefused, MadeLists, MovedRefused, ReadsTurns, TurnRefused, closed, flow_lists, in_its_turn, linked_branches, linked_turns, made_lists, open_statements, TakenBranch, taken_branch, taken_branches, TestNotRead, with_asked, with_one_more, without_flows}
 use Rattle.cob_move_tests.specs.Entries.{records_of}
 use Rattle.cob_move.proofs.AskedLemmas.{against_front, or_tested_front, waiting_front, waiting_means}
-use Rattle.cob_move.proofs.ChoiceLemmas.{asked_grown, asked_made, begun, begun_made, branch_kept, closed_asked, count_not_read, in_front_by, leaves_asked, left_begin, left_end, left_statements_refused, left_taken, left_test_refused, left_waits, nothing_there, subject_not_read}
+use Rattle.cob_move.proofs.ChoiceLemmas.{HasReadChoice, asked_grown, asked_made, begun, begun_grown, begun_made, branch_kept, choice_adds, choice_has_grown, choice_is_made, choice_not_read, choice_same, closed_asked, closed_branches, count_not_read, in_front_by, leaves_asked, left_begin, left_end, left_statements_refused, left_taken, left_test_refused, left_waits, nothing_there, subject_not_read}
 use Rattle.cob_move.proofs.MadeLemmas.{forgotten_again, grown_both, grown_none, leaves_more, leaves_same, leaves_unbroken}
 use Rattle.cob_move.proofs.ReadingLemmas.{bounds_parted, branch_bounds, choice_bounds, deeds_end, deeds_first, deeds_more, deeds_refused, front_read, loop_bounds, pause_added}
 use Rattle.cob_move.proofs.TestedLemmas.{HasReadLoop, bound_for, bound_not_read, breaks_first, breaks_same, broken_left, closed_refused, emptied, first_refused, later_refused, loop_left, loop_same, never_refused, no_turn_comes, past_of, tested_added, tested_grown, tested_made, tried_first, tried_now, tried_step}
@@ -836,3 +837,194 @@ add_branches-returns-clause-added t c =
     (sym c.new.ensures.items)
     (left_end e (counters c.args.turn.now) (against (sender_named (records_of e) begin.asked) c.args.subject) c.args.kind (lexemes c.args.branches.now) (lexemes c.loop-item.rest.now) c.loop-item.waiting (taken_branches c.loop-item.taken.items) begin
     (made_lists c.loop-item.made) c.loop-item.invariant.left c.in_default.ensures.only)
+
+pub add_choice-returns-clause-added : goal.add_choice-returns-clause-added
+add_choice-returns-clause-added t c =
+    let e = c.args.entries.now in
+    let r = records_of e in
+    let ns = counters c.args.turn.now in
+    let choice = written_choice c.args.choice.now in
+    let words = lexemes c.args.branches.now in
+    let begin = made_lists c.args.made.now in
+    let asked = c.read_subject.new.made.asked.items in
+    let (more, all, is) = c.in_ok-subject.ensures.asks in
+    let old = begun begin asked in
+    let counted : made_lists c.count_choice.new.made ≡ old = c.in_ok-count_choice.ensures.counted ∙ ap with_one_more c.in_ok-subject.ensures.same in
+    let few : begin.read + 1 ≤ most_written_out = subst (λ (m : MadeLists). m.read ≤ most_written_out) counted c.in_ok-count_choice.ensures.few in
+    let marked : made_lists c.close.new.self ≡ closed old = c.in_ok-close.ensures.closed ∙ ap closed counted in
+    let empty : c.replace-outside.new.dest.items ≡ [] = ap (λ (v : Vec Flow). v.items) c.replace-outside.ensures.after ∙ c.new.ensures.items in
+    let start = emptied (made_lists c.close.new.self) c.replace-outside.new.dest.items empty ∙ ap without_flows marked in
+    let outside : c.replace-outside.result.items ≡ (closed old).flows = ap (λ (v : Vec Flow). v.items) c.replace-outside.ensures.value ∙ ap (λ (m : MadeLists). m.flows) marked in
+    let now = made_lists c.add_branches-read.new.made in
+    let a = against (sender_named r asked) c.in_ok-subject.subject in
+    let held : against (sender_named r c.close.new.self.asked.items) c.in_ok-subject.subject ≡ a =
+    ap (λ (es : List NamedEntry). against (sender_named r es) c.in_ok-subject.subject) (ap (λ (m : MadeLists). m.asked) marked ∙ closed_asked old) in
+    let taken = taken_branches c.add_branches-read.new.taken.items in
+    let other = c.in_ok-other.other.items in
+    let linked = linked_branches taken other in
+    let so : HasReadChoice e ns a (kind_of choice) words taken other old now = record {
+      made = begun_made r begin asked (more, all, is) few c.requires.made;
+      after = c.in_ok-other.ensures.made;
+      grown = subst (λ (m : MadeLists). HasGrown m now) start c.in_ok-other.ensures.grown;
+      none = c.in_ok-other.ensures.flows;
+      marked = c.in_ok-other.ensures.marked;
+      reads = subst (λ (m : MadeLists). AddsBranches e ns a (kind_of choice) words taken other m now) start
+          (subst (λ (k : ChoiceKind). AddsBranches e ns a k words taken other _ now) c.kind_of-kind.ensures
+          (subst (λ (x : Against). AddsBranches e ns x c.kind_of-kind.result words taken other _ now) held c.in_ok-other.ensures.added));
+    } in
+    let same = choice_same old now c.link_branches.new.flows.items c.replace-outside.result.items linked
+    (c.in_ok-link_branches.ensures ∙ ap (λ (bs : List BranchFlows). c.replace-outside.result.items ++ linked_branches (taken_branches bs) c.as_slice-2.result.now) c.as_slice.ensures.value
+    ∙ ap (λ (fs : List Flow). c.replace-outside.result.items ++ linked_branches taken fs) c.as_slice-2.ensures.value) outside in
+    choice_adds c.one_subject.ensures e ns choice a words taken other begin now _ asked c.requires.begins c.in_ok-subject.ensures.found (more, is) few so same
+
+pub add_choice-returns-clause-made : goal.add_choice-returns-clause-made
+add_choice-returns-clause-made t c =
+    let e = c.args.entries.now in
+    let r = records_of e in
+    let ns = counters c.args.turn.now in
+    let choice = written_choice c.args.choice.now in
+    let words = lexemes c.args.branches.now in
+    let begin = made_lists c.args.made.now in
+    let asked = c.read_subject.new.made.asked.items in
+    let (more, all, is) = c.in_ok-subject.ensures.asks in
+    let old = begun begin asked in
+    let counted : made_lists c.count_choice.new.made ≡ old = c.in_ok-count_choice.ensures.counted ∙ ap with_one_more c.in_ok-subject.ensures.same in
+    let few : begin.read + 1 ≤ most_written_out = subst (λ (m : MadeLists). m.read ≤ most_written_out) counted c.in_ok-count_choice.ensures.few in
+    let marked : made_lists c.close.new.self ≡ closed old = c.in_ok-close.ensures.closed ∙ ap closed counted in
+    let empty : c.replace-outside.new.dest.items ≡ [] = ap (λ (v : Vec Flow). v.items) c.replace-outside.ensures.after ∙ c.new.ensures.items in
+    let start = emptied (made_lists c.close.new.self) c.replace-outside.new.dest.items empty ∙ ap without_flows marked in
+    let outside : c.replace-outside.result.items ≡ (closed old).flows = ap (λ (v : Vec Flow). v.items) c.replace-outside.ensures.value ∙ ap (λ (m : MadeLists). m.flows) marked in
+    let now = made_lists c.add_branches-read.new.made in
+    let a = against (sender_named r asked) c.in_ok-subject.subject in
+    let held : against (sender_named r c.close.new.self.asked.items) c.in_ok-subject.subject ≡ a =
+    ap (λ (es : List NamedEntry). against (sender_named r es) c.in_ok-subject.subject) (ap (λ (m : MadeLists). m.asked) marked ∙ closed_asked old) in
+    let taken = taken_branches c.add_branches-read.new.taken.items in
+    let other = c.in_ok-other.other.items in
+    let linked = linked_branches taken other in
+    let so : HasReadChoice e ns a (kind_of choice) words taken other old now = record {
+      made = begun_made r begin asked (more, all, is) few c.requires.made;
+      after = c.in_ok-other.ensures.made;
+      grown = subst (λ (m : MadeLists). HasGrown m now) start c.in_ok-other.ensures.grown;
+      none = c.in_ok-other.ensures.flows;
+      marked = c.in_ok-other.ensures.marked;
+      reads = subst (λ (m : MadeLists). AddsBranches e ns a (kind_of choice) words taken other m now) start
+          (subst (λ (k : ChoiceKind). AddsBranches e ns a k words taken other _ now) c.kind_of-kind.ensures
+          (subst (λ (x : Against). AddsBranches e ns x c.kind_of-kind.result words taken other _ now) held c.in_ok-other.ensures.added));
+    } in
+    let same = choice_same old now c.link_branches.new.flows.items c.replace-outside.result.items linked
+    (c.in_ok-link_branches.ensures ∙ ap (λ (bs : List BranchFlows). c.replace-outside.result.items ++ linked_branches (taken_branches bs) c.as_slice-2.result.now) c.as_slice.ensures.value
+    ∙ ap (λ (fs : List Flow). c.replace-outside.result.items ++ linked_branches taken fs) c.as_slice-2.ensures.value) outside in
+    choice_is_made e ns choice a words taken other old now _ c.requires.begins c.requires.bounds so same
+
+pub add_choice-returns-clause-grown : goal.add_choice-returns-clause-grown
+add_choice-returns-clause-grown t c =
+    let e = c.args.entries.now in
+    let r = records_of e in
+    let ns = counters c.args.turn.now in
+    let choice = written_choice c.args.choice.now in
+    let words = lexemes c.args.branches.now in
+    let begin = made_lists c.args.made.now in
+    let asked = c.read_subject.new.made.asked.items in
+    let (more, all, is) = c.in_ok-subject.ensures.asks in
+    let old = begun begin asked in
+    let counted : made_lists c.count_choice.new.made ≡ old = c.in_ok-count_choice.ensures.counted ∙ ap with_one_more c.in_ok-subject.ensures.same in
+    let few : begin.read + 1 ≤ most_written_out = subst (λ (m : MadeLists). m.read ≤ most_written_out) counted c.in_ok-count_choice.ensures.few in
+    let marked : made_lists c.close.new.self ≡ closed old = c.in_ok-close.ensures.closed ∙ ap closed counted in
+    let empty : c.replace-outside.new.dest.items ≡ [] = ap (λ (v : Vec Flow). v.items) c.replace-outside.ensures.after ∙ c.new.ensures.items in
+    let start = emptied (made_lists c.close.new.self) c.replace-outside.new.dest.items empty ∙ ap without_flows marked in
+    let outside : c.replace-outside.result.items ≡ (closed old).flows = ap (λ (v : Vec Flow). v.items) c.replace-outside.ensures.value ∙ ap (λ (m : MadeLists). m.flows) marked in
+    let now = made_lists c.add_branches-read.new.made in
+    let a = against (sender_named r asked) c.in_ok-subject.subject in
+    let held : against (sender_named r c.close.new.self.asked.items) c.in_ok-subject.subject ≡ a =
+    ap (λ (es : List NamedEntry). against (sender_named r es) c.in_ok-subject.subject) (ap (λ (m : MadeLists). m.asked) marked ∙ closed_asked old) in
+    let taken = taken_branches c.add_branches-read.new.taken.items in
+    let other = c.in_ok-other.other.items in
+    let linked = linked_branches taken other in
+    let so : HasReadChoice e ns a (kind_of choice) words taken other old now = record {
+      made = begun_made r begin asked (more, all, is) few c.requires.made;
+      after = c.in_ok-other.ensures.made;
+      grown = subst (λ (m : MadeLists). HasGrown m now) start c.in_ok-other.ensures.grown;
+      none = c.in_ok-other.ensures.flows;
+      marked = c.in_ok-other.ensures.marked;
+      reads = subst (λ (m : MadeLists). AddsBranches e ns a (kind_of choice) words taken other m now) start
+          (subst (λ (k : ChoiceKind). AddsBranches e ns a k words taken other _ now) c.kind_of-kind.ensures
+          (subst (λ (x : Against). AddsBranches e ns x c.kind_of-kind.result words taken other _ now) held c.in_ok-other.ensures.added));
+    } in
+    let same = choice_same old now c.link_branches.new.flows.items c.replace-outside.result.items linked
+    (c.in_ok-link_branches.ensures ∙ ap (λ (bs : List BranchFlows). c.replace-outside.result.items ++ linked_branches (taken_branches bs) c.as_slice-2.result.now) c.as_slice.ensures.value
+    ∙ ap (λ (fs : List Flow). c.replace-outside.result.items ++ linked_branches taken fs) c.as_slice-2.ensures.value) outside in
+    choice_has_grown begin now _ asked linked (more, is) so.grown same
+
+pub add_choice-returns-in_err-other-clause-fault : goal.add_choice-returns-in_err-other-clause-fault
+add_choice-returns-in_err-other-clause-fault t c =
+    let e = c.args.entries.now in
+    let r = records_of e in
+    let ns = counters c.args.turn.now in
+    let choice = written_choice c.args.choice.now in
+    let words = lexemes c.args.branches.now in
+    let begin = made_lists c.args.made.now in
+    let asked = c.read_subject.new.made.asked.items in
+    let (more, all, is) = c.in_ok-subject.ensures.asks in
+    let old = begun begin asked in
+    let counted : made_lists c.count_choice.new.made ≡ old = c.in_ok-count_choice.ensures.counted ∙ ap with_one_more c.in_ok-subject.ensures.same in
+    let few : begin.read + 1 ≤ most_written_out = subst (λ (m : MadeLists). m.read ≤ most_written_out) counted c.in_ok-count_choice.ensures.few in
+    let marked : made_lists c.close.new.self ≡ closed old = c.in_ok-close.ensures.closed ∙ ap closed counted in
+    let empty : c.replace-outside.new.dest.items ≡ [] = ap (λ (v : Vec Flow). v.items) c.replace-outside.ensures.after ∙ c.new.ensures.items in
+    let start = emptied (made_lists c.close.new.self) c.replace-outside.new.dest.items empty ∙ ap without_flows marked in
+    let outside : c.replace-outside.result.items ≡ (closed old).flows = ap (λ (v : Vec Flow). v.items) c.replace-outside.ensures.value ∙ ap (λ (m : MadeLists). m.flows) marked in
+    let now = made_lists c.add_branches-read.new.made in
+    let a = against (sender_named r asked) c.in_ok-subject.subject in
+    let held : against (sender_named r c.close.new.self.asked.items) c.in_ok-subject.subject ≡ a =
+    ap (λ (es : List NamedEntry). against (sender_named r es) c.in_ok-subject.subject) (ap (λ (m : MadeLists). m.asked) marked ∙ closed_asked old) in
+    let n = c.in_err-other.field-0.0 in
+    let p = err_from_is_err_and c.from_residual-in_err-other.result c.from_residual-in_err-other.ensures.1 in
+    let refused = subst (λ (m : MadeLists). BranchesRefused n e ns a (kind_of choice) words m) start
+    (subst (λ (k : ChoiceKind). BranchesRefused n e ns a k words _) c.kind_of-kind.ensures
+    (subst (λ (x : Against). BranchesRefused n e ns x c.kind_of-kind.result words _) held c.in_err-other.ensures.fault)) in
+    rw (p.1, p.2) (choice_not_read c.one_subject.ensures n e ns choice a words begin old c.in_ok-subject.ensures.found refl few (closed_branches n e ns a (kind_of choice) words old refused))
+
+pub add_choice-returns-in_err-other-clause-kept : goal.add_choice-returns-in_err-other-clause-kept
+add_choice-returns-in_err-other-clause-kept t c =
+    let e = c.args.entries.now in
+    let r = records_of e in
+    let ns = counters c.args.turn.now in
+    let choice = written_choice c.args.choice.now in
+    let words = lexemes c.args.branches.now in
+    let begin = made_lists c.args.made.now in
+    let asked = c.read_subject.new.made.asked.items in
+    let (more, all, is) = c.in_ok-subject.ensures.asks in
+    let old = begun begin asked in
+    let counted : made_lists c.count_choice.new.made ≡ old = c.in_ok-count_choice.ensures.counted ∙ ap with_one_more c.in_ok-subject.ensures.same in
+    let few : begin.read + 1 ≤ most_written_out = subst (λ (m : MadeLists). m.read ≤ most_written_out) counted c.in_ok-count_choice.ensures.few in
+    let marked : made_lists c.close.new.self ≡ closed old = c.in_ok-close.ensures.closed ∙ ap closed counted in
+    let empty : c.replace-outside.new.dest.items ≡ [] = ap (λ (v : Vec Flow). v.items) c.replace-outside.ensures.after ∙ c.new.ensures.items in
+    let start = emptied (made_lists c.close.new.self) c.replace-outside.new.dest.items empty ∙ ap without_flows marked in
+    let outside : c.replace-outside.result.items ≡ (closed old).flows = ap (λ (v : Vec Flow). v.items) c.replace-outside.ensures.value ∙ ap (λ (m : MadeLists). m.flows) marked in
+    let now = made_lists c.add_branches-read.new.made in
+    let a = against (sender_named r asked) c.in_ok-subject.subject in
+    let held : against (sender_named r c.close.new.self.asked.items) c.in_ok-subject.subject ≡ a =
+    ap (λ (es : List NamedEntry). against (sender_named r es) c.in_ok-subject.subject) (ap (λ (m : MadeLists). m.asked) marked ∙ closed_asked old) in
+    let n = c.in_err-other.field-0.0 in
+    let p = err_from_is_err_and c.from_residual-in_err-other.result c.from_residual-in_err-other.ensures.1 in
+    rw (p.1, p.2) (leaves_more n begin old _ (begun_grown begin asked (more, is))
+    (loop_left n old now c.replace-outside.result.items outside (subst (λ (m : MadeLists). LeavesFront n m now) start c.in_err-other.ensures.kept)))
+
+pub add_choice-returns-in_err-close-clause-fault : goal.add_choice-returns-in_err-close-clause-fault
+add_choice-returns-in_err-close-clause-fault t c =
+    let p = err_from_is_err_and c.from_residual-in_err-close.result c.from_residual-in_err-close.ensures.1 in
+    rw (p.1, p.2) (λ p is. tt)
+
+pub add_choice-returns-in_err-close-clause-kept : goal.add_choice-returns-in_err-close-clause-kept
+add_choice-returns-in_err-close-clause-kept t c =
+    let p = err_from_is_err_and c.from_residual-in_err-close.result c.from_residual-in_err-close.ensures.1 in
+    rw (p.1, p.2) tt
+
+pub add_choice-returns-in_err-link_branches-clause-fault : goal.add_choice-returns-in_err-link_branches-clause-fault
+add_choice-returns-in_err-link_branches-clause-fault t c =
+    let p = err_from_is_err_and c.from_residual-in_err-link_branches.result c.from_residual-in_err-link_branches.ensures.1 in
+    rw (p.1, p.2) (λ p is. tt)
+
+pub add_choice-returns-in_err-link_branches-clause-kept : goal.add_choice-returns-in_err-link_branches-clause-kept
+add_choice-returns-in_err-link_branches-clause-kept t c =
+    let p = err_from_is_err_and c.from_residual-in_err-link_branches.result c.from_residual-in_err-link_branches.ensures.1 in
+    rw (p.1, p.2) tt
