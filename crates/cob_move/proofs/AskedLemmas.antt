@@ -1,23 +1,21 @@
 -- Conditions, and the entries that they ask for.
-use Rattle.std.proofs.Common.{◌≡◌, ℕ, zero, suc, ◌<◌, ◌≤◌, true, List, [], ◌∷◌, ◌++◌, length, map, refl, sym, ap, subst, ◌∙◌, append_assoc, arith, Option, Some, None}
+use Rattle.std.proofs.Common.{◌≡◌, ℕ, zero, suc, ◌<◌, ◌≤◌, List, [], ◌∷◌, ◌++◌, length, map, refl, sym, ap, subst, ◌∙◌, arith, Option, Some, None}
 use Rattle.std.specs.Prelude.{option_map}
 use Rattle.std.specs.List.{AllByRecursion, slice_get}
 use Rattle.std.proofs.lemmas.List.{length-append, length-map}
-use Rattle.std.specs.declared.cmp.Ordering.{Ordering}
 use Rattle.cob_codec.specs.declared.reading.Reading.{Reading}
 use Rattle.cob_codec.specs.declared.reading.Reading.TheVariants.{Pictured}
 use Rattle.cob_copybook_tree.specs.declared.node.Kind.{Kind}
 use Rattle.cob_move_apply.specs.declared.placed.PlacedEntry.{PlacedEntry}
 use Rattle.cob_move_apply.specs.Entries.{IsPlacedEntry}
-use Rattle.cob_move_tests.specs.Asked.{AsksMore, IsAsked, IsNamed, kind_named, kind_asked, sender_named, sender_asked}
+use Rattle.cob_move_tests.specs.Asked.{IsAsked, kind_named, kind_asked, sender_named, sender_asked}
 use Rattle.cob_move_choices.specs.Asked.{IsSubjectAsked, against}
-use Rattle.cob_move_choices.specs.Choices.{Against, AnEntry, Truth, joined_test}
+use Rattle.cob_move_choices.specs.Choices.{AnEntry, joined_test}
 use Rattle.cob_move_choices.specs.declared.subjects.Subject.{Subject}
 use Rattle.cob_move_choices.specs.declared.subjects.Subject.TheVariants as subject
 use Rattle.cob_move_condition.specs.Comparable.{may_compare}
 use Rattle.cob_move_condition.specs.Conditions.{Always, Both, Compares, Condition, Either, HasClass, Not, condition_of, sender_compared}
-use Rattle.cob_move_condition.specs.Tested.{IsComparandThere, MayBeCompared, MayBeTested, kind_compared}
-use Rattle.cob_move_condition.specs.declared.class.Class.{Class}
+use Rattle.cob_move_condition.specs.Tested.{IsComparandThere, MayBeTested, kind_compared}
 use Rattle.cob_move_condition.specs.declared.condition.Comparand.{Comparand}
 use Rattle.cob_move_condition.specs.declared.condition.Comparand.TheVariants as comparand
 use Rattle.cob_move_condition.specs.declared.condition.Condition as code

@@ -1,6 +1,6 @@
 -- The flows of a choice: its branches, each within what is done where those before don't hold.
-use Rattle.std.proofs.Common.{◌≡◌, ℕ, zero, suc, ◌+◌, ◌-◌, ◌<◌, ◌≤◌, List, [], ◌∷◌, ◌++◌, drop, get_or, length, map, take, refl, sym, ap, subst, ◌∙◌, append_assoc, append-nil, arith, Option, Some, None}
-use Rattle.std.specs.List.{AllByRecursion, slice_get}
+use Rattle.std.proofs.Common.{◌≡◌, ℕ, ◌+◌, ◌-◌, ◌<◌, ◌≤◌, List, [], ◌∷◌, ◌++◌, drop, get_or, length, take, refl, sym, ap, subst, ◌∙◌, append_assoc, append-nil, arith, Option, Some}
+use Rattle.std.specs.List.{slice_get}
 use Rattle.std.proofs.lemmas.List.{drop-append-le, length-append, take-append-le}
 use Rattle.std.proofs.Math.Seq.{drop-length, take-length}
 use Rattle.cob_move_condition.specs.declared.condition.Condition as code
@@ -14,7 +14,7 @@ use Rattle.cob_move_deeds.specs.Deeds.{Choice, Deeds, IsStraight, Nothing, moves
 use Rattle.cob_move_deeds.specs.Flows.{AreFlows, AreNestedFlows, FlowSupport, IsFlow, behind_first, behind_skip, deeds_from, sender_at, where_holds}
 use Rattle.cob_move_deeds.specs.Tests.{Holds, Test}
 use Rattle.cob_move.specs.declared.made.BranchFlows.{BranchFlows}
-use Rattle.cob_move.specs.DeedsRead.{AreParted, AreTaken, IsConditionAt, TakenBranch, all_deeds, branches_size, chosen, linked_branches, moves_of_whens, taken_branch, taken_branches}
+use Rattle.cob_move.specs.DeedsRead.{AreParted, AreTaken, IsConditionAt, TakenBranch, all_deeds, branches_size, chosen, linked_branches, moves_of_whens, taken_branches}
 use Rattle.cob_move.proofs.FlowLemmas.{none_nested, nothing_done}
 use Rattle.cob_move.proofs.SomeLemmas.{all_append, next}
 

@@ -1,14 +1,12 @@
 -- The branches of a choice, read one behind another; and the choice itself.
-use Rattle.std.proofs.Common.{◌≡◌, ◌⊎◌, inl, inr, ℕ, zero, suc, ◌+◌, ◌<◌, ◌≤◌, nat_eq, Bool, true, false, List, [], ◌∷◌, ◌++◌, length, map, refl, sym, ap, subst, ◌∙◌, append_assoc, append-nil, arith, Option, Some, None}
-use Rattle.std.specs.Prelude.{codes, option_map}
+use Rattle.std.proofs.Common.{◌≡◌, ◌⊎◌, inl, inr, ℕ, ◌+◌, ◌<◌, ◌≤◌, nat_eq, Bool, true, false, List, [], ◌∷◌, ◌++◌, length, refl, sym, ap, subst, ◌∙◌, append_assoc, append-nil, arith, Option, Some, None}
 use Rattle.std.specs.List.{AllByRecursion, slice_get}
 use Rattle.std.proofs.lemmas.List.{length-append}
 use Rattle.cob_limits.specs.Limits.{most_written_out}
 use Rattle.cob_source.specs.Tokens.{Lexeme}
-use Rattle.cob_copybook_clauses.specs.Clauses.{IsWord}
 use Rattle.cob_move_tests.specs.Asked.{AsksMore, IsAsked, IsNamed, kind_named, sender_named}
-use Rattle.cob_move_choices.specs.Choices.{Against, BreaksBranchTest, BreaksSubject, IsBranchTestOf, IsSubjectOf, joined_test}
-use Rattle.cob_move_choices.specs.Laws.{BranchTestsBreakNoRule, OneBranchTest, OneSubject, SubjectsBreakNoRule}
+use Rattle.cob_move_choices.specs.Choices.{Against, IsBranchTestOf, IsSubjectOf, joined_test}
+use Rattle.cob_move_choices.specs.Laws.{BranchTestsBreakNoRule, OneSubject, SubjectsBreakNoRule}
 use Rattle.cob_move_condition.specs.declared.condition.Condition as code
 use Rattle.cob_move_condition.specs.Conditions.{Condition, condition_of}
 use Rattle.cob_move_condition.specs.Tested.{MayBeTested}
@@ -17,29 +15,27 @@ use Rattle.cob_move_data.specs.Moves.{Move, Records, moves}
 use Rattle.cob_move_deeds.specs.declared.flow.Bound.{Bound}
 use Rattle.cob_move_deeds.specs.declared.flow.Flow.{Flow}
 use Rattle.cob_move_deeds.specs.Choices.{When, selection}
-use Rattle.cob_move_deeds.specs.Deeds.{Choice, Deeds, IsStraight, Moving, Nothing, both_deeds, moves_of_deeds}
-use Rattle.cob_move_deeds.specs.Flows.{AreFlows, FlowSupport, sender_at}
+use Rattle.cob_move_deeds.specs.Deeds.{Choice, Deeds, Moving, Nothing, both_deeds, moves_of_deeds}
+use Rattle.cob_move_deeds.specs.Flows.{AreFlows, FlowSupport}
 use Rattle.cob_move_deeds.specs.Tests.{Holds, Test}
 use Rattle.cob_move_deeds.proofs.AppendLemmas.{are_flows_behind}
 use Rattle.cob_move_loops.specs.declared.parts.ChoiceKind.{ChoiceKind}
 use Rattle.cob_move_loops.specs.declared.parts.ChoiceKind.TheVariants as kind
 use Rattle.cob_move_loops.specs.declared.parts.Place.TheVariants as standing
 use Rattle.cob_move_loops.specs.declared.words.BranchWord.TheVariants as branch
-use Rattle.cob_move_loops.specs.Passages.{ABranch, AChoice, ALoop, AnEvaluate, AnIf, BranchEnds, BranchesBegin, Branched, FrontAt, IsPassage, IsPassageAt, Moves, NextWhen, NoMore, Otherwise, Passage, PassageFront, Pause, TestFirst, Tested, WrittenChoice, WrittenTest, kind_of, line_of}
+use Rattle.cob_move_loops.specs.Passages.{ABranch, AChoice, ALoop, AnEvaluate, AnIf, BranchEnds, BranchesBegin, Branched, FrontAt, IsPassage, IsPassageAt, Moves, NextWhen, NoMore, Otherwise, Passage, PassageFront, Pause, TestFirst, Tested, WrittenChoice, WrittenTest, kind_of}
 use Rattle.cob_move_loops.proofs.PassageLemmas.{IsOnlyFront, Parted, nothing_left, parted, shorter}
 use Rattle.cob_move_loops.specs.Turns.{Counted}
-use Rattle.cob_move_loops.specs.Words.{branch_word, first_line}
-use Rattle.cob_move_statements.specs.declared.fault.MoveFault.{MoveFault}
 use Rattle.cob_move_statements.specs.declared.fault.MoveRule.TheVariants as rule
 use Rattle.cob_move_tests.specs.declared.entries.Entries.{Entries}
 use Rattle.cob_move_tests.specs.declared.entries.NamedEntry.{NamedEntry}
-use Rattle.cob_move_tests.specs.Entries.{AllMayBeNamed, nameable, records_of}
+use Rattle.cob_move_tests.specs.Entries.{AllMayBeNamed, records_of}
 use Rattle.cob_move.specs.declared.made.NotRead.{NotRead}
 use Rattle.cob_move.specs.declared.made.NotRead.TheVariants as why
 use Rattle.cob_move.specs.DeedsLaws.{DeedsBreakNoRule, OneDeeds}
-use Rattle.cob_move.specs.DeedsRead.{AddsBranch, AddsBranches, AddsChoice, AddsMade, AreParted, AreTaken, BeginsTested, BranchesAreRefused, BranchesComeTo, BranchesRefused, ChoiceComesTo, ChoiceIsRefused, ChoiceRefused, FewWith, FirstIn, FirstInBranches, FirstInChoice, HasGrown, HasReadBranches, HaveBounds, IsConditionAt, IsFrontOf, IsMade, IsRefusedIn, IsWaiting, LeavesFront, LeftOfBranches, MadeLists, PassageComesTo, ReadsApart, ReadsBranches, RefusedMade, SubjectNotRead, TakenBranch, TestNotRead, TurnRefused, all_deeds, closed, closed_where, last_marked, linked_branches, made_deeds, moves_of_whens, open_deeds, open_statements, with_asked, with_condition, with_one_more, without_flows}
+use Rattle.cob_move.specs.DeedsRead.{AddsBranch, AddsBranches, AddsChoice, AddsMade, AreParted, BeginsTested, BranchesAreRefused, BranchesComeTo, BranchesRefused, ChoiceComesTo, ChoiceIsRefused, ChoiceRefused, FewWith, FirstIn, FirstInBranches, FirstInChoice, HasGrown, HasReadBranches, HaveBounds, IsConditionAt, IsFrontOf, IsMade, IsRefusedIn, IsWaiting, LeavesFront, LeftOfBranches, MadeLists, PassageComesTo, ReadsApart, ReadsBranches, RefusedMade, SubjectNotRead, TakenBranch, TestNotRead, TurnRefused, all_deeds, closed, closed_where, last_marked, linked_branches, made_deeds, moves_of_whens, open_deeds, open_statements, with_asked, with_condition, with_one_more, without_flows}
 use Rattle.cob_move.specs.Joined.{before_deeds, joined_deeds}
-use Rattle.cob_move.proofs.AskedLemmas.{all_tested_front, condition_stands, tested_front, waiting_means}
+use Rattle.cob_move.proofs.AskedLemmas.{all_tested_front, condition_stands, tested_front}
 use Rattle.cob_move.proofs.BranchLemmas.{branches_deeds, branches_flows, moves_of_selection, selection_more, selection_not_straight, selection_parted, taken_more, whens_more}
 use Rattle.cob_move.proofs.CloseLemmas.{closed_deeds, closed_flows, closed_grown, closed_made, closed_open, closed_read}
 use Rattle.cob_move.proofs.FewLemmas.{count_one, turn_unbroken}

@@ -3,14 +3,14 @@ use Rattle.std.proofs.Common.{◌≡◌, ◌⊎◌, inl, inr, ℕ, ◌+◌, ◌<
 use Rattle.std.proofs.lemmas.List.{drop_all, length-append, map-append, take_more}
 use Rattle.std.proofs.lemmas.Bool.Decides.{Decides-eqb}
 use Rattle.std.proofs.lemmas.Grind.{flat_map-append}
-use Rattle.std.specs.Prelude.{◌==◌, ◌↔◌}
+use Rattle.std.specs.Prelude.{◌==◌, ◌↔◌, ◌&&◌, ◌||◌, not}
 use Rattle.std.specs.List.{AllByRecursion}
 use Rattle.cob_source.specs.Tokens.{Lexeme, lexemes}
 use Rattle.cob_source.specs.declared.token.TokenKind.{TokenKind}
 use Rattle.cob_copybook_names.specs.Naming.{named}
 use Rattle.cob_copybook_tree.specs.Forests.{Forest}
 use Rattle.cob_copybook_tree.specs.Nodes.{Resolved}
-use Rattle.cob_move_loops.specs.Passages.{IsPassage, Passage, WrittenLoop}
+use Rattle.cob_move_loops.specs.Passages.{ABranch, AChoice, ALoop, IsPassage, Moves, NoMore, Passage, Pause, WrittenLoop}
 use Rattle.cob_move_loops.specs.Few.{Clashes, IsFew, IsShallow, opening_line, loops_of}
 use Rattle.cob_move_loops.specs.Laws.{NoTurn}
 use Rattle.cob_move_loops.specs.Reading.{ClashesIn, all_runs, counters, run_words}
@@ -37,7 +37,7 @@ use Rattle.cob_move_tests.specs.Entries.{AllMayBeNamed, nameable, records_of}
 use Rattle.cob_move.specs.Meaning.{AreMeanings}
 use Rattle.cob_move.specs.Loops.{AddsRun, AreItsLoops, BodyRefused, BreaksAnywhere, HasChecked, HasJudged, IsClashOf, RunRefused, SayRuns, SaysBody}
 use Rattle.cob_move.specs.Bodies.{AreSpelled, BreaksCounters, BreaksFew, BreaksPassage, IsBodyIn, IsNoEntry, IsPassageRefusal, IsRunRefusal}
-use Rattle.cob_move.specs.Paragraphs.{EndsByNumber, IsLiteral}
+use Rattle.cob_move.specs.Paragraphs.{EndsByNumber, IsLiteral, has_choice}
 use Rattle.cob_move.proofs.PieceLemmas.{meanings_both}
 use Rattle.cob_move.proofs.SomeLemmas.{next}
 
