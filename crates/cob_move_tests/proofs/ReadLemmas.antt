@@ -25,7 +25,7 @@ use Rattle.cob_move_tests.specs.declared.entries.NamedEntry.{NamedEntry}
 use Rattle.cob_move_tests.specs.declared.compared.Compared.{Compared}
 use Rattle.cob_move_tests.specs.declared.compared.Compared.TheVariants as compared
 use Rattle.cob_move_tests.specs.declared.compared.LastRelation.{LastRelation}
-use Rattle.cob_move_tests.specs.declared.compared.Reading.{Reading}
+use Rattle.cob_move_tests.specs.declared.compared.ReadCondition.{ReadCondition}
 use Rattle.cob_move_tests.specs.Asked.{AsksMore, IsAsked, IsNamed, IsTestable, kind_asked, kind_named, sender_asked, sender_named}
 use Rattle.cob_move_tests.specs.Compared.{IsComparandOf, IsRead, IsStatedThere, IsThere, kind_of_compared, sender_in, stated_in}
 use Rattle.cob_move_tests.specs.Meant.{IsMeantBy, IsOperandOf, IsRelationOf, IsTestOf, NoneStated, Stated, StatedAs, StatesRelation, opposite_if}
@@ -129,7 +129,7 @@ relation_read all r before now subject object a b q w c of_subject of_object the
 -- ---- conditions that others are part of
 
 -- what was read stays so where more is asked for
-pub read_later : (r : Records) (before now : List NamedEntry) (Is : Condition → Stated → Type 0) (m : Reading) → AsksMore r before now → IsRead r before Is m → IsRead r now Is m
+pub read_later : (r : Records) (before now : List NamedEntry) (Is : Condition → Stated → Type 0) (m : ReadCondition) → AsksMore r before now → IsRead r before Is m → IsRead r now Is m
 read_later r before now Is m grown h =
     let x = condition_same r before now m.condition grown h.testable in
     let y = stated_same r before now m.last grown h.there in record {
@@ -139,7 +139,7 @@ read_later r before now Is m grown h =
     }
 
 -- the two parts of a condition, one behind the other
-pub record AreRead (r : Records) (now : List NamedEntry) (IsOne : Condition → Stated → Type 0) (IsOther : Stated → Condition → Stated → Type 0) (one other : Reading) : Type 0 where
+pub record AreRead (r : Records) (now : List NamedEntry) (IsOne : Condition → Stated → Type 0) (IsOther : Stated → Condition → Stated → Type 0) (one other : ReadCondition) : Type 0 where
   pub mid : Stated
   pub first : IsOne (condition_of (sender_named r now) one.condition) mid
   pub second : IsOther mid (condition_of (sender_named r now) other.condition) (stated_in r now other.last)
@@ -147,7 +147,7 @@ pub record AreRead (r : Records) (now : List NamedEntry) (IsOne : Condition → 
   pub testable_too : IsTestable r now other.condition
   pub there : IsStatedThere r now other.last
 
-pub parts_read : (r : Records) (mid now : List NamedEntry) (IsOne : Condition → Stated → Type 0) (IsOther : Stated → Condition → Stated → Type 0) (one other : Reading) → AsksMore r mid now
+pub parts_read : (r : Records) (mid now : List NamedEntry) (IsOne : Condition → Stated → Type 0) (IsOther : Stated → Condition → Stated → Type 0) (one other : ReadCondition) → AsksMore r mid now
     → IsRead r mid IsOne one → IsRead r now (IsOther (stated_in r mid one.last)) other → AreRead r now IsOne IsOther one other
 parts_read r mid now IsOne IsOther one other grown h k =
     let x = condition_same r mid now one.condition grown h.testable in record {

@@ -27,7 +27,7 @@ use Rattle.cob_move_tests.specs.declared.entries.NamedEntry.{NamedEntry}
 use Rattle.cob_move_tests.specs.declared.compared.Compared.{Compared}
 use Rattle.cob_move_tests.specs.declared.compared.Compared.TheVariants as compared
 use Rattle.cob_move_tests.specs.declared.compared.LastRelation.{LastRelation}
-use Rattle.cob_move_tests.specs.declared.compared.Reading.{Reading}
+use Rattle.cob_move_tests.specs.declared.compared.ReadCondition.{ReadCondition}
 use Rattle.cob_move_tests.specs.Asked.{AsksMore, IsAsked, IsNamed, IsNumberForSign, IsTestable, MayBeAsked, kind_asked, kind_named, sender_asked, sender_named}
 use Rattle.cob_move_tests.specs.Broken.{BreaksCondition, BreaksOperand, BreaksQuality, BreaksRelation, BreaksTest, BreaksWords}
 use Rattle.cob_move_tests.specs.Compared.{IsRead, IsStatedThere, IsThere, kind_of_compared, sender_in, stated_in}
@@ -114,16 +114,16 @@ quality_there r before now q n number at e may =
 -- ---- simple conditions
 
 -- what was read is so in other words
-pub read_map : (r : Records) (now : List NamedEntry) (Is It : Condition → Stated → Type 0) (m : Reading) → ((c : Condition) (s : Stated) → Is c s → It c s) → IsRead r now Is m → IsRead r now It m
+pub read_map : (r : Records) (now : List NamedEntry) (Is It : Condition → Stated → Type 0) (m : ReadCondition) → ((c : Condition) (s : Stated) → Is c s → It c s) → IsRead r now Is m → IsRead r now It m
 read_map r now Is It m f h = record { is = f (condition_of (sender_named r now) m.condition) (stated_in r now m.last) h.is; testable = h.testable; there = h.there }
 
-pub relates_read : (all : List Candidate) (r : Records) (now : List NamedEntry) (a : Sender) (w v : WrittenSender) (q : Relation) (s : Stated) (x : Result Reading MoveRule) → IsOperandOf all w a
+pub relates_read : (all : List Candidate) (r : Records) (now : List NamedEntry) (a : Sender) (w v : WrittenSender) (q : Relation) (s : Stated) (x : Result ReadCondition MoveRule) → IsOperandOf all w a
     → IfOk x (IsRead r now (StatesRelation all a q v)) → IfOk x (IsRead r now (IsTestOf all r (Relates w q v) s))
 relates_read all r now a w v q s x means h =
     ok_map (IsRead r now (StatesRelation all a q v)) (IsRead r now (IsTestOf all r (Relates w q v) s)) x
     (λ m k. read_map r now (StatesRelation all a q v) (IsTestOf all r (Relates w q v) s) m (λ c next i. (a, means, i)) k) h
 
-pub relates_broken : (all : List Candidate) (r : Records) (a : Sender) (w v : WrittenSender) (q : Relation) (s : Stated) (x : Result Reading MoveRule) → IsOperandOf all w a
+pub relates_broken : (all : List Candidate) (r : Records) (a : Sender) (w v : WrittenSender) (q : Relation) (s : Stated) (x : Result ReadCondition MoveRule) → IsOperandOf all w a
     → IfErr x (λ e. (e ≡ rule.Memory) ⊎ BreaksRelation e all a v) → IfErr x (λ e. (e ≡ rule.Memory) ⊎ BreaksTest e all r (Relates w q v) s)
 relates_broken all r a w v q s x means h =
     err_map (λ e. (e ≡ rule.Memory) ⊎ BreaksRelation e all a v) (λ e. (e ≡ rule.Memory) ⊎ BreaksTest e all r (Relates w q v) s) x
@@ -135,17 +135,17 @@ quality_stands all r now w opposite q s c has testable = record { is = (has, ref
 
 -- ---- conditions
 
-pub brackets_read : (all : List Candidate) (r : Records) (now : List NamedEntry) (w : WrittenCondition) (s : Stated) (m : Reading) → IsRead r now (IsMeantBy all r w NoneStated) m
+pub brackets_read : (all : List Candidate) (r : Records) (now : List NamedEntry) (w : WrittenCondition) (s : Stated) (m : ReadCondition) → IsRead r now (IsMeantBy all r w NoneStated) m
     → IsRead r now (IsMeantBy all r (InBrackets w) s) (record { condition = m.condition; last = None })
 brackets_read all r now w s m h = record { is = (stated_in r now m.last, h.is, refl); testable = h.testable; there = tt }
 
-pub not_read : (all : List Candidate) (r : Records) (now : List NamedEntry) (w : WrittenCondition) (s : Stated) (m : Reading) (c : code.Condition)
+pub not_read : (all : List Candidate) (r : Records) (now : List NamedEntry) (w : WrittenCondition) (s : Stated) (m : ReadCondition) (c : code.Condition)
     → ((entry : ℕ → Sender) → condition_of entry c ≡ Not (condition_of entry m.condition)) → ((o : Records) (asked : List NamedEntry) → IsTestable o asked m.condition → IsTestable o asked c)
     → IsRead r now (IsMeantBy all r w s) m → IsRead r now (IsMeantBy all r (BehindNot w) s) (record { condition = c; last = m.last })
 not_read all r now w s m c says testable h =
     record { is = (condition_of (sender_named r now) m.condition, h.is, says (sender_named r now)); testable = testable r now h.testable; there = h.there }
 
-pub and_read : (all : List Candidate) (r : Records) (mid now : List NamedEntry) (v w : WrittenCondition) (s : Stated) (one other : Reading) (c : code.Condition) → AsksMore r mid now
+pub and_read : (all : List Candidate) (r : Records) (mid now : List NamedEntry) (v w : WrittenCondition) (s : Stated) (one other : ReadCondition) (c : code.Condition) → AsksMore r mid now
     → ((entry : ℕ → Sender) → condition_of entry c ≡ Both (condition_of entry one.condition) (condition_of entry other.condition))
     → ((o : Records) (asked : List NamedEntry) → IsTestable o asked one.condition → IsTestable o asked other.condition → IsTestable o asked c)
     → IsRead r mid (IsMeantBy all r v s) one → IsRead r now (IsMeantBy all r w (stated_in r mid one.last)) other
@@ -155,7 +155,7 @@ and_read all r mid now v w s one other c grown says testable h k =
     let f : ℕ → Sender = sender_named r now in
     record { is = (condition_of f one.condition, condition_of f other.condition, parts.mid, parts.first, parts.second, says f); testable = testable r now parts.testable parts.testable_too; there = parts.there }
 
-pub or_read : (all : List Candidate) (r : Records) (mid now : List NamedEntry) (v w : WrittenCondition) (s : Stated) (one other : Reading) (c : code.Condition) → AsksMore r mid now
+pub or_read : (all : List Candidate) (r : Records) (mid now : List NamedEntry) (v w : WrittenCondition) (s : Stated) (one other : ReadCondition) (c : code.Condition) → AsksMore r mid now
     → ((entry : ℕ → Sender) → condition_of entry c ≡ Either (condition_of entry one.condition) (condition_of entry other.condition))
     → ((o : Records) (asked : List NamedEntry) → IsTestable o asked one.condition → IsTestable o asked other.condition → IsTestable o asked c)
     → IsRead r mid (IsMeantBy all r v s) one → IsRead r now (IsMeantBy all r w (stated_in r mid one.last)) other
@@ -166,17 +166,17 @@ or_read all r mid now v w s one other c grown says testable h k =
     record { is = (condition_of f one.condition, condition_of f other.condition, parts.mid, parts.first, parts.second, says f); testable = testable r now parts.testable parts.testable_too; there = parts.there }
 
 -- what breaks the second of two
-pub second_broken : (e : MoveRule) (all : List Candidate) (r : Records) (mid : List NamedEntry) (v w : WrittenCondition) (s : Stated) (one : Reading) → IsRead r mid (IsMeantBy all r v s) one
+pub second_broken : (e : MoveRule) (all : List Candidate) (r : Records) (mid : List NamedEntry) (v w : WrittenCondition) (s : Stated) (one : ReadCondition) → IsRead r mid (IsMeantBy all r v s) one
     → (e ≡ rule.Memory) ⊎ BreaksCondition e all r w (stated_in r mid one.last) → (e ≡ rule.Memory) ⊎ BreaksCondition e all r (WithAnd v w) s
 second_broken e all r mid v w s one h b = memory_map (λ k. inr (condition_of (sender_named r mid) one.condition, stated_in r mid one.last, h.is, k)) b
 
-pub second_broken_or : (e : MoveRule) (all : List Candidate) (r : Records) (mid : List NamedEntry) (v w : WrittenCondition) (s : Stated) (one : Reading) → IsRead r mid (IsMeantBy all r v s) one
+pub second_broken_or : (e : MoveRule) (all : List Candidate) (r : Records) (mid : List NamedEntry) (v w : WrittenCondition) (s : Stated) (one : ReadCondition) → IsRead r mid (IsMeantBy all r v s) one
     → (e ≡ rule.Memory) ⊎ BreaksCondition e all r w (stated_in r mid one.last) → (e ≡ rule.Memory) ⊎ BreaksCondition e all r (WithOr v w) s
 second_broken_or e all r mid v w s one h b = memory_map (λ k. inr (condition_of (sender_named r mid) one.condition, stated_in r mid one.last, h.is, k)) b
 
 -- ---- whole words
 
-pub words_mean : (all : List Candidate) (r : Records) (now : List NamedEntry) (ws : List Lexeme) (w : WrittenCondition) (m : Reading) → all ≡ all_entries r.input r.output → IsWholeCondition w ws
+pub words_mean : (all : List Candidate) (r : Records) (now : List NamedEntry) (ws : List Lexeme) (w : WrittenCondition) (m : ReadCondition) → all ≡ all_entries r.input r.output → IsWholeCondition w ws
     → IsRead r now (IsMeantBy all r w NoneStated) m → IsConditionOf r ws (condition_of (sender_named r now) m.condition)
 words_mean all r now ws w m same is h = record {
   written = w;

@@ -11,7 +11,7 @@ use Rattle.cob_move_tests.specs.declared.entries.NamedEntry.{NamedEntry}
 use Rattle.cob_move_tests.specs.declared.compared.Compared.{Compared}
 use Rattle.cob_move_tests.specs.declared.compared.Compared.TheVariants as compared
 use Rattle.cob_move_tests.specs.declared.compared.LastRelation.{LastRelation}
-use Rattle.cob_move_tests.specs.declared.compared.Reading.{Reading}
+use Rattle.cob_move_tests.specs.declared.compared.ReadCondition.{ReadCondition}
 use Rattle.cob_move_tests.specs.Asked.{IsTestable, kind_named, sender_named}
 use Rattle.cob_move_tests.specs.Meant.{NoneStated, Stated, StatedAs}
 
@@ -48,7 +48,7 @@ IsStatedThere r asked None = Unit {0}
 IsStatedThere r asked (Some s) = IsThere r asked s.subject
 
 -- words were read as this: their condition and what they state are so, and the condition may be tested
-pub record IsRead (r : Records) (asked : List NamedEntry) (Is : Condition → Stated → Type 0) (m : Reading) : Type 0 where
+pub record IsRead (r : Records) (asked : List NamedEntry) (Is : Condition → Stated → Type 0) (m : ReadCondition) : Type 0 where
   pub is : Is (condition_of (sender_named r asked) m.condition) (stated_in r asked m.last)
   pub testable : IsTestable r asked m.condition
   pub there : IsStatedThere r asked m.last

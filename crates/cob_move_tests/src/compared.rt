@@ -43,7 +43,7 @@ pub(crate) struct LastRelation {
 
 /// What words were read as: a condition, and the relation that was stated last behind them.
 #[derive(Drop)]
-pub(crate) struct Reading {
+pub(crate) struct ReadCondition {
     pub condition: Condition,
     pub last: Option<LastRelation>,
 }

@@ -30,7 +30,7 @@ ghost use Rattle.cob_move_tests.specs.Meant.{
   quality_asked,
 };
 
-use crate::compared::{Compared, LastRelation, Reading, compared_of};
+use crate::compared::{Compared, LastRelation, ReadCondition, compared_of};
 use crate::entries::{Entries, NamedEntry};
 use crate::laws::{conditions_break_no_rule, one_condition_of};
 use crate::qualities::may_have;
@@ -103,7 +103,7 @@ fn relation_of(
     relation: Relation,
     written: &StatementSender<'_>,
     asked: &mut Vec<NamedEntry>,
-) -> Result<Reading, MoveRule>
+) -> Result<ReadCondition, MoveRule>
     requires named { AllMayBeNamed entries.now }
     requires there { IsThere (records_of entries.now) asked.old.items subject }
     ensures found { IfOk result (IsRead (records_of entries.now) asked.new.items
@@ -120,7 +120,7 @@ fn relation_of(
     }
     let compares = Condition::Compares(subject.comparand(), relation.order, object.comparand());
     let condition = opposite_if(alloc, relation.opposite, compares)?;
-    Ok(Reading {
+    Ok(ReadCondition {
         condition,
         last: Some(LastRelation { subject, relation }),
     })
@@ -200,7 +200,7 @@ fn test_of(
     phrase: &TestPhrase<'_>,
     last: Option<LastRelation>,
     asked: &mut Vec<NamedEntry>,
-) -> Result<Reading, MoveRule>
+) -> Result<ReadCondition, MoveRule>
     requires named { AllMayBeNamed entries.now }
     requires there { IsStatedThere (records_of entries.now) asked.old.items last }
     ensures found { IfOk result (IsRead (records_of entries.now) asked.new.items
@@ -237,7 +237,7 @@ fn test_of(
             quality,
         } => {
             let condition = quality_of(alloc, entries, entry, *opposite, *quality, asked)?;
-            Ok(Reading {
+            Ok(ReadCondition {
                 condition,
                 last: None,
             })
@@ -256,7 +256,7 @@ fn reading_of(
     phrase: &ConditionPhrase<'_>,
     last: Option<LastRelation>,
     asked: &mut Vec<NamedEntry>,
-) -> Result<Reading, MoveRule>
+) -> Result<ReadCondition, MoveRule>
     requires named { AllMayBeNamed entries.now }
     requires there { IsStatedThere (records_of entries.now) asked.old.items last }
     ensures found { IfOk result (IsRead (records_of entries.now) asked.new.items
@@ -271,7 +271,7 @@ fn reading_of(
         ConditionPhrase::Simple(test) => test_of(alloc, entries, test, last, asked),
         ConditionPhrase::InBrackets(inner) => {
             let inside = reading_of(alloc, entries, inner, None, asked)?;
-            Ok(Reading {
+            Ok(ReadCondition {
                 condition: inside.condition,
                 last: None,
             })
@@ -279,7 +279,7 @@ fn reading_of(
         ConditionPhrase::BehindNot(inner) => {
             let inside = reading_of(alloc, entries, inner, last, asked)?;
             let condition = opposite_if(alloc, true, inside.condition)?;
-            Ok(Reading {
+            Ok(ReadCondition {
                 condition,
                 last: inside.last,
             })
@@ -288,7 +288,7 @@ fn reading_of(
             let one = reading_of(alloc, entries, first, last, asked)?;
             let other = reading_of(alloc, entries, second, one.last, asked)?;
             let condition = both(alloc, one.condition, other.condition)?;
-            Ok(Reading {
+            Ok(ReadCondition {
                 condition,
                 last: other.last,
             })
@@ -297,7 +297,7 @@ fn reading_of(
             let one = reading_of(alloc, entries, first, last, asked)?;
             let other = reading_of(alloc, entries, second, one.last, asked)?;
             let condition = either(alloc, one.condition, other.condition)?;
-            Ok(Reading {
+            Ok(ReadCondition {
                 condition,
                 last: other.last,
             })
