@@ -24,7 +24,7 @@ use cob_limits::MAX_WRITTEN_OUT;
 use cob_move_choices::{Subject, branch_test, subject_of};
 use cob_move_condition::Condition;
 use cob_move_loops::{Choice, Counter, PassageItem, first_line, item_at, line_of};
-use cob_move_tests::Entries;
+use cob_move_tests::{Entries, either};
 use cob_source::Token;
 use std::alloc::{AllocError, Global};
 
@@ -130,17 +130,15 @@ pub(crate) fn joined(
     test: Condition,
 ) -> Result<Condition, AllocError>
     ensures means { IfOk result (λ c. (entry : ℕ → Sender) → condition_of entry c
-        ≡ joined_test (option_map (condition_of entry) waiting.entry) (condition_of entry test.entry)) }
+        ≡ joined_test (option_map (condition_of entry) waiting) (condition_of entry test)) }
     ensures tested { IfOk result (λ c. (r : Records) (asked : List NamedEntry)
-        → MayBeTestedOr (IsAsked asked) (kind_named r asked) waiting.entry
-        → IsTestable r asked test.entry → IsTestable r asked c) }
+        → MayBeTestedOr (IsAsked asked) (kind_named r asked) waiting
+        → IsTestable r asked test → IsTestable r asked c) }
 {
-    let Some(first) = waiting else {
-        return Ok(test);
-    };
-    let first = Box::new(alloc, first)?;
-    let second = Box::new(alloc, test)?;
-    Ok(Condition::Either(first, second))
+    match waiting {
+        None => Ok(test),
+        Some(first) => either(alloc, first, test),
+    }
 }
 
 /// Counts a choice, which is a statement itself.

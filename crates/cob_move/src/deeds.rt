@@ -525,7 +525,7 @@ fn add_branch<'a>(
     requires pairs { ArePairsOf (records_of entries.now) pairs.old }
     requires made { IsMade (records_of entries.now) (made_lists made.old) }
     requires bounds { HasBounds (lexemes words.now) }
-    ensures added { OnOk result (AddsBranch entries.now (counters turn.now) test.entry
+    ensures added { OnOk result (AddsBranch entries.now (counters turn.now) test
         (lexemes words.now) (taken_branches taken.old.items) (taken_branches taken.new.items)
         (made_lists made.old) (made_lists made.new)) }
     ensures fault { IfErr result (λ n. TurnRefused n entries.now (counters turn.now)

@@ -1,5 +1,5 @@
 -- What the tests of an IF and of an EVALUATE mean in a turn, and which rules they break.
-use Rattle.std.specs.Prelude.{◌≡◌, ◌⊎◌, ℕ, ◌<◌, false, codes, List, [], ◌∷◌, length, Option, Some, None}
+use Rattle.std.specs.Prelude.{◌≡◌, ◌⊎◌, false, codes, List, [], ◌∷◌, Option, Some, None}
 use Rattle.cob_source.specs.Tokens.{Lexeme}
 use Rattle.cob_codec.specs.declared.reading.Reading.TheVariants.{Pictured}
 use Rattle.cob_copybook_clauses.specs.Clauses.{IsWord}

@@ -11,9 +11,9 @@ ghost use Rattle.cob_move_tests.specs.Asked.{AsksMore, IsNamed, sender_asked, se
 ghost use Rattle.cob_move_choices.specs.Asked.{IsSubjectAsked, against};
 ghost use Rattle.cob_move_choices.specs.Choices.{BreaksEvaluated, BreaksSubject, IsEvaluated, IsSubjectOf, IsTruth};
 
-use crate::values::has_no_condition_word;
+use cob_move_conditions::operand_at;
 use cob_move_loops::{Choice, Counter, in_turn};
-use cob_move_statements::{MoveRule, Reference, whole_reference};
+use cob_move_statements::{MoveRule, Reference, StatementSender};
 use cob_move_tests::{Entries, NamedEntry, has_no_counter};
 use cob_source::{Token, TokenKind};
 use std::alloc::Global;
@@ -73,10 +73,14 @@ fn whole_operand(words: &[Token]) -> Option<Reference<'_>>
     ensures only { (w : WrittenReference) → IsWrittenOperand (SentReference w) (lexemes words.now)
         → IsSomeAnd result (λ r. written_reference r ≡ w) }
 {
-    if !has_no_condition_word(words) {
+    let (operand, more) = operand_at(words)?;
+    if !more.is_empty() {
         return None;
     }
-    whole_reference(words)
+    match operand {
+        StatementSender::Reference(reference) => Some(reference),
+        StatementSender::Constant(_) => None,
+    }
 }
 
 /// What the tests of a choice are held against, in a turn.

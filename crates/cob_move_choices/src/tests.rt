@@ -1,6 +1,6 @@
 //! The tests of branches.
 
-ghost use Rattle.std.specs.Prelude.{◌≡◌, ◌⊎◌, IfErr, IfOk, OnOk};
+ghost use Rattle.std.specs.Prelude.{◌≡◌, ◌⊎◌, IfErr, IfOk};
 ghost use Rattle.cob_move_condition.specs.Conditions.{condition_of as meant};
 ghost use Rattle.cob_move_loops.specs.Reading.{counters};
 ghost use Rattle.cob_move_statements.specs.declared.fault.MoveRule.TheVariants.{Memory};

@@ -1,32 +1,35 @@
 //! The values that a WHEN lists.
 
-ghost use Rattle.std.specs.Prelude.{◌≡◌, ◌⊎◌, ◌↔◌, ◌∷◌, ◌++◌, true, IfErr, IfNone, IfOk, IfSome, IsSomeAnd, IsTrue};
+ghost use Rattle.std.specs.Prelude.{◌≡◌, ◌⊎◌, ◌↔◌, ℕ, List, true, IfErr, IfOk, IfSome, IsSomeAnd, IsTrue, Some};
 ghost use Rattle.std.specs.List.{AllByRecursion};
+ghost use Rattle.cob_copybook_clauses.specs.Reading.{Answers, EachCutNeither, StandInFront};
 ghost use Rattle.cob_copybook_clauses.specs.Written.{WrittenValue, written_value};
+ghost use Rattle.cob_copybook_clauses.specs.declared.term.WordClass.TheVariants as term;
 ghost use Rattle.cob_copybook_entry.specs.Described.{plain_value};
 ghost use Rattle.cob_move_condition.specs.Comparable.{may_compare};
-ghost use Rattle.cob_move_condition.specs.Conditions.{condition_of};
-ghost use Rattle.cob_move_conditions.specs.Words.{IsNoConditionWord};
-ghost use Rattle.cob_move_data.specs.Moves.{Literal as LiteralSender};
+ghost use Rattle.cob_move_condition.specs.Conditions.{Compares as ComparesTo, condition_of};
+ghost use Rattle.cob_move_data.specs.Moves.{Literal as LiteralSender, Records, Sender};
 ghost use Rattle.cob_move_names.specs.Senders.{kind_of_sender};
+ghost use Rattle.cob_move_statements.specs.declared.fault.MoveRule.TheVariants.{Memory};
 ghost use Rattle.cob_move_statements.specs.Written.{SentConstant};
-ghost use Rattle.cob_move_tests.specs.Asked.{IsAsked, IsNamed, IsTestable, sender_named};
+ghost use Rattle.cob_move_tests.specs.Asked.{IsAsked, IsNamed, IsTestable, sender_asked, sender_named};
+ghost use Rattle.cob_move_tests.specs.declared.entries.NamedEntry.{NamedEntry as Named};
 ghost use Rattle.cob_move_tests.specs.Entries.{AllMayBeNamed, nameable, records_of};
-ghost use Rattle.cob_move_tests.specs.Meant.{IsNotEmpty, IsOperandOf};
+ghost use Rattle.cob_move_tests.specs.Meant.{IsOperandOf};
 ghost use Rattle.cob_source.specs.Tokens.{lexeme, lexemes};
+ghost use Rattle.cob_move_choices.specs.Asked.{MayBeListed};
 ghost use Rattle.cob_move_choices.specs.Choices.{BreaksListed, BreaksListedValue, IsListed};
-ghost use Rattle.cob_move_choices.specs.Values.{IsSpanWritten, IsThru, IsValueWritten, WrittenSpan, written_span};
+ghost use Rattle.cob_move_choices.specs.Values.{FromTo, IsSpanWritten, IsThru, IsValueWritten, WrittenSpan, within, written_span};
 
 use cob_copybook_clauses::ValueClause;
 use cob_copybook_entry::Value;
 use cob_move_condition::{Comparand, Condition, may_compare};
-use cob_move_conditions::condition_word;
-use cob_move_data::Sender;
+use cob_move_conditions::operand_at;
 use cob_move_receive::SenderKind;
-use cob_move_statements::{MoveRule, StatementSender, sender_at};
-use cob_move_tests::{Entries, NamedEntry, sender_of};
+use cob_move_statements::{MoveRule, StatementSender};
+use cob_move_tests::{Entries, NamedEntry, both, constant_compared, opposite_if};
 use cob_source::{Token, TokenKind};
-use std::alloc::Global;
+use std::alloc::{AllocError, Global};
 use std::cmp::Ordering;
 
 /// A value, or two with THRU between them.
@@ -44,47 +47,18 @@ fn is_thru(token: &Token) -> bool
     matches!(token.kind, TokenKind::Word) && (text == b"THRU" || text == b"THROUGH")
 }
 
-/// Whether no word of conditions is among words.
-pub(crate) fn has_no_condition_word(words: &[Token]) -> bool
-    ensures { IsTrue result ↔ AllByRecursion IsNoConditionWord (lexemes words.now) }
+/// The value in front, and what is behind it: a literal or a figurative constant.
+fn value_at(words: &[Token]) -> Option<(ValueClause<'_>, &[Token])>
+    ensures found { IfSome result (λ r. StandInFront (IsValueWritten (written_value r.0))
+        (lexemes words.now) (lexemes r.1.now)) }
+    ensures only { (v : WrittenValue) → EachCutNeither (IsValueWritten v) term.Of
+        term.OpenBracket (lexemes words.now) (Answers written_value result v) }
 {
-    let mut rest = words;
-    while let Some((first, more)) = rest.split_first() {
-        if condition_word(first).is_some() {
-            return false;
-        }
-        rest = more;
-    }
-    true
-}
-
-/// The value that words are: a literal or a figurative constant.
-fn whole_value(words: &[Token]) -> Option<ValueClause<'_>>
-    ensures found { IfSome result (λ v. IsValueWritten (written_value v) (lexemes words.now)) }
-    ensures only { (v : WrittenValue) → IsValueWritten v (lexemes words.now)
-        → IsSomeAnd result (λ x. written_value x ≡ v) }
-{
-    let (sender, more) = sender_at(words)?;
-    if !more.is_empty() || !has_no_condition_word(words) {
-        return None;
-    }
-    match sender {
-        StatementSender::Constant(value) => Some(value),
+    let (operand, more) = operand_at(words)?;
+    match operand {
+        StatementSender::Constant(value) => Some((value, more)),
         StatementSender::Reference(_) => None,
     }
-}
-
-/// The words before the first THRU, and those behind it.
-fn thru_in(words: &[Token]) -> Option<(&[Token], &[Token])>
-{
-    for (index, word) in words.iter().enumerate() {
-        if is_thru(word) {
-            let (from, behind) = words.split_at(index);
-            let (_, to) = behind.split_first()?;
-            return Some((from, to));
-        }
-    }
-    None
 }
 
 /// The values that words list.
@@ -93,20 +67,18 @@ pub(crate) fn whole_listed(words: &[Token]) -> Option<Listed<'_>>
     ensures only { (w : WrittenSpan) → IsSpanWritten w (lexemes words.now)
         → IsSomeAnd result (λ l. written_span l ≡ w) }
 {
-    match thru_in(words) {
-        None => Some(Listed::One(whole_value(words)?)),
-        Some((from, to)) => Some(Listed::FromTo(whole_value(from)?, whole_value(to)?)),
+    let (first, behind) = value_at(words)?;
+    let Some((thru, more)) = behind.split_first() else {
+        return Some(Listed::One(first));
+    };
+    if !is_thru(thru) {
+        return None;
     }
-}
-
-/// Whether a constant is no quoted literal without a character.
-fn is_not_empty(written: &ValueClause<'_>) -> bool
-    ensures { IsTrue result ↔ IsNotEmpty (written_value written.now) }
-{
-    match written {
-        ValueClause::Literal(text) => !text.is_empty(),
-        ValueClause::Word(_) | ValueClause::Figurative(_) | ValueClause::All(_) => true,
+    let (last, left) = value_at(more)?;
+    if !left.is_empty() {
+        return None;
     }
+    Some(Listed::FromTo(first, last))
 }
 
 /// What a value means that an entry is compared with.
@@ -119,13 +91,16 @@ fn value_of(
     entry: &NamedEntry,
     written: &ValueClause<'_>,
 ) -> Result<Value, MoveRule>
+    requires { IsNamed (records_of entries.now) entry.now }
+    ensures found { IfOk result (λ v. IsOperandOf (nameable entries.now)
+        (SentConstant (written_value written.now)) (LiteralSender (plain_value v))) }
+    ensures may { IfOk result (λ v. may_compare
+        (kind_of_sender (sender_asked (records_of entries.now) (Some entry.now)))
+        (kind_of_sender (LiteralSender (plain_value v))) ≡ true) }
+    ensures fault { IfErr result (λ r. BreaksListedValue r (records_of entries.now)
+        (sender_asked (records_of entries.now) (Some entry.now)) (written_value written.now)) }
 {
-    if !is_not_empty(written) {
-        return Err(MoveRule::Literal);
-    }
-    let Sender::Constant(value) = sender_of(entries, &StatementSender::Constant(*written))? else {
-        return Err(MoveRule::Grammar);
-    };
+    let value = constant_compared(written)?;
     let kind = SenderKind::Entry(entries.kind(entry.side, &entry.entry));
     if !may_compare(&kind, &SenderKind::Constant(&value)) {
         return Err(MoveRule::NotComparable);
@@ -133,18 +108,37 @@ fn value_of(
     Ok(value)
 }
 
-/// That an entry is none of what a comparison has.
-fn not_compared(
+/// That the entry with a number is in this order beside a value.
+fn compares(number: usize, order: Ordering, value: Value) -> Condition
+    ensures means { (entry : ℕ → Sender) → condition_of entry result
+        ≡ ComparesTo (entry number) order (LiteralSender (plain_value value)) }
+    ensures testable { (r : Records) (asked : List Named) → MayBeListed r asked number
+        (plain_value value) → IsTestable r asked result }
+{
+    Condition::Compares(Comparand::Entry(number), order, Comparand::Constant(value))
+}
+
+/// That the entry with a number is neither less than a value nor greater than another.
+///
+/// # Errors
+///
+/// Memory was refused.
+fn between(
     alloc: Global,
     number: usize,
-    order: Ordering,
-    value: Value,
-) -> Result<Box<Condition>, MoveRule>
+    from: Value,
+    to: Value,
+) -> Result<Condition, AllocError>
+    ensures means { IfOk result (λ c. (entry : ℕ → Sender) → condition_of entry c
+        ≡ within (entry number) (FromTo (LiteralSender (plain_value from))
+        (LiteralSender (plain_value to)))) }
+    ensures testable { IfOk result (λ c. (r : Records) (asked : List Named)
+        → MayBeListed r asked number (plain_value from)
+        → MayBeListed r asked number (plain_value to) → IsTestable r asked c) }
 {
-    let compared = Condition::Compares(Comparand::Entry(number), order, Comparand::Constant(value));
-    let inner = Box::new(alloc, compared)?;
-    let opposite = Box::new(alloc, Condition::Not(inner))?;
-    Ok(opposite)
+    let not_less = opposite_if(alloc, true, compares(number, Ordering::Less, from))?;
+    let not_greater = opposite_if(alloc, true, compares(number, Ordering::Greater, to))?;
+    both(alloc, not_less, not_greater)
 }
 
 /// Whether the entry with this number is one of the values that words list.
@@ -166,7 +160,7 @@ pub(crate) fn listed(
         (sender_named (records_of entries.now) asked.now number) (lexemes words.now)
         (condition_of (sender_named (records_of entries.now) asked.now) c)) }
     ensures tested { IfOk result (IsTestable (records_of entries.now) asked.now) }
-    ensures fault { IfErr result (λ r. (r ≡ MoveRule.Memory) ⊎ BreaksListed r
+    ensures fault { IfErr result (λ r. (r ≡ Memory) ⊎ BreaksListed r
         (records_of entries.now) (sender_named (records_of entries.now) asked.now number)
         (lexemes words.now)) }
 {
@@ -177,18 +171,13 @@ pub(crate) fn listed(
     match span {
         Listed::One(written) => {
             let value = value_of(entries, entry, &written)?;
-            Ok(Condition::Compares(
-                Comparand::Entry(number),
-                Ordering::Equal,
-                Comparand::Constant(value),
-            ))
+            Ok(compares(number, Ordering::Equal, value))
         }
         Listed::FromTo(from, to) => {
             let first = value_of(entries, entry, &from)?;
             let last = value_of(entries, entry, &to)?;
-            let not_less = not_compared(alloc, number, Ordering::Less, first)?;
-            let not_greater = not_compared(alloc, number, Ordering::Greater, last)?;
-            Ok(Condition::Both(not_less, not_greater))
+            let within = between(alloc, number, first, last)?;
+            Ok(within)
         }
     }
 }

@@ -1,6 +1,6 @@
 pub mod OwnLemmas
-mod AskedLemmas
+pub mod AskedLemmas
 mod ReadLemmas
 mod StepLemmas
-mod OneLemmas
-mod NoRuleLemmas
+pub mod OneLemmas
+pub mod NoRuleLemmas
