@@ -12,7 +12,7 @@ ghost use Rattle.cob_move_choices.specs.Asked.{IsSubjectAsked, against};
 ghost use Rattle.cob_move_choices.specs.Choices.{BreaksBranchTest, IsBranchTestOf};
 
 use crate::subjects::Subject;
-use crate::values::listed;
+use crate::values::value_test;
 use cob_move_condition::Condition;
 use cob_move_loops::{Counter, in_turn};
 use cob_move_statements::MoveRule;
@@ -54,6 +54,6 @@ pub fn branch_test(
     let own = in_turn(alloc, words, turn)?;
     match subject {
         Subject::Truth => condition_of(alloc, entries, own.as_slice(), asked),
-        Subject::Entry(number) => listed(alloc, entries, number, own.as_slice(), asked.as_slice()),
+        Subject::Entry(number) => value_test(alloc, entries, number, own.as_slice(), asked.as_slice()),
     }
 }

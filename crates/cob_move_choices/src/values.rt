@@ -44,7 +44,7 @@ fn is_thru(token: &Token) -> bool
     ensures { IsTrue result ↔ IsThru (lexeme token.now) }
 {
     let text = token.text.as_slice();
-    matches!(token.kind, TokenKind::Word) && (text == b"THRU" || text == b"THROUGH")
+    matches!(token.kind, TokenKind::Word) && (text == b"THRU".as_slice() || text == b"THROUGH".as_slice())
 }
 
 /// The value in front, and what is behind it: a literal or a figurative constant.
@@ -146,7 +146,7 @@ fn between(
 /// # Errors
 ///
 /// The rule that the words break; `Memory`.
-pub(crate) fn listed(
+pub(crate) fn value_test(
     alloc: Global,
     entries: &Entries<'_, '_>,
     number: usize,
