@@ -21,8 +21,8 @@ ghost use Rattle.cob_move.specs.DeedsRead.{AddsBranch, AddsBranches, AddsChoice,
 ghost use Rattle.cob_move.specs.Loops.{AddsRun, RunRefused};
 ghost use Rattle.cob_move.specs.declared.made.NotRead.TheVariants as unread;
 
-use crate::deeds_laws::{deeds_break_no_rule, one_deeds};
 use crate::choosing::{count_choice, joined, read_subject, read_test};
+use crate::deeds_laws::{deeds_break_no_rule, one_deeds};
 use crate::linking::{link_branches, link_turns, next_number};
 use crate::looking::{is_sure, look_at_turn, plain_depth};
 use crate::loops::{add_words, fault_of};
@@ -31,11 +31,11 @@ use crate::meaning_laws::{meant_are_moves, meant_break_no_rule};
 use cob_copybook_tree::{Item, Kind, is_number_item};
 use cob_limits::{MAX_RECORD, MAX_WRITTEN_OUT};
 use cob_move_apply::PlacedEntry;
-use cob_move_data::StatementMoves;
 use cob_move_choices::{
     Subject, branch_tests_break_no_rule, one_branch_test, one_subject, subjects_break_no_rule,
 };
 use cob_move_condition::Condition;
+use cob_move_data::StatementMoves;
 use cob_move_deeds::{Bound, Flow};
 use cob_move_loops::{
     BranchTest, Choice, ChoiceKind, Counter, Loop, LoopBound, PassageItem, Place, in_turn, item_at,

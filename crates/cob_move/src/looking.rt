@@ -11,8 +11,8 @@ ghost use Rattle.cob_move_tests.specs.Entries.{AllMayBeNamed, records_of};
 ghost use Rattle.cob_move.specs.Paragraphs.{has_choice};
 ghost use Rattle.cob_move.specs.declared.made.NotRead.TheVariants as unread;
 
-use crate::deeds::{add_words_in, not_read, read_bound};
 use crate::choosing::has_choice;
+use crate::deeds::{add_words_in, not_read, read_bound};
 use crate::made::NotRead;
 use cob_limits::MAX_WRITTEN_OUT;
 use cob_move_loops::{Counter, Loop, LoopBound, PassageItem, item_at, with_counter};

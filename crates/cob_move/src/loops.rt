@@ -18,8 +18,8 @@ use crate::meaning::meanings_of;
 use crate::pieces::{is_other, refused_memory};
 use cob_move_data::StatementMoves;
 use cob_move_loops::{
-    Loop, LoopBound, LoopFault, Run, check, in_turn, is_few, is_shallow, loops,
-    no_turn, opening_line, write_out,
+    Loop, LoopBound, LoopFault, Run, check, in_turn, is_few, is_shallow, loops, no_turn,
+    opening_line, write_out,
 };
 use cob_move_names::{Correspondences, Names};
 use cob_move_statements::{MoveFault, MoveRule, Reference, behind_heading, ended_statements};

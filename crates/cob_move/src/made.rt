@@ -5,8 +5,8 @@ ghost use Rattle.cob_move.specs.DeedsRead.{IsSizeOf, closed, flow_lists, forgott
 ghost use Rattle.cob_move.specs.declared.made.NotRead.TheVariants as unread;
 
 use crate::linking::next_number;
-use cob_move_data::StatementMoves;
 use cob_move_condition::Condition;
+use cob_move_data::StatementMoves;
 use cob_move_deeds::{Bound, Flow};
 use cob_move_statements::MoveFault;
 use cob_move_tests::NamedEntry;

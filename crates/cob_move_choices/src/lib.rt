@@ -21,8 +21,6 @@ mod subjects;
 mod tests;
 mod values;
 
-pub use laws::{
-    branch_tests_break_no_rule, one_branch_test, one_subject, subjects_break_no_rule,
-};
+pub use laws::{branch_tests_break_no_rule, one_branch_test, one_subject, subjects_break_no_rule};
 pub use subjects::{Subject, subject_of};
 pub use tests::branch_test;

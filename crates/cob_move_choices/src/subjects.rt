@@ -32,7 +32,8 @@ fn is_truth(words: &[Token]) -> bool
     ensures { IsTrue result ↔ IsTruth (lexemes words.now) }
 {
     match words {
-        [only] => matches!(only.kind, TokenKind::Word) && only.text.as_slice() == b"TRUE".as_slice(),
+        [only] => matches!(only.kind, TokenKind::Word)
+            && only.text.as_slice() == b"TRUE".as_slice(),
         _ => false,
     }
 }

@@ -54,6 +54,12 @@ pub fn branch_test(
     let own = in_turn(alloc, words, turn)?;
     match subject {
         Subject::Truth => condition_of(alloc, entries, own.as_slice(), asked),
-        Subject::Entry(number) => value_test(alloc, entries, number, own.as_slice(), asked.as_slice()),
+        Subject::Entry(number) => value_test(
+            alloc,
+            entries,
+            number,
+            own.as_slice(),
+            asked.as_slice(),
+        ),
     }
 }

@@ -44,7 +44,8 @@ fn is_thru(token: &Token) -> bool
     ensures { IsTrue result ↔ IsThru (lexeme token.now) }
 {
     let text = token.text.as_slice();
-    matches!(token.kind, TokenKind::Word) && (text == b"THRU".as_slice() || text == b"THROUGH".as_slice())
+    matches!(token.kind, TokenKind::Word)
+        && (text == b"THRU".as_slice() || text == b"THROUGH".as_slice())
 }
 
 /// The value in front, and what is behind it: a literal or a figurative constant.
@@ -123,12 +124,7 @@ fn compares(number: usize, order: Ordering, value: Value) -> Condition
 /// # Errors
 ///
 /// Memory was refused.
-fn between(
-    alloc: Global,
-    number: usize,
-    from: Value,
-    to: Value,
-) -> Result<Condition, AllocError>
+fn between(alloc: Global, number: usize, from: Value, to: Value) -> Result<Condition, AllocError>
     ensures means { IfOk result (λ c. (entry : ℕ → Sender) → condition_of entry c
         ≡ within (entry number) (FromTo (LiteralSender (plain_value from))
         (LiteralSender (plain_value to)))) }
