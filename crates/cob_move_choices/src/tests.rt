@@ -52,14 +52,15 @@ pub fn branch_test(
         return Err(MoveRule::Grammar);
     }
     let own = in_turn(alloc, words, turn)?;
+    let turned = own.as_slice();
     match subject {
-        Subject::Truth => condition_of(alloc, entries, own.as_slice(), asked),
-        Subject::Entry(number) => value_test(
-            alloc,
-            entries,
-            number,
-            own.as_slice(),
-            asked.as_slice(),
-        ),
+        Subject::Truth => {
+            let test = condition_of(alloc, entries, turned, asked)?;
+            Ok(test)
+        }
+        Subject::Entry(number) => {
+            let test = value_test(alloc, entries, number, turned, asked.as_slice())?;
+            Ok(test)
+        }
     }
 }
