@@ -1,14 +1,20 @@
 -- The steps of reading a condition.
 use Rattle.std.proofs.Common.{◌≡◌, ◌<◌, ◌⊎◌, inl, inr, ℕ, arith, Bool, true, false, List, ◌++◌, [], ◌∷◌, length, refl, sym, ap, subst, ◌∙◌, Option, Some, None}
-use Rattle.std.specs.Prelude.{IfErr, IfOk, Ok, Err, Result}
+use Rattle.std.specs.Prelude.{◌&&◌, ◌||◌, IfErr, IfOk, Ok, Err, Result}
+use Rattle.std.specs.declared.cmp.Ordering.{Ordering}
 use Rattle.std.proofs.lemmas.List.{length-append}
 use Rattle.cob_codec.specs.declared.reading.Reading.TheVariants.{Pictured}
 use Rattle.cob_copybook_clauses.specs.Written.{WrittenValue}
 use Rattle.cob_copybook_entry.specs.declared.value.Value.{Value}
-use Rattle.cob_copybook_entry.specs.Described.{plain_value}
+use Rattle.cob_copybook_entry.specs.declared.value.Value.TheVariants as value
+use Rattle.cob_copybook_entry.specs.declared.kinds.Figurative.TheVariants.{Zero}
+use Rattle.cob_copybook_entry.specs.Described.{Figure, plain_value}
+use Rattle.cob_copybook_tree.specs.declared.node.Kind.{Kind}
 use Rattle.cob_copybook_entries.specs.Meaning.{IsConstantOf}
 use Rattle.cob_move_condition.specs.declared.condition.Condition as code
-use Rattle.cob_move_condition.specs.Comparable.{may_compare}
+use Rattle.cob_move_condition.specs.declared.condition.Condition.TheVariants as code_condition
+use Rattle.cob_move_condition.specs.declared.condition.Comparand.TheVariants as comparand
+use Rattle.cob_move_condition.specs.Comparable.{have_characters, is_number_operand, may_compare}
 use Rattle.cob_move_condition.specs.Conditions.{Both, Condition, Either, Not, condition_of}
 use Rattle.cob_move_conditions.specs.declared.phrases.Quality.{Quality}
 use Rattle.cob_move_conditions.specs.declared.phrases.Quality.TheVariants as quality
@@ -19,6 +25,7 @@ use Rattle.cob_move_data.specs.Moves.{Entry, Records, Sender, operand_in, record
 use Rattle.cob_move_names.specs.Candidates.{Candidate, all_entries}
 use Rattle.cob_move_names.specs.References.{NamesOperand}
 use Rattle.cob_move_names.specs.Senders.{kind_of_sender}
+use Rattle.cob_move_receive.specs.Table as table
 use Rattle.cob_move_statements.specs.declared.fault.MoveRule.{MoveRule}
 use Rattle.cob_move_statements.specs.declared.fault.MoveRule.TheVariants as rule
 use Rattle.cob_move_statements.specs.Written.{SentConstant, WrittenReference, WrittenSender}
@@ -108,8 +115,16 @@ pub quality_there : (r : Records) (before now : List NamedEntry) (q : Quality) (
     → true ≡ may_have (record_of r n.side) q (operand_in (record_of r n.side) n.entry) → MayBeAsked r now q number
 quality_there r before now q n number at e may =
     let same : kind_named r now number ≡ (operand_in (record_of r n.side) n.entry).kind =
-    ap (λ i. kind_named r now i) at ∙ ap (λ (xs : List NamedEntry). kind_named r xs (length before)) e ∙ ap (kind_asked r) (last_get before n) in
-    (later number before now n at e, subst (λ k. IsNumberForSign q k) (sym same) (sign_of_number r n q may))
+    ap (λ (i : ℕ). kind_named r now i) at ∙ ap (λ (xs : List NamedEntry). kind_named r xs (length before)) e ∙ ap (kind_asked r) (last_get before n) in
+    (later number before now n at e, subst (λ (k : Kind). IsNumberForSign q k) (sym same) (sign_of_number r n q may))
+
+-- a number may be compared with ZERO
+zero_compares : (k : Kind) → is_number_operand (table.Entry k) ≡ true → may_compare (table.Entry k) (table.Literal (Figure Zero)) ≡ true
+zero_compares k e = ap (λ (b : Bool). (b && true) || have_characters (table.Entry k) (table.Literal (Figure Zero))) e
+
+pub sign_testable : (r : Records) (asked : List NamedEntry) (order : Ordering) (number : ℕ) → MayBeAsked r asked (quality.Sign order) number
+    → IsTestable r asked (code_condition.Compares (comparand.Entry number) order (comparand.Constant (value.Figurative Zero)))
+sign_testable r asked order number (there, is) = (there, tt, zero_compares (kind_named r asked number) is)
 
 -- ---- simple conditions
 
