@@ -42,6 +42,9 @@ all_append P (x ∷ xs) ys h k = (h.0, all_append P xs ys h.1 k)
 pub none_more : (r : Records) (xs : List NamedEntry) → AsksMore r xs xs
 none_more r xs = ([], tt, sym (append-nil xs))
 
+pub same_more : (r : Records) (before now : List NamedEntry) → now ≡ before → AsksMore r before now
+same_more r before now e = ([], tt, e ∙ sym (append-nil before))
+
 pub one_more : (r : Records) (before now : List NamedEntry) (n : NamedEntry) → IsNamed r n → now ≡ before ++ n ∷ [] → AsksMore r before now
 one_more r before now n is e = (n ∷ [], (is, tt), e)
 

@@ -2,5 +2,6 @@ pub mod OwnLemmas
 mod AskedLemmas
 mod ReadLemmas
 mod StepLemmas
+mod SignLemmas
 mod OneLemmas
 mod NoRuleLemmas

@@ -4,7 +4,6 @@ ghost use Rattle.std.specs.Prelude.{◌≡◌, ◌⊎◌, IfErr, IfOk, IsFalse, 
 ghost use Rattle.cob_copybook_clauses.specs.Written.{written_value};
 ghost use Rattle.cob_copybook_entries.specs.Meaning.{IsConstantOf};
 ghost use Rattle.cob_copybook_entry.specs.Described.{plain_value};
-ghost use Rattle.cob_move_names.specs.References.{BreaksReference};
 ghost use Rattle.cob_move_names.specs.Senders.{BreaksSentConstant};
 ghost use Rattle.cob_move_receive.specs.Table.{sender_kind};
 ghost use Rattle.cob_move_statements.specs.declared.fault.MoveRule.TheVariants.{Literal, Memory};
@@ -86,8 +85,8 @@ fn entry_compared(
         (sender_in (records_of entries.now) asked.new.items a)) }
     ensures there { IfOk result (IsThere (records_of entries.now) asked.new.items) }
     ensures grown { AsksMore (records_of entries.now) asked.old.items asked.new.items }
-    ensures fault { IfErr result (λ r. (r ≡ Memory)
-        ⊎ BreaksReference r (nameable entries.now) (written_reference reference.now)) }
+    ensures fault { IfErr result (λ r. (r ≡ Memory) ⊎ BreaksOperand r (nameable entries.now)
+        (SentReference (written_reference reference.now))) }
 {
     let named = entries.named(reference)?;
     let kind = entries.kind(named.side, &named.entry).clone();
@@ -144,10 +143,7 @@ pub(crate) fn compared_of(
         ⊎ BreaksOperand r (nameable entries.now) (written_sender written.now)) }
 {
     match written {
-        StatementSender::Reference(reference) => {
-            let entry = entry_compared(entries, reference, asked)?;
-            Ok(entry)
-        }
+        StatementSender::Reference(reference) => entry_compared(entries, reference, asked),
         StatementSender::Constant(literal) => {
             let value = constant_compared(literal)?;
             Ok(Compared::Constant(value))
