@@ -25,6 +25,7 @@ use Rattle.cob_move_data.specs.Moves.{Entry, Records, Sender, operand_in, record
 use Rattle.cob_move_names.specs.Candidates.{Candidate, all_entries}
 use Rattle.cob_move_names.specs.References.{NamesOperand}
 use Rattle.cob_move_names.specs.Senders.{kind_of_sender}
+use Rattle.cob_move_receive.specs.Table.{SenderKind}
 use Rattle.cob_move_receive.specs.Table as table
 use Rattle.cob_move_statements.specs.declared.fault.MoveRule.{MoveRule}
 use Rattle.cob_move_statements.specs.declared.fault.MoveRule.TheVariants as rule
@@ -74,6 +75,9 @@ pub constant_found : (all : List Candidate) (r : Records) (asked : List NamedEnt
 constant_found all r asked w v is some = ((plain_value v, is, refl), some)
 
 -- ---- relations
+
+pub kinds_compare : (a b k l : SenderKind) (may : Bool) → may ≡ may_compare a b → a ≡ k → b ≡ l → may ≡ may_compare k l
+kinds_compare a b k l may is e f = is ∙ ap (λ (x : SenderKind). may_compare x b) e ∙ ap (λ (x : SenderKind). may_compare k x) f
 
 -- two operands may not be compared
 pub not_comparable : (all : List Candidate) (r : Records) (before now : List NamedEntry) (subject object : Compared) (w : WrittenSender) → AsksMore r before now → IsThere r before subject
