@@ -8,7 +8,7 @@ use crate::statements::receivers_of;
 use crate::terms::{behind, is_name_word, is_term};
 use crate::told::{Caret, Told, advised, said};
 use cob_copybook_clauses::WordClass;
-use cob_picture::Picture;
+use cob_picture::{Category, Picture};
 use cob_source::Token;
 
 /// Whether the last bracket among these words is one that opens.
@@ -163,7 +163,7 @@ fn has_fraction(entry: WrittenEntry<'_>) -> bool {
         return false;
     };
     match Picture::read(word.text.as_slice()) {
-        Ok(picture) => picture.scale() > 0,
+        Ok(picture) => matches!(picture.category(), Category::Numeric) && picture.scale() > 0,
         Err(_) => false,
     }
 }
