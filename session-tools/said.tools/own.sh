@@ -1,0 +1,1 @@
+echo $$ > /sys/fs/cgroup/cpu/help/cgroup.procs; exec "$@"
