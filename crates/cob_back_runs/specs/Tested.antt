@@ -53,26 +53,34 @@ statement_marks marks (s ∷ ss) = get_or (take (move_count s) marks) 0 false �
 
 -- ---- flows
 
--- how many flows a flow passes over where its test holds
+-- how many flows stand under the test that a flow is: those of both branches of a condition, and the skip between them
 abbrev pub passed_of : Flow → ℕ
 passed_of (flow.Moves number) = 0
 passed_of (flow.Turns number) = 0
 passed_of (flow.Until bound number skip) = skip
+passed_of (flow.Where condition holding lacking) = holding + 1 + lacking
+passed_of (flow.Skip count) = 0
 
 -- the stretch that a flow is where no test stands before it
 abbrev pub stretches_of : Records → FlowSupport → Flow → List (List Move)
 stretches_of r on (flow.Moves number) = moves_between_marks r on.moves number (number + 1) ∷ []
 stretches_of r on (flow.Turns number) = []
 stretches_of r on (flow.Until bound number skip) = []
+stretches_of r on (flow.Where condition holding lacking) = []
+stretches_of r on (flow.Skip count) = []
 
 -- the moves that a flow may carry out
 abbrev pub flow_moves : Records → FlowSupport → Flow → List Move
 flow_moves r on (flow.Moves number) = moves_between_marks r on.moves number (number + 1)
 flow_moves r on (flow.Turns number) = moves_of_deeds (loop_done r on (slice_get on.loops number))
 flow_moves r on (flow.Until bound number skip) = []
+flow_moves r on (flow.Where condition holding lacking) = []
+flow_moves r on (flow.Skip count) = []
 
 -- of each of them whether a test stands before it: in a loop there is one
 abbrev pub flow_marks : Records → FlowSupport → Bool → Flow → List Bool
 flow_marks r on tested (flow.Moves number) = replicate (length (moves_between_marks r on.moves number (number + 1))) tested
 flow_marks r on tested (flow.Turns number) = replicate (length (moves_of_deeds (loop_done r on (slice_get on.loops number)))) true
 flow_marks r on tested (flow.Until bound number skip) = []
+flow_marks r on tested (flow.Where condition holding lacking) = []
+flow_marks r on tested (flow.Skip count) = []

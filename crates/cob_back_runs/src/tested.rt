@@ -16,7 +16,7 @@ use cob_move_data::StatementMoves;
 use cob_move_deeds::{CountedLoop, Flow, ReadyDeeds};
 use std::alloc::{AllocError, Global};
 
-/// How many flows a flow may pass over, of those behind it.
+/// How many flows stand under the test that a flow is, of those behind it.
 fn passed_over(flow: &Flow, rest: &[Flow]) -> usize
     ensures within { result ≤ length rest.now }
     ensures inside { take result rest.now ≡ take (passed_of flow.now) rest.now }
@@ -24,7 +24,15 @@ fn passed_over(flow: &Flow, rest: &[Flow]) -> usize
 {
     match *flow {
         Flow::Until { skip, .. } => skip.min(rest.len()),
-        Flow::Moves(_) | Flow::Turns(_) => 0,
+        Flow::Where {
+            holding,
+            lacking,
+            ..
+        } => holding
+            .saturating_add(1)
+            .saturating_add(lacking)
+            .min(rest.len()),
+        Flow::Moves(_) | Flow::Turns(_) | Flow::Skip(_) => 0,
     }
 }
 
@@ -178,7 +186,7 @@ fn push_for_flow(
     match *flow {
         Flow::Moves(number) => push_for_stretch(deeds, number, mark, marks),
         Flow::Turns(number) => push_for_turns(deeds, &deeds.loops()[number], marks),
-        Flow::Until { .. } => Ok(()),
+        Flow::Until { .. } | Flow::Where { .. } | Flow::Skip(_) => Ok(()),
     }
 }
 

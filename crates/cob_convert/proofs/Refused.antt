@@ -5,7 +5,7 @@ use Rattle.cob_copybook_tree.specs.Nodes.{Resolved}
 use Rattle.cob_copybook.specs.Books.{IsBookOf}
 use Rattle.cob_copybook.specs.declared.role.Role.TheVariants.{In, Out}
 use Rattle.cob_move_deeds.specs.Deeds.{Deeds}
-use Rattle.cob_move_deeds.specs.Tests.{Past}
+use Rattle.cob_move_deeds.specs.Tests.{Test}
 use Rattle.cob_move.specs.Paragraphs.{IsParagraphOf, IsRefusalOf}
 use Rattle.cob_move_statements.specs.declared.fault.MoveFault.{MoveFault}
 use Rattle.cob_move_statements.specs.declared.fault.MoveRule.{MoveRule}
@@ -74,7 +74,7 @@ pub refused_memory : (f : MoveFault) → f.rule ≡ rule.Memory → moves_refusa
 refused_memory f is = ap (λ (r : MoveRule). moves_refusal_by r f) is
 
 -- a paragraph between two records is one between the same records
-pub paragraph_too : (moves : List ℕ) (input output a b : Forest Resolved) (d : Deeds Past) → input ≡ a → output ≡ b → IsParagraphOf moves a b d
+pub paragraph_too : (moves : List ℕ) (input output a b : Forest Resolved) (d : Deeds Test) → input ≡ a → output ≡ b → IsParagraphOf moves a b d
     → IsParagraphOf moves input output d
 paragraph_too moves input output a b d p q h = rw (p, q) h
 

@@ -5,7 +5,7 @@ ghost use Rattle.cob_move.specs.Paragraphs.{IsParagraphOf};
 ghost use Rattle.cob_limits.specs.Limits.{longest_record};
 ghost use Rattle.cob_convert_record.specs.Conversion.{conversion_by, in_length, out_length, Conversion as Meant, IsImage};
 ghost use Rattle.cob_move_deeds.specs.Deeds.{Deeds, moves_of_deeds};
-ghost use Rattle.cob_move_deeds.specs.Tests.{Past};
+ghost use Rattle.cob_move_deeds.specs.Tests.{Test};
 ghost use Rattle.cob_convert.specs.declared.fault.PrepareFault.TheVariants.{Memory};
 ghost use Rattle.cob_convert.specs.Unique.{HasBytes};
 ghost use Rattle.cob_records.specs.Forms.{FitsForm, HasBlockSize, outlet_of};
@@ -137,7 +137,7 @@ fn conversion_of(
     ensures input { IfOk result (λ made. made.records.input ≡ input) }
     ensures output { IfOk result (λ made. made.records.output ≡ output) }
     ensures paragraph { IfOk result (λ made. IsParagraphOf moves.now input output made.deeds) }
-    ensures only { (d : Deeds Past) → IsParagraphOf moves.now input output d
+    ensures only { (d : Deeds Test) → IsParagraphOf moves.now input output d
         → IfErr result (λ fault. fault ≡ Memory) }
     ensures refused { IfErr result (λ fault. IsMovesRefusal fault moves.now input output) }
 {

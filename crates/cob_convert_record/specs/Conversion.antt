@@ -10,7 +10,7 @@ use Rattle.cob_move_deeds.specs.declared.ready.ReadyDeeds.{ReadyDeeds}
 use Rattle.cob_move_deeds.specs.Deeds.{Deeds}
 use Rattle.cob_move_deeds.specs.Flows.{deeds_by}
 use Rattle.cob_move_deeds.specs.Prepared.{deeds_of}
-use Rattle.cob_move_deeds.specs.Tests.{Past}
+use Rattle.cob_move_deeds.specs.Tests.{Test}
 use Rattle.cob_move_initial.specs.Initial.{IsInitial}
 
 -- what is done to each record: in which form it comes and what it becomes goes out, the two records, and what is done between them
@@ -18,7 +18,7 @@ pub record Conversion : Type 0 where
   pub in_form : Form
   pub out_form : Form
   pub records : Records
-  pub deeds : Deeds Past
+  pub deeds : Deeds Test
 
 -- the conversion of records of these forms by these deeds, which were made ready between the two records
 abbrev pub conversion_for : (in_form out_form : Form) → Records → ReadyDeeds → Conversion

@@ -39,14 +39,16 @@ impl Model for Conversion {
     ghost use Rattle.cob_move_deeds.specs.Prepared.{AreDeedsPrepared, HaveAllMoves, deeds_of};
     ghost use Rattle.std.specs.Coded.{Coded, codes};
     ghost use Rattle.cob_move_data.specs.Moves.{Move};
-    ghost use Rattle.cob_move_deeds.specs.Tests.{Past};
+    ghost use Rattle.cob_move_deeds.specs.TestCodes.{ConditionPart, coded_test};
+    ghost use Rattle.cob_move_deeds.specs.Tests.{Past, Test};
     ghost use Rattle.cob_copybook.specs.Codes.{coded_forest};
 
     ghost Value = { Conversion };
 
     ghost coded = { let ms : Coded (List Move) = Prim.hlevel (codes, coded_forest) in
-        let tests : Coded Past = Prim.hlevel (codes, coded_forest) in
-        Prim.hlevel (codes, coded_forest, coded_deeds {T = Past} ms tests) };
+        let bounds : Coded Past = Prim.hlevel (codes, coded_forest) in
+        let parts : Coded ConditionPart = Prim.hlevel (codes, coded_forest) in
+        Prim.hlevel (codes, coded_forest, coded_deeds {T = Test} ms (coded_test bounds parts)) };
 
     ghost view = { λ c. record {
       in_form = c.in_form;

@@ -11,12 +11,17 @@ use Rattle.cob_move_deeds.specs.declared.flow.Bound.{Bound}
 use Rattle.cob_move_deeds.specs.declared.flow.CountedLoop.{CountedLoop}
 use Rattle.cob_move_apply.specs.declared.marked.MarkedMoves.{MarkedMoves}
 use Rattle.cob_move_deeds.specs.Deeds.{Deeds, IsStraight, moves_of_deeds}
-use Rattle.cob_move_deeds.specs.Prepared.{AreDeedsPrepared, deeds_of}
+use Rattle.cob_move_deeds.specs.Prepared.{AreDeedsPrepared, IsThere, MayBeAsked, deeds_of, kind_at}
 use Rattle.cob_move_deeds.specs.declared.ready.ReadyDeeds.{ReadyDeeds}
-use Rattle.cob_move_deeds.specs.Flows.{AreFlows, FlowSupport}
+use Rattle.cob_move_apply.specs.Entries.{IsPlacedEntry}
+use Rattle.cob_move_apply.specs.declared.placed.PlacedEntry.{PlacedEntry}
+use Rattle.cob_move_condition.specs.Tested.{MayBeTested}
+use Rattle.cob_move_condition.specs.declared.condition.Condition.{Condition}
+use Rattle.cob_move_deeds.specs.declared.flow.Asked.{Asked}
+use Rattle.cob_move_deeds.specs.Flows.{AreFlows, FlowSupport, support_of}
 use Rattle.cob_move_apply.specs.Marked.{AreMarkedPrepared, RiseUpTo, ends_of_marks}
 use Rattle.cob_move_apply.specs.Prepared.{moves_of}
-use Rattle.cob_move_deeds.specs.Tests.{IsBound, Past}
+use Rattle.cob_move_deeds.specs.Tests.{IsBound, Test}
 use Rattle.cob_move_loops.specs.Bounded.{AreBounded, LacksBound}
 use Rattle.cob_move_loops.specs.Few.{loop_line}
 use Rattle.cob_move_loops.specs.Passages.{IsPassage, Passage}
@@ -67,13 +72,18 @@ unbounded_refused f e body p is same lacks = inr (p, is, inl (same, lacks p is))
 
 -- ---- what they come to
 
--- what deeds rest on, with no loop whose turns are carried out at once
-abbrev pub support_with : MarkedMoves → List Bound → List CountedLoop → FlowSupport
-support_with moves bounds loops = record { moves = moves; bounds = bounds; loops = loops }
+-- no condition asks for anything
+pub nothing_asked : (r : Records) (moves : MarkedMoves) (bounds : List Bound) (loops : List CountedLoop) (asked : Asked) → asked.entries.items ≡ [] → asked.conditions.items ≡ []
+    → MayBeAsked r (support_of moves bounds loops asked)
+nothing_asked r moves bounds loops asked entries conditions =
+    let on : FlowSupport = support_of moves bounds loops asked in record {
+      entries = subst (λ (es : List PlacedEntry). AllByRecursion (IsPlacedEntry r) es) (sym entries) tt;
+      conditions = subst (λ (cs : List Condition). AllByRecursion (MayBeTested (IsThere on) (kind_at r on)) cs) (sym conditions) tt;
+    }
 
-pub body_front : (m : MadeLists) (moves : MarkedMoves) (loops : List CountedLoop) → moves.moves.reading ≡ Pictured → moves.moves.statements.items ≡ m.list → ends_of_marks moves ≡ 0 ∷ m.ends
-    → IsFrontOf m (support_with moves m.bounds loops)
-body_front m moves loops reading statements ends = record {
+pub body_front : (m : MadeLists) (moves : MarkedMoves) (loops : List CountedLoop) (asked : Asked) → moves.moves.reading ≡ Pictured → moves.moves.statements.items ≡ m.list → ends_of_marks moves ≡ 0 ∷ m.ends
+    → IsFrontOf m (support_of moves m.bounds loops asked)
+body_front m moves loops asked reading statements ends = record {
   reading = reading;
   statements = ([], statements ∙ sym (append-nil m.list));
   marks = ([], ends ∙ ap (λ (t : List ℕ). 0 ∷ t) (sym (append-nil m.ends)));
@@ -102,15 +112,16 @@ pub body_bounds : (r : Records) (m : MadeLists) → IsMade r m → AllByRecursio
 body_bounds r m is = bounds_where (nat_eq (length m.list) (last_marked 0 m.ends)) r m is
 
 -- what was put together of what is made
-pub record IsPutTogether (r : Records) (m : MadeLists) (moves_made : MarkedMoves) (loops : List CountedLoop) (d : ReadyDeeds) : Type 0 where
+pub record IsPutTogether (r : Records) (m : MadeLists) (moves_made : MarkedMoves) (loops : List CountedLoop) (asked : Asked) (d : ReadyDeeds) : Type 0 where
   pub reading : moves_made.moves.reading ≡ Pictured
   pub statements : moves_made.moves.statements.items ≡ m.list
   pub ends : ends_of_marks moves_made ≡ 0 ∷ m.ends
   pub are : moves_of r moves_made.moves ≡ moves r m.list
   pub marked : AreMarkedPrepared r moves_made
   pub same : d.moves ≡ moves_made
-  pub deeds : deeds_of r d ≡ all_deeds r (support_with moves_made m.bounds loops) m.flows
-  pub prepared : AreMarkedPrepared r moves_made → AllByRecursion (IsBound r) m.bounds → AreFlows (support_with moves_made m.bounds loops) m.flows → AreDeedsPrepared r d
+  pub deeds : deeds_of r d ≡ all_deeds r (support_of moves_made m.bounds loops asked) m.flows
+  pub none_asked : MayBeAsked r (support_of moves_made m.bounds loops asked)
+  pub prepared : AreMarkedPrepared r moves_made → AllByRecursion (IsBound r) m.bounds → MayBeAsked r (support_of moves_made m.bounds loops asked) → AreFlows (support_of moves_made m.bounds loops asked) m.flows → AreDeedsPrepared r d
 
 closed_list_is : (m : MadeLists) → (closed m).list ≡ m.list
 closed_list_is m = list_where (nat_eq (length m.list) (last_marked 0 m.ends)) m
@@ -120,12 +131,12 @@ closed_list_is m = list_where (nat_eq (length m.list) (last_marked 0 m.ends)) m
     list_where false m = refl
 
 -- so what is made is made ready
-pub readied : (r : Records) (m now : MadeLists) (moves_made : MarkedMoves) (loops : List CountedLoop) (d : ReadyDeeds) → IsMade r m → now ≡ closed m → IsPutTogether r now moves_made loops d → IsReadied r m d
-readied r m now moves_made loops d is same put =
-    let k : IsPutTogether r (closed m) moves_made loops d = subst (λ (t : MadeLists). IsPutTogether r t moves_made loops d) same put in
-    let on = support_with moves_made (closed m).bounds loops in
-    let front : IsFrontOf (closed m) on = body_front (closed m) moves_made loops k.reading k.statements k.ends in record {
-      prepared = k.prepared k.marked (body_bounds r m is) (closed_flows r m is on front);
+pub readied : (r : Records) (m now : MadeLists) (moves_made : MarkedMoves) (loops : List CountedLoop) (asked : Asked) (d : ReadyDeeds) → IsMade r m → now ≡ closed m → IsPutTogether r now moves_made loops asked d → IsReadied r m d
+readied r m now moves_made loops asked d is same put =
+    let k : IsPutTogether r (closed m) moves_made loops asked d = subst (λ (t : MadeLists). IsPutTogether r t moves_made loops asked d) same put in
+    let on = support_of moves_made (closed m).bounds loops asked in
+    let front : IsFrontOf (closed m) on = body_front (closed m) moves_made loops asked k.reading k.statements k.ends in record {
+      prepared = k.prepared k.marked (body_bounds r m is) k.none_asked (closed_flows r m is on front);
       comes = λ own so. k.deeds ∙ closed_deeds r m is on front ∙ so on (front_back m (closed m) on (closed_grown m) front);
       moves = ap (λ (t : MarkedMoves). moves_of r t.moves) k.same ∙ k.are ∙ ap (λ (ss : List StatementMoves). moves r ss) (closed_list_is m);
       ends = ap (λ (t : MarkedMoves). ends_of_marks t) k.same ∙ k.ends;
@@ -147,15 +158,15 @@ pub now_ends : (r : Records) (m now : MadeLists) → IsMade r m → now ≡ clos
 now_ends r m now is same = subst (λ (t : MadeLists). RiseUpTo 0 (length t.list) t.ends) (sym same) (body_ends r m is)
 
 -- what is made is ready, where its moves are those that may be carried out, and a mark stands where there is a test
-pub made_ready : (r : Records) (m : MadeLists) (d : ReadyDeeds) (own : Deeds Past) → IsReadied r m d → ((on : FlowSupport) → IsFrontOf m on → made_deeds r on m ≡ own)
+pub made_ready : (r : Records) (m : MadeLists) (d : ReadyDeeds) (own : Deeds Test) → IsReadied r m d → ((on : FlowSupport) → IsFrontOf m on → made_deeds r on m ≡ own)
     → moves r m.list ≡ moves_of_deeds own → (IsStraight own → m.ends ≡ []) → (deeds_of r d ≡ own) × AreReady r d
 made_ready r m d own is comes whole straight =
     let same : deeds_of r d ≡ own = is.comes own comes in (
       same,
       record {
         prepared = is.prepared;
-        all = ap (λ (k : Deeds Past). moves_of_deeds k) same ∙ sym whole ∙ sym is.moves;
-        together = λ s. omega (arith, ap length is.ends, few_marks m (straight (subst (λ (k : Deeds Past). IsStraight k) same s)));
+        all = ap (λ (k : Deeds Test). moves_of_deeds k) same ∙ sym whole ∙ sym is.moves;
+        together = λ s. omega (arith, ap length is.ends, few_marks m (straight (subst (λ (k : Deeds Test). IsStraight k) same s)));
       },
     )
   where
@@ -195,6 +206,6 @@ pub tested_ready : (e : Entries) (body : List Lexeme) (m : MadeLists) (d : Ready
 tested_ready e body m d h bounded adds is =
     let a = adds h.passage h.says in
     let k = made_ready (records_of e) m d a.deeds is a.added a.whole a.straight in (
-      subst (λ (t : Deeds Past). SaysDeeds e body t) (sym k.0) (record { judged = h; bounded = bounded; many = a.many; comes = a.are; few = λ none many first. omega (arith, a.few (omega arith) many first) }),
+      subst (λ (t : Deeds Test). SaysDeeds e body t) (sym k.0) (record { judged = h; bounded = bounded; many = a.many; comes = a.are; few = λ none many first. omega (arith, a.few (omega arith) many first) }),
       k.1,
     )

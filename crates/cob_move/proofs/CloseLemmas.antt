@@ -14,10 +14,11 @@ use Rattle.cob_move_deeds.specs.declared.flow.Flow.{Flow}
 use Rattle.cob_move_deeds.specs.declared.flow.Flow.TheVariants as flow
 use Rattle.cob_move_deeds.specs.Deeds.{Deeds, Moving, Nothing, both_deeds}
 use Rattle.cob_move_deeds.specs.Flows.{AreFlows, FlowSupport, IsFlow}
-use Rattle.cob_move_deeds.specs.Tests.{Past}
+use Rattle.cob_move_deeds.specs.Tests.{Test}
 use Rattle.cob_move.specs.DeedsRead.{HasGrown, IsFrontOf, IsMade, MadeLists, all_deeds, closed, closed_where, last_marked, made_deeds, marked_behind, open_deeds, open_statements, without_flows}
 use Rattle.cob_move.proofs.DeedsLemmas.{either_side}
-use Rattle.cob_move.proofs.FlowLemmas.{both_flows, both_nothing, flows_both}
+use Rattle.cob_move.proofs.FlowLemmas.{both_flows, both_nothing}
+use Rattle.cob_move_deeds.proofs.AppendLemmas.{are_flows_behind}
 use Rattle.cob_move.proofs.MadeLemmas.{front_back, grown_none}
 
 -- ---- marks
@@ -110,6 +111,15 @@ open_where false m e = ap (λ (n : ℕ). drop n m.list) (last_of 0 (length m.lis
 pub closed_open : (m : MadeLists) → open_statements (closed m) ≡ []
 closed_open m = open_where (nat_eq (length m.list) (last_marked 0 m.ends)) m refl
 
+one_flow : (m : MadeLists) (on : FlowSupport) → IsFrontOf (marked_behind m) on → AreFlows on (flow.Moves (length m.ends) ∷ [])
+one_flow m on f =
+    let size : length (map statement_of on.moves.marks.items) ≡ length (0 ∷ ((m.ends ++ length m.list ∷ []) ++ f.marks.0)) = ap length f.marks.1 in
+    record { each = (omega (arith, size, sizes on.moves.marks.items, length-append (m.ends ++ length m.list ∷ []) f.marks.0, length-append m.ends (length m.list ∷ [])), tt); nested = refl }
+  where
+    sizes : (marks : List Mark) → length (map statement_of marks) ≡ length marks
+    sizes [] = refl
+    sizes (m ∷ marks) = omega (arith, sizes marks)
+
 deeds_where : (b : Bool) (r : Records) (m : MadeLists) → b ≡ nat_eq (length m.list) (last_marked 0 m.ends) → IsMade r m → (on : FlowSupport) → IsFrontOf (closed_where b m) on
     → all_deeds r on (closed_where b m).flows ≡ made_deeds r on m
 deeds_where true r m e is on f =
@@ -118,9 +128,9 @@ deeds_where true r m e is on f =
 deeds_where false r m e is on f =
     let some : 0 < length (open_statements m) =
     omega (arith, drop_more (last_marked 0 m.ends) m.list is.behind, is.behind, less (length m.list) (last_marked 0 m.ends) (equal_not (length m.list) (last_marked 0 m.ends) (sym e)) is.behind) in
-    both_flows r on m.flows (flow.Moves (length m.ends) ∷ []) (is.flows on (front_back m (marked_behind m) on (marked_grown m) f))
+    both_flows r on m.flows (flow.Moves (length m.ends) ∷ []) (is.flows on (front_back m (marked_behind m) on (marked_grown m) f)) (one_flow m on f)
     ∙ ap (λ (ms : List Move). both_deeds (all_deeds r on m.flows) (Moving ms Nothing)) (marked_moves r m on is.behind f)
-    ∙ ap (λ (d : Deeds Past). both_deeds (all_deeds r on m.flows) d) (sym (some_open r (open_statements m) some))
+    ∙ ap (λ (d : Deeds Test). both_deeds (all_deeds r on m.flows) d) (sym (some_open r (open_statements m) some))
   where
     less : (a b : ℕ) → (a ≡ b → ⊥) → b ≤ a → b < a
     less a b not le = elim (either_side b a) [
@@ -131,18 +141,9 @@ deeds_where false r m e is on f =
 pub closed_deeds : (r : Records) (m : MadeLists) → IsMade r m → (on : FlowSupport) → IsFrontOf (closed m) on → all_deeds r on (closed m).flows ≡ made_deeds r on m
 closed_deeds r m is on f = deeds_where (nat_eq (length m.list) (last_marked 0 m.ends)) r m refl is on f
 
-one_flow : (m : MadeLists) (on : FlowSupport) → IsFrontOf (marked_behind m) on → AreFlows on (flow.Moves (length m.ends) ∷ [])
-one_flow m on f =
-    let size : length (map statement_of on.moves.marks.items) ≡ length (0 ∷ ((m.ends ++ length m.list ∷ []) ++ f.marks.0)) = ap length f.marks.1 in
-    record { each = (omega (arith, size, sizes on.moves.marks.items, length-append (m.ends ++ length m.list ∷ []) f.marks.0, length-append m.ends (length m.list ∷ [])), tt); nested = refl }
-  where
-    sizes : (marks : List Mark) → length (map statement_of marks) ≡ length marks
-    sizes [] = refl
-    sizes (m ∷ marks) = omega (arith, sizes marks)
-
 flows_where : (b : Bool) (r : Records) (m : MadeLists) → IsMade r m → (on : FlowSupport) → IsFrontOf (closed_where b m) on → AreFlows on (closed_where b m).flows
 flows_where true r m is on f = is.flows on f
-flows_where false r m is on f = flows_both on m.flows (flow.Moves (length m.ends) ∷ []) (is.flows on (front_back m (marked_behind m) on (marked_grown m) f)) (one_flow m on f)
+flows_where false r m is on f = are_flows_behind on m.flows (flow.Moves (length m.ends) ∷ []) (is.flows on (front_back m (marked_behind m) on (marked_grown m) f)) (one_flow m on f)
 
 pub closed_flows : (r : Records) (m : MadeLists) → IsMade r m → (on : FlowSupport) → IsFrontOf (closed m) on → AreFlows on (closed m).flows
 closed_flows r m is on f = flows_where (nat_eq (length m.list) (last_marked 0 m.ends)) r m is on f

@@ -12,7 +12,7 @@ use Rattle.cob_move_data.specs.declared.operands.Side.{Side}
 use Rattle.cob_move_data.specs.Moves.{Move}
 use Rattle.cob_move_deeds.specs.Deeds.{Choice, Deeds, Nothing, both_deeds}
 use Rattle.cob_move.specs.Joined.{before_deeds, joined_deeds}
-use Rattle.cob_move_deeds.specs.Tests.{IsBoundItem, Past, with_number}
+use Rattle.cob_move_deeds.specs.Tests.{IsBoundItem, Past, Test, Until, with_number}
 use Rattle.cob_move_deeds.specs.Turns.{turns_from}
 use Rattle.cob_move_loops.specs.Passages.{ALoop, Moves, NoMore, Passage, Pause, ToItem, ToNumber, WrittenBound, WrittenLoop}
 use Rattle.cob_move_loops.specs.Turns.{Counted, counter_at, in_turn, turns_between}
@@ -97,8 +97,8 @@ bound_one reference named all ws t s p q =
     named all q.reference t.side s.side t.bound s.bound (subst (λ (w : WrittenReference). NamesOperand all w t.side t.bound) same p.named) q.named
 
 -- a turn comes to one thing
-abbrev OneTurn : (ℕ → Deeds Past → ℕ → Type 0) → Type 0
-OneTurn meant = (i : ℕ) (d e : Deeds Past) (m n : ℕ) → meant i d m → meant i e n → (d ≡ e) × (m ≡ n)
+abbrev OneTurn : (ℕ → Deeds Test → ℕ → Type 0) → Type 0
+OneTurn meant = (i : ℕ) (d e : Deeds Test) (m n : ℕ) → meant i d m → meant i e n → (d ≡ e) × (m ≡ n)
 
 most_one : (from m n : ℕ) (meant : ℕ → Type 0) → from ≤ m → from ≤ n → ((i : ℕ) → from ≤ i → i ≤ m → meant i) → (meant (m + 1) → ⊥) → ((i : ℕ) → from ≤ i → i ≤ n → meant i) → (meant (n + 1) → ⊥) → m ≡ n
 most_one from m n meant p q all none lla enon = elim (either_side m n) [
@@ -109,8 +109,8 @@ most_one from m n meant p q all none lla enon = elim (either_side m n) [
   ]
 ]
 
-loop_one : OneReference → OneNamed → (all : List Candidate) (ns : List Counted) (l : WrittenLoop) (b : WrittenBound) (meant : ℕ → Deeds Past → ℕ → Type 0) → OneTurn meant
-    → (f g : ℕ → Deeds Past) (count other : ℕ → ℕ) (d e : Deeds Past) (m n : ℕ) → IsLoopOf all ns l b meant f count d m → IsLoopOf all ns l b meant g other e n → (d ≡ e) × (m ≡ n)
+loop_one : OneReference → OneNamed → (all : List Candidate) (ns : List Counted) (l : WrittenLoop) (b : WrittenBound) (meant : ℕ → Deeds Test → ℕ → Type 0) → OneTurn meant
+    → (f g : ℕ → Deeds Test) (count other : ℕ → ℕ) (d e : Deeds Test) (m n : ℕ) → IsLoopOf all ns l b meant f count d m → IsLoopOf all ns l b meant g other e n → (d ≡ e) × (m ≡ n)
 loop_one reference named all ns l (ToNumber bound) meant one f g count other d e m n (are, d_is, m_is) (era, e_is, n_is) =
     let turn : (k : ℕ) → k < turns_between l.from l.by bound → (f (l.from + k * l.by) ≡ g (l.from + k * l.by)) × (count (l.from + k * l.by) ≡ other (l.from + k * l.by)) =
     λ k less. one (l.from + k * l.by) (f (l.from + k * l.by)) (g (l.from + k * l.by)) (count (l.from + k * l.by)) (other (l.from + k * l.by)) (are k less) (era k less) in (
@@ -119,26 +119,26 @@ loop_one reference named all ns l (ToNumber bound) meant one f g count other d e
     )
 loop_one reference named all ns l (ToItem ws) meant one f g count other d e m n (t, is, first, last, are, none, d_is, m_is) (s, si, tsrif, tsal, era, enon, e_is, n_is) =
     let same = bound_one reference named all (in_turn ns false 0 ws) t s is si in
-    let most : t.most ≡ s.most = most_one l.from t.most s.most (λ i. (k : Deeds Past) × (c : ℕ) × meant i k c) first tsrif
+    let most : t.most ≡ s.most = most_one l.from t.most s.most (λ i. (k : Deeds Test) × (c : ℕ) × meant i k c) first tsrif
     (λ i low high. (f i, count i, are i low high)) (λ (k, c, x). none k c x) (λ i low high. (g i, other i, era i low high)) (λ (k, c, x). enon k c x) in
     let turn : (i : ℕ) → l.from ≤ i → i ≤ t.most → (f i ≡ g i) × (count i ≡ other i) =
     λ i low within. one i (f i) (g i) (count i) (other i) (are i low within) (era i low (omega (arith, within, most))) in
     let tests : with_number t ≡ with_number s = λ j i. record { number = i; most = most j; side = same.0 j; bound = same.1 j } in (
-      d_is ∙ tested_same (with_number t) f g l.by (turns_between l.from l.by t.most) l.from
+      d_is ∙ tested_same (λ j. Until (with_number t j)) f g l.by (turns_between l.from l.by t.most) l.from
           (λ k less. (turn (l.from + k * l.by) (omega arith) (turn_within l.from l.by t.most k first less)).0)
-          ∙ ap (λ (u : ℕ → Past). turns_from u g l.by (turns_between l.from l.by t.most) l.from) tests
-          ∙ ap (λ (k : ℕ). turns_from (with_number s) g l.by (turns_between l.from l.by k) l.from) most ∙ sym e_is,
+          ∙ ap (λ (u : ℕ → Past). turns_from (λ j. Until (u j)) g l.by (turns_between l.from l.by t.most) l.from) tests
+          ∙ ap (λ (k : ℕ). turns_from (λ j. Until (with_number s j)) g l.by (turns_between l.from l.by k) l.from) most ∙ sym e_is,
       m_is ∙ counted_same count other 1 (t.most + 1 - l.from) l.from (λ k less. (turn (l.from + k * 1) (omega arith) (omega (arith, less))).1)
           ∙ ap (λ (k : ℕ). count_of_turns other 1 (k + 1 - l.from) l.from) most ∙ sym n_is,
     )
 
-pub deeds_one : OneListOfEnded → OneMeant → OneReference → OneNamed → (all : List Candidate) (input output : Forest Resolved) (ns : List Counted) (p : Passage) (d e : Deeds Past) (m n : ℕ)
+pub deeds_one : OneListOfEnded → OneMeant → OneReference → OneNamed → (all : List Candidate) (input output : Forest Resolved) (ns : List Counted) (p : Passage) (d e : Deeds Test) (m n : ℕ)
     → AreDeeds all input output ns p d m → AreDeeds all input output ns p e n → (d ≡ e) × (m ≡ n)
 deeds_one ended meant reference named all input output ns NoMore d e m n p q = (p.0 ∙ sym q.0, p.1 ∙ sym q.1)
 deeds_one ended meant reference named all input output ns (Moves own more) d e m n (ms, next, count, rest, run, are, d_is, m_is) (sm, txen, tnuoc, tser, nur, era, e_is, n_is) =
     let first = run_one ended meant input output (in_turn ns false 0 own) ms sm count tnuoc run nur in
     let behind = deeds_one ended meant reference named all input output ns more next txen rest tser are era in (
-      d_is ∙ ap (λ (t : List Move). before_deeds t next) first.0 ∙ ap (λ (k : Deeds Past). before_deeds sm k) behind.0 ∙ sym e_is,
+      d_is ∙ ap (λ (t : List Move). before_deeds t next) first.0 ∙ ap (λ (k : Deeds Test). before_deeds sm k) behind.0 ∙ sym e_is,
       m_is ∙ ap (λ (k : ℕ). k + rest) first.1 ∙ ap (λ (k : ℕ). tnuoc + k) behind.1 ∙ sym n_is,
     )
 deeds_one ended meant reference named all input output ns (Pause more) d e m n p q = deeds_one ended meant reference named all input output ns more d e m n p q
@@ -146,7 +146,7 @@ deeds_one ended meant reference named all input output ns (ALoop l body more) d 
     let turns = loop_one reference named all ns l l.bound (λ i k c. AreDeeds all input output (ns ++ counter_at l i ∷ []) body k c)
     (λ i a b x y p q. deeds_one ended meant reference named all input output (ns ++ counter_at l i ∷ []) body a b x y p q) f g count other own nwo turned denrut loop pool in
     let behind = deeds_one ended meant reference named all input output ns more next txen rest tser are era in (
-      d_is ∙ ap (λ (k : Deeds Past). joined_deeds k next) turns.0 ∙ ap (λ (k : Deeds Past). joined_deeds nwo k) behind.0 ∙ sym e_is,
+      d_is ∙ ap (λ (k : Deeds Test). joined_deeds k next) turns.0 ∙ ap (λ (k : Deeds Test). joined_deeds nwo k) behind.0 ∙ sym e_is,
       m_is ∙ ap (λ (k : ℕ). k + rest) turns.1 ∙ ap (λ (k : ℕ). denrut + k) behind.1 ∙ sym n_is,
     )
 
@@ -180,9 +180,9 @@ bound_refused reference named none rule.TooLong all ws t is refused = refused
 bound_refused reference named none rule.TooMany all ws t is refused = refused
 bound_refused reference named none rule.Memory all ws t is refused = refused
 
-loop_refused : OneReference → OneNamed → NamedBreakNoRule → (f : MoveFault) (all : List Candidate) (ns : List Counted) (l : WrittenLoop) (b : WrittenBound) (meant : ℕ → Deeds Past → ℕ → Type 0) (refused : ℕ → Type 0)
-    → ((i : ℕ) (d : Deeds Past) (c : ℕ) → meant i d c → refused i → f.rule ≡ rule.Memory) → (g : ℕ → Deeds Past) (count : ℕ → ℕ) (d : Deeds Past) (m : ℕ)
-    → IsLoopOf all ns l b meant g count d m → IsLoopRefused f all ns l b refused (λ i. (k : Deeds Past) × (c : ℕ) × meant i k c) → f.rule ≡ rule.Memory
+loop_refused : OneReference → OneNamed → NamedBreakNoRule → (f : MoveFault) (all : List Candidate) (ns : List Counted) (l : WrittenLoop) (b : WrittenBound) (meant : ℕ → Deeds Test → ℕ → Type 0) (refused : ℕ → Type 0)
+    → ((i : ℕ) (d : Deeds Test) (c : ℕ) → meant i d c → refused i → f.rule ≡ rule.Memory) → (g : ℕ → Deeds Test) (count : ℕ → ℕ) (d : Deeds Test) (m : ℕ)
+    → IsLoopOf all ns l b meant g count d m → IsLoopRefused f all ns l b refused (λ i. (k : Deeds Test) × (c : ℕ) × meant i k c) → f.rule ≡ rule.Memory
 loop_refused reference named none f all ns l (ToNumber n) meant refused never g count d m (are, d_is, m_is) (k, less, is) =
     never (l.from + k * l.by) (g (l.from + k * l.by)) (count (l.from + k * l.by)) (are k less) is
 loop_refused reference named none f all ns l (ToItem ws) meant refused never g count d m (t, is, first, last, are, end, d_is, m_is) (inl bound) =
@@ -193,7 +193,7 @@ loop_refused reference named none f all ns l (ToItem ws) meant refused never g c
     let (k, c, behind) = all_are (t.most + 1) (omega (arith, first)) (omega (arith, last)) in
     absurd (end k c behind)
 
-pub deeds_unrefused : OneListOfEnded → MeantBreakNoRule → OneReference → OneNamed → NamedBreakNoRule → (f : MoveFault) (input output : Forest Resolved) (ns : List Counted) (p : Passage) (d : Deeds Past) (m : ℕ)
+pub deeds_unrefused : OneListOfEnded → MeantBreakNoRule → OneReference → OneNamed → NamedBreakNoRule → (f : MoveFault) (input output : Forest Resolved) (ns : List Counted) (p : Passage) (d : Deeds Test) (m : ℕ)
     → AreDeeds (all_entries input output) input output ns p d m → IsTurnRefused f (all_entries input output) input output ns p → f.rule ≡ rule.Memory
 deeds_unrefused ended unbroken reference named none f input output ns NoMore d m are refused = absurd refused
 deeds_unrefused ended unbroken reference named none f input output ns (Moves own more) d m (ms, next, count, rest, run, are, d_is, m_is) (inl broken) =

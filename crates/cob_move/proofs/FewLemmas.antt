@@ -4,7 +4,7 @@ use Rattle.std.proofs.Math.Nat.{suc-mul}
 use Rattle.cob_limits.specs.Limits.{longest_record, most_written_out}
 use Rattle.cob_source.specs.Tokens.{Lexeme}
 use Rattle.cob_move_deeds.specs.Deeds.{Deeds, Moving, Nothing}
-use Rattle.cob_move_deeds.specs.Tests.{Past}
+use Rattle.cob_move_deeds.specs.Tests.{Test}
 use Rattle.cob_move_loops.specs.Bounded.{AreBounded}
 use Rattle.cob_move_loops.specs.Few.{statements_of}
 use Rattle.cob_move_loops.specs.Passages.{ALoop, APause, ARun, IsPassage, Looped, Moves, NoMore, Passage, PassageFront, Pause, ToItem, ToNumber, WrittenBound, WrittenLoop}
@@ -32,13 +32,13 @@ use Rattle.cob_move.proofs.DeedsLemmas.{bound_refused, counted_same, either_side
 
 -- ---- what stands in front, and the others
 
-pub comes_joined : (e : Entries) (ns : List Counted) (f : PassageFront) (body others : Passage) (own d : Deeds Past) (count m : ℕ) → FrontComesTo e ns f body own count → PassageComesTo e ns others d m
+pub comes_joined : (e : Entries) (ns : List Counted) (f : PassageFront) (body others : Passage) (own d : Deeds Test) (count m : ℕ) → FrontComesTo e ns f body own count → PassageComesTo e ns others d m
     → PassageComesTo e ns (joined f body others) (joined_deeds own d) (count + m)
 comes_joined e ns (ARun ws) body others own d count m (ms, meant, e_is) is =
-    (ms, d, count, m, meant, is, ap (λ (k : Deeds Past). joined_deeds k d) e_is, refl)
+    (ms, d, count, m, meant, is, ap (λ (k : Deeds Test). joined_deeds k d) e_is, refl)
 comes_joined e ns APause body others own d count m (e_is, none) is =
     subst (λ (n : ℕ). PassageComesTo e ns others (joined_deeds own d) n) (omega (arith, none))
-    (subst (λ (k : Deeds Past). PassageComesTo e ns others (joined_deeds k d) m) (sym e_is) is)
+    (subst (λ (k : Deeds Test). PassageComesTo e ns others (joined_deeds k d) m) (sym e_is) is)
 comes_joined e ns (Looped l ws) body others own d count m (f, counted, loop) is = (f, counted, own, d, count, m, loop, is, refl, refl)
 
 pub refused_joined : (g : MoveFault) (e : Entries) (ns : List Counted) (f : PassageFront) (body others : Passage) → FrontIsRefused g e ns f body → IsRefusedIn g e ns (joined f body others)
@@ -48,24 +48,24 @@ refused_joined g e ns (Looped l ws) body others refused = inl refused
 
 -- ---- what comes to something does so once
 
-pub count_one : OneDeeds → (e : Entries) (ns : List Counted) (p : Passage) (d k : Deeds Past) (m n : ℕ) → PassageComesTo e ns p d m → PassageComesTo e ns p k n → m ≡ n
+pub count_one : OneDeeds → (e : Entries) (ns : List Counted) (p : Passage) (d k : Deeds Test) (m n : ℕ) → PassageComesTo e ns p d m → PassageComesTo e ns p k n → m ≡ n
 count_one law e ns p d k m n x y = (law (nameable e) e.input.now e.output.now ns p d k m n x y).1
 
-front_count : OneDeeds → (e : Entries) (ns : List Counted) (f : PassageFront) (body : Passage) (d k : Deeds Past) (m n : ℕ) → FrontComesTo e ns f body d m → FrontComesTo e ns f body k n → m ≡ n
+front_count : OneDeeds → (e : Entries) (ns : List Counted) (f : PassageFront) (body : Passage) (d k : Deeds Test) (m n : ℕ) → FrontComesTo e ns f body d m → FrontComesTo e ns f body k n → m ≡ n
 front_count law e ns f body d k m n x y =
     let same : m + 0 ≡ n + 0 = count_one law e ns (joined f body NoMore) (joined_deeds d Nothing) (joined_deeds k Nothing) (m + 0) (n + 0)
     (comes_joined e ns f body NoMore d Nothing m 0 x (refl, refl)) (comes_joined e ns f body NoMore k Nothing n 0 y (refl, refl)) in
     omega (arith, same)
 
 -- what breaks a rule comes to nothing
-front_unbroken : DeedsBreakNoRule → (g : MoveFault) (e : Entries) (ns : List Counted) (f : PassageFront) (body : Passage) (d : Deeds Past) (m : ℕ) → AllMayBeNamed e → FrontComesTo e ns f body d m → FrontIsRefused g e ns f body
+front_unbroken : DeedsBreakNoRule → (g : MoveFault) (e : Entries) (ns : List Counted) (f : PassageFront) (body : Passage) (d : Deeds Test) (m : ℕ) → AllMayBeNamed e → FrontComesTo e ns f body d m → FrontIsRefused g e ns f body
     → g.rule ≡ rule.Memory
 front_unbroken law g e ns f body d m named comes refused =
     law g e.input.now e.output.now ns (joined f body NoMore) (joined_deeds d Nothing) (m + 0)
     (subst (λ (all : List Candidate). AreDeeds all e.input.now e.output.now ns (joined f body NoMore) (joined_deeds d Nothing) (m + 0)) named (comes_joined e ns f body NoMore d Nothing m 0 comes (refl, refl)))
     (subst (λ (all : List Candidate). IsTurnRefused g all e.input.now e.output.now ns (joined f body NoMore)) named (refused_joined g e ns f body NoMore refused))
 
-turn_unbroken : DeedsBreakNoRule → (g : MoveFault) (e : Entries) (ns : List Counted) (p : Passage) (d : Deeds Past) (m : ℕ) → AllMayBeNamed e → PassageComesTo e ns p d m → IsRefusedIn g e ns p → g.rule ≡ rule.Memory
+turn_unbroken : DeedsBreakNoRule → (g : MoveFault) (e : Entries) (ns : List Counted) (p : Passage) (d : Deeds Test) (m : ℕ) → AllMayBeNamed e → PassageComesTo e ns p d m → IsRefusedIn g e ns p → g.rule ≡ rule.Memory
 turn_unbroken law g e ns p d m named comes refused =
     law g e.input.now e.output.now ns p d m (subst (λ (all : List Candidate). AreDeeds all e.input.now e.output.now ns p d m) named comes)
     (subst (λ (all : List Candidate). IsTurnRefused g all e.input.now e.output.now ns p) named refused)
@@ -89,7 +89,7 @@ run_none_few one unbroken f e ns ws n named other refused fits many (ms, run) =
 -- so many come first in what stands in front, or behind it
 abbrev FirstParts : Entries → List Counted → PassageFront → (body others : Passage) → ℕ → Type 0
 FirstParts e ns f body others m =
-    (m ≡ 0) ⊎ (FirstInFront e ns f body m ⊎ ((d : Deeds Past) × (c k : ℕ) × FrontComesTo e ns f body d c × FirstIn e ns others k × (m ≡ c + k)))
+    (m ≡ 0) ⊎ (FirstInFront e ns f body m ⊎ ((d : Deeds Test) × (c k : ℕ) × FrontComesTo e ns f body d c × FirstIn e ns others k × (m ≡ c + k)))
 
 first_parts : (e : Entries) (ns : List Counted) (f : PassageFront) (body others : Passage) (m : ℕ) → FirstIn e ns (joined f body others) m → FirstParts e ns f body others m
 first_parts e ns (ARun ws) body others m (inl none) = inl none
@@ -107,7 +107,7 @@ LeftFew e ns p q old now =
 pub left_few_first : (e : Entries) (ns : List Counted) (p : Passage) (n : ℕ) → LeftFew e ns p p n n
 left_few_first e ns p n le = (le, λ many first. inr (many, first, refl))
 
-pub left_few_more : OneDeeds → (e : Entries) (ns : List Counted) (p q : Passage) (f : PassageFront) (body others : Passage) (old now after : ℕ) (d : Deeds Past) (c : ℕ) → q ≡ joined f body others
+pub left_few_more : OneDeeds → (e : Entries) (ns : List Counted) (p q : Passage) (f : PassageFront) (body others : Passage) (old now after : ℕ) (d : Deeds Test) (c : ℕ) → q ≡ joined f body others
     → FrontComesTo e ns f body d c → after ≡ now + c → (now ≤ most_written_out → after ≤ most_written_out) → FewWith (λ many. FirstInFront e ns f body many) now → LeftFew e ns p q old now → LeftFew e ns p others old after
 left_few_more law e ns p q f body others old now after d c same comes size fits few left le =
     let (within, so) = left le in (
@@ -148,8 +148,8 @@ left_few_refused law g e ns p q f body others old now named other same refused f
 -- ---- loops to a number
 
 -- turns come to as many statements as they are counted for
-counts_are : OneDeeds → (e : Entries) (ns : List Counted) (l : WrittenLoop) (p : Passage) (count : ℕ → ℕ) (n i : ℕ) (d : Deeds Past) (m : ℕ) → AreTurnsMeant (λ j k c. TurnComesTo e ns l p j k c) l.by n i d m
-    → ((j : ℕ) → j < n → (k : Deeds Past) × PassageComesTo e (in_its_turn ns l (i + j * l.by)) p k (count (i + j * l.by))) → count_of_turns count l.by n i ≡ m
+counts_are : OneDeeds → (e : Entries) (ns : List Counted) (l : WrittenLoop) (p : Passage) (count : ℕ → ℕ) (n i : ℕ) (d : Deeds Test) (m : ℕ) → AreTurnsMeant (λ j k c. TurnComesTo e ns l p j k c) l.by n i d m
+    → ((j : ℕ) → j < n → (k : Deeds Test) × PassageComesTo e (in_its_turn ns l (i + j * l.by)) p k (count (i + j * l.by))) → count_of_turns count l.by n i ≡ m
 counts_are law e ns l p count zero i d m (d_is, none) each = sym none
 counts_are law e ns l p count (suc n) i d m (own, next, c, rest, is, are, d_is, m_is) each =
     let here : i + 0 * l.by ≡ i = omega arith in
@@ -158,20 +158,20 @@ counts_are law e ns l p count (suc n) i d m (own, next, c, rest, is, are, d_is, 
     (subst (λ (j : ℕ). PassageComesTo e (in_its_turn ns l j) p k (count j)) here first) is in
     let later : (j : ℕ) → i + suc j * l.by ≡ i + l.by + j * l.by = λ j. omega (arith, suc-mul j l.by) in
     let others = counts_are law e ns l p count n (i + l.by) next rest are
-    (λ j less. subst (λ (t : ℕ). (u : Deeds Past) × PassageComesTo e (in_its_turn ns l t) p u (count t)) (later j) (each (suc j) (omega (arith, less)))) in
+    (λ j less. subst (λ (t : ℕ). (u : Deeds Test) × PassageComesTo e (in_its_turn ns l t) p u (count t)) (later j) (each (suc j) (omega (arith, less)))) in
     omega (arith, same, others, m_is)
 
 pub turns_few_begin : (e : Entries) (ns : List Counted) (l : WrittenLoop) (p : Passage) (n : ℕ) → FewWith (λ many. FirstInTurns e ns l p 0 many) n
 turns_few_begin e ns l p n fits many (k, own, count, less, whole, part, is) = absurd (omega (arith, less))
 
-pub turns_few_next : OneDeeds → (e : Entries) (ns : List Counted) (l : WrittenLoop) (p : Passage) (done number old now : ℕ) (d : Deeds Past) (m : ℕ) → number ≡ l.from + done * l.by → now ≡ old + m
+pub turns_few_next : OneDeeds → (e : Entries) (ns : List Counted) (l : WrittenLoop) (p : Passage) (done number old now : ℕ) (d : Deeds Test) (m : ℕ) → number ≡ l.from + done * l.by → now ≡ old + m
     → (old ≤ most_written_out → now ≤ most_written_out) → AreTurnsMeant (λ j k c. TurnComesTo e ns l p j k c) l.by done l.from d m → FewWith (λ many. FirstIn e (in_its_turn ns l number) p many) now
     → FewWith (λ many. FirstInTurns e ns l p done many) old → FewWith (λ many. FirstInTurns e ns l p (done + 1) many) old
 turns_few_next law e ns l p done number old now d m at size fits are few before le many (k, own, count, less, whole, part, is) = elim (either_side k done) [
   | inl first ↦ before le many (k, own, count, first, whole, part, is)
   | inr above ↦
       let same : k ≡ done = omega (arith, above, less) in
-      let each : (j : ℕ) → j < done → (u : Deeds Past) × PassageComesTo e (in_its_turn ns l (l.from + j * l.by)) p u (count (l.from + j * l.by)) = λ j lt. whole j (omega (arith, lt, same)) in
+      let each : (j : ℕ) → j < done → (u : Deeds Test) × PassageComesTo e (in_its_turn ns l (l.from + j * l.by)) p u (count (l.from + j * l.by)) = λ j lt. whole j (omega (arith, lt, same)) in
       let counted : count_of_turns count l.by done l.from ≡ m = counts_are law e ns l p count done l.from d m are each in
       let here : l.from + k * l.by ≡ number = ap (λ (t : ℕ). l.from + t * l.by) same ∙ sym at in
       let within = few (fits le) own (subst (λ (t : ℕ). FirstIn e (in_its_turn ns l t) p own) here part) in
@@ -185,11 +185,11 @@ turns_few_end e ns l p n done old bound all few le many first =
     few le many (k, own, count, subst (λ (t : ℕ). k < t) (sym all) less, whole, part, is)
   where
     first_to_number : (e : Entries) (ns : List Counted) (l : WrittenLoop) (p : Passage) (b : WrittenBound) (n many : ℕ) → b ≡ ToNumber n
-        → ComeFirstInLoop (nameable e) ns l b (λ i c. (d : Deeds Past) × PassageComesTo e (in_its_turn ns l i) p d c) (λ i c. FirstIn e (in_its_turn ns l i) p c) many → FirstInTurns e ns l p (turns_between l.from l.by n) many
+        → ComeFirstInLoop (nameable e) ns l b (λ i c. (d : Deeds Test) × PassageComesTo e (in_its_turn ns l i) p d c) (λ i c. FirstIn e (in_its_turn ns l i) p c) many → FirstInTurns e ns l p (turns_between l.from l.by n) many
     first_to_number e ns l p b n many bound first =
-        subst (λ (t : WrittenBound). ComeFirstInLoop (nameable e) ns l t (λ i c. (d : Deeds Past) × PassageComesTo e (in_its_turn ns l i) p d c) (λ i c. FirstIn e (in_its_turn ns l i) p c) many) bound first
+        subst (λ (t : WrittenBound). ComeFirstInLoop (nameable e) ns l t (λ i c. (d : Deeds Test) × PassageComesTo e (in_its_turn ns l i) p d c) (λ i c. FirstIn e (in_its_turn ns l i) p c) many) bound first
 
-pub turns_few_refused : OneDeeds → DeedsBreakNoRule → (f : MoveFault) (e : Entries) (ns : List Counted) (l : WrittenLoop) (p : Passage) (n done number old now : ℕ) (d : Deeds Past) (m : ℕ) → AllMayBeNamed e → ((f.rule ≡ rule.Memory) → ⊥)
+pub turns_few_refused : OneDeeds → DeedsBreakNoRule → (f : MoveFault) (e : Entries) (ns : List Counted) (l : WrittenLoop) (p : Passage) (n done number old now : ℕ) (d : Deeds Test) (m : ℕ) → AllMayBeNamed e → ((f.rule ≡ rule.Memory) → ⊥)
     → number ≡ l.from + done * l.by → now ≡ old + m → (old ≤ most_written_out → now ≤ most_written_out) → AreTurnsMeant (λ j k c. TurnComesTo e ns l p j k c) l.by done l.from d m
     → IsRefusedIn f e (in_its_turn ns l number) p → FewWith (λ many. FirstIn e (in_its_turn ns l number) p many) now → FewWith (λ many. FirstInTurns e ns l p done many) old
     → FewWith (λ many. FirstInTurns e ns l p (turns_between l.from l.by n) many) old
@@ -211,9 +211,9 @@ kept_below from by (suc kept) behind next k is less =
     omega (arith, is.at, is.last (omega arith), suc-mul kept by, few)
 
 -- turns that are read are counted as they come
-counts_read : OneDeeds → (e : Entries) (ns : List Counted) (l : WrittenLoop) (p : Passage) (count other : ℕ → ℕ) (f : ℕ → Deeds Past) (behind : ℕ)
+counts_read : OneDeeds → (e : Entries) (ns : List Counted) (l : WrittenLoop) (p : Passage) (count other : ℕ → ℕ) (f : ℕ → Deeds Test) (behind : ℕ)
     → ((i : ℕ) → l.from ≤ i → i < behind → PassageComesTo e (in_its_turn ns l i) p (f i) (other i))
-    → ((i : ℕ) → l.from ≤ i → i < behind → (d : Deeds Past) × PassageComesTo e (in_its_turn ns l i) p d (count i))
+    → ((i : ℕ) → l.from ≤ i → i < behind → (d : Deeds Test) × PassageComesTo e (in_its_turn ns l i) p d (count i))
     → count_of_turns count 1 (behind - l.from) l.from ≡ count_of_turns other 1 (behind - l.from) l.from
 counts_read law e ns l p count other f behind are whole =
     counted_same count other 1 (behind - l.from) l.from (λ k less.
@@ -226,7 +226,7 @@ pub below_few_first : (e : Entries) (ns : List Counted) (l : WrittenLoop) (p : P
 below_few_first e ns l p n fits many (i, own, count, low, less, whole, part, is) = absurd (omega (arith, low, less))
 
 -- one number more
-pub below_few_next : OneDeeds → (e : Entries) (ns : List Counted) (l : WrittenLoop) (p : Passage) (behind old now : ℕ) (f : ℕ → Deeds Past) (other : ℕ → ℕ)
+pub below_few_next : OneDeeds → (e : Entries) (ns : List Counted) (l : WrittenLoop) (p : Passage) (behind old now : ℕ) (f : ℕ → Deeds Test) (other : ℕ → ℕ)
     → ((i : ℕ) → l.from ≤ i → i < behind → PassageComesTo e (in_its_turn ns l i) p (f i) (other i)) → now ≡ old + count_of_turns other 1 (behind - l.from) l.from
     → (old ≤ most_written_out → now ≤ most_written_out) → FewWith (λ many. FirstIn e (in_its_turn ns l behind) p many) now → FewWith (λ many. FirstBelow e ns l p behind many) old
     → FewWith (λ many. FirstBelow e ns l p (behind + 1) many) old
@@ -241,12 +241,12 @@ below_few_next law e ns l p behind old now f other are size fits few before le m
 ]
 
 first_to_item : (e : Entries) (ns : List Counted) (l : WrittenLoop) (p : Passage) (ws : List Lexeme) (many : ℕ) → l.bound ≡ ToItem ws → FirstInLoop e ns l p many
-    → ComeFirstInLoop (nameable e) ns l (ToItem ws) (λ i c. (d : Deeds Past) × PassageComesTo e (in_its_turn ns l i) p d c) (λ i c. FirstIn e (in_its_turn ns l i) p c) many
+    → ComeFirstInLoop (nameable e) ns l (ToItem ws) (λ i c. (d : Deeds Test) × PassageComesTo e (in_its_turn ns l i) p d c) (λ i c. FirstIn e (in_its_turn ns l i) p c) many
 first_to_item e ns l p ws many bound first =
-    subst (λ (t : WrittenBound). ComeFirstInLoop (nameable e) ns l t (λ i c. (d : Deeds Past) × PassageComesTo e (in_its_turn ns l i) p d c) (λ i c. FirstIn e (in_its_turn ns l i) p c) many) bound first
+    subst (λ (t : WrittenBound). ComeFirstInLoop (nameable e) ns l t (λ i c. (d : Deeds Test) × PassageComesTo e (in_its_turn ns l i) p d c) (λ i c. FirstIn e (in_its_turn ns l i) p c) many) bound first
 
 -- where the turn of a number has no meaning, no turn behind it comes first
-pub item_few : (e : Entries) (ns : List Counted) (l : WrittenLoop) (p : Passage) (ws : List Lexeme) (behind old : ℕ) → l.bound ≡ ToItem ws → l.from ≤ behind → ((d : Deeds Past) (c : ℕ) → PassageComesTo e (in_its_turn ns l behind) p d c → ⊥)
+pub item_few : (e : Entries) (ns : List Counted) (l : WrittenLoop) (p : Passage) (ws : List Lexeme) (behind old : ℕ) → l.bound ≡ ToItem ws → l.from ≤ behind → ((d : Deeds Test) (c : ℕ) → PassageComesTo e (in_its_turn ns l behind) p d c → ⊥)
     → FewWith (λ many. FirstBelow e ns l p (behind + 1) many) old → FewWith (λ many. FirstInLoop e ns l p many) old
 item_few e ns l p ws behind old bound from none few le many first =
     let (t, i, own, count, named, low, far, whole, part, is) = first_to_item e ns l p ws many bound first in

@@ -9,7 +9,7 @@ use Rattle.cob_copybook_tree.specs.Nodes.{Resolved}
 use Rattle.cob_move_apply.specs.Some.{SomeOf}
 use Rattle.cob_move_data.specs.Moves.{Move}
 use Rattle.cob_move_deeds.specs.Deeds.{Deeds, Moving, Nothing}
-use Rattle.cob_move_deeds.specs.Tests.{Past}
+use Rattle.cob_move_deeds.specs.Tests.{Test}
 use Rattle.cob_move_loops.specs.Bounded.{AreBounded, IsBounded}
 use Rattle.cob_move_loops.specs.Few.{loops_of}
 use Rattle.cob_move_loops.specs.Passages.{ALoop, IsHead, IsPassage, IsRun, Moves, NoMore, Passage, Pause, ToItem, ToNumber, WrittenBound, WrittenLoop}
@@ -61,34 +61,34 @@ head_adds l ws (varying, stepping, until, v, (begins, first, adds, step, from, o
 -- ---- moves that are done, of so many statements
 
 -- nothing is done where there is no statement; else the moves are
-abbrev pub AreDoneBy : ℕ → List Move → Deeds Past → Type 0
+abbrev pub AreDoneBy : ℕ → List Move → Deeds Test → Type 0
 AreDoneBy m ms d = ((m ≡ 0) × (d ≡ Nothing) × (ms ≡ [])) ⊎ ((0 < m) × (d ≡ Moving ms Nothing))
 
 none_done : AreDoneBy 0 [] Nothing
 none_done = inl (refl, refl, refl)
 
-done_both : (m n : ℕ) (ms ns : List Move) (d e : Deeds Past) → AreDoneBy m ms d → AreDoneBy n ns e → AreDoneBy (m + n) (ms ++ ns) (joined_deeds d e)
+done_both : (m n : ℕ) (ms ns : List Move) (d e : Deeds Test) → AreDoneBy m ms d → AreDoneBy n ns e → AreDoneBy (m + n) (ms ++ ns) (joined_deeds d e)
 done_both m n ms ns d e (inl (none, d_is, ms_is)) (inl (enon, e_is, ns_is)) = inl (
   omega (arith, none, enon),
-  ap (λ (k : Deeds Past). joined_deeds k e) d_is ∙ e_is,
+  ap (λ (k : Deeds Test). joined_deeds k e) d_is ∙ e_is,
   ap (λ (t : List Move). t ++ ns) ms_is ∙ ns_is,
 )
 done_both m n ms ns d e (inl (none, d_is, ms_is)) (inr (some, e_is)) = inr (
   omega (arith, none, some),
-  ap (λ (k : Deeds Past). joined_deeds k e) d_is ∙ e_is ∙ ap (λ (t : List Move). Moving (t ++ ns) Nothing) (sym ms_is),
+  ap (λ (k : Deeds Test). joined_deeds k e) d_is ∙ e_is ∙ ap (λ (t : List Move). Moving (t ++ ns) Nothing) (sym ms_is),
 )
 done_both m n ms ns d e (inr (some, d_is)) (inl (none, e_is, ns_is)) = inr (
   omega (arith, none, some),
-  ap (λ (k : Deeds Past). joined_deeds k e) d_is ∙ ap (λ (k : Deeds Past). before_deeds ms k) e_is
+  ap (λ (k : Deeds Test). joined_deeds k e) d_is ∙ ap (λ (k : Deeds Test). before_deeds ms k) e_is
       ∙ ap (λ (t : List Move). Moving t Nothing) (sym (append-nil ms)) ∙ ap (λ (t : List Move). Moving (ms ++ t) Nothing) (sym ns_is),
 )
 done_both m n ms ns d e (inr (some, d_is)) (inr (more, e_is)) = inr (
   omega (arith, some, more),
-  ap (λ (k : Deeds Past). joined_deeds k e) d_is ∙ ap (λ (k : Deeds Past). before_deeds ms k) e_is,
+  ap (λ (k : Deeds Test). joined_deeds k e) d_is ∙ ap (λ (k : Deeds Test). before_deeds ms k) e_is,
 )
 
-done_as : (m n : ℕ) (ms ns : List Move) (d e : Deeds Past) → m ≡ n → ms ≡ ns → d ≡ e → AreDoneBy m ms d → AreDoneBy n ns e
-done_as m n ms ns d e p q s h = subst (λ (k : ℕ). AreDoneBy k ns e) p (subst (λ (t : List Move). AreDoneBy m t e) q (subst (λ (k : Deeds Past). AreDoneBy m ms k) s h))
+done_as : (m n : ℕ) (ms ns : List Move) (d e : Deeds Test) → m ≡ n → ms ≡ ns → d ≡ e → AreDoneBy m ms d → AreDoneBy n ns e
+done_as m n ms ns d e p q s h = subst (λ (k : ℕ). AreDoneBy k ns e) p (subst (λ (t : List Move). AreDoneBy m t e) q (subst (λ (k : Deeds Test). AreDoneBy m ms k) s h))
 
 -- ---- what runs mean
 
@@ -172,10 +172,10 @@ alone_run input output ws ms ss is meant = record { statements = ss; spelled = (
 -- ---- what runs mean is done
 
 -- what is meant so, and does these moves, of so many statements
-abbrev pub Comes : (Deeds Past → ℕ → Type 0) → List Move → ℕ → Type 0
-Comes meant ms m = (d : Deeds Past) × meant d m × AreDoneBy m ms d
+abbrev pub Comes : (Deeds Test → ℕ → Type 0) → List Move → ℕ → Type 0
+Comes meant ms m = (d : Deeds Test) × meant d m × AreDoneBy m ms d
 
-turns_come : (meant : ℕ → Deeds Past → ℕ → Type 0) (g : ℕ → List (List Lexeme)) (input output : Forest Resolved) → ((i : ℕ) (ms : List Move) (m : ℕ) → RunsMean input output (g i) ms m → Comes (meant i) ms m)
+turns_come : (meant : ℕ → Deeds Test → ℕ → Type 0) (g : ℕ → List (List Lexeme)) (input output : Forest Resolved) → ((i : ℕ) (ms : List Move) (m : ℕ) → RunsMean input output (g i) ms m → Comes (meant i) ms m)
     → (by n i : ℕ) (ms : List Move) (m : ℕ) → RunsMean input output (turns g by n i) ms m → Comes (λ d c. AreTurnsMeant meant by n i d c) ms m
 turns_come meant g input output each by zero i ms m h =
     let (none, ms_is) = none_mean input output ms m h in
@@ -190,8 +190,8 @@ turns_come meant g input output each by (suc n) i ms m h =
           (done_both k.count k.rest k.first k.behind own next done all),
     )
 
-loop_comes : (all : List Candidate) (ns : List Counted) (l : WrittenLoop) (b : WrittenBound) (meant : ℕ → Deeds Past → ℕ → Type 0) (d : Deeds Past) (m : ℕ) → 0 < l.by → EndsByNumber b
-    → AreTurnsMeant meant l.by (turns_up_to l.from l.by b) l.from d m → (f : ℕ → Deeds Past) × (count : ℕ → ℕ) × IsLoopOf all ns l b meant f count d m
+loop_comes : (all : List Candidate) (ns : List Counted) (l : WrittenLoop) (b : WrittenBound) (meant : ℕ → Deeds Test → ℕ → Type 0) (d : Deeds Test) (m : ℕ) → 0 < l.by → EndsByNumber b
+    → AreTurnsMeant meant l.by (turns_up_to l.from l.by b) l.from d m → (f : ℕ → Deeds Test) × (count : ℕ → ℕ) × IsLoopOf all ns l b meant f count d m
 loop_comes all ns l (ToItem ws) meant d m some ends are = absurd ends
 loop_comes all ns l (ToNumber n) meant d m some ends are =
     let k = chosen meant l.by (turns_between l.from l.by n) l.from d m some are in
@@ -217,7 +217,7 @@ literal_comes input output ns (Moves own more) ws (rest, run, first, e, is) all 
 literal_comes input output ns (Pause more) ws (pause, stops, rest, word, are, e, is) all ms m h = literal_comes input output ns more rest is all ms m h
 literal_comes input output ns (ALoop l body more) ws (head, own, stops, rest, end, h, b, inner, word, are, e, is) all ms m g =
     let out : ℕ → List (List Lexeme) = λ i. words_by_turn (ns ++ counter_at l i ∷ []) body in
-    let meant : ℕ → Deeds Past → ℕ → Type 0 = λ i d c. AreDeeds (all_entries input output) input output (ns ++ counter_at l i ∷ []) body d c in
+    let meant : ℕ → Deeds Test → ℕ → Type 0 = λ i d c. AreDeeds (all_entries input output) input output (ns ++ counter_at l i ∷ []) body d c in
     let k = runs_parts input output (turns out l.by (turns_of l) l.from) (words_by_turn ns more) ms m g in
     let (d, turned, done) = turns_come meant out input output
     (λ i t c r. literal_comes input output (ns ++ counter_at l i ∷ []) body own inner (literal_within l body more all) t c r) l.by (turns_of l) l.from k.first k.count k.mean in
@@ -232,10 +232,10 @@ literal_comes input output ns (ALoop l body more) ws (head, own, stops, rest, en
 -- ---- and back
 
 -- runs mean moves, of so many statements, and these are done
-abbrev pub Means : Forest Resolved → Forest Resolved → List (List Lexeme) → Deeds Past → ℕ → Type 0
+abbrev pub Means : Forest Resolved → Forest Resolved → List (List Lexeme) → Deeds Test → ℕ → Type 0
 Means input output runs d m = (ms : List Move) × RunsMean input output runs ms m × AreDoneBy m ms d
 
-turns_mean : (g : ℕ → List (List Lexeme)) (input output : Forest Resolved) (f : ℕ → Deeds Past) (count : ℕ → ℕ) (by n i : ℕ)
+turns_mean : (g : ℕ → List (List Lexeme)) (input output : Forest Resolved) (f : ℕ → Deeds Test) (count : ℕ → ℕ) (by n i : ℕ)
     → ((k : ℕ) → k < n → Means input output (g (i + k * by)) (f (i + k * by)) (count (i + k * by)))
     → Means input output (turns g by n i) (deeds_of_turns f by n i) (count_of_turns count by n i)
 turns_mean g input output f count by zero i each = ([], runs_none input output, none_done)
@@ -250,15 +250,15 @@ turns_mean g input output f count by (suc n) i each =
       done_both (count i) (count_of_turns count by n (i + by)) ms ns (f i) (deeds_of_turns f by n (i + by)) done all,
     )
 
-means_as : (input output : Forest Resolved) (runs : List (List Lexeme)) (d e : Deeds Past) (m n : ℕ) → d ≡ e → m ≡ n → Means input output runs d m → Means input output runs e n
-means_as input output runs d e m n p q h = subst (λ (k : ℕ). Means input output runs e k) q (subst (λ (k : Deeds Past). Means input output runs k m) p h)
+means_as : (input output : Forest Resolved) (runs : List (List Lexeme)) (d e : Deeds Test) (m n : ℕ) → d ≡ e → m ≡ n → Means input output runs d m → Means input output runs e n
+means_as input output runs d e m n p q h = subst (λ (k : ℕ). Means input output runs e k) q (subst (λ (k : Deeds Test). Means input output runs k m) p h)
 
-means_both : (input output : Forest Resolved) (a b : List (List Lexeme)) (d e : Deeds Past) (m n : ℕ) → Means input output a d m → Means input output b e n → Means input output (a ++ b) (joined_deeds d e) (m + n)
+means_both : (input output : Forest Resolved) (a b : List (List Lexeme)) (d e : Deeds Test) (m n : ℕ) → Means input output a d m → Means input output b e n → Means input output (a ++ b) (joined_deeds d e) (m + n)
 means_both input output a b d e m n (ms, x, done) (ns, y, all) = (ms ++ ns, runs_both input output a b ms ns m n x y, done_both m n ms ns d e done all)
 
-loop_means : (all : List Candidate) (ns : List Counted) (l : WrittenLoop) (b : WrittenBound) (meant : ℕ → Deeds Past → ℕ → Type 0) (g : ℕ → List (List Lexeme)) (input output : Forest Resolved)
-    → EndsByNumber b → ((i : ℕ) (d : Deeds Past) (m : ℕ) → meant i d m → Means input output (g i) d m)
-    → (f : ℕ → Deeds Past) (count : ℕ → ℕ) (d : Deeds Past) (m : ℕ) → IsLoopOf all ns l b meant f count d m → Means input output (turns g l.by (turns_up_to l.from l.by b) l.from) d m
+loop_means : (all : List Candidate) (ns : List Counted) (l : WrittenLoop) (b : WrittenBound) (meant : ℕ → Deeds Test → ℕ → Type 0) (g : ℕ → List (List Lexeme)) (input output : Forest Resolved)
+    → EndsByNumber b → ((i : ℕ) (d : Deeds Test) (m : ℕ) → meant i d m → Means input output (g i) d m)
+    → (f : ℕ → Deeds Test) (count : ℕ → ℕ) (d : Deeds Test) (m : ℕ) → IsLoopOf all ns l b meant f count d m → Means input output (turns g l.by (turns_up_to l.from l.by b) l.from) d m
 loop_means all ns l (ToItem ws) meant g input output ends each f count d m is = absurd ends
 loop_means all ns l (ToNumber n) meant g input output ends each f count d m (are, d_is, m_is) =
     let whole = turns_mean g input output f count l.by (turns_between l.from l.by n) l.from
@@ -267,7 +267,7 @@ loop_means all ns l (ToNumber n) meant g input output ends each f count d m (are
     (count_of_turns count l.by (turns_between l.from l.by n) l.from) m (sym d_is) (sym m_is) whole
 
 -- what a passage comes to is what its runs mean once it is written out
-pub comes_literal : (input output : Forest Resolved) (ns : List Counted) (p : Passage) (ws : List Lexeme) → IsPassage p ws → IsLiteral p → (d : Deeds Past) (m : ℕ)
+pub comes_literal : (input output : Forest Resolved) (ns : List Counted) (p : Passage) (ws : List Lexeme) → IsPassage p ws → IsLiteral p → (d : Deeds Test) (m : ℕ)
     → AreDeeds (all_entries input output) input output ns p d m → Means input output (words_by_turn ns p) d m
 comes_literal input output ns NoMore ws says all d m (d_is, none) = means_as input output [] Nothing d 0 m (sym d_is) (sym none) ([], runs_none input output, none_done)
 comes_literal input output ns (Moves own more) ws (rest, run, first, e, is) all d m (ms, next, count, others, meant, are, d_is, m_is) =
@@ -326,7 +326,7 @@ runs_turn_refused f all input output ns (ALoop l body more) literal h =
     elim (some_parts (RunIsRefused f all input output) (turns out l.by (turns_of l) l.from) (words_by_turn ns more) h) [
       | inl here ↦
           inl (loop_refused_by f all ns l l.bound (λ i. IsTurnRefused f all input output (ns ++ counter_at l i ∷ []) body)
-          (λ i. (d : Deeds Past) × (c : ℕ) × AreDeeds all input output (ns ++ counter_at l i ∷ []) body d c) literal.0
+          (λ i. (d : Deeds Test) × (c : ℕ) × AreDeeds all input output (ns ++ counter_at l i ∷ []) body d c) literal.0
           (turns_refused (RunIsRefused f all input output) out (λ i. IsTurnRefused f all input output (ns ++ counter_at l i ∷ []) body)
           (λ i x. runs_turn_refused f all input output (ns ++ counter_at l i ∷ []) body (literal_within l body more literal) x) l.by (turns_of l) l.from here))
       | inr there ↦ inr (runs_turn_refused f all input output ns more (literal_behind l body more literal) there)

@@ -4,7 +4,7 @@ use Rattle.std.proofs.Math.Nat.{max-le}
 use Rattle.cob_limits.specs.Limits.{most_written_out}
 use Rattle.cob_source.specs.Tokens.{Lexeme}
 use Rattle.cob_move_deeds.specs.Deeds.{Deeds}
-use Rattle.cob_move_deeds.specs.Tests.{Past}
+use Rattle.cob_move_deeds.specs.Tests.{Test}
 use Rattle.cob_move_loops.specs.Passages.{APause, ARun, FrontStands, IsPassage, Looped, Passage, PassageFront, ToItem, ToNumber, WrittenBound, WrittenLoop}
 use Rattle.cob_move_loops.specs.Reading.{Within}
 use Rattle.cob_move_loops.specs.Turns.{Counted, in_turn, turns_between}
@@ -41,7 +41,7 @@ run_stops n f e ns ws memory broken given = elim (either_memory f.rule) [
 
 -- a loop that ends so is refused
 abbrev RefusedUpTo : MoveFault → Entries → List Counted → WrittenLoop → Passage → WrittenBound → Type 0
-RefusedUpTo f e ns l p b = IsLoopRefused f (nameable e) ns l b (λ i. IsRefusedIn f e (in_its_turn ns l i) p) (λ i. (d : Deeds Past) × (c : ℕ) × PassageComesTo e (in_its_turn ns l i) p d c)
+RefusedUpTo f e ns l p b = IsLoopRefused f (nameable e) ns l b (λ i. IsRefusedIn f e (in_its_turn ns l i) p) (λ i. (d : Deeds Test) × (c : ℕ) × PassageComesTo e (in_its_turn ns l i) p d c)
 
 pub loop_stops : (n : NotRead) (e : Entries) (ns : List Counted) (l : WrittenLoop) (most : ℕ) (body : List Lexeme) → l.bound ≡ ToNumber most → l.from ≤ most → WordsStop n e (in_its_turn ns l l.from) body → LoopStops n e ns l body
 loop_stops why.Memory e ns l most body bound le stop p is = tt

@@ -10,7 +10,7 @@ use Rattle.cob_copybook.specs.Books.{IsRecordDescription}
 use Rattle.cob_move_data.specs.Moves.{AreMoves, IsMove, Move, Records, moves, statement_moves_by}
 use Rattle.cob_move_deeds.specs.Deeds.{Deeds, Moving, Nothing, both_deeds}
 use Rattle.cob_move_deeds.specs.Flows.{AreFlows, FlowSupport}
-use Rattle.cob_move_deeds.specs.Tests.{Past}
+use Rattle.cob_move_deeds.specs.Tests.{Test}
 use Rattle.cob_move_loops.specs.Passages.{IsRun, WrittenLoop}
 use Rattle.cob_move_loops.specs.Turns.{Counted, in_turn}
 use Rattle.cob_move_statements.specs.declared.fault.MoveFault.{MoveFault}
@@ -156,7 +156,7 @@ more_added r m s ss is on f =
     let flows = all_deeds r on m.flows in
     let parted : AreParted flows = is.parted on (front_back m (with_more m own) on (more_grown m own) f) in
     ap (λ (t : List StatementMoves). both_deeds flows (open_deeds r t)) (drop-append-le (last_marked 0 m.ends) m.list own is.behind)
-    ∙ ap (λ (d : Deeds Past). both_deeds flows d) (open_more r (open_statements m) s ss)
+    ∙ ap (λ (d : Deeds Test). both_deeds flows d) (open_more r (open_statements m) s ss)
     ∙ sym (parted_joined flows (open_deeds r (open_statements m)) (Moving (moves r own) Nothing) parted)
 
 -- words of MOVE statements are a statement at least, also in a turn

@@ -8,7 +8,7 @@ use Rattle.cob_copybook_tree.specs.Nodes.{Resolved}
 use Rattle.cob_move_data.specs.declared.operands.Operand.{Operand}
 use Rattle.cob_move_data.specs.Moves.{Move}
 use Rattle.cob_move_deeds.specs.Deeds.{Deeds, Nothing}
-use Rattle.cob_move_deeds.specs.Tests.{IsBoundItem, Past, with_number}
+use Rattle.cob_move_deeds.specs.Tests.{IsBoundItem, Past, Test, Until, with_number}
 use Rattle.cob_move_deeds.specs.Turns.{turns_from}
 use Rattle.cob_move_loops.specs.Passages.{ALoop, Moves, NoMore, Passage, Pause, ToItem, ToNumber, WrittenBound, WrittenLoop}
 use Rattle.cob_move_loops.specs.Turns.{Counted, counter_at, in_turn, turns_between}
@@ -27,11 +27,11 @@ use Rattle.cob_move.proofs.MixedWords.{AreMixed, AreMixedTurns, mixed_back, mixe
 
 -- ---- one choice for each turn
 
-chosen_step : (P : ℕ → Deeds Past → Type 0) (f : ℕ → Deeds Past) (d : Deeds Past) (at j : ℕ) (b : Bool) → nat_eq j at ≡ b → P at d → (nat_eq j at ≡ false → P j (f j)) → P j (if b then d else f j)
+chosen_step : (P : ℕ → Deeds Test → Type 0) (f : ℕ → Deeds Test) (d : Deeds Test) (at j : ℕ) (b : Bool) → nat_eq j at ≡ b → P at d → (nat_eq j at ≡ false → P j (f j)) → P j (if b then d else f j)
 chosen_step P f d at j true e is other = let same : j ≡ at = grind (arith, e) in subst (λ (t : ℕ). P t d) (sym same) is
 chosen_step P f d at j false e is other = other e
 
-chosen : (P : ℕ → Deeds Past → Type 0) (by n i : ℕ) → ((k : ℕ) → k < n → (d : Deeds Past) × P (i + k * by) d) → (f : ℕ → Deeds Past) × ((k : ℕ) → k < n → P (i + k * by) (f (i + k * by)))
+chosen : (P : ℕ → Deeds Test → Type 0) (by n i : ℕ) → ((k : ℕ) → k < n → (d : Deeds Test) × P (i + k * by) d) → (f : ℕ → Deeds Test) × ((k : ℕ) → k < n → P (i + k * by) (f (i + k * by)))
 chosen P by zero i each = (λ j. Nothing, λ k less. absurd (omega (arith, less)))
 chosen P by (suc n) i each =
     let (d, is) = each n (omega arith) in
@@ -49,8 +49,8 @@ chosen P by (suc n) i each =
 -- ---- loops
 
 -- what comes to something in a turn of the first and in one of the second does so in that of the third
-abbrev MixesTurns : (first second third : ℕ → Deeds Past → ℕ → Type 0) → Type 0
-MixesTurns first second third = (i j : ℕ) (d e : Deeds Past) (m n : ℕ) → first i d m → second j e n → (f : Deeds Past) × third j f n
+abbrev MixesTurns : (first second third : ℕ → Deeds Test → ℕ → Type 0) → Type 0
+MixesTurns first second third = (i j : ℕ) (d e : Deeds Test) (m n : ℕ) → first i d m → second j e n → (f : Deeds Test) × third j f n
 
 -- a bound of the second turn, with the item of another
 abbrev bounded_by : Past → Operand → Past
@@ -65,9 +65,9 @@ mixed_bound one all us vs ws t s m first second =
     let (i, item) = second.item in
     (third.operand, record { reference = q; spelled = si; named = third.named; item = (i, subst (λ (k : Kind). IsBoundItem k i) (sym third.kind) item) })
 
-mixed_loop : OneReference → (all : List Candidate) (ks bs es : List Counted) (l : WrittenLoop) (b : WrittenBound) (first second third : ℕ → Deeds Past → ℕ → Type 0)
-    → AreMixedTurns ks bs es → MixesTurns first second third → MixesTurns second third second → (f g : ℕ → Deeds Past) (count other : ℕ → ℕ) (own nwo : Deeds Past) (m n : ℕ)
-    → IsLoopOf all ks l b first f count own m → IsLoopOf all bs l b second g other nwo n → (h : ℕ → Deeds Past) × (o : Deeds Past) × IsLoopOf all es l b third h other o n
+mixed_loop : OneReference → (all : List Candidate) (ks bs es : List Counted) (l : WrittenLoop) (b : WrittenBound) (first second third : ℕ → Deeds Test → ℕ → Type 0)
+    → AreMixedTurns ks bs es → MixesTurns first second third → MixesTurns second third second → (f g : ℕ → Deeds Test) (count other : ℕ → ℕ) (own nwo : Deeds Test) (m n : ℕ)
+    → IsLoopOf all ks l b first f count own m → IsLoopOf all bs l b second g other nwo n → (h : ℕ → Deeds Test) × (o : Deeds Test) × IsLoopOf all es l b third h other o n
 mixed_loop one all ks bs es l (ToNumber bound) first second third mixed forth back f g count other own nwo m n (are, own_is, m_is) (era, nwo_is, n_is) =
     let (h, thirds) = chosen (λ i d. third i d (other i)) l.by (turns_between l.from l.by bound) l.from (λ k less.
     forth (l.from + k * l.by) (l.from + k * l.by) (f (l.from + k * l.by)) (g (l.from + k * l.by)) (count (l.from + k * l.by)) (other (l.from + k * l.by)) (are k less) (era k less)) in
@@ -77,7 +77,7 @@ mixed_loop one all ks bs es l (ToItem ws) first second third mixed forth back f 
     let (h, thirds) = chosen (λ i d. third i d (other i)) 1 (s.most + 1 - l.from) l.from (λ k less.
     forth l.from (l.from + k * 1) (f l.from) (g (l.from + k * 1)) (count l.from) (other (l.from + k * 1)) (are l.from (omega arith) low) (era (l.from + k * 1) (omega arith) (omega (arith, less)))) in (
       h,
-      turns_from (with_number (bounded_by s o)) h l.by (turns_between l.from l.by s.most) l.from,
+      turns_from (λ j. Until (with_number (bounded_by s o) j)) h l.by (turns_between l.from l.by s.most) l.from,
       (
         bounded_by s o,
         bound,
@@ -90,10 +90,10 @@ mixed_loop one all ks bs es l (ToItem ws) first second third mixed forth back f 
       ),
     )
 
-first_loop : OneReference → (all : List Candidate) (ks bs es : List Counted) (l : WrittenLoop) (b : WrittenBound) (first second third : ℕ → Deeds Past → ℕ → Type 0) (part trap : ℕ → ℕ → Type 0)
-    → AreMixedTurns ks bs es → MixesTurns first second third → ((i j : ℕ) (d : Deeds Past) (m own : ℕ) → first i d m → part j own → trap j own)
-    → (f : ℕ → Deeds Past) (count : ℕ → ℕ) (own : Deeds Past) (m many : ℕ) → IsLoopOf all ks l b first f count own m
-    → ComeFirstInLoop all bs l b (λ i c. (d : Deeds Past) × second i d c) part many → ComeFirstInLoop all es l b (λ i c. (d : Deeds Past) × third i d c) trap many
+first_loop : OneReference → (all : List Candidate) (ks bs es : List Counted) (l : WrittenLoop) (b : WrittenBound) (first second third : ℕ → Deeds Test → ℕ → Type 0) (part trap : ℕ → ℕ → Type 0)
+    → AreMixedTurns ks bs es → MixesTurns first second third → ((i j : ℕ) (d : Deeds Test) (m own : ℕ) → first i d m → part j own → trap j own)
+    → (f : ℕ → Deeds Test) (count : ℕ → ℕ) (own : Deeds Test) (m many : ℕ) → IsLoopOf all ks l b first f count own m
+    → ComeFirstInLoop all bs l b (λ i c. (d : Deeds Test) × second i d c) part many → ComeFirstInLoop all es l b (λ i c. (d : Deeds Test) × third i d c) trap many
 first_loop one all ks bs es l (ToNumber n) first second third part trap mixed forth parts f count own m many (are, own_is, m_is) (k, o, counted, less, whole, is, cut) = (
   k,
   o,
@@ -122,8 +122,8 @@ first_loop one all ks bs es l (ToItem ws) first second third part trap mixed for
 -- ---- passages
 
 -- what comes to something in the first two turns does so in the third, with as many statements as in the second
-pub mixed_deeds : OneListOfEnded → OneReference → (input output : Forest Resolved) (all : List Candidate) (ks bs es : List Counted) (p : Passage) (d e : Deeds Past) (m n : ℕ) → AreMixedTurns ks bs es
-    → AreDeeds all input output ks p d m → AreDeeds all input output bs p e n → (f : Deeds Past) × AreDeeds all input output es p f n
+pub mixed_deeds : OneListOfEnded → OneReference → (input output : Forest Resolved) (all : List Candidate) (ks bs es : List Counted) (p : Passage) (d e : Deeds Test) (m n : ℕ) → AreMixedTurns ks bs es
+    → AreDeeds all input output ks p d m → AreDeeds all input output bs p e n → (f : Deeds Test) × AreDeeds all input output es p f n
 mixed_deeds ended one input output all ks bs es NoMore d e m n mixed (d_is, m_is) (e_is, n_is) = (Nothing, (refl, n_is))
 mixed_deeds ended one input output all ks bs es (Moves own more) d e m n mixed (ms, next, count, rest, run, are, d_is, m_is) (sm, txen, tnuoc, tser, nur, era, e_is, n_is) =
     let (os, third) = mixed_run ended input output (in_turn ks false 0 own) (in_turn bs false 0 own) (in_turn es false 0 own) ms sm count tnuoc (mixed_in_turn ks bs es false 0 own mixed) run nur in
@@ -141,7 +141,7 @@ mixed_deeds ended one input output all ks bs es (ALoop l body more) d e m n mixe
     (joined_deeds o others, (h, other, o, others, denrut, tser, third, thirds, refl, n_is))
 
 -- what comes first in the second turn comes first in the third, where the first comes to something
-pub mixed_first : OneListOfEnded → OneReference → (input output : Forest Resolved) (all : List Candidate) (ks bs es : List Counted) (p : Passage) (d : Deeds Past) (m many : ℕ) → AreMixedTurns ks bs es
+pub mixed_first : OneListOfEnded → OneReference → (input output : Forest Resolved) (all : List Candidate) (ks bs es : List Counted) (p : Passage) (d : Deeds Test) (m many : ℕ) → AreMixedTurns ks bs es
     → AreDeeds all input output ks p d m → ComeFirst all input output bs p many → ComeFirst all input output es p many
 mixed_first ended one input output all ks bs es NoMore d m many mixed are first = first
 mixed_first ended one input output all ks bs es (Moves own more) d m many mixed (ms, next, count, rest, run, are, d_is, m_is) (inl none) = inl none
@@ -205,13 +205,13 @@ front_within many m turned rest q few m_is =
     omega (arith, whole, few)
 
 -- a turn comes to one count
-abbrev OneCount : (ℕ → Deeds Past → ℕ → Type 0) → Type 0
-OneCount meant = (i : ℕ) (d e : Deeds Past) (m n : ℕ) → meant i d m → meant i e n → m ≡ n
+abbrev OneCount : (ℕ → Deeds Test → ℕ → Type 0) → Type 0
+OneCount meant = (i : ℕ) (d e : Deeds Test) (m n : ℕ) → meant i d m → meant i e n → m ≡ n
 
-loop_within : (all : List Candidate) (ns : List Counted) (l : WrittenLoop) (b : WrittenBound) (meant : ℕ → Deeds Past → ℕ → Type 0) (part : ℕ → ℕ → Type 0) (q : ℕ) → OneCount meant
-    → ((i : ℕ) (d : Deeds Past) (m own : ℕ) → meant i d m → part i own → own ≤ m * q) → ((i j : ℕ) (d : Deeds Past) (m own : ℕ) → meant i d m → part j own → part i own)
-    → (f : ℕ → Deeds Past) (count : ℕ → ℕ) (own : Deeds Past) (m many : ℕ) → IsLoopOf all ns l b meant f count own m
-    → ComeFirstInLoop all ns l b (λ i c. (d : Deeds Past) × meant i d c) part many → many ≤ m * suc q
+loop_within : (all : List Candidate) (ns : List Counted) (l : WrittenLoop) (b : WrittenBound) (meant : ℕ → Deeds Test → ℕ → Type 0) (part : ℕ → ℕ → Type 0) (q : ℕ) → OneCount meant
+    → ((i : ℕ) (d : Deeds Test) (m own : ℕ) → meant i d m → part i own → own ≤ m * q) → ((i j : ℕ) (d : Deeds Test) (m own : ℕ) → meant i d m → part j own → part i own)
+    → (f : ℕ → Deeds Test) (count : ℕ → ℕ) (own : Deeds Test) (m many : ℕ) → IsLoopOf all ns l b meant f count own m
+    → ComeFirstInLoop all ns l b (λ i c. (d : Deeds Test) × meant i d c) part many → many ≤ m * suc q
 loop_within all ns l (ToNumber n) meant part q one within early f count own m many (are, own_is, m_is) (k, o, counted, less, whole, is, cut) =
     let at = l.from + k * l.by in
     let same : count_of_turns counted l.by k l.from ≡ count_of_turns count l.by k l.from = counted_same counted count l.by k l.from (λ j lt.
@@ -237,7 +237,7 @@ loop_within all ns l (ToItem ws) meant part q one within early f count own m man
     ]
 
 -- what comes first in a passage that comes to something is no more than its statements, once for each loop that holds others
-pub first_within : OneDeeds → OneListOfEnded → OneReference → (input output : Forest Resolved) (all : List Candidate) (ns : List Counted) (p : Passage) (d : Deeds Past) (m many q : ℕ) → deep p ≤ q
+pub first_within : OneDeeds → OneListOfEnded → OneReference → (input output : Forest Resolved) (all : List Candidate) (ns : List Counted) (p : Passage) (d : Deeds Test) (m many q : ℕ) → deep p ≤ q
     → AreDeeds all input output ns p d m → ComeFirst all input output ns p many → many ≤ m * suc q
 first_within law ended one input output all ns NoMore d m many q low are first = omega (arith, first)
 first_within law ended one input output all ns (Moves own more) d m many q low (ms, next, count, rest, run, are, d_is, m_is) (inl none) = omega (arith, none)
@@ -263,7 +263,7 @@ first_within law ended one input output all ns (ALoop l body more) d m many (suc
     behind_within many m tser turned rest (suc q) (first_within law ended one input output all ns more next rest tser (suc q) (omega (arith, low, le-max_right (deep body + 1) (deep more))) are first) (omega (arith, cut, same)) m_is
 
 -- What comes first in a turn behind one that comes to something: so few statements, that with those so far they are few.
-pub late_within : OneDeeds → OneListOfEnded → OneReference → (input output : Forest Resolved) (all : List Candidate) (ns : List Counted) (l : WrittenLoop) (p : Passage) (i j : ℕ) (d : Deeds Past) (m many q : ℕ) → deep p ≤ q
+pub late_within : OneDeeds → OneListOfEnded → OneReference → (input output : Forest Resolved) (all : List Candidate) (ns : List Counted) (l : WrittenLoop) (p : Passage) (i j : ℕ) (d : Deeds Test) (m many q : ℕ) → deep p ≤ q
     → AreDeeds all input output (ns ++ counter_at l i ∷ []) p d m → ComeFirst all input output (ns ++ counter_at l j ∷ []) p many → many ≤ m * suc q
 late_within law ended one input output all ns l p i j d m many q low are first =
     first_within law ended one input output all (ns ++ counter_at l i ∷ []) p d m many q low are

@@ -17,7 +17,7 @@ use Rattle.cob_move_data.specs.declared.operands.StatementMoves.{StatementMoves}
 use Rattle.cob_move_data.specs.Moves.{AreMoves, Move, Records, moves}
 use Rattle.cob_move_deeds.specs.Deeds.{Carried, Deeds, IsStraight, Moving, Nothing, moves_of_deeds}
 use Rattle.cob_move_deeds.specs.Laws.{StraightIsApplied}
-use Rattle.cob_move_deeds.specs.Tests.{Judged, Past}
+use Rattle.cob_move_deeds.specs.Tests.{Judged, Test}
 use Rattle.cob_move_names.specs.Candidates.{Candidate, all_entries}
 use Rattle.cob_move_loops.specs.Bounded.{AreBounded, IsBounded, LacksBound}
 use Rattle.cob_move_loops.specs.Laws.{BreaksNone, OnePassage}
@@ -65,7 +65,7 @@ body_refused text words body all input output f are is refused named = inr (reco
 -- ---- what a text does
 
 -- what the words behind a heading come to is what the text does
-pub says_paragraph : (text : List ℕ) (words body : List Lexeme) (e : Entries) (d : Deeds Past) → AreParagraphWordsOf text words → IsBodyIn words body → SaysDeeds e body d → AllMayBeNamed e
+pub says_paragraph : (text : List ℕ) (words body : List Lexeme) (e : Entries) (d : Deeds Test) → AreParagraphWordsOf text words → IsBodyIn words body → SaysDeeds e body d → AllMayBeNamed e
     → IsParagraphOf text e.input.now e.output.now d
 says_paragraph text words body e d are is says named = record {
   words = words;
@@ -90,7 +90,7 @@ says_paragraph text words body e d are is says named = record {
 }
 
 -- statements whose moves are done are what is done
-open_done : (r : Records) (list : List StatementMoves) (m : ℕ) (d : Deeds Past) → AreDoneBy m (moves r list) d → length list ≡ m → d ≡ open_deeds r list
+open_done : (r : Records) (list : List StatementMoves) (m : ℕ) (d : Deeds Test) → AreDoneBy m (moves r list) d → length list ≡ m → d ≡ open_deeds r list
 open_done r [] m d (inl done) size = done.1
 open_done r [] m d (inr done) size = absurd (omega (arith, done.0, size))
 open_done r (s ∷ ss) m d (inl done) size = absurd (omega (arith, done.0, size))
@@ -103,7 +103,7 @@ says_moves text input output list (p, many) =
     let r : Records = record { input = input; output = output } in
     let mean : RunsMean input output (words_by_turn [] p.passage) (moves r list) (length p.statements) = record { statements = p.statements; spelled = p.spelled; meant = p.meant; many = refl } in
     let (d, comes, done) = literal_comes input output [] p.passage p.has.body p.has.says p.literal (moves r list) (length p.statements) mean in
-    subst (λ (k : Deeds Past). IsParagraphOf text input output k) (open_done r list (length p.statements) d done many) (record {
+    subst (λ (k : Deeds Test). IsParagraphOf text input output k) (open_done r list (length p.statements) d done many) (record {
       words = p.words;
       passage = p.passage;
       many = length p.statements;
@@ -123,7 +123,7 @@ says_literal e body list named literal s =
     let mean : RunsMean e.input.now e.output.now (words_by_turn [] p) (moves r list) (length s.statements) =
     record { statements = s.statements; spelled = s.spelled; meant = meant_here (nameable e) r s.statements list named s.meant; many = refl } in
     let (d, comes, done) = literal_comes e.input.now e.output.now [] p body s.judged.says (literal p s.judged.says) (moves r list) (length s.statements) mean in
-    subst (λ (k : Deeds Past). SaysDeeds e body k) (open_done r list (length s.statements) d done s.many) (record {
+    subst (λ (k : Deeds Test). SaysDeeds e body k) (open_done r list (length s.statements) d done s.many) (record {
       judged = s.judged;
       bounded = literal_bounded p (literal p s.judged.says);
       many = length s.statements;
@@ -158,7 +158,7 @@ one_paragraph words_one passage_one deeds_one text input output a b p q =
     (deeds_one (all_entries input output) input output [] p.passage a b p.many q.many p.comes
     (subst (λ (k : Passage). AreDeeds (all_entries input output) input output [] k b q.many) passage q.comes)).0
 
-text_unbroken : (r : MoveRule) (line : ℕ) (text : List ℕ) (input output : Forest Resolved) (d : Deeds Past)
+text_unbroken : (r : MoveRule) (line : ℕ) (text : List ℕ) (input output : Forest Resolved) (d : Deeds Test)
     → IsParagraphOf text input output d → BreaksFormat r line text → r ≡ rule.Memory
 text_unbroken (rule.Source r) line text input output d p broken = absurd (p.are_words.breaks_none r line broken)
 text_unbroken rule.Memory line text input output d p broken = refl
@@ -185,7 +185,7 @@ none_lacks (ALoop l body more) line are (inr (inl inner)) = none_lacks body line
 none_lacks (ALoop l body more) line are (inr (inr behind)) = none_lacks more line are.2 behind
 
 -- what refuses a passage, where it is a paragraph's
-passage_unrefused : DeedsBreakNoRule → (text : List ℕ) (input output : Forest Resolved) (d : Deeds Past) (f : MoveFault) (p : IsParagraphOf text input output d) (body : List Lexeme) (k : Passage) → k ≡ p.passage
+passage_unrefused : DeedsBreakNoRule → (text : List ℕ) (input output : Forest Resolved) (d : Deeds Test) (f : MoveFault) (p : IsParagraphOf text input output d) (body : List Lexeme) (k : Passage) → k ≡ p.passage
     → PassageRefused f (all_entries input output) input output body k → f.rule ≡ rule.Memory
 passage_unrefused unbroken text input output d f p body k same (inl (counter, lacks)) = absurd (none_lacks p.passage f.line p.bounded (subst (λ (q : Passage). LacksBound q f.line) same lacks))
 passage_unrefused unbroken text input output d f p body k same (inr (inl (many, line, literal, (m, first, most)))) =
@@ -194,7 +194,7 @@ passage_unrefused unbroken text input output d f p body k same (inr (inl (many, 
 passage_unrefused unbroken text input output d f p body k same (inr (inr refused)) =
     unbroken f input output [] p.passage d p.many p.comes (subst (λ (q : Passage). IsTurnRefused f (all_entries input output) input output [] q) same refused)
 
-words_unbroken : OnePassage → BreaksNone → DeedsBreakNoRule → (text : List ℕ) (input output : Forest Resolved) (d : Deeds Past) (f : MoveFault) (p : IsParagraphOf text input output d)
+words_unbroken : OnePassage → BreaksNone → DeedsBreakNoRule → (text : List ℕ) (input output : Forest Resolved) (d : Deeds Test) (f : MoveFault) (p : IsParagraphOf text input output d)
     (body : List Lexeme) → body ≡ p.has.body → IsBodyRefusal f (all_entries input output) input output body → f.rule ≡ rule.Memory
 words_unbroken passage_one none unbroken text input output d f p body same (inl broken) =
     passage_unbroken passage_one none f.rule f.line (all_entries input output) p.words body p.passage p.has p.counters same broken
@@ -209,7 +209,7 @@ paragraph_breaks_no_rule words_one passage_one none unbroken text input output d
     words_unbroken passage_one none unbroken text input output d f p q.body body q.refused
 
 -- nothing is done, or moves are, as it is by their number
-done_of : (m : ℕ) (ms : List Move) (d : Deeds Past) → AreDoneBy m ms d → AreDone ms d
+done_of : (m : ℕ) (ms : List Move) (d : Deeds Test) → AreDoneBy m ms d → AreDone ms d
 done_of m ms d (inl done) = inr (done.1, done.2)
 done_of m ms d (inr done) = inl done.1
 
@@ -250,9 +250,9 @@ literal_paragraph text input output = (
       ),
 )
 
-done_straight : (ms : List Move) (d : Deeds Past) → AreDone ms d → IsStraight d × (moves_of_deeds d ≡ ms)
-done_straight ms d (inl is) = (subst (λ (k : Deeds Past). IsStraight k) (sym is) tt, ap (λ (k : Deeds Past). moves_of_deeds k) is ∙ append-nil ms)
-done_straight ms d (inr (is, none)) = (subst (λ (k : Deeds Past). IsStraight k) (sym is) tt, ap (λ (k : Deeds Past). moves_of_deeds k) is ∙ sym none)
+done_straight : (ms : List Move) (d : Deeds Test) → AreDone ms d → IsStraight d × (moves_of_deeds d ≡ ms)
+done_straight ms d (inl is) = (subst (λ (k : Deeds Test). IsStraight k) (sym is) tt, ap (λ (k : Deeds Test). moves_of_deeds k) is ∙ append-nil ms)
+done_straight ms d (inr (is, none)) = (subst (λ (k : Deeds Test). IsStraight k) (sym is) tt, ap (λ (k : Deeds Test). moves_of_deeds k) is ∙ sym none)
 
 pub done_is_applied : StraightIsApplied → DoneIsApplied
 done_is_applied law r ms d input before end done =

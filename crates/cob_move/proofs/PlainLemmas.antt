@@ -18,7 +18,7 @@ use Rattle.cob_copybook_tree.specs.Forests.{Forest}
 use Rattle.cob_copybook_tree.specs.Nodes.{Resolved}
 use Rattle.cob_move_data.specs.Moves.{Move}
 use Rattle.cob_move_deeds.specs.Deeds.{Deeds, Moving, Nothing}
-use Rattle.cob_move_deeds.specs.Tests.{Past}
+use Rattle.cob_move_deeds.specs.Tests.{Test}
 use Rattle.cob_move_names.specs.Candidates.{all_entries}
 use Rattle.cob_move.specs.Bodies.{AreSpelled, HasPassage}
 use Rattle.cob_move.specs.Deeds.{AreDeeds}
@@ -105,23 +105,23 @@ plain_words : (words : List Lexeme) (p : Passage) (h : HasPassage words p) (ss :
 plain_words words p h ss are = record { heading = h.heading; body = h.body; named = h.named; some = some_statements ss h.body are h.some; statements = are; words = h.words_are }
 
 -- what one run comes to
-record RunDone (input output : Forest Resolved) (body : List Lexeme) (d : Deeds Past) : Type 0 where
+record RunDone (input output : Forest Resolved) (body : List Lexeme) (d : Deeds Test) : Type 0 where
   pub moves : List Move
   pub statements : List WrittenStatement
   pub spelled : Several IsEndedStatement statements body
   pub meant : AreMeant input output statements moves
   pub done : d ≡ Moving moves Nothing
 
-run_done : NoTurn → (input output : Forest Resolved) (body : List Lexeme) (d : Deeds Past) (m : ℕ) → AreDeeds (all_entries input output) input output [] (Moves body NoMore) d m → RunDone input output body d
+run_done : NoTurn → (input output : Forest Resolved) (body : List Lexeme) (d : Deeds Test) (m : ℕ) → AreDeeds (all_entries input output) input output [] (Moves body NoMore) d m → RunDone input output body d
 run_done no_turn input output body d m (ms, next, count, rest, run, (none, zero_is), d_is, m_is) = record {
   moves = ms;
   statements = run.statements;
   spelled = subst (λ (ws : List Lexeme). Several IsEndedStatement run.statements ws) (no_turn body) run.spelled;
   meant = run.meant;
-  done = d_is ∙ ap (λ (k : Deeds Past). before_deeds ms k) none;
+  done = d_is ∙ ap (λ (k : Deeds Test). before_deeds ms k) none;
 }
 
-plain_done : NoTurn → (text : List ℕ) (input output : Forest Resolved) (d : Deeds Past) (p : IsParagraphOf text input output d) → AllByRecursion IsOther p.words
+plain_done : NoTurn → (text : List ℕ) (input output : Forest Resolved) (d : Deeds Test) (p : IsParagraphOf text input output d) → AllByRecursion IsOther p.words
     → (ms : List Move) × IsPlainParagraphOf text input output ms × (d ≡ Moving ms Nothing)
 plain_done no_turn text input output d p all =
     let h = p.has in
@@ -163,6 +163,6 @@ done_plain no_turn text input output ms p plain = record {
 pub plain_paragraph : ParagraphWordsAreOne → NoTurn → PlainParagraph
 plain_paragraph words_one no_turn text input output d words are all = (
   λ p. plain_done no_turn text input output d p (subst (λ (ws : List Lexeme). AllByRecursion IsOther ws) (words_one text words p.words are p.are_words) all),
-  λ (ms, p, done). subst (λ (k : Deeds Past). IsParagraphOf text input output k) (sym done)
+  λ (ms, p, done). subst (λ (k : Deeds Test). IsParagraphOf text input output k) (sym done)
       (done_plain no_turn text input output ms p (subst (λ (ws : List Lexeme). AllByRecursion IsOther ws) (words_one text words p.words are p.are_words) all)),
 )

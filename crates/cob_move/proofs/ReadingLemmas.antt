@@ -6,7 +6,7 @@ use Rattle.cob_move_data.specs.declared.operands.StatementMoves.{StatementMoves}
 use Rattle.cob_move_data.specs.Moves.{Move, Records, moves}
 use Rattle.cob_move_deeds.specs.Deeds.{Deeds, IsStraight, Moving, Nothing, both_deeds, moves_of_deeds}
 use Rattle.cob_move_deeds.specs.Flows.{FlowSupport}
-use Rattle.cob_move_deeds.specs.Tests.{Past}
+use Rattle.cob_move_deeds.specs.Tests.{Test}
 use Rattle.cob_move_loops.specs.Bounded.{AreBounded, BoundedFront}
 use Rattle.cob_move_loops.specs.Passages.{ALoop, APause, ARun, FrontStands, IsPassage, Looped, Moves, NoMore, Passage, PassageFront, Pause, WrittenLoop}
 use Rattle.cob_move_loops.specs.Reading.{Within}
@@ -36,7 +36,7 @@ open_alone r (s ∷ ss) = refl
 pub made_alone : (r : Records) (m : MadeLists) (on : FlowSupport) → IsMade r m → IsFrontOf m on → joined_deeds (made_deeds r on m) Nothing ≡ made_deeds r on m
 made_alone r m on is f =
     parted_joined (all_deeds r on m.flows) (open_deeds r (open_statements m)) Nothing (is.parted on f)
-    ∙ ap (λ (d : Deeds Past). both_deeds (all_deeds r on m.flows) d) (open_alone r (open_statements m))
+    ∙ ap (λ (d : Deeds Test). both_deeds (all_deeds r on m.flows) d) (open_alone r (open_statements m))
 
 pub pause_added : (e : Entries) (m : MadeLists) → IsMade (records_of e) m → (ns : List Counted) → AddsFront e ns APause m m
 pause_added e m is ns p within = record {
@@ -69,7 +69,7 @@ first_joined e ns (ARun ws) body others m (ms, meant) = inr (ms, m, 0, meant, no
 first_joined e ns APause body others m first = absurd first
 first_joined e ns (Looped l ws) body others m first = inr (inl first)
 
-first_behind : (e : Entries) (ns : List Counted) (f : PassageFront) (body others : Passage) (own : Deeds Past) (count m : ℕ) → FrontComesTo e ns f body own count → FirstIn e ns others m
+first_behind : (e : Entries) (ns : List Counted) (f : PassageFront) (body others : Passage) (own : Deeds Test) (count m : ℕ) → FrontComesTo e ns f body own count → FirstIn e ns others m
     → FirstIn e ns (joined f body others) (count + m)
 first_behind e ns (ARun ws) body others own count m (ms, meant, e_is) first = inr (ms, count, m, meant, first, refl)
 first_behind e ns APause body others own count m (e_is, none) first = subst (λ (n : ℕ). FirstIn e ns others n) (omega (arith, none)) first
@@ -79,7 +79,7 @@ first_behind e ns (Looped l ws) body others own count m (f, counted, loop) first
 
 -- What is left of a passage comes to, behind what is made now, what all of it comes to behind what was made before.
 pub record LeftToMake (e : Entries) (ns : List Counted) (p q : Passage) (old now : MadeLists) : Type 0 where
-  pub comes : (d : Deeds Past) (m : ℕ) → PassageComesTo e ns q d m → (k : Deeds Past) × (n : ℕ) × PassageComesTo e ns p k n
+  pub comes : (d : Deeds Test) (m : ℕ) → PassageComesTo e ns q d m → (k : Deeds Test) × (n : ℕ) × PassageComesTo e ns p k n
       × ((on : FlowSupport) → IsFrontOf now on → joined_deeds (made_deeds (records_of e) on now) d ≡ joined_deeds (made_deeds (records_of e) on old) k)
       × (now.read + m ≡ old.read + n)
       × (moves (records_of e) now.list ++ moves_of_deeds d ≡ moves (records_of e) old.list ++ moves_of_deeds k)
@@ -103,7 +103,7 @@ more_left law e ns p q f body others old now after same left grown a = record {
         k,
         n,
         comes,
-        λ on front. ap (λ (t : Deeds Past). joined_deeds t d) (a.added on front)
+        λ on front. ap (λ (t : Deeds Test). joined_deeds t d) (a.added on front)
             ∙ joined_assoc (made_deeds (records_of e) on now) a.deeds d ∙ makes on (front_back now after on grown front),
         omega (arith, size, a.longer),
         ap (λ (t : List Move). t ++ moves_of_deeds d) a.whole ∙ append_assoc (moves (records_of e) now.list) (moves_of_deeds a.deeds) (moves_of_deeds d)

@@ -12,11 +12,11 @@ use Rattle.cob_move_apply.specs.declared.marking.Mark.{Mark}
 use Rattle.cob_move_deeds.specs.Deeds.{Choice, Deeds, IsStraight, Moving, Nothing, moves_of_deeds}
 use Rattle.cob_move_deeds.specs.Flows.{deeds_by}
 use Rattle.cob_move_deeds.specs.Prepared.{deeds_of}
-use Rattle.cob_move_deeds.specs.Tests.{Past}
+use Rattle.cob_move_deeds.specs.Tests.{Test}
 use Rattle.cob_move_deeds.specs.declared.ready.ReadyDeeds.{ReadyDeeds}
 use Rattle.cob_move.specs.Paragraphs.{AreReady}
 
-straight_by : (x : Reading) (d : Deeds Past) → IsStraight (deeds_by x d) → IsStraight d
+straight_by : (x : Reading) (d : Deeds Test) → IsStraight (deeds_by x d) → IsStraight d
 straight_by x Nothing is = tt
 straight_by x (Moving ms more) is = straight_by x more is
 straight_by x (Choice t holding lacking more) is = absurd is
@@ -24,7 +24,7 @@ straight_by x (Choice t holding lacking more) is = absurd is
 -- marks that are not more stand where moves still lie together
 pub together_by : (x : Reading) (r : Records) (d e : ReadyDeeds) → AreReady r d → deeds_of r e ≡ deeds_by x (deeds_of r d) → ends_of_marks e.moves ≡ ends_of_marks d.moves → IsStraight (deeds_of r e) → length (ends_of_marks e.moves) ≤ 2
 together_by x r d e ready same ends is =
-    omega (arith, ap length ends, ready.together (straight_by x (deeds_of r d) (subst (λ (k : Deeds Past). IsStraight k) same is)))
+    omega (arith, ap length ends, ready.together (straight_by x (deeds_of r d) (subst (λ (k : Deeds Test). IsStraight k) same is)))
 
 -- ---- steps where all moves lie together
 

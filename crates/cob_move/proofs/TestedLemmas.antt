@@ -18,7 +18,7 @@ use Rattle.cob_move_deeds.specs.declared.flow.Bound.{Bound}
 use Rattle.cob_move_deeds.specs.declared.flow.Flow.{Flow}
 use Rattle.cob_move_deeds.specs.Deeds.{Choice, Deeds, Moving, Nothing, both_deeds, moves_of_deeds}
 use Rattle.cob_move_deeds.specs.Flows.{AreFlows, FlowSupport}
-use Rattle.cob_move_deeds.specs.Tests.{IsBound, IsBoundItem, Past, past_bound, with_number}
+use Rattle.cob_move_deeds.specs.Tests.{IsBound, IsBoundItem, Past, Test, Until, past_bound, with_number}
 use Rattle.cob_move_deeds.specs.Turns.{turns_from}
 use Rattle.cob_move_loops.specs.Passages.{IsPassage, Passage, ToItem, WrittenBound, WrittenLoop}
 use Rattle.cob_move_loops.specs.Turns.{Counted, in_turn, turns as loop_turns, turns_between}
@@ -41,7 +41,8 @@ use Rattle.cob_move.specs.DeedsLaws.{DeedsBreakNoRule, OneDeeds}
 use Rattle.cob_move.specs.Joined.{before_deeds, joined_deeds}
 use Rattle.cob_move.proofs.CloseLemmas.{closed_deeds, closed_flows, closed_grown, closed_made, closed_open, closed_read, equal_is, equal_not}
 use Rattle.cob_move.proofs.DeedsLemmas.{counted_same, either_side, mul_within, up_to_some}
-use Rattle.cob_move.proofs.FlowLemmas.{before_parted, before_turns, both_assoc, both_flows, both_nothing, both_parted, flows_both, linked_deeds, linked_flows, parted_joined, turns_parted}
+use Rattle.cob_move_deeds.proofs.AppendLemmas.{are_flows_behind}
+use Rattle.cob_move.proofs.FlowLemmas.{before_parted, before_turns, both_assoc, both_flows, both_nothing, both_parted, linked_deeds, linked_flows, parted_joined, turns_parted}
 use Rattle.cob_move.proofs.FewLemmas.{below_few_first, below_few_next, bound_few, far_few, first_turn_few, item_few, kept_below}
 use Rattle.cob_move.proofs.MadeLemmas.{back_again, front_back, grown_both, grown_none, read_front, read_grown, read_made, with_read}
 use Rattle.cob_move.proofs.TurnsLemmas.{changed, changed_elsewhere, changed_there}
@@ -124,7 +125,7 @@ one_counted f from behind m le =
     let last : g (from + (behind - from) * 1) ≡ m = changed_there f behind m (from + (behind - from) * 1) at in
     omega (arith, ap (λ (n : ℕ). count_of_turns g 1 n from) more, count_more g 1 (behind - from) from, before, last)
 
-turns_same : (r : Records) (on : FlowSupport) (f g : ℕ → Deeds Past) (by i : ℕ) (turns : List (List Flow)) → ((k : ℕ) → k < length turns → f (i + k * by) ≡ g (i + k * by)) → AreTurns r on f by i turns → AreTurns r on g by i turns
+turns_same : (r : Records) (on : FlowSupport) (f g : ℕ → Deeds Test) (by i : ℕ) (turns : List (List Flow)) → ((k : ℕ) → k < length turns → f (i + k * by) ≡ g (i + k * by)) → AreTurns r on f by i turns → AreTurns r on g by i turns
 turns_same r on f g by i [] same are = tt
 turns_same r on f g by i (fs ∷ turns) same are =
     let here : i + 0 * by ≡ i = omega arith in (
@@ -136,7 +137,7 @@ turns_same r on f g by i (fs ∷ turns) same are =
     later : (k : ℕ) → i + by + k * by ≡ i + suc k * by
     later k = omega (arith, suc-mul k by)
 
-turns_more : (r : Records) (on : FlowSupport) (f : ℕ → Deeds Past) (by i : ℕ) (turns : List (List Flow)) (fs : List Flow) → AreTurns r on f by i turns → AreFlows on fs → all_deeds r on fs ≡ f (i + length turns * by)
+turns_more : (r : Records) (on : FlowSupport) (f : ℕ → Deeds Test) (by i : ℕ) (turns : List (List Flow)) (fs : List Flow) → AreTurns r on f by i turns → AreFlows on fs → all_deeds r on fs ≡ f (i + length turns * by)
     → AreTurns r on f by i (turns ++ fs ∷ [])
 turns_more r on f by i [] fs are flows is = (flows, is ∙ ap f (omega arith), tt)
 turns_more r on f by i (gs ∷ turns) fs are flows is =
@@ -163,27 +164,27 @@ pub reads_first : (e : Entries) (ns : List Counted) (l : WrittenLoop) (p : Passa
 reads_first e ns l p behind turns m first none =
     subst (λ (i : ℕ). ReadsTurns e ns l p i turns m m) (sym first) (subst (λ (ts : List (List Flow)). ReadsTurns e ns l p l.from ts m m) (sym none) (no_reads e ns l p m))
 
-read_each : (e : Entries) (ns : List Counted) (l : WrittenLoop) (p : Passage) (behind : ℕ) (f : ℕ → Deeds Past) (count : ℕ → ℕ) (d : Deeds Past) (c : ℕ) → PassageComesTo e (in_its_turn ns l behind) p d c
+read_each : (e : Entries) (ns : List Counted) (l : WrittenLoop) (p : Passage) (behind : ℕ) (f : ℕ → Deeds Test) (count : ℕ → ℕ) (d : Deeds Test) (c : ℕ) → PassageComesTo e (in_its_turn ns l behind) p d c
     → ((i : ℕ) → l.from ≤ i → i < behind → PassageComesTo e (in_its_turn ns l i) p (f i) (count i))
     → (i : ℕ) → l.from ≤ i → i < behind + 1 → PassageComesTo e (in_its_turn ns l i) p (changed f behind d i) (changed count behind c i)
 read_each e ns l p behind f count d c is are i low less = elim (either_side i behind) [
   | inl below ↦
       let other : (i ≡ behind) → ⊥ = λ k. omega (arith, below, k) in
       subst (λ (n : ℕ). PassageComesTo e (in_its_turn ns l i) p (changed f behind d i) n) (sym (changed_elsewhere count behind c i other))
-      (subst (λ (t : Deeds Past). PassageComesTo e (in_its_turn ns l i) p t (count i)) (sym (changed_elsewhere f behind d i other)) (are i low below))
+      (subst (λ (t : Deeds Test). PassageComesTo e (in_its_turn ns l i) p t (count i)) (sym (changed_elsewhere f behind d i other)) (are i low below))
   | inr above ↦
       let same : i ≡ behind = omega (arith, above, less) in
       subst (λ (n : ℕ). PassageComesTo e (in_its_turn ns l i) p (changed f behind d i) n) (sym (changed_there count behind c i same))
-      (subst (λ (t : Deeds Past). PassageComesTo e (in_its_turn ns l i) p t c) (sym (changed_there f behind d i same))
+      (subst (λ (t : Deeds Test). PassageComesTo e (in_its_turn ns l i) p t c) (sym (changed_there f behind d i same))
       (subst (λ (j : ℕ). PassageComesTo e (in_its_turn ns l j) p d c) (sym same) is))
 ]
 
 -- the moves of turns before a number, where another turn is read
-moves_changed : (f : ℕ → Deeds Past) (behind : ℕ) (d : Deeds Past) (by n i : ℕ) → ((k : ℕ) → k < n → (i + k * by ≡ behind) → ⊥)
+moves_changed : (f : ℕ → Deeds Test) (behind : ℕ) (d : Deeds Test) (by n i : ℕ) → ((k : ℕ) → k < n → (i + k * by ≡ behind) → ⊥)
     → loop_turns (λ j. moves_of_deeds (f j)) by n i ≡ loop_turns (λ j. moves_of_deeds (changed f behind d j)) by n i
 moves_changed f behind d by n i other =
     turns_as (λ j. moves_of_deeds (f j)) (λ j. moves_of_deeds (changed f behind d j)) by n i
-    (λ k less. ap (λ (t : Deeds Past). moves_of_deeds t) (sym (changed_elsewhere f behind d (i + k * by) (other k less))))
+    (λ k less. ap (λ (t : Deeds Test). moves_of_deeds t) (sym (changed_elsewhere f behind d (i + k * by) (other k less))))
 
 -- the turn of a number that the counter doesn't take is not kept, but its statements were read
 pub reads_passed : OneDeeds → (e : Entries) (ns : List Counted) (l : WrittenLoop) (p : Passage) (behind next : ℕ) (turns : List (List Flow)) (old now after : MadeLists) → AreKept l.from l.by (length turns) behind next
@@ -250,13 +251,13 @@ reads_kept law e ns l p behind next turns old now mid kept here none marked grow
           turns_more r on f l.by l.from turns (closed mid).flows
           (turns_same r on so.comes f l.by l.from turns (λ k less. sym (changed_elsewhere so.comes behind a.deeds (l.from + k * l.by) (other k less))) (so.flows on before))
           (closed_flows r mid made on stands)
-          (closed_deeds r mid made on stands ∙ a.added on middle ∙ ap (λ (t : Deeds Past). joined_deeds t a.deeds) (nothing_open r now on none marked)
+          (closed_deeds r mid made on stands ∙ a.added on middle ∙ ap (λ (t : Deeds Test). joined_deeds t a.deeds) (nothing_open r now on none marked)
           ∙ sym (changed_there so.comes behind a.deeds (l.from + length turns * l.by) at));
       longer = omega (arith, closed_read mid, a.longer, so.longer, one_counted so.count l.from behind a.many kept.first);
       whole =
           let g = λ (i : ℕ). moves_of_deeds (f i) in
           let last : moves_of_deeds a.deeds ≡ g (l.from + length turns * l.by) =
-          ap (λ (d : Deeds Past). moves_of_deeds d) (sym (changed_there so.comes behind a.deeds (l.from + length turns * l.by) at)) in
+          ap (λ (d : Deeds Test). moves_of_deeds d) (sym (changed_there so.comes behind a.deeds (l.from + length turns * l.by) at)) in
           let size : length (turns ++ (closed mid).flows ∷ []) ≡ suc (length turns) = long_more turns (closed mid).flows in
           ap (λ (ss : List StatementMoves). moves r ss) (closed_list mid) ∙ a.whole ∙ ap (λ (t : List Move). t ++ moves_of_deeds a.deeds) so.whole
           ∙ append_assoc (moves r old.list) (loop_turns (λ i. moves_of_deeds (so.comes i)) l.by (length turns) l.from) (moves_of_deeds a.deeds)
@@ -276,7 +277,7 @@ first_refused law unbroken f e ns l ws body number old named bound first broken 
     let k : ((f.rule ≡ rule.Memory) → ⊥) × IsRefusedIn f e (in_its_turn ns l l.from) p × FewWith (λ many. FirstIn e (in_its_turn ns l l.from) p many) old.read =
     subst (λ (i : ℕ). ((f.rule ≡ rule.Memory) → ⊥) × IsRefusedIn f e (in_its_turn ns l i) p × FewWith (λ many. FirstIn e (in_its_turn ns l i) p many) old.read) first (broken p is) in (
       k.0,
-      subst (λ (b : WrittenBound). IsLoopRefused f (nameable e) ns l b (λ i. IsRefusedIn f e (in_its_turn ns l i) p) (λ i. (d : Deeds Past) × (c : ℕ) × PassageComesTo e (in_its_turn ns l i) p d c)) (sym bound)
+      subst (λ (b : WrittenBound). IsLoopRefused f (nameable e) ns l b (λ i. IsRefusedIn f e (in_its_turn ns l i) p) (λ i. (d : Deeds Test) × (c : ℕ) × PassageComesTo e (in_its_turn ns l i) p d c)) (sym bound)
           (inr (inl k.1)),
       first_turn_few law unbroken f e ns l p ws old.read named k.0 bound k.1 k.2,
     )
@@ -291,7 +292,7 @@ later_refused why.TooMany e ns l ws body behind next turns old now bound kept re
     let so = reads p is in
     let begin = count_of_turns so.count 1 (behind - l.from) l.from in (
       begin + m,
-      subst (λ (b : WrittenBound). ComeFirstInLoop (nameable e) ns l b (λ i c. (d : Deeds Past) × PassageComesTo e (in_its_turn ns l i) p d c) (λ i c. FirstIn e (in_its_turn ns l i) p c) (begin + m)) (sym bound) (
+      subst (λ (b : WrittenBound). ComeFirstInLoop (nameable e) ns l b (λ i c. (d : Deeds Test) × PassageComesTo e (in_its_turn ns l i) p d c) (λ i c. FirstIn e (in_its_turn ns l i) p c) (begin + m)) (sym bound) (
         item.0,
         behind,
         m,
@@ -311,7 +312,7 @@ pub never_refused : (f : MoveFault) (e : Entries) (ns : List Counted) (l : Writt
 never_refused f e ns l ws body behind turns old now bound same line far reads p is =
     let so = reads p is in (
       λ memory. let never : rule.Counter ≡ rule.Memory = sym same ∙ memory in cc,
-      subst (λ (b : WrittenBound). IsLoopRefused f (nameable e) ns l b (λ i. IsRefusedIn f e (in_its_turn ns l i) p) (λ i. (d : Deeds Past) × (c : ℕ) × PassageComesTo e (in_its_turn ns l i) p d c)) (sym bound)
+      subst (λ (b : WrittenBound). IsLoopRefused f (nameable e) ns l b (λ i. IsRefusedIn f e (in_its_turn ns l i) p) (λ i. (d : Deeds Test) × (c : ℕ) × PassageComesTo e (in_its_turn ns l i) p d c)) (sym bound)
           (inr (inr (same, line, λ i low high. (so.comes i, so.count i, so.are i low (omega (arith, high, far)))))),
       far_few e ns l p ws behind old.read bound far so.few,
     )
@@ -322,7 +323,7 @@ bound_not_read one named none why.Memory e ns l ws body old bound refused p is =
 bound_not_read one named none why.TooMany e ns l ws body old bound refused p is = absurd refused
 bound_not_read one named none (why.Broken f) e ns l ws body old bound refused p is = (
   refused.0,
-  subst (λ (b : WrittenBound). IsLoopRefused f (nameable e) ns l b (λ i. IsRefusedIn f e (in_its_turn ns l i) p) (λ i. (d : Deeds Past) × (c : ℕ) × PassageComesTo e (in_its_turn ns l i) p d c)) (sym bound)
+  subst (λ (b : WrittenBound). IsLoopRefused f (nameable e) ns l b (λ i. IsRefusedIn f e (in_its_turn ns l i) p) (λ i. (d : Deeds Test) × (c : ℕ) × PassageComesTo e (in_its_turn ns l i) p d c)) (sym bound)
       (inl (refused.2, refused.1)),
   bound_few one named none f.rule e ns l p ws old.read bound refused.2,
 )
@@ -365,20 +366,20 @@ same_tests e n most b is = λ j i. record {
   bound = operand_in (record_of (records_of e) (is.side j)) (is.entry j);
 }
 
-open_joined : (r : Records) (ss : List StatementMoves) (until : ℕ → Past) (f : ℕ → Deeds Past) (by n i : ℕ) → joined_deeds (open_deeds r ss) (turns_from until f by n i) ≡ both_deeds (open_deeds r ss) (turns_from until f by n i)
+open_joined : (r : Records) (ss : List StatementMoves) (until : ℕ → Test) (f : ℕ → Deeds Test) (by n i : ℕ) → joined_deeds (open_deeds r ss) (turns_from until f by n i) ≡ both_deeds (open_deeds r ss) (turns_from until f by n i)
 open_joined r [] until f by n i = refl
 open_joined r (s ∷ ss) until f by n i = before_turns (moves r (s ∷ ss)) until f by n i
 
 -- behind what is made, turns behind tests are joined as they are put behind it
-turns_joined : (r : Records) (m : MadeLists) (on : FlowSupport) (until : ℕ → Past) (f : ℕ → Deeds Past) (by n i : ℕ) → AreParted (all_deeds r on m.flows)
+turns_joined : (r : Records) (m : MadeLists) (on : FlowSupport) (until : ℕ → Test) (f : ℕ → Deeds Test) (by n i : ℕ) → AreParted (all_deeds r on m.flows)
     → joined_deeds (made_deeds r on m) (turns_from until f by n i) ≡ both_deeds (made_deeds r on m) (turns_from until f by n i)
 turns_joined r m on until f by n i parted =
     let flows = all_deeds r on m.flows in
     let left = open_deeds r (open_statements m) in
     let turns = turns_from until f by n i in
-    parted_joined flows left turns parted ∙ ap (λ (d : Deeds Past). both_deeds flows d) (open_joined r (open_statements m) until f by n i) ∙ sym (both_assoc flows left turns)
+    parted_joined flows left turns parted ∙ ap (λ (d : Deeds Test). both_deeds flows d) (open_joined r (open_statements m) until f by n i) ∙ sym (both_assoc flows left turns)
 
-turns_all_parted : (r : Records) (m : MadeLists) (on : FlowSupport) (until : ℕ → Past) (f : ℕ → Deeds Past) (by n i : ℕ) → AreParted (all_deeds r on m.flows)
+turns_all_parted : (r : Records) (m : MadeLists) (on : FlowSupport) (until : ℕ → Test) (f : ℕ → Deeds Test) (by n i : ℕ) → AreParted (all_deeds r on m.flows)
     → AreParted (both_deeds (made_deeds r on m) (turns_from until f by n i))
 turns_all_parted r m on until f by n i parted =
     subst AreParted (sym (both_assoc (all_deeds r on m.flows) (open_deeds r (open_statements m)) (turns_from until f by n i)))
@@ -420,14 +421,14 @@ all_grown old now b linked g =
     }
 
 -- what the flows come to
-pub record LoopStands (e : Entries) (l : WrittenLoop) (comes : ℕ → Deeds Past) (turns : List (List Flow)) (until : ℕ → Past) (old : MadeLists) (flows : List Flow) (on : FlowSupport) : Type 0 where
+pub record LoopStands (e : Entries) (l : WrittenLoop) (comes : ℕ → Deeds Test) (turns : List (List Flow)) (until : ℕ → Test) (old : MadeLists) (flows : List Flow) (on : FlowSupport) : Type 0 where
   pub parted : AreParted (all_deeds (records_of e) on old.flows)
   pub are : AreFlows on flows
   pub come : all_deeds (records_of e) on flows ≡ both_deeds (made_deeds (records_of e) on old) (turns_from until comes l.by (length turns) l.from)
 
 loop_stands : (e : Entries) (ns : List Counted) (l : WrittenLoop) (p : Passage) (n : NamedEntry) (behind : ℕ) (turns : List (List Flow)) (b : Bound) (old now : MadeLists)
     → (so : IsLoopRead e ns l p n behind turns b old now) (on : FlowSupport) → IsFrontOf (with_loop old now b (linked_turns (length now.bounds) l.by l.from turns)) on
-    → LoopStands e l so.reads.comes turns (with_number (past_of e n (behind - 1))) old ((closed old).flows ++ linked_turns (length now.bounds) l.by l.from turns) on
+    → LoopStands e l so.reads.comes turns (λ j. Until (with_number (past_of e n (behind - 1)) j)) old ((closed old).flows ++ linked_turns (length now.bounds) l.by l.from turns) on
 loop_stands e ns l p n behind turns b old now so on f =
     let r = records_of e in
     let linked = linked_turns (length now.bounds) l.by l.from turns in
@@ -439,12 +440,12 @@ loop_stands e ns l p n behind turns b old now so on f =
     let are : AreTurns r on so.reads.comes l.by l.from turns = so.reads.flows on here in
     let before : AreFlows on (closed old).flows = closed_flows r old so.made on begin in record {
       parted = so.made.parted on first;
-      are = flows_both on (closed old).flows linked before (linked_flows r on so.reads.comes (length now.bounds) l.by l.from b turns at are);
-      come = both_flows r on (closed old).flows linked before
-          ∙ ap (λ (d : Deeds Past). both_deeds d (all_deeds r on linked)) (closed_deeds r old so.made on begin)
-          ∙ ap (λ (d : Deeds Past). both_deeds (made_deeds r on old) d)
+      are = are_flows_behind on (closed old).flows linked before (linked_flows r on so.reads.comes (length now.bounds) l.by l.from b turns at are);
+      come = both_flows r on (closed old).flows linked before (linked_flows r on so.reads.comes (length now.bounds) l.by l.from b turns at are)
+          ∙ ap (λ (d : Deeds Test). both_deeds d (all_deeds r on linked)) (closed_deeds r old so.made on begin)
+          ∙ ap (λ (d : Deeds Test). both_deeds (made_deeds r on old) d)
           (linked_deeds r on so.reads.comes (length now.bounds) l.by l.from b turns at are
-          ∙ ap (λ (until : ℕ → Past). turns_from until so.reads.comes l.by (length turns) l.from) (same_tests e n (behind - 1) b so.bound));
+          ∙ ap (λ (until : ℕ → Past). turns_from (λ j. Until (until j)) so.reads.comes l.by (length turns) l.from) (same_tests e n (behind - 1) b so.bound));
     }
 
 all_behind : (P : Bound → Type 0) (bs : List Bound) (b : Bound) → AllByRecursion P bs → P b → AllByRecursion P (bs ++ b ∷ [])
@@ -461,13 +462,13 @@ loop_made e ns l p n behind turns b old now so = record {
   flows = λ on f. (loop_stands e ns l p n behind turns b old now so on f).are;
   parted = λ on f.
       let k = loop_stands e ns l p n behind turns b old now so on f in
-      subst AreParted (sym k.come) (turns_all_parted (records_of e) old on (with_number (past_of e n (behind - 1))) so.reads.comes l.by (length turns) l.from k.parted);
+      subst AreParted (sym k.come) (turns_all_parted (records_of e) old on (λ j. Until (with_number (past_of e n (behind - 1)) j)) so.reads.comes l.by (length turns) l.from k.parted);
   few = so.after.few;
 }
 
 pub loop_added : (e : Entries) (ns : List Counted) (l : WrittenLoop) (p : Passage) (n : NamedEntry) (ws : List Lexeme) (behind next : ℕ) (turns : List (List Flow)) (b : Bound) (old now : MadeLists) → l.bound ≡ ToItem ws
     → IsBoundRead e (in_turn ns false 0 ws) n → AreKept l.from l.by (length turns) behind next → l.from < behind → behind ≤ l.from + longest_record
-    → ((d : Deeds Past) (c : ℕ) → PassageComesTo e (in_its_turn ns l behind) p d c → ⊥) → IsLoopRead e ns l p n behind turns b old now
+    → ((d : Deeds Test) (c : ℕ) → PassageComesTo e (in_its_turn ns l behind) p d c → ⊥) → IsLoopRead e ns l p n behind turns b old now
     → FewWith (λ many. FirstIn e (in_its_turn ns l behind) p many) now.read → OneDeeds
     → AddsMade e (λ d many. LoopComesTo e ns l p d many) (λ many. FirstInLoop e ns l p many) old (with_loop old now b (linked_turns (length now.bounds) l.by l.from turns))
 loop_added e ns l p n ws behind next turns b old now bound named kept first last none so few law =
@@ -475,7 +476,7 @@ loop_added e ns l p n ws behind next turns b old now bound named kept first last
     let t = past_of e n (behind - 1) in
     let many : turns_between l.from l.by (behind - 1) ≡ length turns = kept_turns l.from l.by (length turns) behind next kept first in
     let back : behind - 1 + 1 ≡ behind = omega (arith, first) in
-    let deeds = turns_from (with_number t) so.reads.comes l.by (length turns) l.from in
+    let deeds = turns_from (λ j. Until (with_number t j)) so.reads.comes l.by (length turns) l.from in
     let count = count_of_turns so.reads.count 1 (behind - l.from) l.from in record {
       deeds = deeds;
       many = count;
@@ -489,7 +490,7 @@ loop_added e ns l p n ws behind next turns b old now bound named kept first last
           omega (arith, first, last),
           λ i low high. so.reads.are i low (omega (arith, high, first)),
           λ d c is. none d c (subst (λ (i : ℕ). PassageComesTo e (in_its_turn ns l i) p d c) back is),
-          ap (λ (k : ℕ). turns_from (with_number t) so.reads.comes l.by k l.from) (sym many),
+          ap (λ (k : ℕ). turns_from (λ j. Until (with_number t j)) so.reads.comes l.by k l.from) (sym many),
           ap (λ (k : ℕ). count_of_turns so.reads.count 1 (k - l.from) l.from) (sym back),
         ),
       );
@@ -497,11 +498,11 @@ loop_added e ns l p n ws behind next turns b old now bound named kept first last
           let k = loop_stands e ns l p n behind turns b old now so on f in
           let new = with_loop old now b (linked_turns (length now.bounds) l.by l.from turns) in
           ap (λ (ss : List StatementMoves). both_deeds (all_deeds r on new.flows) (open_deeds r ss)) so.marked ∙ both_nothing (all_deeds r on new.flows) ∙ k.come
-          ∙ sym (turns_joined r old on (with_number t) so.reads.comes l.by (length turns) l.from k.parted);
+          ∙ sym (turns_joined r old on (λ j. Until (with_number t j)) so.reads.comes l.by (length turns) l.from k.parted);
       longer = omega (arith, so.reads.longer, closed_read old);
       whole = so.reads.whole ∙ ap (λ (ss : List StatementMoves). moves r ss ++ loop_turns (λ i. moves_of_deeds (so.reads.comes i)) l.by (length turns) l.from) (closed_list old)
-          ∙ ap (λ (t : List Move). moves r old.list ++ t) (sym (moves_of_tested (with_number t) so.reads.comes l.by (length turns) l.from));
-      straight = λ is. absurd (tested_not_straight (with_number t) so.reads.comes l.by (length turns) l.from is);
+          ∙ ap (λ (t : List Move). moves r old.list ++ t) (sym (moves_of_tested (λ j. Until (with_number t j)) so.reads.comes l.by (length turns) l.from));
+      straight = λ is. absurd (tested_not_straight (λ j. Until (with_number t j)) so.reads.comes l.by (length turns) l.from is);
       fits = λ le. so.reads.fits (subst (λ (n : ℕ). n ≤ most_written_out) (sym (closed_read old)) le);
       few = subst (λ (n : ℕ). FewWith (λ many. FirstInLoop e ns l p many) n) (closed_read old)
           (item_few e ns l p ws behind (closed old).read bound (omega (arith, first)) none
@@ -509,7 +510,7 @@ loop_added e ns l p n ws behind next turns b old now bound named kept first last
     }
 
 -- a turn that breaks a rule comes to nothing
-pub no_turn_comes : DeedsBreakNoRule → (e : Entries) (ns : List Counted) (p : Passage) (body : List Lexeme) → AllMayBeNamed e → (before : ℕ) → HasNoTurn e ns body before → IsPassage p body → (d : Deeds Past) (c : ℕ) → PassageComesTo e ns p d c → ⊥
+pub no_turn_comes : DeedsBreakNoRule → (e : Entries) (ns : List Counted) (p : Passage) (body : List Lexeme) → AllMayBeNamed e → (before : ℕ) → HasNoTurn e ns body before → IsPassage p body → (d : Deeds Test) (c : ℕ) → PassageComesTo e ns p d c → ⊥
 no_turn_comes law e ns p body named before (f, broken) is d c comes =
     let k = broken p is in
     k.0 (law f e.input.now e.output.now ns p d c (subst (λ (all : List Candidate). AreDeeds all e.input.now e.output.now ns p d c) named comes)
@@ -541,7 +542,7 @@ loop_read e ns l body n behind turns b old now so p is = record {
 
 pub tested_added : (e : Entries) (ns : List Counted) (l : WrittenLoop) (ws body : List Lexeme) (n : NamedEntry) (behind next : ℕ) (turns : List (List Flow)) (b : Bound) (old now new : MadeLists) → l.bound ≡ ToItem ws
     → IsBoundRead e (in_turn ns false 0 ws) n → AreKept l.from l.by (length turns) behind next → l.from < behind → behind ≤ l.from + longest_record
-    → ((p : Passage) → IsPassage p body → (d : Deeds Past) (c : ℕ) → PassageComesTo e (in_its_turn ns l behind) p d c → ⊥) → HasReadLoop e ns l body n behind turns b old now
+    → ((p : Passage) → IsPassage p body → (d : Deeds Test) (c : ℕ) → PassageComesTo e (in_its_turn ns l behind) p d c → ⊥) → HasReadLoop e ns l body n behind turns b old now
     → HasNoTurn e (in_its_turn ns l behind) body now.read → OneDeeds → new ≡ with_loop old now b (linked_turns (length now.bounds) l.by l.from turns) → AddsLoop e ns l body old new
 tested_added e ns l ws body n behind next turns b old now new bound named kept first last none so (f, broken) law same p is =
     subst (λ (m : MadeLists). AddsMade e (λ d many. LoopComesTo e ns l p d many) (λ many. FirstInLoop e ns l p many) old m) (sym same)

@@ -11,7 +11,7 @@ use Rattle.cob_move_data.specs.Moves.{Move, Records, moves}
 use Rattle.cob_move_deeds.specs.declared.flow.Flow.{Flow}
 use Rattle.cob_move_deeds.specs.Deeds.{Deeds, Nothing, moves_of_deeds}
 use Rattle.cob_move_deeds.specs.Flows.{AreFlows, FlowSupport}
-use Rattle.cob_move_deeds.specs.Tests.{Past}
+use Rattle.cob_move_deeds.specs.Tests.{Test}
 use Rattle.cob_move_loops.specs.Bounded.{AreBounded, IsBounded, has_subscript, is_subscripted, words_of_bound}
 use Rattle.cob_move_loops.specs.Few.{statements_by, statements_in, statements_of}
 use Rattle.cob_move_loops.specs.Laws.{OnePassage}
@@ -51,14 +51,14 @@ changed_elsewhere f i x j other =
     ap (λ (b : Bool). if b then x else f j) none
 
 -- what each of some turns comes to, as functions of its number
-pub record Chosen (meant : ℕ → Deeds Past → ℕ → Type 0) (by n i : ℕ) (d : Deeds Past) (m : ℕ) : Type 0 where
-  pub comes : ℕ → Deeds Past
+pub record Chosen (meant : ℕ → Deeds Test → ℕ → Type 0) (by n i : ℕ) (d : Deeds Test) (m : ℕ) : Type 0 where
+  pub comes : ℕ → Deeds Test
   pub count : ℕ → ℕ
   pub each : (k : ℕ) → k < n → meant (i + k * by) (comes (i + k * by)) (count (i + k * by))
   pub deeds : d ≡ deeds_of_turns comes by n i
   pub many : m ≡ count_of_turns count by n i
 
-pub chosen : (meant : ℕ → Deeds Past → ℕ → Type 0) (by n i : ℕ) (d : Deeds Past) (m : ℕ) → 0 < by → AreTurnsMeant meant by n i d m → Chosen meant by n i d m
+pub chosen : (meant : ℕ → Deeds Test → ℕ → Type 0) (by n i : ℕ) (d : Deeds Test) (m : ℕ) → 0 < by → AreTurnsMeant meant by n i d m → Chosen meant by n i d m
 chosen meant by zero i d m some are = record { comes = λ j. Nothing; count = λ j. 0; each = λ k less. absurd (omega (arith, less)); deeds = are.0; many = are.1 }
 chosen meant by (suc n) i d m some (own, next, c, rest, is, are, d_is, m_is) =
     let k = chosen meant by n (i + by) next rest some are in
@@ -75,14 +75,14 @@ chosen meant by (suc n) i d m some (own, next, c, rest, is, are, d_is, m_is) =
       comes = f;
       count = count;
       each = λ j less. each_of meant by n i some k.comes k.count own c is k.each j less;
-      deeds = d_is ∙ ap (λ (t : Deeds Past). joined_deeds own t) (k.deeds ∙ others) ∙ ap (λ (t : Deeds Past). joined_deeds t (deeds_of_turns f by n (i + by))) (sym own_is);
+      deeds = d_is ∙ ap (λ (t : Deeds Test). joined_deeds own t) (k.deeds ∙ others) ∙ ap (λ (t : Deeds Test). joined_deeds t (deeds_of_turns f by n (i + by))) (sym own_is);
       many = m_is ∙ ap (λ (t : ℕ). c + t) (k.many ∙ counts) ∙ ap (λ (t : ℕ). t + count_of_turns count by n (i + by)) (sym c_is);
     }
   where
-    moved : (meant : ℕ → Deeds Past → ℕ → Type 0) (j : ℕ) (d e : Deeds Past) (a b : ℕ) → d ≡ e → a ≡ b → meant j d a → meant j e b
-    moved meant j d e a b p q is = subst (λ (n : ℕ). meant j e n) q (subst (λ (x : Deeds Past). meant j x a) p is)
+    moved : (meant : ℕ → Deeds Test → ℕ → Type 0) (j : ℕ) (d e : Deeds Test) (a b : ℕ) → d ≡ e → a ≡ b → meant j d a → meant j e b
+    moved meant j d e a b p q is = subst (λ (n : ℕ). meant j e n) q (subst (λ (x : Deeds Test). meant j x a) p is)
 
-    each_of : (meant : ℕ → Deeds Past → ℕ → Type 0) (by n i : ℕ) → 0 < by → (f : ℕ → Deeds Past) (count : ℕ → ℕ) (own : Deeds Past) (c : ℕ) → meant i own c
+    each_of : (meant : ℕ → Deeds Test → ℕ → Type 0) (by n i : ℕ) → 0 < by → (f : ℕ → Deeds Test) (count : ℕ → ℕ) (own : Deeds Test) (c : ℕ) → meant i own c
         → ((k : ℕ) → k < n → meant (i + by + k * by) (f (i + by + k * by)) (count (i + by + k * by)))
         → (k : ℕ) → k < suc n → meant (i + k * by) (changed f i own (i + k * by)) (changed count i c (i + k * by))
     each_of meant by n i some f count own c is each zero less =
@@ -99,7 +99,7 @@ chosen meant by (suc n) i d m some (own, next, c, rest, is, are, d_is, m_is) =
 -- ---- loops to a number
 
 -- one turn more
-turn_more : (meant : ℕ → Deeds Past → ℕ → Type 0) (by n i : ℕ) (d own : Deeds Past) (m c : ℕ) → AreTurnsMeant meant by n i d m → meant (i + n * by) own c
+turn_more : (meant : ℕ → Deeds Test → ℕ → Type 0) (by n i : ℕ) (d own : Deeds Test) (m c : ℕ) → AreTurnsMeant meant by n i d m → meant (i + n * by) own c
     → AreTurnsMeant meant by (suc n) i (joined_deeds d (joined_deeds own Nothing)) (m + c)
 turn_more meant by zero i d own m c (d_is, none) is = (
   own,
@@ -108,7 +108,7 @@ turn_more meant by zero i d own m c (d_is, none) is = (
   0,
   subst (λ (j : ℕ). meant j own c) (omega arith) is,
   (refl, refl),
-  ap (λ (t : Deeds Past). joined_deeds t (joined_deeds own Nothing)) d_is,
+  ap (λ (t : Deeds Test). joined_deeds t (joined_deeds own Nothing)) d_is,
   omega (arith, none),
 )
 turn_more meant by (suc n) i d own m c (first, next, k, rest, here, are, d_is, m_is) is =
@@ -119,7 +119,7 @@ turn_more meant by (suc n) i d own m c (first, next, k, rest, here, are, d_is, m
       rest + c,
       here,
       turn_more meant by n (i + by) next own rest c are (subst (λ (j : ℕ). meant j own c) at is),
-      ap (λ (t : Deeds Past). joined_deeds t (joined_deeds own Nothing)) d_is ∙ joined_assoc first next (joined_deeds own Nothing),
+      ap (λ (t : Deeds Test). joined_deeds t (joined_deeds own Nothing)) d_is ∙ joined_assoc first next (joined_deeds own Nothing),
       omega (arith, m_is),
     )
 
@@ -154,8 +154,8 @@ turns_next law e ns l body done number old now after at grown made so adds p is 
       are = subst (λ (k : ℕ). AreTurnsMeant (λ i t c. TurnComesTo e ns l p i t c) l.by k l.from (joined_deeds a.deeds (joined_deeds b.deeds Nothing)) (a.many + b.many)) (after_one done)
           (turn_more (λ i k c. TurnComesTo e ns l p i k c) l.by done l.from a.deeds b.deeds a.many b.many a.are (subst (λ (i : ℕ). TurnComesTo e ns l p i b.deeds b.many) at b.are));
       added = λ on f.
-          sym (made_alone r after on made f) ∙ ap (λ (t : Deeds Past). joined_deeds t Nothing) (b.added on f) ∙ joined_assoc (made_deeds r on now) b.deeds Nothing
-          ∙ ap (λ (t : Deeds Past). joined_deeds t (joined_deeds b.deeds Nothing)) (a.added on (front_back now after on grown f))
+          sym (made_alone r after on made f) ∙ ap (λ (t : Deeds Test). joined_deeds t Nothing) (b.added on f) ∙ joined_assoc (made_deeds r on now) b.deeds Nothing
+          ∙ ap (λ (t : Deeds Test). joined_deeds t (joined_deeds b.deeds Nothing)) (a.added on (front_back now after on grown f))
           ∙ joined_assoc (made_deeds r on old) a.deeds (joined_deeds b.deeds Nothing);
       longer = omega (arith, a.longer, b.longer);
       whole =
@@ -169,7 +169,7 @@ turns_next law e ns l body done number old now after at grown made so adds p is 
       few = turns_few_next law e ns l p done number old.read now.read a.deeds a.many at a.longer a.fits a.are b.few a.few;
     }
 
-loop_to_number : (e : Entries) (ns : List Counted) (l : WrittenLoop) (p : Passage) (n : ℕ) (d : Deeds Past) (m : ℕ) → 0 < l.by → l.bound ≡ ToNumber n
+loop_to_number : (e : Entries) (ns : List Counted) (l : WrittenLoop) (p : Passage) (n : ℕ) (d : Deeds Test) (m : ℕ) → 0 < l.by → l.bound ≡ ToNumber n
     → AreTurnsMeant (λ i k c. TurnComesTo e ns l p i k c) l.by (turns_between l.from l.by n) l.from d m → LoopComesTo e ns l p d m
 loop_to_number e ns l p n d m some bound are =
     let k = chosen (λ i t c. TurnComesTo e ns l p i t c) l.by (turns_between l.from l.by n) l.from d m some are in (
@@ -227,7 +227,7 @@ subscript_some name (ALoop l body more) ws (head, own, stops, rest, end, h, b, i
       ]
     ]
 
-none_of_turns : (by n i : ℕ) → deeds_of_turns {T = Past} (λ j. Nothing) by n i ≡ Nothing
+none_of_turns : (by n i : ℕ) → deeds_of_turns {T = Test} (λ j. Nothing) by n i ≡ Nothing
 none_of_turns by zero i = refl
 none_of_turns by (suc n) i = none_of_turns by n (i + by)
 
@@ -272,7 +272,7 @@ nothing_comes e ns (ALoop l body more) ws (head, own, stops, rest, end, h, b, in
 -- where a passage comes to no statement, none comes first
 
 none_in_turns : OneDeeds → (e : Entries) (ns : List Counted) (l : WrittenLoop) (p : Passage) (count : ℕ → ℕ) (n i : ℕ) → ((j : ℕ) → PassageComesTo e (in_its_turn ns l j) p Nothing 0)
-    → ((k : ℕ) → k < n → (d : Deeds Past) × PassageComesTo e (in_its_turn ns l (i + k * l.by)) p d (count (i + k * l.by))) → count_of_turns count l.by n i ≡ 0
+    → ((k : ℕ) → k < n → (d : Deeds Test) × PassageComesTo e (in_its_turn ns l (i + k * l.by)) p d (count (i + k * l.by))) → count_of_turns count l.by n i ≡ 0
 none_in_turns law e ns l p count n i comes whole =
     counted_same count (λ j. 0) l.by n i (λ k less.
     let (d, is) = whole k less in
@@ -281,7 +281,7 @@ none_in_turns law e ns l p count n i comes whole =
 
 loop_first_none : OneDeeds → (e : Entries) (ns : List Counted) (l : WrittenLoop) (p : Passage) (ws : List Lexeme) (b : WrittenBound) → l.bound ≡ b → IsPassage p ws → AreBounded p → IsBounded b l.counter p → turns_of l * statements_of p ≡ 0
     → ((ns : List Counted) → statements_of p ≡ 0 → (m : ℕ) → FirstIn e ns p m → m ≡ 0) → (m : ℕ)
-    → ComeFirstInLoop (nameable e) ns l b (λ i c. (d : Deeds Past) × PassageComesTo e (in_its_turn ns l i) p d c) (λ i c. FirstIn e (in_its_turn ns l i) p c) m → m ≡ 0
+    → ComeFirstInLoop (nameable e) ns l b (λ i c. (d : Deeds Test) × PassageComesTo e (in_its_turn ns l i) p d c) (λ i c. FirstIn e (in_its_turn ns l i) p c) m → m ≡ 0
 loop_first_none law e ns l p ws (ToNumber n) same is bounded counter none part m (k, own, count, less, whole, first, at) =
     let turns : turns_of l ≡ turns_between l.from l.by n = turns_are l n same in
     let no : statements_of p ≡ 0 = no_product (turns_of l) (statements_of p) k none (subst (λ (j : ℕ). k < j) (sym turns) less) in
@@ -323,12 +323,12 @@ none_in_loop : OneDeeds → (e : Entries) (ns : List Counted) (l : WrittenLoop) 
     → (m : ℕ) → FirstInLoop e ns l p m → m ≡ 0
 none_in_loop law e ns l p ws is bounded b same counter none m first =
     loop_first_none law e ns l p ws b same is bounded counter none (λ k no n x. nothing_first law e k p ws is bounded no n x) m
-    (subst (λ (t : WrittenBound). ComeFirstInLoop (nameable e) ns l t (λ i c. (d : Deeds Past) × PassageComesTo e (in_its_turn ns l i) p d c) (λ i c. FirstIn e (in_its_turn ns l i) p c) m) same first)
+    (subst (λ (t : WrittenBound). ComeFirstInLoop (nameable e) ns l t (λ i c. (d : Deeds Test) × PassageComesTo e (in_its_turn ns l i) p d c) (λ i c. FirstIn e (in_its_turn ns l i) p c) m) same first)
 
 -- ---- the turns of a loop to a number
 
 -- what is made, meant otherwise
-made_as : (e : Entries) (meant other : Deeds Past → ℕ → Type 0) (first later : ℕ → Type 0) (old new : MadeLists) (a : AddsMade e meant first old new) → other a.deeds a.many → FewWith later old.read
+made_as : (e : Entries) (meant other : Deeds Test → ℕ → Type 0) (first later : ℕ → Type 0) (old new : MadeLists) (a : AddsMade e meant first old new) → other a.deeds a.many → FewWith later old.read
     → AddsMade e other later old new
 made_as e meant other first later old new a is few =
     record { deeds = a.deeds; many = a.many; are = is; added = a.added; longer = a.longer; whole = a.whole; straight = a.straight; fits = a.fits; few = few }
@@ -352,7 +352,7 @@ turns_end law e ns l body turns n old now some one (q, are, bounded) bound (inr 
     (λ i. Nothing, λ i. 0, subst (λ (b : WrittenBound). IsLoopOf (nameable e) ns l b (λ i k c. TurnComesTo e ns l p i k c) (λ i. Nothing) (λ i. 0) Nothing 0) (sym bound) loop) in
     made_as e (λ d many. AreTurnsMeant (λ i k c. TurnComesTo e ns l p i k c) l.by turns l.from d many) (λ d many. LoopComesTo e ns l p d many)
     (λ many. FirstInTurns e ns l p turns many) (λ many. FirstInLoop e ns l p many) old now a
-    (subst (λ (d : Deeds Past). LoopComesTo e ns l p d a.many) (sym nothing.0)
+    (subst (λ (d : Deeds Test). LoopComesTo e ns l p d a.many) (sym nothing.0)
     (subst (λ (k : ℕ). LoopComesTo e ns l p Nothing k) (sym nothing.1) none_loop))
     (λ le many first. omega (arith, le, none_in_loop law e ns l p body is all (ToNumber n) bound tt product many first))
 
@@ -368,7 +368,7 @@ turn_refused law unbroken (why.Broken f) e ns l body turns done number bound old
     let few : done < turns_between l.from l.by bound =
     subst (λ (k : ℕ). done < k) (turns_are l bound same) (all_turns turns (turns_of l) done ((q : Passage) → IsPassage q body → statements_of q ≡ 0) all less) in (
       (refused p is).0,
-      subst (λ (b : WrittenBound). IsLoopRefused f (nameable e) ns l b (λ i. IsRefusedIn f e (in_its_turn ns l i) p) (λ i. (d : Deeds Past) × (c : ℕ) × PassageComesTo e (in_its_turn ns l i) p d c)) (sym same)
+      subst (λ (b : WrittenBound). IsLoopRefused f (nameable e) ns l b (λ i. IsRefusedIn f e (in_its_turn ns l i) p) (λ i. (d : Deeds Test) × (c : ℕ) × PassageComesTo e (in_its_turn ns l i) p d c)) (sym same)
           (done, few, subst (λ (i : ℕ). IsRefusedIn f e (in_its_turn ns l i) p) at (refused p is).1),
       let a = adds p is in
           turns_few_end e ns l p bound (turns_between l.from l.by bound) old.read same refl
@@ -382,7 +382,7 @@ turn_refused law unbroken why.TooMany e ns l body turns done number bound old no
     let k = chosen (λ i t c. TurnComesTo e ns l p i t c) l.by done l.from a.deeds a.many some a.are in
     let begin = count_of_turns k.count l.by done l.from in (
       begin + m,
-      subst (λ (b : WrittenBound). ComeFirstInLoop (nameable e) ns l b (λ i c. (d : Deeds Past) × PassageComesTo e (in_its_turn ns l i) p d c) (λ i c. FirstIn e (in_its_turn ns l i) p c) (begin + m)) (sym same)
+      subst (λ (b : WrittenBound). ComeFirstInLoop (nameable e) ns l b (λ i c. (d : Deeds Test) × PassageComesTo e (in_its_turn ns l i) p d c) (λ i c. FirstIn e (in_its_turn ns l i) p c) (begin + m)) (sym same)
           (done, m, k.count, few, λ j lt. (k.comes (l.from + j * l.by), k.each j lt), subst (λ (i : ℕ). FirstIn e (in_its_turn ns l i) p m) at first, refl),
       omega (arith, most, a.longer, k.many),
     )

@@ -7,7 +7,7 @@ use Rattle.cob_copybook_tree.specs.Forests.{Forest}
 use Rattle.cob_copybook_tree.specs.Nodes.{Resolved}
 use Rattle.cob_move_data.specs.Moves.{Move}
 use Rattle.cob_move_deeds.specs.Deeds.{Deeds, Nothing}
-use Rattle.cob_move_deeds.specs.Tests.{IsBoundItem, Past, with_number}
+use Rattle.cob_move_deeds.specs.Tests.{IsBoundItem, Past, Test, Until, with_number}
 use Rattle.cob_move_deeds.specs.Turns.{turns_from}
 use Rattle.cob_move_loops.specs.Passages.{ALoop, Moves, NoMore, Passage, Pause, ToItem, ToNumber, WrittenBound, WrittenLoop}
 use Rattle.cob_move_loops.specs.Turns.{Counted, counter_at, in_turn, turns_between}
@@ -51,23 +51,23 @@ pub record IsBoundOf (all : List Candidate) (ws : List Lexeme) (t : Past) : Type
 -- What a loop comes to, where a turn with this number comes to deeds and to so many statements: up to a number, its turns, one behind another. To an item, its
 -- turns up to the greatest number whose turn still has the elements that it names, each behind its test; the first one has them, and so many numbers as
 -- no table has elements none has (M11). The statements of each number up to the greatest count, also where BY passes over it: each such turn is looked at.
-abbrev pub IsLoopOf : List Candidate → List Counted → WrittenLoop → WrittenBound → (ℕ → Deeds Past → ℕ → Type 0) → (ℕ → Deeds Past) → (ℕ → ℕ) → Deeds Past → ℕ → Type 0
+abbrev pub IsLoopOf : List Candidate → List Counted → WrittenLoop → WrittenBound → (ℕ → Deeds Test → ℕ → Type 0) → (ℕ → Deeds Test) → (ℕ → ℕ) → Deeds Test → ℕ → Type 0
 IsLoopOf all ns l (ToNumber n) meant f count own many =
     ((k : ℕ) → k < turns_between l.from l.by n → meant (l.from + k * l.by) (f (l.from + k * l.by)) (count (l.from + k * l.by)))
     × (own ≡ deeds_of_turns f l.by (turns_between l.from l.by n) l.from) × (many ≡ count_of_turns count l.by (turns_between l.from l.by n) l.from)
 IsLoopOf all ns l (ToItem ws) meant f count own many = (t : Past)
     × IsBoundOf all (in_turn ns false 0 ws) t × (l.from ≤ t.most) × (t.most < l.from + longest_record)
     × ((i : ℕ) → l.from ≤ i → i ≤ t.most → meant i (f i) (count i))
-    × ((d : Deeds Past) (c : ℕ) → meant (t.most + 1) d c → ⊥)
-    × (own ≡ turns_from (with_number t) f l.by (turns_between l.from l.by t.most) l.from) × (many ≡ count_of_turns count 1 (t.most + 1 - l.from) l.from)
+    × ((d : Deeds Test) (c : ℕ) → meant (t.most + 1) d c → ⊥)
+    × (own ≡ turns_from (λ j. Until (with_number t j)) f l.by (turns_between l.from l.by t.most) l.from) × (many ≡ count_of_turns count 1 (t.most + 1 - l.from) l.from)
 
 -- What a passage comes to where the counters round it have these numbers, and to how many statements within loops and outside of them.
-abbrev pub AreDeeds : List Candidate → Forest Resolved → Forest Resolved → List Counted → Passage → Deeds Past → ℕ → Type 0
+abbrev pub AreDeeds : List Candidate → Forest Resolved → Forest Resolved → List Counted → Passage → Deeds Test → ℕ → Type 0
 AreDeeds all input output ns NoMore d many = (d ≡ Nothing) × (many ≡ 0)
-AreDeeds all input output ns (Moves own more) d many = (ms : List Move) × (next : Deeds Past) × (count rest : ℕ)
+AreDeeds all input output ns (Moves own more) d many = (ms : List Move) × (next : Deeds Test) × (count rest : ℕ)
     × IsRunMeant input output (in_turn ns false 0 own) ms count × AreDeeds all input output ns more next rest × (d ≡ before_deeds ms next) × (many ≡ count + rest)
 AreDeeds all input output ns (Pause more) d many = AreDeeds all input output ns more d many
-AreDeeds all input output ns (ALoop l body more) d many = (f : ℕ → Deeds Past) × (count : ℕ → ℕ) × (own next : Deeds Past) × (turned rest : ℕ)
+AreDeeds all input output ns (ALoop l body more) d many = (f : ℕ → Deeds Test) × (count : ℕ → ℕ) × (own next : Deeds Test) × (turned rest : ℕ)
     × IsLoopOf all ns l l.bound (λ i e c. AreDeeds all input output (ns ++ counter_at l i ∷ []) body e c) f count own turned
     × AreDeeds all input output ns more next rest × (d ≡ joined_deeds own next) × (many ≡ turned + rest)
 
@@ -93,8 +93,8 @@ ComeFirst all input output ns (Moves own more) many =
 ComeFirst all input output ns (Pause more) many = ComeFirst all input output ns more many
 ComeFirst all input output ns (ALoop l body more) many =
     (many ≡ 0)
-    ⊎ (ComeFirstInLoop all ns l l.bound (λ i c. (d : Deeds Past) × AreDeeds all input output (ns ++ counter_at l i ∷ []) body d c) (λ i c. ComeFirst all input output (ns ++ counter_at l i ∷ []) body c) many
-    ⊎ ((f : ℕ → Deeds Past) × (count : ℕ → ℕ) × (own : Deeds Past) × (turned rest : ℕ)
+    ⊎ (ComeFirstInLoop all ns l l.bound (λ i c. (d : Deeds Test) × AreDeeds all input output (ns ++ counter_at l i ∷ []) body d c) (λ i c. ComeFirst all input output (ns ++ counter_at l i ∷ []) body c) many
+    ⊎ ((f : ℕ → Deeds Test) × (count : ℕ → ℕ) × (own : Deeds Test) × (turned rest : ℕ)
     × IsLoopOf all ns l l.bound (λ i e c. AreDeeds all input output (ns ++ counter_at l i ∷ []) body e c) f count own turned
     × ComeFirst all input output ns more rest × (many ≡ turned + rest)))
 
@@ -131,5 +131,5 @@ IsTurnRefused f all input output ns (Moves own more) = RunIsRefused f all input 
 IsTurnRefused f all input output ns (Pause more) = IsTurnRefused f all input output ns more
 IsTurnRefused f all input output ns (ALoop l body more) =
     IsLoopRefused f all ns l l.bound (λ i. IsTurnRefused f all input output (ns ++ counter_at l i ∷ []) body)
-    (λ i. (d : Deeds Past) × (c : ℕ) × AreDeeds all input output (ns ++ counter_at l i ∷ []) body d c)
+    (λ i. (d : Deeds Test) × (c : ℕ) × AreDeeds all input output (ns ++ counter_at l i ∷ []) body d c)
     ⊎ IsTurnRefused f all input output ns more

@@ -17,7 +17,7 @@ use Rattle.cob_move_deeds.specs.Flows.{AreFlows, FlowSupport, deeds_from}
 use Rattle.cob_move_deeds.specs.Prepared.{AreDeedsPrepared, deeds_of}
 use Rattle.cob_move_deeds.specs.declared.ready.ReadyDeeds.{ReadyDeeds}
 use Rattle.cob_move_apply.specs.Prepared.{moves_of}
-use Rattle.cob_move_deeds.specs.Tests.{IsBound, IsBoundItem, Past}
+use Rattle.cob_move_deeds.specs.Tests.{IsBound, IsBoundItem, Test}
 use Rattle.cob_move_loops.specs.Bounded.{AreBounded, BoundedFront}
 use Rattle.cob_move_loops.specs.Few.{loop_line}
 use Rattle.cob_move_loops.specs.Passages.{ALoop, APause, ARun, IsPassage, IsRun, Looped, Moves, NoMore, Passage, PassageFront, Pause, WrittenLoop}
@@ -70,7 +70,7 @@ abbrev pub open_statements : MadeLists → List StatementMoves
 open_statements m = drop (last_marked 0 m.ends) m.list
 
 -- what statements come to
-abbrev pub open_deeds : Records → List StatementMoves → Deeds Past
+abbrev pub open_deeds : Records → List StatementMoves → Deeds Test
 open_deeds r [] = Nothing
 open_deeds r (s ∷ ss) = Moving (moves r (s ∷ ss)) Nothing
 
@@ -82,11 +82,11 @@ pub record IsFrontOf (m : MadeLists) (on : FlowSupport) : Type 0 where
   pub bounds : (more : List Bound) × (on.bounds ≡ m.bounds ++ more)
 
 -- what flows come to
-abbrev pub all_deeds : Records → FlowSupport → List Flow → Deeds Past
+abbrev pub all_deeds : Records → FlowSupport → List Flow → Deeds Test
 all_deeds r on fs = deeds_from r on (length fs) fs
 
 -- what is made so far comes to: what its flows do, and then the statements behind the last mark
-abbrev pub made_deeds : Records → FlowSupport → MadeLists → Deeds Past
+abbrev pub made_deeds : Records → FlowSupport → MadeLists → Deeds Test
 made_deeds r on m = both_deeds (all_deeds r on m.flows) (open_deeds r (open_statements m))
 
 -- what is done is nothing, or ends in a test; and behind moves stands one
@@ -169,8 +169,8 @@ FewWith first before = before ≤ most_written_out → (many : ℕ) → first ma
 
 -- Deeds that are meant so, with so many statements, stand behind what was made before, and as many statements were read. The statements' moves are those that may
 -- be carried out, in their order, and a mark came where there is a test. They are few, and so are those that come first.
-pub record AddsMade (e : Entries) (meant : Deeds Past → ℕ → Type 0) (first : ℕ → Type 0) (old new : MadeLists) : Type 0 where
-  pub deeds : Deeds Past
+pub record AddsMade (e : Entries) (meant : Deeds Test → ℕ → Type 0) (first : ℕ → Type 0) (old new : MadeLists) : Type 0 where
+  pub deeds : Deeds Test
   pub many : ℕ
   pub are : meant deeds many
   pub added : (on : FlowSupport) → IsFrontOf new on → made_deeds (records_of e) on new ≡ joined_deeds (made_deeds (records_of e) on old) deeds
@@ -206,11 +206,11 @@ TellsFault why.TooMany f body = (f.rule ≡ rule.TooMany) × (f.line ≡ loop_li
 TellsFault (why.Broken g) f body = f ≡ g
 
 -- words of MOVE statements, in a turn, come to one thing
-abbrev pub RunComesTo : Entries → List Counted → List Lexeme → Deeds Past → ℕ → Type 0
+abbrev pub RunComesTo : Entries → List Counted → List Lexeme → Deeds Test → ℕ → Type 0
 RunComesTo e ns own d many = (ms : List Move) × IsRunMeant e.input.now e.output.now (in_turn ns false 0 own) ms many × (d ≡ Moving ms Nothing)
 
 -- a passage, in a turn, comes to these deeds
-abbrev pub PassageComesTo : Entries → List Counted → Passage → Deeds Past → ℕ → Type 0
+abbrev pub PassageComesTo : Entries → List Counted → Passage → Deeds Test → ℕ → Type 0
 PassageComesTo e ns p d many = AreDeeds (nameable e) e.input.now e.output.now ns p d many
 
 -- the counters round a turn of a loop, and its own with this number
@@ -218,12 +218,12 @@ abbrev pub in_its_turn : List Counted → WrittenLoop → ℕ → List Counted
 in_its_turn ns l number = ns ++ counter_at l number ∷ []
 
 -- a loop with this passage comes to them
-abbrev pub LoopComesTo : Entries → List Counted → WrittenLoop → Passage → Deeds Past → ℕ → Type 0
-LoopComesTo e ns l p d many = (f : ℕ → Deeds Past) × (count : ℕ → ℕ)
+abbrev pub LoopComesTo : Entries → List Counted → WrittenLoop → Passage → Deeds Test → ℕ → Type 0
+LoopComesTo e ns l p d many = (f : ℕ → Deeds Test) × (count : ℕ → ℕ)
     × IsLoopOf (nameable e) ns l l.bound (λ i k c. PassageComesTo e (ns ++ counter_at l i ∷ []) p k c) f count d many
 
 -- what stands in front comes to them, where its statements, if it is a loop, are this passage
-abbrev pub FrontComesTo : Entries → List Counted → PassageFront → Passage → Deeds Past → ℕ → Type 0
+abbrev pub FrontComesTo : Entries → List Counted → PassageFront → Passage → Deeds Test → ℕ → Type 0
 FrontComesTo e ns (ARun own) p d many = RunComesTo e ns own d many
 FrontComesTo e ns APause p d many = (d ≡ Nothing) × (many ≡ 0)
 FrontComesTo e ns (Looped l own) p d many = LoopComesTo e ns l p d many
@@ -240,7 +240,7 @@ IsRefusedIn f e ns p = IsTurnRefused f (nameable e) e.input.now e.output.now ns 
 abbrev pub LoopIsRefused : MoveFault → Entries → List Counted → WrittenLoop → Passage → Type 0
 LoopIsRefused f e ns l p =
     IsLoopRefused f (nameable e) ns l l.bound (λ i. IsRefusedIn f e (ns ++ counter_at l i ∷ []) p)
-    (λ i. (d : Deeds Past) × (c : ℕ) × PassageComesTo e (ns ++ counter_at l i ∷ []) p d c)
+    (λ i. (d : Deeds Test) × (c : ℕ) × PassageComesTo e (ns ++ counter_at l i ∷ []) p d c)
 
 -- what stands in front is refused
 abbrev pub FrontIsRefused : MoveFault → Entries → List Counted → PassageFront → Passage → Type 0
@@ -259,18 +259,18 @@ FirstInRun e ns own many = (ms : List Move) × IsRunMeant e.input.now e.output.n
 -- in a loop with this passage
 abbrev pub FirstInLoop : Entries → List Counted → WrittenLoop → Passage → ℕ → Type 0
 FirstInLoop e ns l p many =
-    ComeFirstInLoop (nameable e) ns l l.bound (λ i c. (d : Deeds Past) × PassageComesTo e (ns ++ counter_at l i ∷ []) p d c) (λ i c. FirstIn e (ns ++ counter_at l i ∷ []) p c) many
+    ComeFirstInLoop (nameable e) ns l l.bound (λ i c. (d : Deeds Test) × PassageComesTo e (ns ++ counter_at l i ∷ []) p d c) (λ i c. FirstIn e (ns ++ counter_at l i ∷ []) p c) many
 
 -- in so many turns of a loop to a number
 abbrev pub FirstInTurns : Entries → List Counted → WrittenLoop → Passage → ℕ → ℕ → Type 0
 FirstInTurns e ns l p done many = (k own : ℕ) × (count : ℕ → ℕ)
-    × (k < done) × ((j : ℕ) → j < k → (d : Deeds Past) × PassageComesTo e (ns ++ counter_at l (l.from + j * l.by) ∷ []) p d (count (l.from + j * l.by)))
+    × (k < done) × ((j : ℕ) → j < k → (d : Deeds Test) × PassageComesTo e (ns ++ counter_at l (l.from + j * l.by) ∷ []) p d (count (l.from + j * l.by)))
     × FirstIn e (ns ++ counter_at l (l.from + k * l.by) ∷ []) p own × (many ≡ count_of_turns count l.by k l.from + own)
 
 -- in the turns of a loop to an item whose numbers stand below one
 abbrev pub FirstBelow : Entries → List Counted → WrittenLoop → Passage → ℕ → ℕ → Type 0
 FirstBelow e ns l p behind many = (i own : ℕ) × (count : ℕ → ℕ)
-    × (l.from ≤ i) × (i < behind) × ((j : ℕ) → l.from ≤ j → j < i → (d : Deeds Past) × PassageComesTo e (ns ++ counter_at l j ∷ []) p d (count j))
+    × (l.from ≤ i) × (i < behind) × ((j : ℕ) → l.from ≤ j → j < i → (d : Deeds Test) × PassageComesTo e (ns ++ counter_at l j ∷ []) p d (count j))
     × FirstIn e (ns ++ counter_at l i ∷ []) p own × (many ≡ count_of_turns count 1 (i - l.from) l.from + own)
 
 -- in what stands in front
@@ -322,9 +322,9 @@ HasNoTurn e ns words before = (f : MoveFault) × BreaksInTurn f e ns words befor
 -- ---- turns of a loop
 
 -- So many turns come to these deeds, one turn's behind another's, and to so many statements.
-abbrev pub AreTurnsMeant : (ℕ → Deeds Past → ℕ → Type 0) → (by n i : ℕ) → Deeds Past → ℕ → Type 0
+abbrev pub AreTurnsMeant : (ℕ → Deeds Test → ℕ → Type 0) → (by n i : ℕ) → Deeds Test → ℕ → Type 0
 AreTurnsMeant meant by zero i d many = (d ≡ Nothing) × (many ≡ 0)
-AreTurnsMeant meant by (suc n) i d many = (own next : Deeds Past) × (count rest : ℕ)
+AreTurnsMeant meant by (suc n) i d many = (own next : Deeds Test) × (count rest : ℕ)
     × meant i own count × AreTurnsMeant meant by n (i + by) next rest × (d ≡ joined_deeds own next) × (many ≡ count + rest)
 
 -- how many loops of a passage hold one another, at most
@@ -371,7 +371,7 @@ abbrev pub IsSure : Entries → List Counted → List Lexeme → ℕ → Type 0
 IsSure e ns words before = (p : Passage) → IsPassage p words → FewWith (λ many. FirstIn e ns p many) before
 
 -- what the turn of a loop with this passage comes to
-abbrev pub TurnComesTo : Entries → List Counted → WrittenLoop → Passage → ℕ → Deeds Past → ℕ → Type 0
+abbrev pub TurnComesTo : Entries → List Counted → WrittenLoop → Passage → ℕ → Deeds Test → ℕ → Type 0
 TurnComesTo e ns l p i d many = PassageComesTo e (in_its_turn ns l i) p d many
 
 -- whatever passage the statements of a loop are, so many of its turns stand behind what was made before
@@ -381,14 +381,14 @@ AddsTurns e ns l body done old new =
     → AddsMade e (λ d many. AreTurnsMeant (λ i k c. TurnComesTo e ns l p i k c) l.by done l.from d many) (λ many. FirstInTurns e ns l p done many) old new
 
 -- flows of turns come to what the turns do
-abbrev pub AreTurns : Records → FlowSupport → (ℕ → Deeds Past) → ℕ → ℕ → List (List Flow) → Type 0
+abbrev pub AreTurns : Records → FlowSupport → (ℕ → Deeds Test) → ℕ → ℕ → List (List Flow) → Type 0
 AreTurns r on f by i [] = Unit {0}
 AreTurns r on f by i (fs ∷ turns) = AreFlows on fs × (all_deeds r on fs ≡ f i) × AreTurns r on f by (i + by) turns
 
 -- The turns of a loop whose numbers stand below one are read, behind what was made before: each comes to something and counts, and those that the counter takes
 -- are kept, each with its flows.
 pub record ReadsTurns (e : Entries) (ns : List Counted) (l : WrittenLoop) (p : Passage) (behind : ℕ) (turns : List (List Flow)) (old new : MadeLists) : Type 0 where
-  pub comes : ℕ → Deeds Past
+  pub comes : ℕ → Deeds Test
   pub count : ℕ → ℕ
   pub are : (i : ℕ) → l.from ≤ i → i < behind → PassageComesTo e (in_its_turn ns l i) p (comes i) (count i)
   pub flows : (on : FlowSupport) → IsFrontOf new on → AreTurns (records_of e) on comes l.by l.from turns
@@ -448,7 +448,7 @@ flow_lists vs = map (λ v. v.items) vs
 
 -- They are a passage that is not empty, with few loops in one another, which come to few statements, with counters of their own, and whose loops to items are
 -- bounded; and this is what it comes to, and it comes to few statements.
-pub record SaysDeeds (e : Entries) (body : List Lexeme) (d : Deeds Past) : Type 0 where
+pub record SaysDeeds (e : Entries) (body : List Lexeme) (d : Deeds Test) : Type 0 where
   pub judged : HasJudged (nameable e) body
   pub bounded : AreBounded judged.passage
   pub many : ℕ
@@ -464,8 +464,8 @@ abbrev pub HasItemLoop : List Lexeme → Type 0
 HasItemLoop body = (p : Passage) → IsPassage p body → IsLiteral p → ⊥
 
 -- what is to be done is what is made so far, whatever it rests on
-abbrev pub IsWhatIsMade : Records → MadeLists → Deeds Past → Type 0
-IsWhatIsMade r m d = (own : Deeds Past) → ((on : FlowSupport) → IsFrontOf m on → made_deeds r on m ≡ own) → d ≡ own
+abbrev pub IsWhatIsMade : Records → MadeLists → Deeds Test → Type 0
+IsWhatIsMade r m d = (own : Deeds Test) → ((on : FlowSupport) → IsFrontOf m on → made_deeds r on m ≡ own) → d ≡ own
 
 -- what is made so far is made ready: its moves, in their order, up to a mark behind them
 pub record IsReadied (r : Records) (m : MadeLists) (d : ReadyDeeds) : Type 0 where

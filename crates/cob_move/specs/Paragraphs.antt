@@ -20,7 +20,7 @@ use Rattle.cob_move_data.specs.Moves.{Move, Records}
 use Rattle.cob_move_apply.specs.Marked.{ends_of_marks, marked_steps}
 use Rattle.cob_move_deeds.specs.Deeds.{Deeds, IsStraight, Moving, Nothing}
 use Rattle.cob_move_deeds.specs.Prepared.{AreDeedsPrepared, HaveAllMoves, deeds_of}
-use Rattle.cob_move_deeds.specs.Tests.{Past}
+use Rattle.cob_move_deeds.specs.Tests.{Test}
 use Rattle.cob_move_deeds.specs.declared.ready.ReadyDeeds.{ReadyDeeds}
 use Rattle.cob_move.specs.Bodies.{AreCounters, AreSpelled, HasPassage, IsBodyIn, IsPassageRefusal}
 use Rattle.cob_move.specs.Deeds.{AreDeeds, ComeFirst, IsFewRead, IsTurnRefused}
@@ -44,7 +44,7 @@ ComesToFew all input output p = (IsLiteral p → ⊥) → IsFewRead all input ou
 
 -- The words of the text are a passage, with loops as they may be: each has a counter of its own, and one to an item has a table that bounds it (M11). It comes
 -- to these deeds between the two records: moves in their order, and tests of loops to items between them.
-pub record IsParagraphOf (text : List ℕ) (input output : Forest Resolved) (d : Deeds Past) : Type 0 where
+pub record IsParagraphOf (text : List ℕ) (input output : Forest Resolved) (d : Deeds Test) : Type 0 where
   pub words : List Lexeme
   pub passage : Passage
   pub many : ℕ
@@ -76,7 +76,7 @@ pub record IsPlainParagraphOf (text : List ℕ) (input output : Forest Resolved)
   pub meant : AreMeant input output statements ms
 
 -- These moves are done in order, and no test is; or there is no statement, and nothing is done.
-abbrev pub AreDone : List Move → Deeds Past → Type 0
+abbrev pub AreDone : List Move → Deeds Test → Type 0
 AreDone ms d = (d ≡ Moving ms Nothing) ⊎ ((d ≡ Nothing) × (ms ≡ []))
 
 -- ---- which rules it breaks
@@ -116,7 +116,7 @@ IsRefusalOf f text input output = BreaksFormat f.rule f.line text ⊎ BreaksWord
 -- ---- paragraphs that are read
 
 -- what a paragraph does between two records
-abbrev pub deeds_in : Records → Paragraph → Deeds Past
+abbrev pub deeds_in : Records → Paragraph → Deeds Test
 deeds_in r p = deeds_of r p.deeds
 
 -- how many steps its moves make, those between one mark and the next by themselves

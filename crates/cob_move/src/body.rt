@@ -23,7 +23,7 @@ use crate::pieces::refused_memory;
 use cob_layout::Layout;
 use cob_move_apply::MarkedMoves;
 use cob_move_data::StatementMoves;
-use cob_move_deeds::ReadyDeeds;
+use cob_move_deeds::{Asked, ReadyDeeds};
 use cob_move_loops::{check_bounds, loop_line};
 use cob_move_names::Correspondences;
 use cob_move_statements::{MoveFault, MoveRule};
@@ -97,7 +97,13 @@ fn ready_deeds(
     } = made;
     let moves = MarkedMoves::new(alloc, list, ends.as_slice(), input, output)?;
     let loops = Vec::new(alloc);
-    let deeds = ReadyDeeds::new(moves, bounds, loops, flows);
+    let entries = Vec::new(alloc);
+    let conditions = Vec::new(alloc);
+    let asked = Asked {
+        entries,
+        conditions,
+    };
+    let deeds = ReadyDeeds::new(moves, bounds, loops, asked, flows);
     let steady = deeds.with_steady_bounds(alloc, output)?;
     Ok(steady)
 }

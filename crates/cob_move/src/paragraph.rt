@@ -12,7 +12,7 @@ ghost use Rattle.cob_move_deeds.specs.Deeds.{Carried, Deeds, IsStraight, moves_o
 ghost use Rattle.cob_move_deeds.specs.Flows.{deeds_by};
 ghost use Rattle.cob_move_deeds.specs.Met.{DeedsHaveMet};
 ghost use Rattle.cob_move_deeds.specs.Prepared.{deeds_of};
-ghost use Rattle.cob_move_deeds.specs.Tests.{Judged, Past};
+ghost use Rattle.cob_move_deeds.specs.Tests.{Judged, Test};
 ghost use Rattle.cob_move_statements.specs.Reading.{IsOrLacksMemory};
 ghost use Rattle.cob_source.specs.Tokens.{lexemes};
 ghost use Rattle.cob_source.specs.Words.{AreParagraphWordsOf};
@@ -159,7 +159,7 @@ impl Paragraph {
         // It is ready for these records.
         ensures ready { IfOk result (λ p. IsReadyFor (both input.now output.now) p) }
         // A text that is a paragraph is read, memory aside.
-        ensures only { (d : Deeds Past) → IsParagraphOf text.now input.now output.now d
+        ensures only { (d : Deeds Test) → IsParagraphOf text.now input.now output.now d
             → IsOrLacksMemory (λ p. deeds_in (both input.now output.now) p ≡ d) result }
         // A refusal names a rule that is broken.
         ensures fault { IfErr result (λ f. IsRefusalOf f text.now input.now output.now) }

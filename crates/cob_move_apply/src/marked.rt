@@ -85,6 +85,7 @@ impl MarkedMoves {
         ensures between { (r : Records) (from to : ℕ) → moves_between_marks r result from to
             ≡ map (read_by reading) (moves_between_marks r self from to) }
         ensures ends { ends_of_marks result ≡ ends_of_marks self }
+        ensures reading { result.moves.reading ≡ reading }
         ensures prepared { (r : Records) → AreMarkedPrepared r self → AreMarkedPrepared r result }
     {
         MarkedMoves {

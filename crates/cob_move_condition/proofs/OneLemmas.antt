@@ -157,7 +157,7 @@ one_comparison law a b (Ok o) (Err which) x y = absurd (compared_or_without a b 
 one_comparison law a b (Err which) (Ok o) x y = absurd (compared_or_without a b o which y x)
 one_comparison law a b (Err which) (Err other) x y = ap (λ (k : WithoutValue). Err k) (one_without a b which other x y)
 
--- ---- what a condition says, where what operands give is one thing
+-- ---- what a condition says, where what operands give is one thing, and so what two of them compare to
 
 same_ok : {A S : Type 0} (a b : A) → ◌≡◌ {A = Result A S} (Ok a) (Ok b) → a ≡ b
 same_ok a b e = cc
@@ -169,9 +169,9 @@ ok_or_err : {A S : Type 0} (a : A) (b : S) → ◌≡◌ {A = Result A S} (Ok a)
 ok_or_err a b e = cc
 
 -- one order of two operands
-order_of_same : Laws → (x y z u : Sent) (o p : Ordering) → x ≡ z → y ≡ u → IsCompared x y o → IsCompared z u p → o ≡ p
+order_of_same : OneComparison → (x y z u : Sent) (o p : Ordering) → x ≡ z → y ≡ u → IsCompared x y o → IsCompared z u p → o ≡ p
 order_of_same law x y z u o p e f c d =
-    one_compared law z u o p (subst (λ (k : Sent). IsCompared k u o) e (subst (λ (k : Sent). IsCompared x k o) f c)) d
+    same_ok o p (law z u (Ok o) (Ok p) (subst (λ (k : Sent). IsCompared k u o) e (subst (λ (k : Sent). IsCompared x k o) f c)) d)
 
 same_or_without : (x y z u : Sent) (o : Ordering) (which : WithoutValue) → x ≡ z → y ≡ u → IsCompared x y o → IsWithoutValue z u which → ⊥
 same_or_without x y z u o which e f c l =
@@ -181,7 +181,7 @@ without_of_same : (x y z u : Sent) (a b : WithoutValue) → x ≡ z → y ≡ u 
 without_of_same x y z u a b e f c l =
     one_without z u a b (subst (λ (k : Sent). IsWithoutValue k u a) e (subst (λ (k : Sent). IsWithoutValue x k a) f c)) l
 
-one_relation : Laws → {S : Type 0} (gives : Sender → Result Sent S → Type 0) (lacks : Sender → S → Type 0) → GivesOne gives → LacksOne lacks → (a : Sender) (relation : Ordering) (b : Sender) (r s : Result Bool S)
+one_relation : OneComparison → {S : Type 0} (gives : Sender → Result Sent S → Type 0) (lacks : Sender → S → Type 0) → GivesOne gives → LacksOne lacks → (a : Sender) (relation : Ordering) (b : Sender) (r s : Result Bool S)
     → SaysRelation gives lacks a relation b r → SaysRelation gives lacks a relation b s → r ≡ s
 one_relation law gives lacks one stops a relation b (Ok v) (Ok w) (x, y, o, p, q, c, is) (z, u, k, m, n, d, also) =
     let e : x ≡ z = same_ok x z (one a (Ok x) (Ok z) p m) in
@@ -227,7 +227,7 @@ one_class gives one a class (Err t) (Err v) p q = ap Err (same_err t v (one a (E
 true_or_false : {S : Type 0} → ◌≡◌ {A = Result Bool S} (Ok true) (Ok false) → ⊥
 true_or_false e = cc
 
-pub one_says : Laws → {S : Type 0} (gives : Sender → Result Sent S → Type 0) (lacks : Sender → S → Type 0) → GivesOne gives → LacksOne lacks → (c : Condition) (r s : Result Bool S)
+pub one_says : OneComparison → {S : Type 0} (gives : Sender → Result Sent S → Type 0) (lacks : Sender → S → Type 0) → GivesOne gives → LacksOne lacks → (c : Condition) (r s : Result Bool S)
     → Says gives lacks c r → Says gives lacks c s → r ≡ s
 one_says law gives lacks one stops Always r s p q = p ∙ sym q
 one_says law gives lacks one stops (Compares a relation b) r s p q = one_relation law gives lacks one stops a relation b r s p q
@@ -254,5 +254,5 @@ one_says law gives lacks one stops (Either c d) r s (inr (inr (stop, p, u))) (in
 one_says law gives lacks one stops (Either c d) r s (inr (inr (stop, p, u))) (inr (inr (halt, q, v))) =
     u ∙ ap Err (same_err stop halt (one_says law gives lacks one stops c (Err stop) (Err halt) p q)) ∙ sym v
 
-pub one_saying : Laws → {S : Type 0} (gives : Sender → Result Sent S → Type 0) (lacks : Sender → S → Type 0) → OneSaying gives lacks
+pub one_saying : OneComparison → {S : Type 0} (gives : Sender → Result Sent S → Type 0) (lacks : Sender → S → Type 0) → OneSaying gives lacks
 one_saying law gives lacks one stops c r s p q = one_says law gives lacks one stops c r s p q

@@ -1,5 +1,5 @@
 -- Flows that carry out all moves at once.
-use Rattle.std.proofs.Common.{◌≡◌, ℕ, ◌+◌, ◌-◌, ◌==◌, Bool, true, false, List, [], ◌∷◌, ◌++◌, append-nil, length, refl, sym, ap, subst, ◌∙◌, arith, eqb-true, Result}
+use Rattle.std.proofs.Common.{◌≡◌, ℕ, ◌-◌, ◌==◌, true, false, List, [], ◌∷◌, append-nil, length, refl, sym, ap, subst, ◌∙◌, arith, eqb-true, Result}
 use Rattle.std.specs.List.{AllByRecursion}
 use Rattle.std.proofs.lemmas.Bool.{and_parts}
 use Rattle.cob_move_data.specs.Moves.{Move, Records}
@@ -29,6 +29,8 @@ lone_is (flow.Moves number ∷ []) is = (number, refl)
 lone_is (flow.Moves number ∷ f ∷ fs) is = let no : false ≡ true = is in absurd (cc)
 lone_is (flow.Turns number ∷ fs) is = let no : false ≡ true = is in absurd (cc)
 lone_is (flow.Until bound number skip ∷ fs) is = let no : false ≡ true = is in absurd (cc)
+lone_is (flow.Where condition holding lacking ∷ fs) is = let no : false ≡ true = is in absurd (cc)
+lone_is (flow.Skip count ∷ fs) is = let no : false ≡ true = is in absurd (cc)
 
 -- it carries out those between two marks, which are all
 all_are : (on : FlowSupport) (fs : List Flow) → are_all_moves (length on.moves.marks.items) fs ≡ true → AllByRecursion (IsFlow on) fs

@@ -4,7 +4,6 @@ use Rattle.std.specs.Prelude.{if◌then◌else◌}
 use Rattle.std.specs.List.{slice_get}
 use Rattle.std.proofs.lemmas.Nat.{div-add-mod', div-mul-add, div_below, mod_below}
 use Rattle.std.proofs.Math.Nat.{suc-mul}
-use Rattle.cob_layout.specs.Laws.{OneOfNeeded}
 use Rattle.cob_move_data.specs.declared.operands.Side.TheVariants.{In}
 use Rattle.cob_move_data.specs.declared.operands.StatementMoves.{StatementMoves}
 use Rattle.cob_move_data.specs.Moves.{Move, Records, moves_by}
@@ -19,7 +18,8 @@ use Rattle.cob_move_deeds.specs.declared.flow.Bound.{Bound}
 use Rattle.cob_move_deeds.specs.declared.flow.CountedLoop.{CountedLoop}
 use Rattle.cob_move_deeds.specs.Deeds.{Carried, Deeds, Moving, Nothing}
 use Rattle.cob_move_deeds.specs.Flows.{FlowSupport, IsLoop, loop_done, moves_of_turn, turns_to}
-use Rattle.cob_move_deeds.specs.Tests.{BoundGives, Judged, Past, past_bound, with_number}
+use Rattle.cob_move_deeds.specs.Laws.{TestLaws}
+use Rattle.cob_move_deeds.specs.Tests.{BoundGives, Judged, JudgedPast, Past, Test, Until, past_bound, with_number}
 use Rattle.cob_move_deeds.specs.Turns.{number_after, turns_from}
 use Rattle.cob_move_deeds.proofs.TestLemmas.{determined, ends_past, says_of_input}
 use Rattle.cob_move_deeds.proofs.TurnLemmas.{known_is_moves}
@@ -147,7 +147,7 @@ turns_all r m l k prepared some within =
 -- ---- a loop carried out
 
 -- the bound gives a number: the moves of the turns up to it are the loop
-pub loop_made : OneOfNeeded → (r : Records) (on : FlowSupport) (l : CountedLoop) (b : Bound) (v : ℕ) (input before : List ℕ) (end : Ending) → AreMarkedPrepared r on.moves → (is : IsLoop on l)
+pub loop_made : TestLaws → (r : Records) (on : FlowSupport) (l : CountedLoop) (b : Bound) (v : ℕ) (input before : List ℕ) (end : Ending) → AreMarkedPrepared r on.moves → (is : IsLoop on l)
     → slice_get on.bounds l.bound ≡ Some b → is.bound ≡ b → BoundGives r (past_bound r b 0) input before v → v ≤ b.most
     → Applied r (moves_between_marks r on.moves l.first (l.first + turns_between l.from l.by v)) input before end → Carried (Judged r) r (loop_done r on (Some l)) input before end
 loop_made law r on l b v input before end prepared is at same gives below applied =
@@ -158,16 +158,16 @@ loop_made law r on l b v input before end prepared is at same gives below applie
     let of_input = subst (λ (c : Bound). c.item.side ≡ In) same is.of_input in
     let moves : Applied r (turns (moves_of_turn r on.moves l) l.by (turns_between l.from l.by v) l.from) input before end =
     subst (λ (ms : List Move). Applied r ms input before end) (sym (turns_all r on.moves l (turns_between l.from l.by v) prepared is.grows (omega (arith, few, is.marks)))) applied in
-    let known = known_is_moves (Judged r) r (with_number t) (moves_of_turn r on.moves l) l.by t.most l.turns (turns_between l.from l.by v) l.from v input before end (determined law r) (ends_past r t) (says_of_input r t input before v of_input gives) far known_of.near known_of.beyond in
+    let known = known_is_moves (Judged r) r (λ j. Until (with_number t j)) (moves_of_turn r on.moves l) l.by t.most l.turns (turns_between l.from l.by v) l.from v input before end (determined law r) (ends_past r t) (says_of_input r t input before v of_input gives) far known_of.near known_of.beyond in
     subst (λ (o : Option Bound). Carried (Judged r) r (turns_to r on.moves l o) input before end) (sym at) (known.1 moves)
 
 -- something is missing for the bound, and so for the first test
-first_stops : (r : Records) (t : Past) (body : ℕ → Deeds Past) (by n i : ℕ) (input before : List ℕ) (stop : Stop) → Judged r (with_number t i) input before (Err stop)
-    → Carried (Judged r) r (turns_from (with_number t) body by n i) input before (stopped stop before)
+first_stops : (r : Records) (t : Past) (body : ℕ → Deeds Test) (by n i : ℕ) (input before : List ℕ) (stop : Stop) → JudgedPast r (with_number t i) input before (Err stop)
+    → Carried (Judged r) r (turns_from (λ j. Until (with_number t j)) body by n i) input before (stopped stop before)
 first_stops r t body by zero i input before stop is = inr (inr (stop, is, refl))
 first_stops r t body by (suc n) i input before stop is = inr (inr (stop, is, refl))
 
-pub loop_stopped : (r : Records) (on : FlowSupport) (l : CountedLoop) (b : Bound) (input before : List ℕ) (stop : Stop) → slice_get on.bounds l.bound ≡ Some b → Judged r (past_bound r b 0) input before (Err stop)
+pub loop_stopped : (r : Records) (on : FlowSupport) (l : CountedLoop) (b : Bound) (input before : List ℕ) (stop : Stop) → slice_get on.bounds l.bound ≡ Some b → JudgedPast r (past_bound r b 0) input before (Err stop)
     → Carried (Judged r) r (loop_done r on (Some l)) input before (stopped stop before)
 loop_stopped r on l b input before stop at is =
     subst (λ (o : Option Bound). Carried (Judged r) r (turns_to r on.moves l o) input before (stopped stop before)) (sym at)

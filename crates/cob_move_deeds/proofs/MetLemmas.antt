@@ -2,7 +2,6 @@
 use Rattle.std.proofs.Common.{◌≡◌, ◌⊎◌, ℕ, zero, suc, ◌+◌, ◌<◌, ◌≤◌, Bool, false, List, [], ◌∷◌, ◌++◌, nat_lt, refl, sym, ap, subst, arith, inl, inr, Ok}
 use Rattle.cob_copybook_tree.specs.Forests.{Forest}
 use Rattle.cob_copybook_tree.specs.Nodes.{Resolved}
-use Rattle.cob_layout.specs.Laws.{OneOfNeeded}
 use Rattle.cob_move_data.specs.declared.operands.Operand.{Operand}
 use Rattle.cob_move_data.specs.Moves.{Move, Records}
 use Rattle.cob_move_apply.specs.Applied.{AllGet, Applied, Content, Ending, OneEnding, done}
@@ -11,8 +10,9 @@ use Rattle.cob_move_apply.proofs.MetLemmas.{none_met}
 use Rattle.cob_move_apply.proofs.OneLemmas.{stop_of}
 use Rattle.cob_move_loops.specs.Turns.{turns}
 use Rattle.cob_move_deeds.specs.Deeds.{Carried, Choice, Deeds, Moving, Nothing, both_deeds}
+use Rattle.cob_move_deeds.specs.Laws.{TestLaws}
 use Rattle.cob_move_deeds.specs.Met.{DeedsHaveMet, MetThen}
-use Rattle.cob_move_deeds.specs.Tests.{Judged, Past}
+use Rattle.cob_move_deeds.specs.Tests.{Judged, Test}
 use Rattle.cob_move_deeds.specs.Turns.{number_after, turns_from}
 use Rattle.cob_move_deeds.proofs.DeedLemmas.{one_carried, says_not}
 use Rattle.cob_move_deeds.proofs.TestLemmas.{determined}
@@ -52,13 +52,13 @@ moves_met r (m ∷ ms) ns input before n (inr (content, gives, met)) =
 
 -- ---- what is done behind what is done
 
-pub none_done : (r : Records) (d : Deeds Past) (input before : List ℕ) → DeedsHaveMet r d input before 0
+pub none_done : (r : Records) (d : Deeds Test) (input before : List ℕ) → DeedsHaveMet r d input before 0
 none_done r Nothing input before = refl
 none_done r (Moving ms more) input before = inl (none_met r ms input before)
 none_done r (Choice t holding lacking more) input before = inl refl
 
 -- what met in front, whatever is behind
-pub front_met : (r : Records) (d next : Deeds Past) (input before : List ℕ) (n : ℕ) → DeedsHaveMet r d input before n → DeedsHaveMet r (both_deeds d next) input before n
+pub front_met : (r : Records) (d next : Deeds Test) (input before : List ℕ) (n : ℕ) → DeedsHaveMet r d input before n → DeedsHaveMet r (both_deeds d next) input before n
 front_met r Nothing next input before n none = subst (λ (k : ℕ). DeedsHaveMet r next input before k) (sym none) (none_done r next input before)
 front_met r (Moving ms more) next input before n (inl front) = inl front
 front_met r (Moving ms more) next input before n (inr (after, own, rest, sum, go, x, y)) = inr (after, own, rest, sum, go, x, front_met r more next input after rest y)
@@ -71,7 +71,7 @@ front_met r (Choice t holding lacking more) next input before n (inr (inr (is, i
     inr (inr (is, inr (after, own, rest, sum, go, x, front_met r more next input after rest y)))
 
 -- what meets behind what was done, whether receivers of that met or not
-pub past_deeds : (r : Records) (d next : Deeds Past) (input before after : List ℕ) (n : ℕ) → Carried (Judged r) r d input before (done after) → DeedsHaveMet r next input after n
+pub past_deeds : (r : Records) (d next : Deeds Test) (input before after : List ℕ) (n : ℕ) → Carried (Judged r) r d input before (done after) → DeedsHaveMet r next input after n
     → DeedsHaveMet r (both_deeds d next) input before n
 past_deeds r Nothing next input before after n e h = subst (λ (b : List ℕ). DeedsHaveMet r next input b n) (ap (λ (k : Ending). k.storage) e) h
 past_deeds r (Moving ms more) next input before after n (inl (mid, go, x)) h = inr (mid, 0, n, plain n, go, none_met r ms input before, past_deeds r more next input mid after n x h)
@@ -88,7 +88,7 @@ more_in : (n a b rest : ℕ) → n ≡ a + b → n + rest ≡ a + (b + rest)
 more_in n a b rest sum = omega (arith, sum)
 
 -- receivers of moves, or of a branch, and then of what is behind
-branch_met : (r : Records) (front : ℕ → Type 0) (goes : List ℕ → Type 0) (more next : Deeds Past) (input mid after : List ℕ) (own rest : ℕ) → ((s : List ℕ) → goes s → s ≡ mid) → goes mid
+branch_met : (r : Records) (front : ℕ → Type 0) (goes : List ℕ → Type 0) (more next : Deeds Test) (input mid after : List ℕ) (own rest : ℕ) → ((s : List ℕ) → goes s → s ≡ mid) → goes mid
     → Carried (Judged r) r more input mid (done after) → ((a b : ℕ) → DeedsHaveMet r more input mid b → DeedsHaveMet r (both_deeds more next) input mid (b + rest)) → DeedsHaveMet r next input after rest
     → MetThen front goes (λ s k. DeedsHaveMet r more input s k) own → MetThen front goes (λ s k. DeedsHaveMet r (both_deeds more next) input s k) (own + rest)
 branch_met r front goes more next input mid after own rest one go x so h (inl met) = inr (mid, own, rest, refl, go, met, past_deeds r more next input mid after rest x h)
@@ -96,7 +96,7 @@ branch_met r front goes more next input mid after own rest one go x so h (inr (s
     let same : s ≡ mid = one s gone in
     inr (mid, a, b + rest, more_in own a b rest sum, go, met, so a b (subst (λ (z : List ℕ). DeedsHaveMet r more input z b) same y))
 
-pub both_met : OneOfNeeded → OneEnding → (r : Records) (d next : Deeds Past) (input before after : List ℕ) (own rest : ℕ) → Carried (Judged r) r d input before (done after) → DeedsHaveMet r d input before own
+pub both_met : TestLaws → OneEnding → (r : Records) (d next : Deeds Test) (input before after : List ℕ) (own rest : ℕ) → Carried (Judged r) r d input before (done after) → DeedsHaveMet r d input before own
     → DeedsHaveMet r next input after rest → DeedsHaveMet r (both_deeds d next) input before (own + rest)
 both_met law one r Nothing next input before after own rest e none h =
     let sum : rest ≡ own + rest = omega (arith, none) in
@@ -130,7 +130,7 @@ both_met law one r (Choice t holding lacking more) next input before after own r
 both_met law one r (Choice t holding lacking more) next input before after own rest (inr (inr (stop, is, e))) (inr (inr (same, met))) h = absurd (stop_of after before stop e)
 
 -- the one, or the one and then the other
-pub met_together : OneOfNeeded → OneEnding → (r : Records) (d next : Deeds Past) (input before : List ℕ) (n : ℕ)
+pub met_together : TestLaws → OneEnding → (r : Records) (d next : Deeds Test) (input before : List ℕ) (n : ℕ)
     → MetThen (λ k. DeedsHaveMet r d input before k) (λ after. Carried (Judged r) r d input before (done after)) (λ after k. DeedsHaveMet r next input after k) n → DeedsHaveMet r (both_deeds d next) input before n
 met_together law one r d next input before n (inl x) = front_met r d next input before n x
 met_together law one r d next input before n (inr (after, own, rest, sum, go, x, y)) =
@@ -150,7 +150,7 @@ pub met_map : (front other : ℕ → Type 0) (goes gone : List ℕ → Type 0) (
 met_map front other goes gone behind beyond n f g h (inl x) = inl (f n x)
 met_map front other goes gone behind beyond n f g h (inr (after, own, rest, sum, go, x, y)) = inr (after, own, rest, sum, g after go, f own x, h after rest y)
 
-pub met_apart : (r : Records) (d next : Deeds Past) (input before : List ℕ) (n : ℕ) → DeedsHaveMet r (both_deeds d next) input before n
+pub met_apart : (r : Records) (d next : Deeds Test) (input before : List ℕ) (n : ℕ) → DeedsHaveMet r (both_deeds d next) input before n
     → MetThen (λ k. DeedsHaveMet r d input before k) (λ after. Carried (Judged r) r d input before (done after)) (λ after k. DeedsHaveMet r next input after k) n
 met_apart r Nothing next input before n h = inr (before, 0, n, plain n, refl, refl, h)
 met_apart r (Moving ms more) next input before n h =
@@ -186,7 +186,7 @@ met_apart r (Choice t holding lacking more) next input before n (inr (inr (is, h
     (λ s j x. met_apart r more next input s j x) h))
 
 -- what has nothing behind it
-pub met_nothing : (r : Records) (d : Deeds Past) (input before : List ℕ) (n : ℕ)
+pub met_nothing : (r : Records) (d : Deeds Test) (input before : List ℕ) (n : ℕ)
     → MetThen (λ k. DeedsHaveMet r d input before k) (λ after. Carried (Judged r) r d input before (done after)) (λ after k. DeedsHaveMet r Nothing input after k) n → DeedsHaveMet r d input before n
 met_nothing r d input before n (inl x) = x
 met_nothing r d input before n (inr (after, own, rest, sum, go, x, none)) =
@@ -196,7 +196,7 @@ met_nothing r d input before n (inr (after, own, rest, sum, go, x, none)) =
 -- ---- the turns of a loop
 
 -- what met of the moves of turns met of the loop whose bound says the same before each turn
-pub turns_met : (r : Records) (until : ℕ → Past) (body : ℕ → List Move) (by most n k i v : ℕ) (input before : List ℕ) (m : ℕ) → ((s : List ℕ) (j : ℕ) → Judged r (until j) input s (Ok (nat_lt v j)))
+pub turns_met : (r : Records) (until : ℕ → Test) (body : ℕ → List Move) (by most n k i v : ℕ) (input before : List ℕ) (m : ℕ) → ((s : List ℕ) (j : ℕ) → Judged r (until j) input s (Ok (nat_lt v j)))
     → v ≤ most → most < number_after by n i → (k ≡ 0) ⊎ (number_after by k i ≤ v + by) → HaveMet r (turns body by k i) input before m
     → DeedsHaveMet r (turns_from until (λ j. Moving (body j) Nothing) by n i) input before m
 turns_met r until body by most n zero i v input before m says below far near none =

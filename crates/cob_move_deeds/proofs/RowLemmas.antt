@@ -1,13 +1,10 @@
 -- Turns in a row, carried out as the moves between two marks.
-use Rattle.std.proofs.Common.{◌≡◌, ℕ, ◌+◌, ◌<◌, ◌≤◌, Bool, true, false, List, [], ◌∷◌, ◌++◌, drop, length, nat_lt, refl, sym, ap, subst, ◌∙◌, arith, inl, inr, Ok, Err, Result, Option, Some}
+use Rattle.std.proofs.Common.{◌≡◌, ℕ, ◌+◌, ◌<◌, ◌≤◌, List, [], ◌∷◌, ◌++◌, length, refl, sym, ap, subst, ◌∙◌, arith, inl, inr, Ok, Err, Result, Some}
 use Rattle.std.specs.List.{slice_get}
 use Rattle.std.proofs.lemmas.Option.{same_Some}
-use Rattle.cob_move_data.specs.declared.operands.Side.{Side}
-use Rattle.cob_move_data.specs.declared.operands.Side.TheVariants.{In}
 use Rattle.cob_move_data.specs.declared.operands.StatementMoves.{StatementMoves}
-use Rattle.cob_move_data.specs.Moves.{Move, Records, moves_by, record_of}
-use Rattle.cob_move_apply.specs.Applied.{Applied, Ending, OneEnding, done, stopped, storage_of}
-use Rattle.cob_move_apply.specs.Located.{Located}
+use Rattle.cob_move_data.specs.Moves.{Move, Records, moves_by}
+use Rattle.cob_move_apply.specs.Applied.{Applied, Ending, OneEnding, done, stopped}
 use Rattle.cob_move_apply.specs.Marked.{AreMarkedPrepared, mark_at, moves_between_marks}
 use Rattle.cob_move_apply.specs.Met.{HaveMet}
 use Rattle.cob_move_apply.specs.Reads.{ReadsOfMoves}
@@ -17,7 +14,6 @@ use Rattle.cob_move_apply.proofs.MarkLemmas.{none_between}
 use Rattle.cob_move_apply.proofs.MetLemmas.{none_met}
 use Rattle.cob_move_apply.proofs.OneLemmas.{stop_of}
 use Rattle.cob_move_apply.proofs.SpentLemmas.{allowed_both}
-use Rattle.cob_layout_places.specs.Counts.{SaysOfTable}
 use Rattle.cob_move_deeds.specs.declared.flow.Bound.{Bound}
 use Rattle.cob_move_deeds.specs.declared.flow.Flow.{Flow}
 use Rattle.cob_move_deeds.specs.declared.flow.Flow.TheVariants as flow
@@ -26,7 +22,7 @@ use Rattle.cob_move_deeds.specs.Flows.{FlowSupport}
 use Rattle.cob_move_deeds.specs.Known.{Gives, StillGives}
 use Rattle.cob_move_deeds.specs.Met.{DeedsHaveMet, ReadsOfDeeds}
 use Rattle.cob_move_deeds.specs.Rows.{IsRow, row_begins, row_moves, row_goes_on, row_ends}
-use Rattle.cob_move_deeds.specs.Tests.{BoundGives, Past, past_bound, there, up_to}
+use Rattle.cob_move_deeds.specs.Tests.{BoundGives, past_bound, there}
 use Rattle.cob_move_deeds.proofs.DeedLemmas.{moves_apart}
 use Rattle.cob_move_deeds.proofs.FlowLemmas.{leaves_first, leaves_on, moves_leave, moves_stop, not_past_leaves, past_leaves, stops_on}
 use Rattle.cob_move_deeds.proofs.LoopLemmas.{moves_on}

@@ -17,7 +17,7 @@ use Rattle.cob_move_data.specs.declared.operands.Side.TheVariants.{In, Out}
 use Rattle.cob_move_data.specs.Moves.{Move, Records, operand_in, read_by, record_of}
 use Rattle.cob_move_apply.specs.Applied.{Applied, done, storage_of}
 use Rattle.cob_move_apply.specs.Located.{Located}
-use Rattle.cob_move_apply.specs.Marked.{AreMarkedPrepared, ends_of_marks, moves_between_marks}
+use Rattle.cob_move_apply.specs.Marked.{AreMarkedPrepared, moves_between_marks}
 use Rattle.cob_move_apply.specs.Placed.{IsFixed}
 use Rattle.cob_move_apply.specs.Spared.{AllBeginFrom, BeginsFrom, SpareEntry}
 use Rattle.cob_move_apply.specs.declared.marked.MarkedMoves.{MarkedMoves}

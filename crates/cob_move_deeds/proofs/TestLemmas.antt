@@ -23,13 +23,17 @@ use Rattle.cob_layout_places.specs.Counts.{IsFaulty, SaysOfTable, bytes_at}
 use Rattle.cob_move_data.specs.Moves.{Records, record_of}
 use Rattle.cob_layout_places.proofs.CountLemmas.{one_count}
 use Rattle.cob_move_apply.specs.declared.stop.Stop.{Stop}
-use Rattle.cob_move_apply.specs.declared.stop.StopCause.TheVariants.{Count, Subscript}
+use Rattle.cob_move_apply.specs.declared.stop.StopCause.TheVariants.{Count, NoValue, Subscript}
 use Rattle.cob_move_apply.specs.Located.{Located, StandsUnder, stop_at}
-use Rattle.cob_move_apply.specs.Applied.{storage_of}
-use Rattle.cob_move_apply.proofs.OneLemmas.{ok_is, ok_not, one_place}
+use Rattle.cob_move_apply.specs.Applied.{Content, storage_of}
+use Rattle.cob_move_apply.proofs.OneLemmas.{ok_is, ok_not, one_given, one_place}
+use Rattle.cob_move_condition.specs.Laws.{GivesOne, LacksOne}
+use Rattle.cob_move_condition.proofs.OneLemmas.{one_saying}
+use Rattle.cob_move_receive.specs.Sent.{Sent}
+use Rattle.cob_move_deeds.specs.Laws.{TestLaws}
 use Rattle.cob_move_deeds.proofs.DeedLemmas.{err_is}
 use Rattle.cob_move_deeds.specs.Deeds.{IsDetermined}
-use Rattle.cob_move_deeds.specs.Tests.{BoundGives, BoundSays, BoundSaysIn, Judged, JudgedIn, Past, SaysOfBound, there, up_to, with_number}
+use Rattle.cob_move_deeds.specs.Tests.{BoundGives, BoundSays, BoundSaysIn, GivesIn, Holds, Judged, JudgedIn, JudgedPast, LacksIn, Past, SaysOfBound, Until, there, up_to, with_number}
 
 -- ---- a place, or a stop (as in cob_move_apply, where these are private)
 
@@ -46,7 +50,7 @@ same_counts law tree o bytes c d n m = ok_is {E = CountFault} c d (law tree o.en
 no_counts : OneOfNeeded → (tree : Forest Resolved) (o : Operand) (bytes c : List ℕ) (f : CountFault) → NeededOf tree o.entry.node false bytes (Ok c) → NeededOf tree o.entry.node false bytes (Err f) → ⊥
 no_counts law tree o bytes c f n m = ok_not c f (law tree o.entry.node false bytes (Ok c) (Err f) n m)
 
-not_both : OneOfNeeded → (side : Side) (tree : Forest Resolved) (o : Operand) (bytes : List ℕ) (p : Place) (q : Stop) → Located side tree false o bytes (Ok p) → Located side tree false o bytes (Err q) → ⊥
+pub not_both : OneOfNeeded → (side : Side) (tree : Forest Resolved) (o : Operand) (bytes : List ℕ) (p : Place) (q : Stop) → Located side tree false o bytes (Ok p) → Located side tree false o bytes (Err q) → ⊥
 not_both law side tree o bytes p q (c, n, e) (inl (f, m, is)) = no_counts law tree o bytes c f n m
 not_both law side tree o bytes p q (c, n, e) (inr (d, f, m, at, is)) = ok_not p f (one_standing tree o c d (Ok p) (Err f) (same_counts law tree o bytes c d n m) e at)
 
@@ -91,15 +95,32 @@ one_judged law tree t bytes a b (inr (p, i, x, is, says)) (inr (q, j, y, are, sa
     let here : SaysOfBound t j q bytes a = subst (λ (k : Item). SaysOfBound t k q bytes a) item (subst (λ (l : Place). SaysOfBound t i l bytes a) place says) in
     one_says t j q bytes a b here say
 
-pub determined : OneOfNeeded → (r : Records) → IsDetermined {T = Past} (Judged r)
-determined law r t input output a b x y = one_judged law (record_of r t.side) t (storage_of t.side input output) a b x y
+-- ---- what a condition says
+
+one_sent : OneOfNeeded → (r : Records) (input output : List ℕ) → GivesOne (GivesIn r input output)
+one_sent law r input output s (Ok a) (Ok b) (x, p, e) (y, q, f) =
+    let same : x ≡ y = ok_is {E = Stop} x y (one_given law r s input output (Ok x) (Ok y) p q) in
+    ap (λ (k : Sent). Ok k) (e ∙ ap (λ (k : Content). k.sent) same ∙ sym f)
+one_sent law r input output s (Ok a) (Err b) (x, p, e) q = absurd (ok_not {A = Content} x b (one_given law r s input output (Ok x) (Err b) p q))
+one_sent law r input output s (Err a) (Ok b) p (y, q, f) = absurd (ok_not {A = Content} y a (one_given law r s input output (Ok y) (Err a) q p))
+one_sent law r input output s (Err a) (Err b) p q = ap (λ (k : Stop). Err k) (err_is {A = Content} a b (one_given law r s input output (Err a) (Err b) p q))
+
+one_lack : OneOfNeeded → (r : Records) (input output : List ℕ) → LacksOne (LacksIn r input output)
+one_lack law r input output s a b (x, p, e) (y, q, f) =
+    let same : x ≡ y = ok_is {E = Stop} x y (one_given law r s input output (Ok x) (Ok y) p q) in
+    e ∙ ap (λ (k : Content). stop_at k.side k.offset NoValue) same ∙ sym f
+
+pub determined : TestLaws → (r : Records) → IsDetermined (Judged r)
+determined law r (Until t) input output a b x y = one_judged law.counts (record_of r t.side) t (storage_of t.side input output) a b x y
+determined law r (Holds c) input output a b x y =
+    one_saying law.compared (GivesIn r input output) (LacksIn r input output) (one_sent law.counts r input output) (one_lack law.counts r input output) c a b x y
 
 -- ---- a test of a counter past the greatest number that the bound may hold holds, or stops
 
 not_past : (v i : ℕ) → false ≡ nat_lt v i → i ≤ v
 not_past v i e = grind (arith, e)
 
-pub ends_past : (r : Records) (t : Past) (i : ℕ) (input output : List ℕ) → Judged r (with_number t i) input output (Ok false) → i ≤ t.most
+pub ends_past : (r : Records) (t : Past) (i : ℕ) (input output : List ℕ) → JudgedPast r (with_number t i) input output (Ok false) → i ≤ t.most
 ends_past r t i input output (inl (stop, x, e)) = absurd (ok_not {A = Bool} false stop e)
 ends_past r t i input output (inr (p, item, x, is, (v, says, e))) =
     let below : i ≤ v = not_past v i e in
@@ -107,7 +128,7 @@ ends_past r t i input output (inr (p, item, x, is, (v, says, e))) =
 
 -- ---- a bound of the input record
 
-pub says_of_input : (r : Records) (t : Past) (input before : List ℕ) (v : ℕ) → t.side ≡ In → BoundGives r t input before v → (s : List ℕ) (j : ℕ) → Judged r (with_number t j) input s (Ok (nat_lt v j))
+pub says_of_input : (r : Records) (t : Past) (input before : List ℕ) (v : ℕ) → t.side ≡ In → BoundGives r t input before v → (s : List ℕ) (j : ℕ) → JudgedPast r (with_number t j) input s (Ok (nat_lt v j))
 says_of_input r t input before v in_ (p, i, located, kind, says) s j =
     let same : storage_of t.side input before ≡ storage_of t.side input s = ap (λ (d : Side). storage_of d input before) in_ ∙ sym (ap (λ (d : Side). storage_of d input s) in_) in
     inr (

@@ -10,6 +10,8 @@ are_lone_moves (flow.Moves number ∷ []) = true
 are_lone_moves (flow.Moves number ∷ f ∷ fs) = false
 are_lone_moves (flow.Turns number ∷ fs) = false
 are_lone_moves (flow.Until bound number skip ∷ fs) = false
+are_lone_moves (flow.Where condition holding lacking ∷ fs) = false
+are_lone_moves (flow.Skip count ∷ fs) = false
 
 -- and there are no other moves: two marks stand before them and behind them
 abbrev pub are_all_moves : ℕ → List Flow → Bool

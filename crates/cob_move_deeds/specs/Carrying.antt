@@ -15,9 +15,11 @@ use Rattle.cob_move_deeds.specs.declared.flow.Flow.{Flow}
 use Rattle.cob_move_deeds.specs.declared.flow.Flow.TheVariants as flow
 use Rattle.cob_move_deeds.specs.declared.sides.Sides.{Sides}
 use Rattle.cob_move_deeds.specs.Deeds.{Carried, Choice, Deeds, Moving, Nothing, both_deeds}
-use Rattle.cob_move_deeds.specs.Flows.{FlowSupport, loop_done}
+use Rattle.cob_move_condition.specs.declared.condition.Condition as code
+use Rattle.cob_move_condition.specs.Conditions.{condition_of}
+use Rattle.cob_move_deeds.specs.Flows.{FlowSupport, behind_skip, loop_done, sender_at}
 use Rattle.cob_move_deeds.specs.Met.{DeedsHaveMet}
-use Rattle.cob_move_deeds.specs.Tests.{Judged, Past, past_bound}
+use Rattle.cob_move_deeds.specs.Tests.{Holds, Judged, Test, Until, past_bound}
 
 -- the two records
 abbrev pub records_of_sides : Sides → Records
@@ -30,18 +32,27 @@ pub record HasKept (r : Records) (input output : List ℕ) (s : Scratching) : Ty
   pub of_output : AreKeptOf r.output output s.kept_output
 
 -- a test, and what is done where it holds and where it doesn't
-abbrev pub either_way : Records → Option Bound → ℕ → (past within : Deeds Past) → Deeds Past
+abbrev pub either_way : Records → Option Bound → ℕ → (past within : Deeds Test) → Deeds Test
 either_way r None number past within = Nothing
-either_way r (Some bound) number past within = Choice (past_bound r bound number) past within Nothing
+either_way r (Some bound) number past within = Choice (Until (past_bound r bound number)) past within Nothing
 
--- What flows come to as they are carried out, of which so many at most are looked at: a test passes over some, or goes on with the next one.
-abbrev pub carried_from : Records → FlowSupport → ℕ → List Flow → Deeds Past
+-- a condition, likewise
+abbrev pub either_holds : Records → FlowSupport → Option code.Condition → (holding lacking : Deeds Test) → Deeds Test
+either_holds r on None holding lacking = Nothing
+either_holds r on (Some c) holding lacking = Choice (Holds (condition_of (sender_at r on) c)) holding lacking Nothing
+
+-- What flows come to as they are carried out, of which so many at most are looked at: a test passes over some, or goes on with the next one;
+-- and a skip passes over some.
+abbrev pub carried_from : Records → FlowSupport → ℕ → List Flow → Deeds Test
 carried_from r on zero fs = Nothing
 carried_from r on (suc n) [] = Nothing
 carried_from r on (suc n) (flow.Moves number ∷ rest) = Moving (moves_between_marks r on.moves number (number + 1)) (carried_from r on n rest)
 carried_from r on (suc n) (flow.Turns number ∷ rest) = both_deeds (loop_done r on (slice_get on.loops number)) (carried_from r on n rest)
 carried_from r on (suc n) (flow.Until bound number skip ∷ rest) =
     either_way r (slice_get on.bounds bound) number (carried_from r on n (drop skip rest)) (carried_from r on n rest)
+carried_from r on (suc n) (flow.Where condition holding lacking ∷ rest) =
+    either_holds r on (slice_get on.conditions condition) (carried_from r on n rest) (carried_from r on n (behind_skip holding rest))
+carried_from r on (suc n) (flow.Skip count ∷ rest) = carried_from r on n (drop count rest)
 
 -- Whatever the flows that are left make of the storage now, these make of the storage before.
 abbrev pub LeavesFlows : Records → FlowSupport → (fs left : List Flow) → (input before now : List ℕ) → Type 0

@@ -1,4 +1,4 @@
--- Tests between moves: whether the number of a loop's counter is past what an item holds.
+-- Tests between moves: whether the number of a loop's counter is past what an item holds, and whether a condition holds.
 use Rattle.std.specs.Prelude.{◌≡◌, ◌⊎◌, ℕ, Bool, true, false, List, nat_lt, pos, Ok, Err, Result}
 use Rattle.cob_picture.specs.Counts.{scale}
 use Rattle.cob_copybook_tree.specs.declared.node.Item.{Item}
@@ -14,10 +14,13 @@ use Rattle.cob_move_data.specs.declared.operands.Operand.{Operand}
 use Rattle.cob_move_data.specs.declared.operands.Side.{Side}
 use Rattle.cob_layout_places.specs.declared.varying.Table.{Table}
 use Rattle.cob_layout_places.specs.Counts.{SaysOfTable}
-use Rattle.cob_move_data.specs.Moves.{Records, operand_in, record_of}
+use Rattle.cob_move_data.specs.Moves.{Records, Sender, operand_in, record_of}
+use Rattle.cob_move_receive.specs.Sent.{Sent}
+use Rattle.cob_move_condition.specs.Conditions.{Condition}
+use Rattle.cob_move_condition.specs.Says.{Says}
 use Rattle.cob_move_apply.specs.declared.stop.Stop.{Stop}
-use Rattle.cob_move_apply.specs.declared.stop.StopCause.TheVariants.{Count}
-use Rattle.cob_move_apply.specs.Applied.{storage_of}
+use Rattle.cob_move_apply.specs.declared.stop.StopCause.TheVariants.{Count, NoValue}
+use Rattle.cob_move_apply.specs.Applied.{Content, Gives, storage_of}
 use Rattle.cob_move_apply.specs.Located.{Located, stop_at}
 use Rattle.cob_move_apply.specs.Entries.{IsPlacedEntry}
 use Rattle.cob_move_deeds.specs.declared.flow.Bound.{Bound}
@@ -65,8 +68,8 @@ JudgedIn tree t bytes answer =
     ⊎ ((p : Place) × (i : Item) × Located t.side tree false t.bound bytes (Ok p) × (t.bound.kind ≡ ItemKind i) × SaysOfBound t i p bytes answer)
 
 -- what it says of the storages of two records
-abbrev pub Judged : Records → Past → List ℕ → List ℕ → Result Bool Stop → Type 0
-Judged r t input output answer = JudgedIn (record_of r t.side) t (storage_of t.side input output) answer
+abbrev pub JudgedPast : Records → Past → List ℕ → List ℕ → Result Bool Stop → Type 0
+JudgedPast r t input output answer = JudgedIn (record_of r t.side) t (storage_of t.side input output) answer
 
 -- the bound of a test gives this number in the storages of two records
 abbrev pub BoundGives : Records → Past → List ℕ → List ℕ → ℕ → Type 0
@@ -90,4 +93,27 @@ BoundSaysIn t p bytes answer = (i : Item) × (t.bound.kind ≡ ItemKind i) × Bo
 -- what reading the bound of a test says: the number that it gives; or the stop of the test, whatever the counter's number
 abbrev pub BoundSays : Records → Past → List ℕ → List ℕ → Result ℕ Stop → Type 0
 BoundSays r t input output (Ok v) = BoundGives r t input output v
-BoundSays r t input output (Err stop) = Judged r t input output (Err stop)
+BoundSays r t input output (Err stop) = JudgedPast r t input output (Err stop)
+
+-- ---- conditions
+
+-- what a sender gives in the storages of two records, or the first thing missing
+abbrev pub GivesIn : Records → (input output : List ℕ) → Sender → Result Sent Stop → Type 0
+GivesIn r input output s (Ok sent) = (content : Content) × Gives r s input output (Ok content) × (sent ≡ content.sent)
+GivesIn r input output s (Err stop) = Gives r s input output (Err stop)
+
+-- the stop of a sender whose bytes represent no value: it stands where they lie
+abbrev pub LacksIn : Records → (input output : List ℕ) → Sender → Stop → Type 0
+LacksIn r input output s stop = (content : Content) × Gives r s input output (Ok content) × (stop ≡ stop_at content.side content.offset NoValue)
+
+-- ---- both
+
+-- A test: whether the counter of a loop is past its bound, which ends the loop; or whether a condition holds.
+pub data Test : Type 0 where
+  Until : Past → Test
+  Holds : Condition → Test
+
+-- what a test says of the storages of two records
+abbrev pub Judged : Records → Test → List ℕ → List ℕ → Result Bool Stop → Type 0
+Judged r (Until t) input output answer = JudgedPast r t input output answer
+Judged r (Holds c) input output answer = Says (GivesIn r input output) (LacksIn r input output) c answer

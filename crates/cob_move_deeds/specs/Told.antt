@@ -7,3 +7,5 @@ abbrev pub MovesAlone : Flow → Type 0
 MovesAlone (flow.Moves number) = Unit {0}
 MovesAlone (flow.Turns number) = ⊥
 MovesAlone (flow.Until bound number skip) = ⊥
+MovesAlone (flow.Where condition holding lacking) = ⊥
+MovesAlone (flow.Skip count) = ⊥

@@ -1,6 +1,6 @@
 //! Flows carried out, one behind another.
 
-ghost use Rattle.std.specs.Prelude.{◌≡◌, ◌<◌, ◌≤◌, ◌∷◌, length, IfErr, IfOk, OnErr, Some};
+ghost use Rattle.std.specs.Prelude.{◌≡◌, ◌<◌, ◌≤◌, ◌∷◌, ℕ, length, IfErr, IfOk, OnErr, Some};
 ghost use Rattle.std.specs.List.{AllByRecursion, slice_get};
 ghost use Rattle.cob_layout.specs.Storage.{greatest_length, IsStorage};
 ghost use Rattle.cob_move_apply.specs.Applied.{Applied, ending};
@@ -9,21 +9,27 @@ ghost use Rattle.cob_move_apply.specs.Reads.{ReadsFor, ReadsOfMoves};
 ghost use Rattle.cob_move_loops.specs.Turns.{turns_between};
 ghost use Rattle.cob_move_deeds.specs.Carrying.{FlowSpends, FlowSpendsAtStop, HasKept, LeavesFlows, StopsFlows, carried_from, records_of_sides};
 ghost use Rattle.cob_move_deeds.specs.Deeds.{Carried};
-ghost use Rattle.cob_move_deeds.specs.Flows.{IsFlow, IsLoop, loop_done};
+ghost use Rattle.cob_move_condition.specs.Conditions.{condition_of};
+ghost use Rattle.cob_move_condition.specs.declared.condition.Condition.{Condition};
+ghost use Rattle.cob_move_deeds.specs.Flows.{IsFlow, IsLoop, loop_done, sender_at};
 ghost use Rattle.cob_move_deeds.specs.Known.{AreKnown};
 ghost use Rattle.cob_move_deeds.specs.Met.{ReadsOfDeeds};
 ghost use Rattle.cob_move_deeds.specs.Prepared.{AreDeedsPrepared, flow_support};
 ghost use Rattle.cob_move_deeds.specs.declared.flow.Bound.{Bound};
-ghost use Rattle.cob_move_deeds.specs.Tests.{BoundGives, BoundSays, Judged, past_bound};
+ghost use Rattle.cob_move_deeds.specs.declared.flow.Flow.TheVariants as flow;
+ghost use Rattle.cob_move_deeds.specs.Tests.{BoundGives, BoundSays, Holds, Judged, past_bound};
 
 use crate::bound::number_of;
 use crate::flow::{CountedLoop, Flow};
+use crate::giving::Giving;
 use crate::known::{KnownBound, KnownBounds};
+use crate::laws::tests_are_one;
 use crate::ready::ReadyDeeds;
-use crate::row::{behind, first_moves};
+use crate::row::{behind, behind_skip, first_moves};
 use crate::sides::Sides;
 use cob_layout::one_outcome_of_counts;
 use cob_move_apply::{Scratch, Stop, one_ending};
+use cob_move_condition::says;
 
 /// How many turns a loop has up to a number.
 fn turns_up_to(one: &CountedLoop, number: u32) -> usize
@@ -170,7 +176,7 @@ fn make_turns(
         (loop_done (records_of_sides sides.now) (flow_support deeds.now) (Some one.now))
         sides.now.input.now output.old result scratch.old scratch.new }
 {
-    one_outcome_of_counts();
+    tests_are_one();
     let number = read_bound(deeds, one.bound, sides, output, scratch)?;
     let turns = turns_up_to(one, number);
     make_moves(deeds, one.first, one.first + turns, sides, output, scratch)
@@ -238,6 +244,88 @@ fn make_row<'a>(
     Ok(row.left)
 }
 
+/// Whether the condition with this number holds.
+///
+/// # Errors
+///
+/// The first thing missing for it.
+pub(crate) fn condition_says(
+    deeds: &ReadyDeeds,
+    number: usize,
+    sides: &Sides<'_>,
+    output: &[u8],
+    scratch: &mut Scratch,
+) -> Result<bool, Stop>
+    requires prepared { AreDeedsPrepared (records_of_sides sides.now) deeds.now }
+    requires there { number < length deeds.now.asked.conditions.items }
+    requires input { IsStorage sides.now.input_layout.now sides.now.input.now }
+    requires output { length output.now ≡ greatest_length sides.now.output_layout.now }
+    requires kept { HasKept (records_of_sides sides.now) sides.now.input.now output.now
+        scratch.old }
+    ensures says { (c : Condition)
+        → slice_get deeds.now.asked.conditions.items number ≡ Some c
+        → Judged (records_of_sides sides.now)
+        (Holds (condition_of (sender_at (records_of_sides sides.now) (flow_support deeds.now)) c))
+        sides.now.input.now output.now result }
+    ensures kept { HasKept (records_of_sides sides.now) sides.now.input.now output.now
+        scratch.new }
+    ensures reads { ReadsFor sides.now.output_layout.now 0 result scratch.old scratch.new }
+{
+    let giving = Giving {
+        entries: deeds.asked.entries.as_slice(),
+        reading: deeds.moves.reading(),
+        sides,
+        output,
+    };
+    says(&deeds.asked.conditions[number], &giving, scratch)
+}
+
+/// Tests the condition with this number, and answers the flows that are left behind it: those in front, which are carried out where it holds, or those behind
+/// so many and a skip.
+///
+/// # Errors
+///
+/// The first thing missing for the condition.
+fn take_branch<'a>(
+    deeds: &ReadyDeeds,
+    condition: usize,
+    holding: usize,
+    more: &'a [Flow],
+    sides: &Sides<'_>,
+    output: &[u8],
+    scratch: &mut Scratch,
+) -> Result<&'a [Flow], Stop>
+    requires prepared { AreDeedsPrepared (records_of_sides sides.now) deeds.now }
+    requires there { (c : Condition) × (slice_get deeds.now.asked.conditions.items condition ≡ Some c) }
+    requires each { AllByRecursion (IsFlow (flow_support deeds.now)) more.now }
+    requires input { IsStorage sides.now.input_layout.now sides.now.input.now }
+    requires output { length output.now ≡ greatest_length sides.now.output_layout.now }
+    requires kept { HasKept (records_of_sides sides.now) sides.now.input.now output.now
+        scratch.old }
+    ensures leaves { IfOk result (λ left. (lacking : ℕ) → LeavesFlows (records_of_sides sides.now)
+        (flow_support deeds.now) (flow.Where condition holding lacking ∷ more.now) left.now
+        sides.now.input.now output.now output.now) }
+    ensures stops { IfErr result (λ stop. (lacking : ℕ) → StopsFlows (records_of_sides sides.now)
+        (flow_support deeds.now) (flow.Where condition holding lacking ∷ more.now)
+        sides.now.input.now output.now stop output.now) }
+    ensures each { IfOk result (λ left. AllByRecursion (IsFlow (flow_support deeds.now)) left.now) }
+    ensures fewer { IfOk result (λ left. length left.now ≤ length more.now) }
+    ensures kept { HasKept (records_of_sides sides.now) sides.now.input.now output.now
+        scratch.new }
+    ensures spends { IfOk result (λ left. (lacking : ℕ) → FlowSpends (records_of_sides sides.now)
+        (flow_support deeds.now) (flow.Where condition holding lacking ∷ more.now) left.now
+        sides.now.input.now output.now output.now scratch.old scratch.new) }
+    ensures spent { OnErr result ((lacking : ℕ) → FlowSpendsAtStop (records_of_sides sides.now)
+        (flow_support deeds.now) (flow.Where condition holding lacking ∷ more.now)
+        sides.now.input.now output.now scratch.old scratch.new) }
+{
+    let holds = condition_says(deeds, condition, sides, output, scratch)?;
+    if holds {
+        return Ok(more);
+    }
+    Ok(behind_skip(more, holding))
+}
+
 /// Carries out the flow in front of these, and answers those that are left then.
 ///
 /// # Errors
@@ -280,7 +368,7 @@ fn next<'a>(
         (flow_support deeds.now) sides.now.input.now output.new known.new) }
 {
     // For `spends`: what is done ends in one way.
-    one_outcome_of_counts();
+    tests_are_one();
     one_ending();
     match *flow {
         Flow::Moves(number) => {
@@ -305,6 +393,15 @@ fn next<'a>(
             let left = make_row(deeds, bound, last, more, sides, output, scratch, known)?;
             Ok(left)
         }
+        Flow::Where {
+            condition,
+            holding,
+            ..
+        } => {
+            let left = take_branch(deeds, condition, holding, more, sides, output, scratch)?;
+            Ok(left)
+        }
+        Flow::Skip(count) => Ok(behind(more, count)),
     }
 }
 

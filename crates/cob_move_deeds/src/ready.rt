@@ -13,16 +13,17 @@ ghost use Rattle.cob_move_apply.specs.Room.{room_of};
 ghost use Rattle.cob_move_apply.specs.Told.{most_moves_told, single_moves};
 ghost use Rattle.cob_move_deeds.specs.AtOnce.{are_all_moves};
 ghost use Rattle.cob_move_deeds.specs.Deeds.{Carried};
-ghost use Rattle.cob_move_deeds.specs.Flows.{AreFlows, deeds_by, deeds_from};
+ghost use Rattle.cob_move_deeds.specs.Flows.{AreFlows, deeds_by, deeds_from, support_of};
 ghost use Rattle.cob_move_deeds.specs.Met.{DeedsHaveMet};
 ghost use Rattle.cob_move_deeds.specs.Tests.{IsBound, Judged};
 
 use crate::at_once::carry_all;
 use crate::carrying::carry_out;
-use crate::flow::{Bound, CountedLoop, Flow};
+use crate::flow::{Asked, Bound, CountedLoop, Flow};
+use crate::laws::tests_are_one;
 use crate::sides::Sides;
 use crate::steady::Stretch;
-use cob_layout::{Layout, one_outcome_of_counts};
+use cob_layout::Layout;
 use cob_move_apply::{MarkedMoves, Reading, Scratch, Stop, one_ending};
 use cob_move_data::StatementMoves;
 
@@ -47,6 +48,7 @@ pub struct ReadyDeeds {
     pub(crate) moves: MarkedMoves,
     pub(crate) bounds: Vec<Bound>,
     pub(crate) loops: Vec<CountedLoop>,
+    pub(crate) asked: Asked,
     pub(crate) flows: Vec<Flow>,
     /// Between which marks moves leave each bound alone, by its number, where that was looked at.
     pub(crate) steady: Option<Vec<Option<Stretch>>>,
@@ -56,29 +58,32 @@ pub struct ReadyDeeds {
 }
 
 impl ReadyDeeds {
-    ghost use Rattle.cob_move_deeds.specs.Prepared.{AreDeedsPrepared, HaveAllMoves, deeds_of};
+    ghost use Rattle.cob_move_deeds.specs.Prepared.{AreDeedsPrepared, HaveAllMoves, MayBeAsked, deeds_of};
 
-    /// What these flows come to, over moves that were made ready, bounds and loops.
+    /// What these flows come to, over moves that were made ready, bounds, loops, and conditions with the entries that they ask for.
     pub fn new(
         moves: MarkedMoves,
         bounds: Vec<Bound>,
         loops: Vec<CountedLoop>,
+        asked: Asked,
         flows: Vec<Flow>,
     ) -> ReadyDeeds
-        ensures deeds { (r : Records) → deeds_of r result ≡ deeds_from r
-            (record { moves = moves; bounds = bounds.items; loops = loops.items })
-            (length flows.items) flows.items }
+        ensures deeds { (r : Records) → deeds_of r result
+            ≡ deeds_from r (support_of moves bounds.items loops.items asked) (length flows.items)
+            flows.items }
         ensures moves { result.moves ≡ moves }
         ensures prepared { (r : Records) → AreMarkedPrepared r moves
             → AllByRecursion (IsBound r) bounds.items
-            → AreFlows (record { moves = moves; bounds = bounds.items; loops = loops.items })
-            flows.items → AreDeedsPrepared r result }
+            → MayBeAsked r (support_of moves bounds.items loops.items asked)
+            → AreFlows (support_of moves bounds.items loops.items asked) flows.items
+            → AreDeedsPrepared r result }
     {
         let at_once = carry_all(flows.as_slice(), moves.marks());
         ReadyDeeds {
             moves,
             bounds,
             loops,
+            asked,
             flows,
             steady: None,
             at_once,
@@ -96,6 +101,7 @@ impl ReadyDeeds {
             moves: self.moves.with_reading(reading),
             bounds: self.bounds,
             loops: self.loops,
+            asked: self.asked,
             flows: self.flows,
             steady: self.steady,
             at_once: self.at_once,
@@ -142,7 +148,7 @@ impl ReadyDeeds {
     ///
     /// # Errors
     ///
-    /// The first thing missing: for a move, or for the test of a loop. The storage is as the moves and receivers before left it then.
+    /// The first thing missing: for a move, for the test of a loop, or for a condition. The storage is as the moves and receivers before left it then.
     #[inline(always)]
     pub fn apply_kept(
         &self,
@@ -174,7 +180,7 @@ impl ReadyDeeds {
             × (scratch.new.reads ≤ length (tables_of output_layout.now) * (1 + met)) }
     {
         // For `reads`: what is done ends in one way.
-        one_outcome_of_counts();
+        tests_are_one();
         one_ending();
         scratch.forget_output();
         if self.at_once {

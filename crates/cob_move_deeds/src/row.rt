@@ -2,7 +2,7 @@
 
 ghost use Rattle.std.specs.Prelude.{◌≡◌, ◌<◌, ◌≤◌, ◌∷◌, ℕ, List, [], drop, length, take, IfSome};
 ghost use Rattle.std.specs.List.{AllByRecursion};
-ghost use Rattle.cob_move_deeds.specs.Flows.{IsFlow};
+ghost use Rattle.cob_move_deeds.specs.Flows.{IsFlow, behind_skip};
 ghost use Rattle.cob_move_deeds.specs.Prepared.{flow_support};
 ghost use Rattle.cob_move_deeds.specs.Rows.{IsRow};
 ghost use Rattle.cob_move_deeds.specs.declared.flow.Flow.{Flow as Flows};
@@ -33,6 +33,18 @@ pub(crate) fn front(flows: &[Flow], count: usize) -> &[Flow]
 {
     let count = count.min(flows.len());
     &flows[..count]
+}
+
+/// Those behind so many and a skip.
+pub(crate) fn behind_skip(flows: &[Flow], count: usize) -> &[Flow]
+    ensures value { result.now ≡ behind_skip count flows.now }
+    ensures fewer { length result.now ≤ length flows.now }
+{
+    let rest = behind(flows, count);
+    match rest.split_first() {
+        Some((_, more)) => more,
+        None => rest,
+    }
 }
 
 /// The first mark of moves that stand in front.
@@ -88,7 +100,7 @@ impl ReadyDeeds {
                     }
                     left = more;
                 }
-                Flow::Turns(_) => return Row { to, left },
+                Flow::Turns(_) | Flow::Where { .. } | Flow::Skip(_) => return Row { to, left },
             }
         }
         Row { to, left }

@@ -194,6 +194,7 @@ impl ReadyDeeds {
             moves: self.moves,
             bounds: self.bounds,
             loops: self.loops,
+            asked: self.asked,
             flows: self.flows,
             steady: Some(noted),
             at_once: self.at_once,

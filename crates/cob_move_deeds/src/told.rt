@@ -1,4 +1,4 @@
-//! What is told of deeds: their flows, the statements between marks, whether there is a test, and what a bound gives.
+//! What is told of deeds: their flows, the statements between marks, whether there is a test, what a bound gives, and what a condition says.
 
 ghost use Rattle.std.specs.Prelude.{◌≡◌, ◌<◌, ◌≤◌, length, Some};
 ghost use Rattle.std.specs.Bool.{Decides};
@@ -7,13 +7,17 @@ ghost use Rattle.cob_layout.specs.Storage.{greatest_length, IsStorage};
 ghost use Rattle.cob_move_apply.specs.Marked.{items_between, mark_at, moves_between_marks};
 ghost use Rattle.cob_move_apply.specs.Room.{room_of};
 ghost use Rattle.cob_move_data.specs.Moves.{Records, moves_by};
+ghost use Rattle.cob_move_condition.specs.Conditions.{condition_of};
+ghost use Rattle.cob_move_condition.specs.declared.condition.Condition.{Condition as TheCondition};
 ghost use Rattle.cob_move_deeds.specs.Deeds.{IsStraight};
-ghost use Rattle.cob_move_deeds.specs.Tests.{BoundSays, past_bound};
+ghost use Rattle.cob_move_deeds.specs.Flows.{sender_at};
+ghost use Rattle.cob_move_deeds.specs.Tests.{BoundSays, Holds, Judged, past_bound};
 ghost use Rattle.cob_move_deeds.specs.Told.{MovesAlone};
 ghost use Rattle.cob_move_deeds.specs.declared.flow.Bound.{Bound as TheBound};
 
 use crate::bound::number_of;
-use crate::flow::{Bound, CountedLoop, Flow};
+use crate::carrying::condition_says;
+use crate::flow::{Asked, Bound, CountedLoop, Flow};
 use crate::ready::ReadyDeeds;
 use crate::sides::Sides;
 use cob_layout::Layout;
@@ -42,7 +46,7 @@ fn all_move(flows: &[Flow]) -> bool
 }
 
 impl ReadyDeeds {
-    ghost use Rattle.cob_move_deeds.specs.Prepared.{AreDeedsPrepared, deeds_of};
+    ghost use Rattle.cob_move_deeds.specs.Prepared.{AreDeedsPrepared, deeds_of, flow_support};
 
     /// What is carried out, one thing behind another.
     pub fn flows(&self) -> &[Flow]
@@ -63,6 +67,13 @@ impl ReadyDeeds {
         ensures { result.now ≡ self.now.loops.items }
     {
         self.loops.as_slice()
+    }
+
+    /// The conditions, and the entries that they ask for.
+    pub fn asked(&self) -> &Asked
+        ensures { result.now ≡ self.now.asked }
+    {
+        &self.asked
     }
 
     /// Whether there is no test.
@@ -130,5 +141,45 @@ impl ReadyDeeds {
             input,
         };
         number_of(&self.bounds[number], &sides, output, scratch)
+    }
+
+    /// Whether the condition with this number holds in the storages of two records. Nothing is kept of the counts of either.
+    ///
+    /// # Errors
+    ///
+    /// The first thing missing that is looked at: a count that the place of an entry needs and that isn't valid; a subscript past its table's count; the
+    /// number of an entry that is compared as a number and whose bytes represent none.
+    pub fn condition_says(
+        &self,
+        number: usize,
+        input_layout: &Layout,
+        output_layout: &Layout,
+        input: &[u8],
+        output: &[u8],
+        scratch: &mut Scratch,
+    ) -> Result<bool, Stop>
+        requires prepared { AreDeedsPrepared
+            (record { input = input_layout.now; output = output_layout.now }) self.now }
+        requires within { number < length self.now.asked.conditions.items }
+        requires input { IsStorage input_layout.now input.now }
+        requires output { length output.now ≡ greatest_length output_layout.now }
+        requires room { scratch.old.room ≡ room_of
+            (record { input = input_layout.now; output = output_layout.now }) }
+        ensures says { (c : TheCondition)
+            → slice_get self.now.asked.conditions.items number ≡ Some c
+            → Judged (record { input = input_layout.now; output = output_layout.now })
+            (Holds (condition_of
+            (sender_at (record { input = input_layout.now; output = output_layout.now })
+            (flow_support self.now)) c)) input.now output.now result }
+        ensures room { scratch.new.room ≡ scratch.old.room }
+    {
+        scratch.forget_input();
+        scratch.forget_output();
+        let sides = Sides {
+            input_layout,
+            output_layout,
+            input,
+        };
+        condition_says(self, number, &sides, output, scratch)
     }
 }

@@ -13,25 +13,26 @@ use Rattle.cob_convert.specs.declared.status.Status.{Status}
 use Rattle.cob_convert.specs.declared.status.Status.TheVariants as status
 use Rattle.cob_program_copies.specs.Handing.{HasBooks, LacksHanding, status_of_handing}
 use Rattle.cob_program_copies.specs.declared.fault.HandingFault.{HandingFault}
-use Rattle.cob_program_faults.specs.Ends.{EndsAmong, EndsAs, EndsAside, EndsAtRecord}
+use Rattle.cob_program_faults.specs.Ends.{EndsAmong, EndsAs, EndsAtRecord}
 use Rattle.cob_program_texts.specs.CheckEnds.{EndsCheck}
-use Rattle.cob_program_convert.specs.Ends.{MayEndAside, MayEndConvert}
 use Rattle.cob_program_texts.specs.DraftEnds.{MayEndDraft}
 use Rattle.cob_program_compare.specs.Ends.{EndsCompare}
 use Rattle.cob_program_list.specs.Ends.{MayEndLayout, MayEndListing}
 use Rattle.cob_program_texts.specs.LosslessEnds.{MayEndLossless}
 use Rattle.cob_program_manual.specs.Ends.{MayEndPrinting}
+use Rattle.cob_program_report.specs.Ends.{EndsReported}
+pub use Rattle.cob_program_report.specs.Ends.{EndsConvert}
 
--- how a conversion ends, by whether rejected records are set aside in a file
-abbrev pub EndsConvert : {A : Type 0} → Option A → Bool → Status → Type 0
-EndsConvert None atomic end = EndsAmong (MayEndConvert atomic) end
-EndsConvert (Some rejects) atomic end = EndsAside (MayEndAside atomic) end
+-- how a conversion ends, by whether its run is reported too
+abbrev pub EndsAsked : {A B : Type 0} → Option A → Option B → Bool → Status → Type 0
+EndsAsked None rejects atomic end = EndsConvert rejects atomic end
+EndsAsked (Some report) rejects atomic end = EndsReported (EndsConvert rejects atomic end) end
 
 -- How a command line ends, by what it asks for: with the status of what its command came to, which may have the faults of that command. With which
 -- status a job ends is promised by `cob_program_job`.
 abbrev pub EndsLine : Line → Status → Type 0
 EndsLine line.Job end = ⊤
-EndsLine (line.Convert options) end = EndsConvert options.rejects options.atomic end
+EndsLine (line.Convert options) end = EndsAsked options.report options.rejects options.atomic end
 EndsLine (line.Check options) end = EndsCheck options.strict end
 EndsLine (line.Layout options) end = EndsAmong MayEndLayout end
 EndsLine (line.Show options) end = EndsAmong MayEndListing end

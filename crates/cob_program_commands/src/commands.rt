@@ -2,7 +2,7 @@ ghost use Rattle.std.specs.Prelude.{◌≡◌, map, string_bytes};
 ghost use Rattle.cob_program_line.specs.Lines.{HasBlocks};
 ghost use Rattle.cob_records.specs.Forms.{HasBlockSize};
 ghost use Rattle.cob_program_texts.specs.CheckEnds.{EndsCheck};
-ghost use Rattle.cob_program_commands.specs.Commands.{EndsConvert, IsEndOfLine, IsEndOfMeant, IsEndOfRefusal, IsEndOfSaid, IsEndOfWords, status_of_refusal};
+ghost use Rattle.cob_program_commands.specs.Commands.{EndsAsked, EndsConvert, IsEndOfLine, IsEndOfMeant, IsEndOfRefusal, IsEndOfSaid, IsEndOfWords, status_of_refusal};
 
 use crate::handed::with_handed_books;
 use crate::refusals::{tell_refused, tells_in_words};
@@ -21,9 +21,11 @@ use cob_program_line::{CheckLine, CommandLine, ConvertLine, Handing, Line, LineF
 use cob_program_list::{do_layout, do_pieces, do_show};
 use cob_program_manual::{do_completion, do_manual};
 use cob_program_map::do_map;
-use cob_program_runtime::Noted;
+use cob_program_report::{Reported, do_convert_reported};
+use cob_program_runtime::{NamedFile, Noted};
 use cob_program_texts::{do_check, do_cover, do_draft, do_lossless};
 use cob_program_words::meant_words;
+use std::alloc::Global;
 use std::cell::Cell;
 use std::convert::AsStr;
 use std::io::{Eprint, Input, Print};
@@ -59,8 +61,32 @@ fn do_conversion_explained<R: AllocGlobal + Files + Input + Print + Eprint + Clo
     }
 }
 
-/// Converts a file of records, and explains where that is asked for.
+/// Converts a file of records, and explains where that is asked for, or reports what the run came to.
 fn do_asked_conversion<R: AllocGlobal + Files + Input + Print + Eprint + Clock>(
+    rt: &R,
+    line: &ConvertLine<'_>,
+    explain: bool,
+) -> Status
+    requires in_block { HasBlockSize line.now.forms.input }
+    requires out_block { HasBlockSize line.now.forms.output }
+    ensures { EndsAsked line.now.report line.now.rejects line.now.atomic result }
+{
+    match line.report {
+        None => do_plain_conversion(rt, line, explain),
+        Some(path) => do_convert_reported(
+            rt,
+            line,
+            Reported {
+                path,
+                version: VERSION,
+                explain,
+            },
+        ),
+    }
+}
+
+/// Converts a file of records, and explains where that is asked for.
+fn do_plain_conversion<R: AllocGlobal + Files + Input + Print + Eprint + Clock>(
     rt: &R,
     line: &ConvertLine<'_>,
     explain: bool,
@@ -147,29 +173,36 @@ fn perform_handed<R: AllocGlobal + Files + Input + Print + Eprint + Clock>(
     }
 }
 
-/// Carries out what a line asks for, over a runtime that keeps the last error of the files that its options name, and prints behind a device that failed
-/// why it did. Where memory for these files is refused, that is not told.
-fn perform_explained<R: AllocGlobal + Files + Input + Print + Eprint + Clock>(
+/// The files whose errors are told: those that the options of a line name, where that is asked for. Where memory for these files is refused, none.
+fn files_told<'a>(alloc: Global, line: &Line<'a>, explain: bool) -> Vec<NamedFile<'a>> {
+    if explain {
+        if let Ok(files) = files_of(alloc, line) {
+            return files;
+        }
+    }
+    Vec::new(alloc)
+}
+
+/// Carries out what a line asks for, over a runtime that keeps the last error of these files, and prints behind a device that failed why it did.
+fn perform_noted<R: AllocGlobal + Files + Input + Print + Eprint + Clock>(
     rt: &R,
-    line: &Line<'_>,
-    handing: &Handing<'_>,
+    said: &CommandLine<'_>,
+    files: &[NamedFile<'_>],
 ) -> u8
-    requires { HasBlocks line.now }
-    ensures { IsEndOfSaid line.now result }
+    requires { HasBlocks said.now.line }
+    ensures { IsEndOfSaid said.now.line result }
 {
-    let Ok(files) = files_of(rt.alloc(), line) else {
-        return perform_handed(rt, line, handing, true);
-    };
     let last = Cell::new(None);
-    let noted = Noted::new(rt, &files, &last);
-    let code = perform_handed(&noted, line, handing, true);
+    let noted = Noted::new(rt, files, &last);
+    let code = perform_handed(&noted, &said.line, &said.handing, said.explain);
     if code == Status::Device.code() {
         tell_file_error(rt, noted.last());
     }
     code
 }
 
-/// Carries out what a command line asks for, prints what comes of it, and what is wrong where that is asked for, and answers the program's status.
+/// Carries out what a command line asks for, prints what comes of it, and what is wrong where that is asked for, and answers the program's status. It does so over
+/// one kind of runtime, whether errors of files are told or not, so that each command is compiled once.
 pub fn perform<R: AllocGlobal + Files + Input + Print + Eprint + Clock>(
     rt: &R,
     said: &CommandLine<'_>,
@@ -177,11 +210,8 @@ pub fn perform<R: AllocGlobal + Files + Input + Print + Eprint + Clock>(
     requires { HasBlocks said.now.line }
     ensures { IsEndOfSaid said.now.line result }
 {
-    if said.explain {
-        perform_explained(rt, &said.line, &said.handing)
-    } else {
-        perform_handed(rt, &said.line, &said.handing, false)
-    }
+    let files = files_told(rt.alloc(), &said.line, said.explain);
+    perform_noted(rt, said, &files)
 }
 
 /// The status of words that are no command line: of help and the version it is that all is done.

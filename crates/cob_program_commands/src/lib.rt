@@ -2,8 +2,8 @@
 //!
 //! [`answer`] reads what the words after the program's name mean (`meant_words` of `cob_program_words`) and answers the number of the status: by [`perform`], which carries out a command line, or by
 //! [`refuse`], where there is none. The commands stand in crates of their own, as `cob_program_convert`, `cob_program_texts` and `cob_program_list`, and the
-//! job that no words ask for in `cob_program_job`. With the flag `--explain` a command runs over a runtime that keeps the last error of its files, which is
-//! told behind a device that failed. Behind a text that is refused it prints why, with that flag and where standard error is a terminal: copybooks are in memory
+//! job that no words ask for in `cob_program_job`. A command runs over a runtime that keeps the last error of some files, which is told behind a device that
+//! failed: with the flag `--explain` of those that its options name, else of none. Behind a text that is refused it prints why, with that flag and where standard error is a terminal: copybooks are in memory
 //! then, and the paragraph is read once more where its file can be. The number with which the program ends does not depend on it.
 //!
 //! What is promised, by specs/Commands.antt: words that mean a command line end with the status of what its command came to, which may have the

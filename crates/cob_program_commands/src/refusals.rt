@@ -6,7 +6,7 @@ use cob_program_copies::{HandedBook, IN_BOOK, OUT_BOOK};
 use cob_program_explained::can_be_read_again;
 use cob_program_faults::{read_text, tells_a_person};
 use cob_program_line::{Line, LosslessLine};
-use cob_program_texts::moves_fault;
+use cob_program_texts::paragraph_refusals;
 use cob_report_refusal_words::{Blocks, RefusedBook, RefusedMoves, book_blocks, moves_blocks};
 use std::alloc::{AllocError, Global};
 use std::io::Eprint;
@@ -109,11 +109,33 @@ fn book_words(alloc: Global, books: &[HandedBook<'_>]) -> Result<String, AllocEr
     Ok(text)
 }
 
+/// Why the paragraph that an option names is refused between the records of two copybooks, a block for each refusal.
+fn paragraph_blocks(
+    alloc: Global,
+    option: &str,
+    moves: RefusedMoves<'_>,
+) -> Result<String, AllocError> {
+    let refusals = paragraph_refusals(alloc, moves.in_book, moves.out_book, moves.text)?;
+    let Blocks {
+        text: own,
+        count: number,
+    } = moves_blocks(alloc, moves, refusals.as_slice(), MOST)?;
+    let mut counted = Counted {
+        all: 0,
+        each: String::new(alloc),
+    };
+    count(alloc, &mut counted, option, number)?;
+    let mut text = own;
+    text.push_str(&count_line(alloc, &counted)?)?;
+    Ok(text)
+}
+
 /// Why the paragraph in a file is refused between the records of two copybooks, where it is and the file can be read once more.
 fn moves_words<R: AllocGlobal + Files>(
     rt: &R,
     in_book: &[u8],
     out_book: &[u8],
+    option: &str,
     path: &str,
 ) -> Result<String, AllocError> {
     if !can_be_read_again(rt, path) {
@@ -122,17 +144,13 @@ fn moves_words<R: AllocGlobal + Files>(
     let Ok(text) = read_text(rt, path) else {
         return Ok(String::new(rt.alloc()));
     };
-    let Some(fault) = moves_fault(rt.alloc(), in_book, out_book, &text) else {
-        return Ok(String::new(rt.alloc()));
-    };
     let moves = RefusedMoves {
         file: path,
         text: &text,
         in_book,
         out_book,
     };
-    let blocks = moves_blocks(rt.alloc(), moves, fault)?;
-    Ok(blocks.text)
+    paragraph_blocks(rt.alloc(), option, moves)
 }
 
 /// Why a paragraph there is refused, or one back.
@@ -142,9 +160,9 @@ fn words_of_both<R: AllocGlobal + Files>(
     out_book: &[u8],
     line: &LosslessLine<'_>,
 ) -> Result<String, AllocError> {
-    let there = moves_words(rt, in_book, out_book, line.there)?;
+    let there = moves_words(rt, in_book, out_book, "there", line.there)?;
     if there.is_empty() {
-        return moves_words(rt, out_book, in_book, line.back);
+        return moves_words(rt, out_book, in_book, "back", line.back);
     }
     Ok(there)
 }
@@ -161,10 +179,10 @@ fn paragraph_words<R: AllocGlobal + Files>(
     let in_book = input.text.as_slice();
     let out_book = output.text.as_slice();
     match line {
-        Line::Convert(line) => moves_words(rt, in_book, out_book, line.texts.moves),
-        Line::Check(line) => moves_words(rt, in_book, out_book, line.texts.moves),
-        Line::Explain(line) => moves_words(rt, in_book, out_book, line.texts.moves),
-        Line::Map(line) => moves_words(rt, in_book, out_book, line.texts.moves),
+        Line::Convert(line) => moves_words(rt, in_book, out_book, "moves", line.texts.moves),
+        Line::Check(line) => moves_words(rt, in_book, out_book, "moves", line.texts.moves),
+        Line::Explain(line) => moves_words(rt, in_book, out_book, "moves", line.texts.moves),
+        Line::Map(line) => moves_words(rt, in_book, out_book, "moves", line.texts.moves),
         Line::Lossless(line) => words_of_both(rt, in_book, out_book, line),
         _ => Ok(String::new(rt.alloc())),
     }

@@ -1,5 +1,5 @@
 -- How a comparison ends.
-use Rattle.std.specs.Prelude.{◌==◌, ◌&&◌, Bool, Result, Ok, Err, if◌then◌else◌}
+use Rattle.std.specs.Prelude.{Result, Ok, Err, if◌then◌else◌}
 use Rattle.cob_convert.specs.Statuses.{status_of_stop}
 use Rattle.cob_convert.specs.declared.status.Status.{Status}
 use Rattle.cob_convert.specs.declared.status.Status.TheVariants as status
@@ -16,12 +16,9 @@ use Rattle.cob_report_compare.specs.declared.files.StopReason.{StopReason}
 use Rattle.cob_report_compare.specs.declared.files.StopReason.TheVariants.{Record, NoNumber, Order}
 use Rattle.cob_report_compare.specs.declared.runs.CompareFault.{CompareFault}
 use Rattle.cob_report_compare.specs.declared.runs.CompareFault.TheVariants as compared
+use Rattle.cob_report_compare.specs.Merged.{are_equal}
 use Rattle.cob_program_compare.specs.declared.fault.ComparisonFault.{ComparisonFault}
 use Rattle.cob_program_compare.specs.declared.fault.ComparisonFault.TheVariants as fault
-
--- all records are in pairs that are equal
-abbrev pub are_equal : PairCounts → Bool
-are_equal counts = counts.differ == 0 && counts.left_alone == 0 && counts.right_alone == 0
 
 -- what the record that stops a comparison is for the command: a line that is not printed is told by no other
 abbrev pub stop_by : Cause → CompareStop → ComparisonFault

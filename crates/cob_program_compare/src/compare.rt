@@ -128,15 +128,70 @@ struct Described {
     named: Vec<ListedItem>,
 }
 
-/// The records of the copybook that `--book` names.
-fn described_by<R: AllocGlobal + Files>(rt: &R, path: &str) -> Result<Described, CommandFault>
+/// The records of a copybook.
+fn described_in(alloc: Global, book: &Book) -> Result<Described, CommandFault>
     ensures { IfOk result (λ described. map named_item described.named.items ≡ named_in [] described.layout) }
 {
-    let text = text_of(rt, path, FileName::Book)?;
-    let book = Book::read(rt.alloc(), Role::In, &text)?;
-    let layout = Layout::of(rt.alloc(), &book)?;
-    let named = items_of(rt.alloc(), &book)?;
-    Ok(Described { layout, named })
+    let layout = Layout::of(alloc, book)?;
+    match items_of(alloc, book) {
+        Ok(named) => Ok(Described { layout, named }),
+        Err(full) => Err(CommandFault::from(full)),
+    }
+}
+
+/// The records of the copybook that this text is.
+fn described_by(alloc: Global, text: &[u8]) -> Result<Described, CommandFault>
+    ensures { IfOk result (λ described. map named_item described.named.items ≡ named_in [] described.layout) }
+{
+    match Book::read(alloc, Role::In, text) {
+        Ok(book) => described_in(alloc, &book),
+        Err(fault) => Err(CommandFault::from(fault)),
+    }
+}
+
+/// Compares the records of two sources, and prints what differs.
+fn compare_sources<P: AllocGlobal + Files + Print, L: Source, R: Source>(
+    rt: &P,
+    layout: &Layout,
+    options: CompareOptions<'_>,
+    left: &mut L,
+    right: &mut R,
+) -> Result<PairCounts, ComparisonFault>
+    requires left_block { HasBlockSize options.left_form }
+    requires right_block { HasBlockSize options.right_form }
+    requires keys { AreKeyItems layout.now (map named_item options.keys.now) }
+    requires few { length options.keys.now ≤ most_keys }
+{
+    match create_sink(rt, "-") {
+        Ok(mut sink) => outcome_of(compare_to_end(
+            rt.alloc(),
+            layout,
+            options,
+            left,
+            right,
+            &mut sink,
+        )),
+        Err(_) => Err(ComparisonFault::Command(CommandFault::Memory)),
+    }
+}
+
+/// Compares the records of a source with those of the file that `--right` names, and prints what differs.
+fn compare_with_right<P: AllocGlobal + Files + Input + Print, L: Source>(
+    rt: &P,
+    path: &str,
+    layout: &Layout,
+    options: CompareOptions<'_>,
+    left: &mut L,
+) -> Result<PairCounts, ComparisonFault>
+    requires left_block { HasBlockSize options.left_form }
+    requires right_block { HasBlockSize options.right_form }
+    requires keys { AreKeyItems layout.now (map named_item options.keys.now) }
+    requires few { length options.keys.now ≤ most_keys }
+{
+    match open_source(rt, path) {
+        Ok(mut right) => compare_sources(rt, layout, options, left, &mut right),
+        Err(fault) => Err(unopened(fault, FileSide::Right)),
+    }
 }
 
 /// Compares the files that `--left` and `--right` name, of records of this layout and with a key of these items, prints what differs, and answers how many
@@ -153,26 +208,29 @@ fn compare_by<R: AllocGlobal + Files + Input + Print + Eprint>(
     requires keys { AreKeyItems layout.now (map named_item keys.now) }
     requires few { length keys.now ≤ most_keys }
 {
-    let mut left = match open_source(rt, line.left) {
-        Ok(left) => left,
-        Err(fault) => return Err(unopened(fault, FileSide::Left)),
-    };
-    let mut right = match open_source(rt, line.right) {
-        Ok(right) => right,
-        Err(fault) => return Err(unopened(fault, FileSide::Right)),
-    };
-    let Ok(mut sink) = create_sink(rt, "-") else {
-        return Err(ComparisonFault::Command(CommandFault::Memory));
-    };
     let options = options_of(line, ignored, keys);
-    outcome_of(compare_to_end(
-        rt.alloc(),
-        layout,
-        options,
-        &mut left,
-        &mut right,
-        &mut sink,
-    ))
+    match open_source(rt, line.left) {
+        Ok(mut left) => compare_with_right(rt, line.right, layout, options, &mut left),
+        Err(fault) => Err(unopened(fault, FileSide::Left)),
+    }
+}
+
+/// Compares the files that a line names, of these records, prints what differs, and answers how many pairs of records there are of each kind.
+fn compare_described<R: AllocGlobal + Files + Input + Print + Eprint>(
+    rt: &R,
+    line: &CompareLine<'_>,
+    described: &Described,
+) -> Result<PairCounts, ComparisonFault>
+    requires left_block { HasBlockSize line.now.left_form }
+    requires right_block { HasBlockSize line.now.right_form }
+    requires named { map named_item described.now.named.items ≡ named_in [] described.now.layout }
+{
+    let layout = &described.layout;
+    let keys = key_of(rt.alloc(), layout, &described.named, line.key)?;
+    match entries_named(rt.alloc(), layout, line.ignored)? {
+        Ok(ignored) => compare_by(rt, line, layout, &keys, &ignored),
+        Err(rule) => Err(ComparisonFault::Ignore(rule)),
+    }
 }
 
 /// Compares the files that a line names, prints what differs, and answers how many pairs of records there are of each kind.
@@ -191,14 +249,9 @@ pub fn compare_records_of<R: AllocGlobal + Files + Input + Print + Eprint>(
     if line.left == "-" && line.right == "-" {
         return Err(ComparisonFault::OneStream);
     }
-    let described = described_by(rt, line.book)?;
-    let layout = &described.layout;
-    let keys = key_of(rt.alloc(), layout, &described.named, line.key)?;
-    let ignored = match entries_named(rt.alloc(), layout, line.ignored)? {
-        Ok(ignored) => ignored,
-        Err(rule) => return Err(ComparisonFault::Ignore(rule)),
-    };
-    compare_by(rt, line, layout, &keys, &ignored)
+    let text = text_of(rt, line.book, FileName::Book)?;
+    let described = described_by(rt.alloc(), &text)?;
+    compare_described(rt, line, &described)
 }
 
 /// Compares the files that a line names, prints what differs or what is at fault, and answers how the program ends.

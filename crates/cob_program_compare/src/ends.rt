@@ -1,7 +1,7 @@
 //! How a comparison ends.
 
-ghost use Rattle.std.specs.Prelude.{◌≡◌, Err};
-ghost use Rattle.cob_program_compare.specs.Ends.{are_equal, status_of_comparison};
+ghost use Rattle.std.specs.Prelude.{Err};
+ghost use Rattle.cob_program_compare.specs.Ends.{status_of_comparison};
 ghost use Rattle.cob_program_faults.specs.Ends.{EndsAs};
 
 use crate::fault::ComparisonFault;
@@ -9,13 +9,6 @@ use cob_convert::Status;
 use cob_program_faults::{CommandFault, printed};
 use cob_report_compare::PairCounts;
 use std::io::Eprint;
-
-/// Whether all records are in pairs that are equal.
-fn are_equal(counts: PairCounts) -> bool
-    ensures { result ≡ are_equal counts }
-{
-    counts.differ == 0 && counts.left_alone == 0 && counts.right_alone == 0
-}
 
 /// Prints a fault on standard error, but for the fault that a line cannot be printed, and answers how the command ends.
 fn tell<R: Eprint>(rt: &R, fault: ComparisonFault) -> Status
@@ -32,7 +25,7 @@ pub(crate) fn end_of<R: Eprint>(rt: &R, outcome: Result<PairCounts, ComparisonFa
     ensures { EndsAs (status_of_comparison outcome) result }
 {
     match outcome {
-        Ok(counts) if are_equal(counts) => Status::Done,
+        Ok(counts) if counts.are_equal() => Status::Done,
         Ok(_) => Status::Stopped,
         Err(fault) => tell(rt, fault),
     }

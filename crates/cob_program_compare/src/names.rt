@@ -141,6 +141,37 @@ fn add_numbers<'a>(
     }
 }
 
+/// The entries of a record by their names.
+fn directory_of(alloc: Global, layout: &Layout) -> Result<Directory<'_, usize>, AllocError> {
+    let mut listed = Vec::new(alloc);
+    list_entries(alloc, layout.root(), &[], &mut listed)?;
+    Directory::new(alloc, listed)
+}
+
+/// The numbers of the entries that these words name. It answers the rule that they break.
+fn numbers_of<'a>(
+    alloc: Global,
+    directory: &Directory<'a, usize>,
+    words: &[&[u8]],
+) -> Result<Result<Vec<usize>, NameRule>, AllocError> {
+    let mut numbers = Vec::new(alloc);
+    match add_numbers(directory, words, &mut numbers)? {
+        Ok(()) => Ok(Ok(numbers)),
+        Err(rule) => Ok(Err(rule)),
+    }
+}
+
+/// The numbers of the entries that a text names. It answers the rule that the names break.
+fn numbers_in<'a>(
+    alloc: Global,
+    directory: &Directory<'a, usize>,
+    names: &str,
+) -> Result<Result<Vec<usize>, NameRule>, AllocError> {
+    let text = names.as_bytes().to_ascii_uppercase(alloc)?;
+    let words = words_of(alloc, text.as_slice())?;
+    numbers_of(alloc, directory, words.as_slice())
+}
+
 /// The numbers of the entries that a text names, with commas between their names. It answers the rule that these break.
 ///
 /// # Errors
@@ -151,17 +182,9 @@ pub(crate) fn entries_named(
     layout: &Layout,
     names: Option<&str>,
 ) -> Result<Result<Vec<usize>, NameRule>, AllocError> {
-    let mut numbers = Vec::new(alloc);
     let Some(names) = names else {
-        return Ok(Ok(numbers));
+        return Ok(Ok(Vec::new(alloc)));
     };
-    let mut listed = Vec::new(alloc);
-    list_entries(alloc, layout.root(), &[], &mut listed)?;
-    let directory = Directory::new(alloc, listed)?;
-    let text = names.as_bytes().to_ascii_uppercase(alloc)?;
-    let words = words_of(alloc, text.as_slice())?;
-    match add_numbers(&directory, words.as_slice(), &mut numbers)? {
-        Ok(()) => Ok(Ok(numbers)),
-        Err(rule) => Ok(Err(rule)),
-    }
+    let directory = directory_of(alloc, layout)?;
+    numbers_in(alloc, &directory, names)
 }

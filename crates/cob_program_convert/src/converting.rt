@@ -88,6 +88,24 @@ fn convert_by<R: AllocGlobal + Files + Input + Print + Eprint + Clock>(
     }
 }
 
+/// Converts as the command line says, by a converter of its texts.
+///
+/// # Errors
+///
+/// As [`convert`], but for those of the texts.
+pub fn convert_plain_by<R: AllocGlobal + Files + Input + Print + Eprint + Clock>(
+    rt: &R,
+    line: &ConvertLine<'_>,
+    converter: &mut Converter,
+) -> Result<CommandDone, CommandFault>
+    requires { HasBlockSize line.now.forms.input }
+    ensures faults { IfErr result (MayEndConvert line.now.atomic) }
+    // None was set aside.
+    ensures all { IfOk result (λ done. status_of_done done ≡ status.Done) }
+{
+    all_converted(convert_by(rt, line, converter))
+}
+
 /// What so many converted records come to, which were all that came.
 fn all_converted(outcome: Result<u64, CommandFault>) -> Result<CommandDone, CommandFault>
     ensures faults { (atomic : Bool) → IfErr outcome (MayEndConvert atomic)
@@ -119,7 +137,7 @@ pub fn convert<R: AllocGlobal + Files + Input + Print + Eprint + Clock>(
     ensures all { IfOk result (λ done. status_of_done done ≡ status.Done) }
 {
     match prepared_for(rt, line) {
-        Ok(mut converter) => all_converted(convert_by(rt, line, &mut converter)),
+        Ok(mut converter) => convert_plain_by(rt, line, &mut converter),
         Err(fault) => Err(fault),
     }
 }

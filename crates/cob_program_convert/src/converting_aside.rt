@@ -18,7 +18,7 @@ use cob_program_ends::{
 };
 use cob_program_faults::{CommandDone, CommandFault, part_name};
 use cob_program_line::ConvertLine;
-use cob_program_run::{How, Rejections, placed_run, run_aside_to_end};
+use cob_program_run::{How, RejectionWatcher, Rejections, Unwatched, placed_run, run_aside_to_end};
 use std::io::{Eprint, Input, Print};
 use std::rt::{Clock, Files};
 
@@ -53,8 +53,13 @@ fn how_of<R: Files>(rt: &R, line: &ConvertLine<'_>) -> How
     }
 }
 
-/// The end that tells of the rejected records of such a run.
-fn rejections_of<'a, R>(rt: &'a R, line: &ConvertLine<'_>, how: How) -> Rejections<'a, R>
+/// The end that tells of the rejected records of such a run, a watcher too.
+fn rejections_of<'a, R, W>(
+    rt: &'a R,
+    line: &ConvertLine<'_>,
+    how: How,
+    watcher: &'a mut W,
+) -> Rejections<'a, R, W>
     ensures first { first_told result ≡ kept_count (line.now.first + line.now.skip) }
     ensures clears { is_clearing result ≡ rewrites_line how.telling }
     ensures printed { result.are_printed ≡ true }
@@ -64,7 +69,7 @@ fn rejections_of<'a, R>(rt: &'a R, line: &ConvertLine<'_>, how: How) -> Rejectio
         Some(telling) => telling.rewrites,
         None => false,
     };
-    Rejections::new(rt, first_of(line), is_cleared)
+    Rejections::new(rt, first_of(line), is_cleared, watcher)
 }
 
 /// The parts that stand in for both outputs, where some do.
@@ -76,12 +81,13 @@ fn parts_of<'a>(line: &ConvertLine<'_>, parts: OutputNames<'a>) -> Option<Output
 
 /// Converts into the output itself and the file for rejected records itself, which are made, or emptied where they are there; or into the parts of both,
 /// and puts them in their places when all is done. Where it is not, both files are as they were, and the parts have what became of the records before.
-fn convert_into<R: AllocGlobal + Files + Input + Print + Eprint + Clock>(
+fn convert_into<R: AllocGlobal + Files + Input + Print + Eprint + Clock, W: RejectionWatcher>(
     rt: &R,
     line: &ConvertLine<'_>,
     names: OutputNames<'_>,
     parts: OutputNames<'_>,
     converter: &mut Converter,
+    watcher: &mut W,
 ) -> Result<CommandDone, CommandFault>
     requires { HasBlockSize line.now.forms.input }
     ensures { IfErr result (MayEndAside line.now.atomic) }
@@ -97,7 +103,7 @@ fn convert_into<R: AllocGlobal + Files + Input + Print + Eprint + Clock>(
         ) => {
             tell_uneven_input(rt, line, greatest);
             let how = how_of(rt, line);
-            let mut notes = rejections_of(rt, line, how);
+            let mut notes = rejections_of(rt, line, how, watcher);
             let ending = run_aside_to_end(
                 rt, how, converter, incoming, &mut sink, &mut aside, &mut notes,
             );
@@ -108,12 +114,21 @@ fn convert_into<R: AllocGlobal + Files + Input + Print + Eprint + Clock>(
     }
 }
 
-/// Converts as the command line says: into both outputs themselves, or into their parts, whose names are those of the outputs with `.part` behind them.
-fn convert_by<R: AllocGlobal + Files + Input + Print + Eprint + Clock>(
+/// Converts as the command line says, by a converter of its texts: into both outputs themselves, or into their parts, whose names are those of the outputs with
+/// `.part` behind them. A watcher is told of the rejected records.
+///
+/// # Errors
+///
+/// As [`convert_aside`], but for those of the texts.
+pub fn convert_aside_by<
+    R: AllocGlobal + Files + Input + Print + Eprint + Clock,
+    W: RejectionWatcher,
+>(
     rt: &R,
     line: &ConvertLine<'_>,
     rejects: &str,
     converter: &mut Converter,
+    watcher: &mut W,
 ) -> Result<CommandDone, CommandFault>
     requires { HasBlockSize line.now.forms.input }
     ensures { IfErr result (MayEndAside line.now.atomic) }
@@ -123,7 +138,7 @@ fn convert_by<R: AllocGlobal + Files + Input + Print + Eprint + Clock>(
         rejects,
     };
     if !line.atomic {
-        return convert_into(rt, line, names, names, converter);
+        return convert_into(rt, line, names, names, converter, watcher);
     }
     let output_part = part_name(rt.alloc(), line.output)?;
     let rejects_part = part_name(rt.alloc(), rejects)?;
@@ -131,7 +146,7 @@ fn convert_by<R: AllocGlobal + Files + Input + Print + Eprint + Clock>(
         output: &output_part,
         rejects: &rejects_part,
     };
-    convert_into(rt, line, names, parts, converter)
+    convert_into(rt, line, names, parts, converter, watcher)
 }
 
 /// Converts the records of the file that `--in` names, sets those that are rejected aside in the file `rejects` and prints their fault lines, and answers
@@ -152,7 +167,7 @@ pub fn convert_aside<R: AllocGlobal + Files + Input + Print + Eprint + Clock>(
     ensures { IfErr result (MayEndAside line.now.atomic) }
 {
     match prepared_for(rt, line) {
-        Ok(mut converter) => convert_by(rt, line, rejects, &mut converter),
+        Ok(mut converter) => { convert_aside_by(rt, line, rejects, &mut converter, &mut Unwatched) }
         Err(fault) => Err(fault),
     }
 }

@@ -1,6 +1,7 @@
 //! The command `convert` of `cobconv`, plain and with `--rejects`.
 //!
-//! [`do_convert`] and [`do_convert_aside`] carry it out, print what comes of it and answer how the program ends: by [`convert`] and [`convert_aside`], which do
+//! [`convert_plain_by`] and [`convert_aside_by`] do so by a converter of texts that were read before, the second one with a watcher that is told of the
+//! rejected records. [`do_convert`] and [`do_convert_aside`] carry it out, print what comes of it and answer how the program ends: by [`convert`] and [`convert_aside`], which do
 //! the work without printing, but for the fault lines of rejected records; and both by [`tell_converted`], which prints what a conversion came to. The files for
 //! texts are opened and read in the order of the options, and the texts are prepared before any file for records is opened; the output is made last, and not
 //! where it is one of the files that are read, by whatever name: so neither a text that is refused, nor records that do not fit the record length that the input
@@ -30,6 +31,6 @@ mod converting;
 mod converting_aside;
 mod told;
 
-pub use converting::{convert, do_convert};
-pub use converting_aside::{convert_aside, do_convert_aside};
+pub use converting::{convert, convert_plain_by, do_convert};
+pub use converting_aside::{convert_aside, convert_aside_by, do_convert_aside};
 pub use told::tell_converted;

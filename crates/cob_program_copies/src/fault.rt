@@ -6,6 +6,7 @@ ghost use Rattle.cob_program_copies.specs.declared.fault.HandingFault.TheVariant
 ghost use Rattle.cob_program_copies.specs.declared.fault.BookRefusal.TheVariants.{Memory};
 ghost use Rattle.cob_program_faults.specs.Ends.{EndsAs};
 
+use crate::outputs::WrittenFile;
 use cob_convert::Status;
 use cob_program_faults::{CommandFault, FileName, printed, tell_fault};
 use std::alloc::{AllocError, AllocFailed};
@@ -18,8 +19,8 @@ pub enum BookRefusal {
     Refused(String),
     /// A text that it copies is there, and a read of it failed: the words of the line that is told.
     NotRead(String),
-    /// A file that the command writes holds a text that it copies: the option of the copybook, and that of the file.
-    OneFile(FileName, FileName),
+    /// A file that the command writes holds a text that it copies: the option of the copybook, and which file it is.
+    OneFile(FileName, WrittenFile),
     /// The option for exchanges says none.
     BadReplace,
     /// The option for tab stops says no number of columns.

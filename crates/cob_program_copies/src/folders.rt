@@ -1,8 +1,8 @@
 //! Texts that stand in folders.
 
-use crate::outputs::Outputs;
+use crate::outputs::{Outputs, WrittenFile};
 use crate::spacing::Spacing;
-use cob_program_faults::{FileIdentity, FileName, TextFault, read_text};
+use cob_program_faults::{FileIdentity, TextFault, read_text};
 use cob_source::TextFormat;
 use cob_source_copies::{Shelf, ShelfFault, TextName};
 use std::alloc::{AllocError, Global};
@@ -22,7 +22,7 @@ pub struct Folders<'a, R> {
     /// How the texts stand on their lines.
     spacing: Spacing,
     /// The first of these that a text came from.
-    lost: Option<FileName>,
+    lost: Option<WrittenFile>,
 }
 
 impl<'a, R> Folders<'a, R> {
@@ -38,7 +38,7 @@ impl<'a, R> Folders<'a, R> {
     }
 
     /// A file that the command writes and that a text came from, which would be lost.
-    pub fn lost(&self) -> Option<FileName> {
+    pub fn lost(&self) -> Option<WrittenFile> {
         self.lost
     }
 }

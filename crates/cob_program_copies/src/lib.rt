@@ -38,6 +38,6 @@ pub use fault::{BookRefusal, HandingFault, tell_unhanded};
 pub use files::HandedFile;
 pub use folders::Folders;
 pub use handing::hand_over;
-pub use outputs::Outputs;
+pub use outputs::{Outputs, WrittenFile};
 pub use runtime::HandedRuntime;
 pub use spacing::Spacing;

@@ -1,48 +1,95 @@
 //! The files that a command writes.
 
-use cob_program_faults::{FileIdentity, FileName, loses, part_name};
+use cob_program_faults::{FileIdentity, loses, part_name};
 use cob_program_line::{ConvertLine, Line};
+use std::fmt;
 use std::rt::Files;
 
-/// The files that a command writes, and their parts, as far as they are there.
-#[derive(Clone, Copy)]
-pub struct Outputs {
-    output: Option<FileIdentity>,
-    output_part: Option<FileIdentity>,
-    rejects: Option<FileIdentity>,
-    rejects_part: Option<FileIdentity>,
+/// Which of the files that a command writes one is.
+#[derive(Clone, Copy, Debug, PartialEq, Eq)]
+pub enum WrittenFile {
+    Output,
+    Rejects,
+    Report,
 }
 
-/// The identity of the part that stands in for a file, if it is there.
-fn part_of<R: AllocGlobal + Files>(rt: &R, path: &str) -> Option<FileIdentity> {
-    match part_name(rt.alloc(), path) {
-        Ok(part) => FileIdentity::of(rt, &part),
-        Err(_) => None,
+impl fmt::Display for WrittenFile {
+    /// The option that names it, without its hyphens.
+    fn fmt<W: fmt::Write>(&self, f: &mut fmt::Formatter<W>) -> fmt::Result {
+        match self {
+            WrittenFile::Output => write!(f, "out"),
+            WrittenFile::Rejects => write!(f, "rejects"),
+            WrittenFile::Report => write!(f, "report"),
+        }
     }
+}
+
+/// A file that a command writes, and its part, as far as they are there.
+#[derive(Clone, Copy)]
+struct Output {
+    itself: Option<FileIdentity>,
+    part: Option<FileIdentity>,
+}
+
+impl Output {
+    /// None.
+    fn none() -> Output {
+        Output {
+            itself: None,
+            part: None,
+        }
+    }
+
+    /// The file of this name, and the part that stands in for it.
+    fn of<R: AllocGlobal + Files>(rt: &R, path: &str) -> Output {
+        let part = match part_name(rt.alloc(), path) {
+            Ok(part) => FileIdentity::of(rt, &part),
+            Err(_) => None,
+        };
+        Output {
+            itself: FileIdentity::of_output(rt, path),
+            part,
+        }
+    }
+
+    /// The file of this name, where one is named.
+    fn of_some<R: AllocGlobal + Files>(rt: &R, path: Option<&str>) -> Output {
+        match path {
+            Some(path) => Output::of(rt, path),
+            None => Output::none(),
+        }
+    }
+
+    /// Whether writing it would lose what this file holds.
+    fn loses(self, file: Option<FileIdentity>) -> bool {
+        loses(self.itself, file) || loses(self.part, file)
+    }
+}
+
+/// The files that a command writes.
+#[derive(Clone, Copy)]
+pub struct Outputs {
+    output: Output,
+    rejects: Output,
+    report: Output,
 }
 
 impl Outputs {
     /// None.
     fn none() -> Outputs {
         Outputs {
-            output: None,
-            output_part: None,
-            rejects: None,
-            rejects_part: None,
+            output: Output::none(),
+            rejects: Output::none(),
+            report: Output::none(),
         }
     }
 
     /// Those of a conversion.
     fn of_conversion<R: AllocGlobal + Files>(rt: &R, line: &ConvertLine<'_>) -> Outputs {
-        let (rejects, rejects_part) = match line.rejects {
-            Some(path) => (FileIdentity::of_output(rt, path), part_of(rt, path)),
-            None => (None, None),
-        };
         Outputs {
-            output: FileIdentity::of_output(rt, line.output),
-            output_part: part_of(rt, line.output),
-            rejects,
-            rejects_part,
+            output: Output::of(rt, line.output),
+            rejects: Output::of_some(rt, line.rejects),
+            report: Output::of_some(rt, line.report),
         }
     }
 
@@ -54,12 +101,14 @@ impl Outputs {
         }
     }
 
-    /// The option of the first that would lose what this file holds.
-    pub(crate) fn lost_with(&self, file: Option<FileIdentity>) -> Option<FileName> {
-        if loses(self.output, file) || loses(self.output_part, file) {
-            Some(FileName::Out)
-        } else if loses(self.rejects, file) || loses(self.rejects_part, file) {
-            Some(FileName::Rejects)
+    /// The first that would lose what this file holds.
+    pub(crate) fn lost_with(&self, file: Option<FileIdentity>) -> Option<WrittenFile> {
+        if self.output.loses(file) {
+            Some(WrittenFile::Output)
+        } else if self.rejects.loses(file) {
+            Some(WrittenFile::Rejects)
+        } else if self.report.loses(file) {
+            Some(WrittenFile::Report)
         } else {
             None
         }

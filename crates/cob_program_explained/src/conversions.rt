@@ -52,7 +52,7 @@ fn tell_stop<R: AllocGlobal + Files + Input + Eprint>(
 }
 
 /// Prints what a conversion comes to, and behind a stop why, and answers how it ends.
-fn tell_explained<R: AllocGlobal + Files + Input + Print + Eprint>(
+pub fn tell_explained<R: AllocGlobal + Files + Input + Print + Eprint>(
     rt: &R,
     line: &ConvertLine<'_>,
     beside: bool,

@@ -21,6 +21,6 @@ mod conversions;
 mod files;
 mod stops;
 
-pub use conversions::{do_convert_aside_explained, do_convert_explained};
+pub use conversions::{do_convert_aside_explained, do_convert_explained, tell_explained};
 pub use files::{files_of, tell_file_error};
 pub use stops::can_be_read_again;

@@ -57,9 +57,11 @@ pub record NameChoice (look : Look) (skip : ℕ) (records : Option ℕ) : Type 0
   pub most : NamesBound look (codes "records") records
 
 -- The options of `convert` name the line's files, its forms, its reading, the record length of its input, its flags, the piece of the input and the records of
--- it that are converted, and the file for the records that are set aside with the bound for their number.
+-- it that are converted, the file for the records that are set aside with the bound for their number, and that for the report; and the files of the texts are
+-- told.
 pub record IsConvert (look : Look) (line : ConvertLine) : Type 0 where
   pub texts : NameTexts look line.texts
+  pub told : NameTexts look line.told
   pub input : look (codes "in") ≡ Some line.input.now
   pub output : look (codes "out") ≡ Some line.output.now
   pub forms : NameForms look line.forms
@@ -70,6 +72,7 @@ pub record IsConvert (look : Look) (line : ConvertLine) : Type 0 where
   pub choice : NameChoice look line.skip line.records
   pub rejects : look (codes "rejects") ≡ option_map (λ file. file.now) line.rejects
   pub most_rejects : NamesBound look (codes "most-rejects") line.most_rejects
+  pub report : look (codes "report") ≡ option_map (λ file. file.now) line.report
 
 -- The options of `check` name the line's files and its flags.
 pub record IsCheck (look : Look) (line : CheckLine) : Type 0 where

@@ -67,6 +67,7 @@ pub fn convert_line<'a>(options: &ArgMatches<'a>) -> Result<ConvertLine<'a>, Lin
     let lrecl = lrecl_of(options)?;
     Ok(ConvertLine {
         texts: texts_of(options),
+        told: texts_of(options),
         input: named(options, "in"),
         output: named(options, "out"),
         forms,
@@ -80,6 +81,7 @@ pub fn convert_line<'a>(options: &ArgMatches<'a>) -> Result<ConvertLine<'a>, Lin
         records: choice.records,
         rejects: named_if_there(options, "rejects"),
         most_rejects,
+        report: named_if_there(options, "report"),
     })
 }
 

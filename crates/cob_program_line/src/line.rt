@@ -88,6 +88,18 @@ fn add_written<'a>(
     Ok(())
 }
 
+/// Adds a file that is written, where one is named.
+fn add_if_written<'a>(
+    files: &mut Vec<NamedFile<'a>>,
+    option: &'a str,
+    path: Option<&'a str>,
+) -> Result<(), AllocError> {
+    match path {
+        Some(path) => add_written(files, option, path),
+        None => Ok(()),
+    }
+}
+
 /// Adds the files of both copybooks.
 fn add_books<'a>(
     files: &mut Vec<NamedFile<'a>>,
@@ -205,6 +217,8 @@ pub struct Forms {
 pub struct ConvertLine<'a> {
     /// The files of the three texts.
     pub texts: TextFiles<'a>,
+    /// These files, as they are told.
+    pub told: TextFiles<'a>,
     /// The file that the records come from; `-` is standard input.
     pub input: &'a str,
     /// The file that the records go to; `-` is standard output.
@@ -231,18 +245,18 @@ pub struct ConvertLine<'a> {
     pub rejects: Option<&'a str>,
     /// How many records may be set aside, where there is a bound.
     pub most_rejects: Option<u64>,
+    /// The file that it is reported in what the run came to.
+    pub report: Option<&'a str>,
 }
 
 impl<'a> ConvertLine<'a> {
-    /// Adds the files of the texts, of the records and of those that are set aside.
+    /// Adds the files of the texts, of the records, of those that are set aside and of the report.
     fn add_files(&self, files: &mut Vec<NamedFile<'a>>) -> Result<(), AllocError> {
         self.texts.add_files(files)?;
         add_read(files, "in", self.input)?;
         add_written(files, "out", self.output)?;
-        match self.rejects {
-            Some(rejects) => add_written(files, "rejects", rejects),
-            None => Ok(()),
-        }
+        add_if_written(files, "rejects", self.rejects)?;
+        add_if_written(files, "report", self.report)
     }
 }
 

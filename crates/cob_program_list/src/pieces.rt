@@ -1,9 +1,10 @@
-ghost use Rattle.std.specs.Prelude.{◌≡◌, ◌<◌, false, IfErr};
+ghost use Rattle.std.specs.Prelude.{◌≡◌, ◌<◌, ◌≤◌, false, IfErr, IfOk};
+ghost use Rattle.cob_limits.specs.Limits.{longest_record};
 ghost use Rattle.cob_records.specs.Forms.{HasBlockSize};
 ghost use Rattle.cob_records.specs.Frame.{is_write_fault};
 ghost use Rattle.cob_records_parts.specs.Cut.{IfFrame};
 ghost use Rattle.cob_program_faults.specs.declared.fault.CommandFault.TheVariants.{Unprinted};
-ghost use Rattle.cob_program_faults.specs.Texts.{StopsListing};
+ghost use Rattle.cob_program_faults.specs.Texts.{LacksRecordLayout, StopsListing};
 ghost use Rattle.cob_program_faults.specs.Ends.{EndsAmong};
 ghost use Rattle.cob_program_list.specs.Ends.{MayEndListing};
 ghost use Rattle.cob_program_list.specs.Listed.{uncut_fault};
@@ -35,6 +36,20 @@ fn uncut(fault: PiecesFault) -> CommandFault
     }
 }
 
+/// The greatest length of the records that the file has, by their copybook.
+///
+/// # Errors
+///
+/// Those of [`read_record_book`].
+fn greatest_of<R: AllocGlobal + Files>(rt: &R, line: &PiecesLine<'_>) -> Result<u16, CommandFault>
+    ensures some { IfOk result (λ greatest. 0 < greatest) }
+    ensures most { IfOk result (λ greatest. greatest ≤ longest_record) }
+    ensures lacks { IfErr result LacksRecordLayout }
+{
+    let listed = read_record_book(rt, line.book, line.form, line.lrecl)?;
+    Ok(listed.layout.greatest())
+}
+
 /// Cuts the file that `--in` names in pieces: in form f by its size alone, else by its descriptors.
 ///
 /// # Errors
@@ -48,8 +63,7 @@ pub fn cut<R: AllocGlobal + Files + Input>(
     requires pieces { 0 < line.now.pieces }
     ensures { IfErr result MayEndListing }
 {
-    let listed = read_record_book(rt, line.book, line.form, line.lrecl)?;
-    let greatest = listed.layout.greatest();
+    let greatest = greatest_of(rt, line)?;
     let Some(size) = size_of(rt, line.input) else {
         return Err(CommandFault::CannotOpen(FileName::In));
     };

@@ -26,7 +26,7 @@ fn print_lined<R: AllocGlobal + Files + Input + Print>(
     ensures { IfErr result MayNotMap }
 {
     match lines_of_deeds(rt.alloc(), moves, conversion.deeds()) {
-        Ok(lines) => print_conversion(rt, line, conversion, lines.statements),
+        Ok(lines) => print_conversion(rt, line, conversion, lines.statements.as_slice()),
         // The paragraph was read before, so that only memory can lack.
         Err(_) => Err(Unmapped::Fault(CommandFault::Memory)),
     }

@@ -20,36 +20,32 @@ use std::alloc::{AllocError, Global};
 use std::io::{Input, Print};
 use std::rt::Files;
 
-/// What stands on the page beside both records and their moves: the lines of the statements, before which of them a test stands, the bytes of the output record that are covered, what single
-/// moves may lose, by which bytes they may lose their description, and the record that is shown, where one is.
+/// What stands on the page beside both records and their moves: the bytes of the output record that are covered, what single moves may lose, and by which bytes
+/// they may lose their description.
 #[derive(Drop)]
 struct PageMarks {
-    lines: Vec<u32>,
-    tested: Vec<bool>,
     covered: Vec<bool>,
     losses: Vec<Losses>,
     descriptions: Vec<Option<Unkept>>,
-    shown: Option<Shown>,
 }
 
-impl PageMarks {
-    /// The record that is shown, as it is drawn.
-    fn converted(&self) -> Option<Converted<'_>> {
-        match &self.shown {
-            Some(shown) => Some(converted_of(shown)),
-            None => None,
-        }
+/// The statements of moves by their text: the lines of all, and before which of them a test stands.
+#[derive(Clone, Copy)]
+struct StatementText<'a> {
+    lines: &'a [u32],
+    tested: &'a [bool],
+}
+
+/// A record that is shown, as it is drawn, where one is.
+fn converted_in(shown: &Option<Shown>) -> Option<Converted<'_>> {
+    match shown {
+        Some(shown) => Some(converted_of(shown)),
+        None => None,
     }
 }
 
-/// What stands on the page of these moves, of whose statements these are the lines; and before which of them a test stands.
-fn marks_of(
-    alloc: Global,
-    moves: &MovesBetween<'_>,
-    lines: Vec<u32>,
-    tested: Vec<bool>,
-    shown: Option<Shown>,
-) -> Result<PageMarks, AllocError>
+/// What stands on the page of these moves.
+fn marks_of(alloc: Global, moves: &MovesBetween<'_>) -> Result<PageMarks, AllocError>
     ensures covered { IfOk result
         (λ marks. AreMarks (IsByteCovered moves.now) marks.covered.items) }
     ensures losses { IfOk result (λ marks.
@@ -61,12 +57,9 @@ fn marks_of(
     let losses = losses_in(alloc, moves)?;
     let descriptions = descriptions_lost(alloc, moves)?;
     Ok(PageMarks {
-        lines,
-        tested,
         covered,
         losses,
         descriptions,
-        shown,
     })
 }
 
@@ -83,7 +76,9 @@ fn names_of<'a>(line: &MapLine<'a>) -> TextNames<'a> {
 fn mapping_of<'a>(
     moves: &MovesBetween<'a>,
     names: TextNames<'a>,
+    statements: StatementText<'a>,
     marks: &'a PageMarks,
+    shown: &'a Option<Shown>,
 ) -> Mapping<'a>
     requires covered { AreMarks (IsByteCovered moves.now) marks.now.covered.items }
     requires losses { AreAllLosses moves.now.layouts moves.now.statements.now
@@ -94,13 +89,13 @@ fn mapping_of<'a>(
         input: moves.layouts.input,
         output: moves.layouts.output,
         statements: moves.statements,
-        lines: marks.lines.as_slice(),
-        tested: marks.tested.as_slice(),
+        lines: statements.lines,
+        tested: statements.tested,
         names,
         covered: marks.covered.as_slice(),
         losses: marks.losses.as_slice(),
         descriptions: marks.descriptions.as_slice(),
-        converted: marks.converted(),
+        converted: converted_in(shown),
     }
 }
 
@@ -115,12 +110,14 @@ fn print_page<R: AllocGlobal + Print>(rt: &R, mapping: &Mapping<'_>) -> Result<(
     }
 }
 
-/// Prints the page of these moves, with what stands on it.
+/// Prints the page of these moves, with what stands on it and the record that is shown.
 fn print_marked<R: AllocGlobal + Print>(
     rt: &R,
     line: &MapLine<'_>,
     moves: &MovesBetween<'_>,
+    statements: StatementText<'_>,
     marks: &PageMarks,
+    shown: &Option<Shown>,
 ) -> Result<(), Unmapped>
     requires covered { AreMarks (IsByteCovered moves.now) marks.now.covered.items }
     requires losses { AreAllLosses moves.now.layouts moves.now.statements.now
@@ -128,8 +125,28 @@ fn print_marked<R: AllocGlobal + Print>(
     requires descriptions { AreAllTold moves.now marks.now.descriptions.items }
     ensures { IfErr result MayNotMap }
 {
-    let mapping = mapping_of(moves, names_of(line), marks);
+    let mapping = mapping_of(moves, names_of(line), statements, marks, shown);
     print_page(rt, &mapping)
+}
+
+/// Reads the record that is to be shown, and prints the page of these moves of a conversion.
+fn print_shown<R: AllocGlobal + Files + Input + Print>(
+    rt: &R,
+    line: &MapLine<'_>,
+    conversion: &Conversion,
+    moves: &MovesBetween<'_>,
+    statements: StatementText<'_>,
+    marks: &PageMarks,
+) -> Result<(), Unmapped>
+    requires record { 0 < line.now.record }
+    requires covered { AreMarks (IsByteCovered moves.now) marks.now.covered.items }
+    requires losses { AreAllLosses moves.now.layouts moves.now.statements.now
+        marks.now.losses.items }
+    requires descriptions { AreAllTold moves.now marks.now.descriptions.items }
+    ensures { IfErr result MayNotMap }
+{
+    let shown = record_shown(rt, conversion, line)?;
+    print_marked(rt, line, moves, statements, marks, &shown)
 }
 
 /// Prints the page of a conversion, of whose statements these are the lines.
@@ -141,14 +158,17 @@ pub(crate) fn print_conversion<R: AllocGlobal + Files + Input + Print>(
     rt: &R,
     line: &MapLine<'_>,
     conversion: &Conversion,
-    lines: Vec<u32>,
+    lines: &[u32],
 ) -> Result<(), Unmapped>
     requires { 0 < line.now.record }
     ensures { IfErr result MayNotMap }
 {
-    let shown = record_shown(rt, conversion, line)?;
     let moves = carried(conversion);
     let tested = tested_statements(rt.alloc(), conversion, moves.statements)?;
-    let marks = marks_of(rt.alloc(), &moves, lines, tested, shown)?;
-    print_marked(rt, line, &moves, &marks)
+    let marks = marks_of(rt.alloc(), &moves)?;
+    let statements = StatementText {
+        lines,
+        tested: tested.as_slice(),
+    };
+    print_shown(rt, line, conversion, &moves, statements, &marks)
 }

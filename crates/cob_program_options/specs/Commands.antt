@@ -45,6 +45,10 @@ choice_options = (codes "skip", Default (codes "0")) ∷ (codes "records", Defau
 abbrev pub rejects_options : Options
 rejects_options = (codes "rejects", Optional) ∷ (codes "most-rejects", Default (codes "all")) ∷ []
 
+-- the option for the report of a run
+abbrev pub report_options : Options
+report_options = (codes "report", Optional) ∷ []
+
 -- the options for what copybooks copy, for what is replaced in them, and for how they stand on their lines
 abbrev pub copies_options : Options
 copies_options = (codes "copy-dir", Optional) ∷ (codes "replace", Optional) ∷ (codes "tabs", Optional) ∷ (codes "free", Alone) ∷ []
@@ -68,7 +72,7 @@ shared_options = (codes "explain", Alone) ∷ help_options
 -- the options of `convert`
 abbrev pub convert_options : Options
 convert_options = texts_options ++ ends_options ++ forms_options ++ lrecl_options ++ ((codes "atomic", Alone) ∷ (codes "progress", Alone) ∷ [])
-    ++ piece_options ++ choice_options ++ rejects_options ++ books_handing ++ shared_options
+    ++ piece_options ++ choice_options ++ rejects_options ++ report_options ++ books_handing ++ shared_options
 
 -- the options of `check`
 abbrev pub check_options : Options

@@ -12,7 +12,7 @@ use crate::definition::CommandDefinition;
 use crate::options::{
     ATOMIC, BOOK, BOOKS, BOTH_RECORDS, BOTH_WAYS, CHOICE, COMPARED, COMPARISON, COPIES, COVER, CUT,
     ENDS, EXPLAINED_RECORDS, FORM, FORMS, LISTING, LRECL, MAPPED_RECORDS, MOVES, ONE_RECORD, PIECE,
-    PIECES, PROGRESS, RECORD, REJECTS, SHARED, SHARED_RUN, SHOWN,
+    PIECES, PROGRESS, RECORD, REJECTS, REPORT, SHARED, SHARED_RUN, SHOWN,
 };
 use clap::Command;
 use std::alloc::{AllocError, Global};
@@ -140,6 +140,7 @@ const COMMANDS: [CommandDefinition<'static>; 10] = [
             &PIECE,
             &CHOICE,
             &REJECTS,
+            &REPORT,
             &COPIES,
             &BOTH_RECORDS,
             &SHARED_RUN,

@@ -27,6 +27,10 @@ pub(crate) const ATOMIC_HELP: &str = "Write OUT.part first, and rename it when a
 
 pub(crate) const PROGRESS_HELP: &str = "Tell on standard error how far it is";
 
+// What `--report` names.
+pub(crate) const REPORT_HELP: &str =
+    "Write there what the run came to, for an audit: sums of\nthe texts, files, counts; as JSON where FILE ends in .json";
+
 // What `--lrecl` names.
 pub(crate) const LRECL_HELP: &str =
     "The input's LRECL, which the copybook has to fit: f, its\nrecords' length; v and b, the greatest with its RDW";

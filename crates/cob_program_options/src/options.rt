@@ -4,7 +4,7 @@ use crate::definition::{OptionDefinition, Standing};
 use crate::help::{
     ATOMIC_HELP, BINARY_HELP, COPY_DIR_HELP, EXPLAINED_HELP, EXPLAINED_RUN_HELP, FORM_HELP,
     FREE_HELP, IGNORE_HELP, KEY_HELP, LISTING_HELP, LRECL_HELP, MEASURE_HELP, PROGRESS_HELP,
-    REPLACE_HELP, STRICT_HELP, TABS_HELP,
+    REPLACE_HELP, REPORT_HELP, STRICT_HELP, TABS_HELP,
 };
 
 // How an option stands for a form, which is f where it is not there, and for the greatest size of blocks.
@@ -143,6 +143,13 @@ pub(crate) const REJECTS: [OptionDefinition<'static>; 2] = [
         help: "Stop at the record behind N set aside",
     },
 ];
+
+// What is kept of a run.
+pub(crate) const REPORT: [OptionDefinition<'static>; 1] = [OptionDefinition {
+    name: "report",
+    standing: Standing::Optional("FILE"),
+    help: REPORT_HELP,
+}];
 
 // What no move fills, what none takes, and losses.
 pub(crate) const COVER: [OptionDefinition<'static>; 2] = [

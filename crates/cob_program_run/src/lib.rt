@@ -7,7 +7,7 @@
 //! - [`run_to_end`] runs a converter up to the first stop, and hands what its output still holds to the device. What the run comes to is [`Ending::finished`],
 //!   and [`placed`] behind what was done to put the output in its place.
 //! - [`run_aside_to_end`] sets rejected records aside, and hands what its two outputs still hold to their devices. [`Rejections`] prints the fault line of each
-//!   rejected record and keeps their [`Marks`]. What the run comes to is [`AsideEnding::finished`]; [`placed_run`] puts parts of both outputs in their places.
+//!   rejected record, tells a [`RejectionWatcher`] of it and keeps their [`Marks`]. What the run comes to is [`AsideEnding::finished`]; [`placed_run`] puts parts of both outputs in their places.
 //!
 //! What is promised:
 //!
@@ -39,6 +39,6 @@ mod running;
 mod running_aside;
 
 pub use marks::Marks;
-pub use rejections::Rejections;
+pub use rejections::{RejectionWatcher, Rejections, Unwatched};
 pub use running::{Ending, placed, run_to_end};
 pub use running_aside::{AsideEnding, How, PlacesFault, placed_run, run_aside_to_end};

@@ -12,7 +12,7 @@ use crate::incoming::run_over_incoming;
 use crate::lacking::{lacking_output, lacking_rejects};
 use crate::marks::Marks;
 use crate::places::put_both_in_place;
-use crate::rejections::Rejections;
+use crate::rejections::{RejectionWatcher, Rejections};
 use crate::run::SettingAside;
 use cob_convert::{AsideFault, Converter, Notes, Tally};
 use cob_program_ends::OutputNames;
@@ -148,14 +148,20 @@ fn run_aside_over<
 
 /// Runs to the end, and hands what both sinks still hold to their devices, whatever the run came to. It tells on standard error how far it is where
 /// that is asked for, and why records were rejected.
-pub fn run_aside_to_end<T: Eprint + Clock, S: Source + Drop, W: Write + Drop, V: Write + Drop>(
+pub fn run_aside_to_end<
+    T: Eprint + Clock,
+    S: Source + Drop,
+    W: Write + Drop,
+    V: Write + Drop,
+    Z: RejectionWatcher,
+>(
     rt: &T,
     how: How,
     converter: &mut Converter,
     incoming: Incoming<S>,
     sink: &mut WriteSink<BufWriter<W>>,
     aside: &mut WriteSink<BufWriter<V>>,
-    notes: &mut Rejections<'_, T>,
+    notes: &mut Rejections<'_, T, Z>,
 ) -> AsideEnding
     requires { HasBlockSize how.form }
     // What the run came to; what the devices took is not told.

@@ -57,4 +57,4 @@ pub use checking::{Checked, check, do_check};
 pub use covering::{cover, do_cover};
 pub use draft::{do_draft, drafted};
 pub use lossless::{do_lossless, lose_nothing};
-pub use refusals::moves_fault;
+pub use refusals::paragraph_refusals;

@@ -1,10 +1,13 @@
 ghost use Rattle.std.specs.Prelude.{◌≡◌};
 ghost use Rattle.cob_program_texts.specs.Answers.{refusal_back, refusal_there};
 
-use cob_convert::{Converter, MoveFault, PrepareFault};
+use cob_convert::PrepareFault;
+use cob_copybook::{Book, BookRule, Role};
+use cob_layout::Layout;
 use cob_program_faults::{CommandFault, FileName};
-use cob_records::Form;
-use std::alloc::Global;
+use cob_report_refusals::MoveRefusal;
+use cob_report_refused_moves::move_refusals;
+use std::alloc::{AllocError, Global};
 
 /// What is told where the conversion there is refused: its paragraph by the option that names it.
 pub fn refused_there(fault: PrepareFault) -> CommandFault
@@ -32,23 +35,43 @@ pub fn refused_back(fault: PrepareFault) -> CommandFault
     }
 }
 
-/// The fault of a paragraph, where it is that which is refused.
-fn of_moves(fault: PrepareFault) -> Option<MoveFault> {
-    match fault {
-        PrepareFault::Moves(refused) => Some(refused),
-        _ => None,
+/// The layout of the record of a copybook, if it is one.
+fn layout_of(alloc: Global, role: Role, text: &[u8]) -> Result<Option<Layout>, AllocError> {
+    match Book::read(alloc, role, text) {
+        Ok(book) => Ok(Some(Layout::of(alloc, &book)?)),
+        Err(fault) => match fault.rule {
+            BookRule::Memory => Err(AllocError),
+            _ => Ok(None),
+        },
     }
 }
 
-/// Why a paragraph is refused between the records of two copybooks, where it is and both are not.
-pub fn moves_fault(
+/// What is refused of a paragraph from the record of a layout, nothing where the other copybook is none.
+fn refusals_from(
+    alloc: Global,
+    input: &Layout,
+    out_book: &[u8],
+    moves: &[u8],
+) -> Result<Vec<MoveRefusal>, AllocError> {
+    match layout_of(alloc, Role::Out, out_book)? {
+        Some(output) => move_refusals(alloc, input, &output, moves),
+        None => Ok(Vec::new(alloc)),
+    }
+}
+
+/// What is refused of a paragraph between the records of two copybooks, nothing where one of these is none.
+///
+/// # Errors
+///
+/// Where no memory is left.
+pub fn paragraph_refusals(
     alloc: Global,
     in_book: &[u8],
     out_book: &[u8],
     moves: &[u8],
-) -> Option<MoveFault> {
-    match Converter::prepare(alloc, in_book, out_book, moves, Form::Fixed, Form::Fixed) {
-        Ok(_converter) => None,
-        Err(fault) => of_moves(fault),
+) -> Result<Vec<MoveRefusal>, AllocError> {
+    match layout_of(alloc, Role::In, in_book)? {
+        Some(input) => refusals_from(alloc, &input, out_book, moves),
+        None => Ok(Vec::new(alloc)),
     }
 }

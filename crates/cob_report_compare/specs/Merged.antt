@@ -1,5 +1,5 @@
 -- Two files of one layout merged by the keys of their records.
-use Rattle.std.specs.Prelude.{◌≡◌, ℕ, ◌+◌, ◌≤◌, ⊤, Bool, false, List, [], ◌∷◌, ◌++◌, map, flat_map}
+use Rattle.std.specs.Prelude.{◌≡◌, ◌==◌, ◌&&◌, ℕ, ◌+◌, ◌≤◌, ⊤, Bool, false, List, [], ◌∷◌, ◌++◌, map, flat_map}
 use Rattle.std.specs.Ordering.{is_gt}
 use Rattle.std.specs.declared.cmp.Ordering.TheVariants.{Less as Below, Equal as Alike}
 use Rattle.cob_copybook_tree.specs.Forests.{Forest}
@@ -176,6 +176,10 @@ rights_counted c = c.same + c.equal + c.differ + c.right_alone
 
 abbrev pub told_counted : PairCounts → ℕ
 told_counted c = c.differ + c.left_alone + c.right_alone
+
+-- all records are in pairs that are equal
+abbrev pub are_equal : PairCounts → Bool
+are_equal c = c.differ == 0 && c.left_alone == 0 && c.right_alone == 0
 
 -- and how many entries they are
 abbrev pub all_counted : PairCounts → ℕ

@@ -2,7 +2,7 @@
 
 ghost use Rattle.std.specs.Prelude.{◌≡◌, ◌<◌};
 ghost use Rattle.cob_report_show.specs.Runs.{most_shown};
-ghost use Rattle.cob_report_compare.specs.Merged.{Alone, KeyedRecord, all_counted, none_counted, told_counted, with_comparison, with_entry};
+ghost use Rattle.cob_report_compare.specs.Merged.{Alone, KeyedRecord, all_counted, are_equal, none_counted, told_counted, with_comparison, with_entry};
 
 use crate::files::FileSide;
 use crate::records::Comparison;
@@ -76,6 +76,13 @@ impl PairCounts {
                 ..self
             },
         }
+    }
+
+    /// Whether all records are in pairs that are equal.
+    pub fn are_equal(self) -> bool
+        ensures { result ≡ are_equal self }
+    {
+        self.differ == 0 && self.left_alone == 0 && self.right_alone == 0
     }
 
     /// How many of them are told.

@@ -3,6 +3,7 @@
 use crate::pairs::{PartnerPair, Records, is_item, number_of};
 use cob_report_partners::{CountMove, DraftBearer, DraftCounts};
 use std::alloc::{AllocError, Global};
+use std::mem::replace;
 
 /// What a draft has done with the counts of the output record.
 #[derive(Drop)]
@@ -83,8 +84,9 @@ impl CountProgress {
         self.note_move(pair)
     }
 
-    /// The numbers of the counts whose tables have statements.
-    pub(crate) fn into_filling(self) -> Vec<usize> {
-        self.filling
+    /// Nothing again, where those counts alone may be moved whose tables have statements.
+    pub(crate) fn begin_again(&mut self, alloc: Global) {
+        self.moved.clear();
+        self.filled = replace(&mut self.filling, Vec::new(alloc));
     }
 }

@@ -78,6 +78,16 @@ impl<'s, 'a> DraftProgress<'s, 'a> {
         }
         Ok(())
     }
+
+    /// Adds all statements, as often as that needs.
+    fn push_all(&mut self, records: &'s Records<'a>) -> Result<(), AllocError> {
+        self.push_statements(records)?;
+        if records.output.varies() {
+            self.begin_again();
+            self.push_statements(records)?;
+        }
+        Ok(())
+    }
 }
 
 /// What a draft lacks.
@@ -116,14 +126,48 @@ fn progress_of<'s, 'a>(
     records: &'s Records<'a>,
 ) -> Result<DraftProgress<'s, 'a>, AllocError> {
     let counts = counts_among(alloc, records.both.outputs())?;
-    let mut first = DraftProgress::new(alloc, records, counts)?;
-    first.push_statements(records)?;
-    if !records.output.varies() {
-        return Ok(first);
-    }
-    let mut progress = DraftProgress::new(alloc, records, first.counts.into_filling())?;
-    progress.push_statements(records)?;
+    let mut progress = DraftProgress::new(alloc, records, counts)?;
+    progress.push_all(records)?;
     Ok(progress)
+}
+
+impl DraftText {
+    /// Adds all that a draft has come to.
+    fn push_progress(
+        &mut self,
+        records: &Records<'_>,
+        progress: &DraftProgress<'_, '_>,
+    ) -> Result<(), AllocError> {
+        self.push_pieces(records, progress)?;
+        self.push_unfilled(records, &progress.received)?;
+        self.push_untaken(records.both.inputs(), &progress.sent)
+    }
+}
+
+/// The draft that has this text.
+fn draft_in(progress: &DraftProgress<'_, '_>, text: DraftText) -> Draft {
+    let lacking = lacking_in(progress, &text);
+    Draft {
+        text: text.lines.text,
+        lacking,
+    }
+}
+
+/// The draft that is written of what it has come to.
+fn written(
+    alloc: Global,
+    records: &Records<'_>,
+    progress: &DraftProgress<'_, '_>,
+) -> Result<Draft, AllocError> {
+    let mut text = DraftText::new(alloc, counters_of(alloc, records)?);
+    text.push_progress(records, progress)?;
+    Ok(draft_in(progress, text))
+}
+
+/// A draft between two records.
+fn draft_between(alloc: Global, records: &Records<'_>) -> Result<Draft, AllocError> {
+    let progress = progress_of(alloc, records)?;
+    written(alloc, records, &progress)
 }
 
 /// A paragraph to begin with, between the records of two layouts.
@@ -133,14 +177,5 @@ fn progress_of<'s, 'a>(
 /// Where no memory is left.
 pub fn draft_of(alloc: Global, input: &Layout, output: &Layout) -> Result<Draft, AllocError> {
     let records = Records::of(alloc, input, output)?;
-    let progress = progress_of(alloc, &records)?;
-    let mut text = DraftText::new(alloc, counters_of(alloc, &records)?);
-    text.push_pieces(&records, &progress)?;
-    text.push_unfilled(&records, &progress.received)?;
-    text.push_untaken(records.both.inputs(), &progress.sent)?;
-    let lacking = lacking_in(&progress, &text);
-    Ok(Draft {
-        text: text.lines.text,
-        lacking,
-    })
+    draft_between(alloc, &records)
 }

@@ -34,6 +34,14 @@ pub(crate) enum DraftLineKind {
     Comment,
 }
 
+/// The words of a statement.
+#[derive(Drop)]
+pub(crate) struct StatementWords {
+    pub(crate) text: String,
+    /// How many of its bytes say what it sends. Behind them stand a space and what receives.
+    pub(crate) sends: usize,
+}
+
 /// The text of a paragraph, which grows line by line, and never longer than a text may be.
 #[derive(Drop)]
 pub(crate) struct DraftLines {
@@ -162,20 +170,20 @@ impl DraftLines {
     pub(crate) fn push_statement(
         &mut self,
         mark: DraftLineKind,
-        sends: &str,
-        receives: &str,
-        whole: &str,
+        words: &StatementWords,
     ) -> Result<(), AllocError> {
+        let whole = words.text.as_bytes();
         if !self.has_room(whole.len()) {
             return Ok(());
         }
         let deeper = further_on(self.open);
         let (first, further) = (AREA_B + deeper, FURTHER + deeper);
         if first + whole.len() <= COLUMNS {
-            return self.push_words(mark, first, further, whole.as_bytes());
+            return self.push_words(mark, first, further, whole);
         }
-        self.push_words(mark, first, further, sends.as_bytes())?;
-        self.push_words(mark, further, further, receives.as_bytes())
+        let (sends, receives) = whole.split_at(words.sends.min(whole.len()));
+        self.push_words(mark, first, further, sends)?;
+        self.push_words(mark, further, further, behind_space(receives))
     }
 
     /// Adds the head of a loop, if the text has room for it and for its end, and answers whether it has.

@@ -64,13 +64,28 @@ fn held_there<'a>(
 }
 
 impl DraftText {
-    /// Adds the items of the output record to which not all is moved, and what they hold.
-    pub(crate) fn push_unfilled(
+    /// Adds an item of the output record to which not all is moved, and what it holds, which would be this where it stands under the greatest counts.
+    fn push_unfilled_item(
+        &mut self,
+        layout: &Layout,
+        to: &DraftBearer<'_>,
+        share: Share,
+        own: ItemContent<'_>,
+    ) -> Result<(), AllocError> {
+        let name = NamedReference::whole(to);
+        let past = past_words(share, "input");
+        let held = held_there(layout, to, own);
+        let words = format!(in self.alloc; "{name}{past}: {held}")?;
+        self.lines.push_listed(&words)
+    }
+
+    /// Adds those of these items of the output record to which not all is moved.
+    fn push_each_unfilled(
         &mut self,
         records: &Records<'_>,
         received: &Shares,
+        held: &[ItemContent<'_>],
     ) -> Result<(), AllocError> {
-        let held = held_in(self.alloc, records.output.root())?;
         let mut is_first = true;
         for to in records.both.outputs() {
             let share = received.of(number_of(to));
@@ -82,14 +97,32 @@ impl DraftText {
                     .push_remark("Nothing fills these items, which hold:")?;
                 is_first = false;
             }
-            let name = NamedReference::whole(to);
-            let past = past_words(share, "input");
-            let own = held_at(&held, number_of(to));
-            let held = held_there(records.output, to, own);
-            let words = format!(in self.alloc; "{name}{past}: {held}")?;
-            self.lines.push_listed(&words)?;
+            let own = held_at(held, number_of(to));
+            self.push_unfilled_item(records.output, to, share, own)?;
         }
         Ok(())
+    }
+
+    /// Adds the items of the output record to which not all is moved, and what they hold.
+    pub(crate) fn push_unfilled(
+        &mut self,
+        records: &Records<'_>,
+        received: &Shares,
+    ) -> Result<(), AllocError> {
+        let held = held_in(self.alloc, records.output.root())?;
+        self.push_each_unfilled(records, received, held.as_slice())
+    }
+
+    /// Adds an item of the input record of which not all is moved.
+    fn push_untaken_item(
+        &mut self,
+        from: &DraftBearer<'_>,
+        share: Share,
+    ) -> Result<(), AllocError> {
+        let name = NamedReference::whole(from);
+        let past = past_words(share, "output");
+        let words = format!(in self.alloc; "{name}{past}")?;
+        self.lines.push_listed(&words)
     }
 
     /// Adds the items of the input record of which not all is moved.
@@ -108,10 +141,7 @@ impl DraftText {
                 self.lines.push_remark("Nothing takes these items:")?;
                 is_first = false;
             }
-            let name = NamedReference::whole(from);
-            let past = past_words(share, "output");
-            let words = format!(in self.alloc; "{name}{past}")?;
-            self.lines.push_listed(&words)?;
+            self.push_untaken_item(from, share)?;
         }
         Ok(())
     }

@@ -71,6 +71,17 @@ impl<'s, 'a> DraftProgress<'s, 'a> {
         })
     }
 
+    /// Nothing again, where those counts alone may be moved whose tables have statements.
+    pub(crate) fn begin_again(&mut self) {
+        self.pieces.clear();
+        self.pairs.clear();
+        self.is_full = false;
+        self.written_out = 0;
+        self.counts.begin_again(self.alloc);
+        self.sent.clear();
+        self.received.clear();
+    }
+
     /// Adds what is said of an entry of the output record.
     pub(crate) fn push_piece(
         &mut self,

@@ -56,6 +56,11 @@ impl Shares {
         Ok(Shares { of_entries })
     }
 
+    /// Notes that nothing is moved of any entry.
+    pub(crate) fn clear(&mut self) {
+        self.of_entries.fill(Share::Nothing);
+    }
+
     /// How much is moved of the entry with this number.
     pub(crate) fn of(&self, number: usize) -> Share {
         match self.of_entries.get(number) {

@@ -1,8 +1,9 @@
 //! What a draft says, written line by line, with loops round what it says of the elements of tables.
 
-use crate::lines::{DraftLineKind, DraftLines};
+use crate::lines::{DraftLineKind, DraftLines, StatementWords};
 use crate::loops::{
-    TableLoop, TableLoops, count_holding, count_same, counts_beside, loops_of, subscripts_of,
+    LoopSubscripts, TableLoop, TableLoops, count_holding, count_same, counts_beside, loops_of,
+    subscripts_of,
 };
 use crate::pairs::{PartnerPair, Records, qualifiers_of};
 use crate::progress::{DraftPiece, DraftProgress, Saying};
@@ -11,8 +12,9 @@ use crate::words::{
     CounterNames, LoopHead, NamedReference, Subscript, WrittenBound, WrittenSubscripts,
 };
 use arrayvec::ArrayVec;
-use cob_report_partners::{DraftBearer, DraftCounts, LoopBound};
+use cob_report_partners::{DraftBearer, DraftCounts, LoopBound, TableSize};
 use std::alloc::{AllocError, Global};
+use std::fmt::Write;
 
 /// The text of a draft, as far as it is written, and the loops that are open at its end.
 #[derive(Drop)]
@@ -64,6 +66,19 @@ fn written_bound<'s, 'a>(
     }
 }
 
+/// The words of the statement that moves an entry to another one, with a period or without one.
+fn statement_words(
+    alloc: Global,
+    from: &NamedReference<'_, '_, '_>,
+    to: &NamedReference<'_, '_, '_>,
+    has_period: bool,
+) -> Result<StatementWords, AllocError> {
+    let mut text = format!(in alloc; "MOVE {from}")?;
+    let sends = text.len();
+    write!(text, " TO {to}{}", if has_period { "." } else { "" })?;
+    Ok(StatementWords { text, sends })
+}
+
 impl DraftText {
     /// No line yet.
     pub(crate) fn new(alloc: Global, counters: CounterNames) -> DraftText {
@@ -102,6 +117,23 @@ impl DraftText {
         Ok(())
     }
 
+    /// Closes loops until so many are open. Where these are the first so many of the loops to come, it opens the others of them.
+    fn turn_into(
+        &mut self,
+        records: &Records<'_>,
+        kept: usize,
+        ahead: &[TableLoop],
+        same: usize,
+    ) -> Result<(), AllocError> {
+        self.close_to(kept)?;
+        if kept == same {
+            for own in ahead.iter().skip(same) {
+                self.open_loop(records, own)?;
+            }
+        }
+        Ok(())
+    }
+
     /// Closes the loops that a piece does not stand in, and opens those of the next statement that it stands in too.
     fn turn_to(
         &mut self,
@@ -116,13 +148,7 @@ impl DraftText {
             Saying::Statement(_) => same,
             _ => count_holding(self.open.as_slice(), piece.to),
         };
-        self.close_to(kept)?;
-        if kept == same {
-            for own in ahead.as_slice().iter().skip(same) {
-                self.open_loop(records, own)?;
-            }
-        }
-        Ok(())
+        self.turn_into(records, kept, ahead.as_slice(), same)
     }
 
     /// Subscripts, with the names of counters.
@@ -133,26 +159,32 @@ impl DraftText {
         }
     }
 
-    /// Adds the statement of a pair, or a comment in its form: in loops without a period.
+    /// The subscripts, in the loops that are open, of an entry in the first of these tables, where the other entry stands in the others.
+    fn subscripts_beside(&self, own: &[TableSize], others: &[TableSize]) -> LoopSubscripts {
+        let counts = counts_beside(own, others);
+        subscripts_of(self.open.as_slice(), counts.as_slice())
+    }
+
+    /// The words of the statement of a pair: in loops without a period.
+    fn words_of(&self, pair: &PartnerPair<'_, '_>) -> Result<StatementWords, AllocError> {
+        let (sending, receiving) = (pair.from, pair.to);
+        let sent = sending.entry.tables.as_slice();
+        let received = receiving.entry.tables.as_slice();
+        let from_subscripts = self.subscripts_beside(sent, received);
+        let to_subscripts = self.subscripts_beside(received, sent);
+        let from = pair.sender(self.written(from_subscripts.as_slice()));
+        let to = pair.receiver(self.written(to_subscripts.as_slice()));
+        statement_words(self.alloc, &from, &to, self.open.is_empty())
+    }
+
+    /// Adds the statement of a pair, or a comment in its form.
     fn push_move(
         &mut self,
         mark: DraftLineKind,
         pair: &PartnerPair<'_, '_>,
     ) -> Result<(), AllocError> {
-        let (sending, receiving) = (pair.from, pair.to);
-        let sent = sending.entry.tables.as_slice();
-        let received = receiving.entry.tables.as_slice();
-        let from_counts = counts_beside(sent, received);
-        let to_counts = counts_beside(received, sent);
-        let from_subscripts = subscripts_of(self.open.as_slice(), from_counts.as_slice());
-        let to_subscripts = subscripts_of(self.open.as_slice(), to_counts.as_slice());
-        let from = pair.sender(self.written(from_subscripts.as_slice()));
-        let to = pair.receiver(self.written(to_subscripts.as_slice()));
-        let period = if self.open.is_empty() { "." } else { "" };
-        let sends = format!(in self.alloc; "MOVE {from}")?;
-        let receives = format!(in self.alloc; "TO {to}{period}")?;
-        let whole = format!(in self.alloc; "{sends} {receives}")?;
-        self.lines.push_statement(mark, &sends, &receives, &whole)
+        let words = self.words_of(pair)?;
+        self.lines.push_statement(mark, &words)
     }
 
     /// Adds a statement that may not stand, as a comment, and why.

@@ -3,3 +3,4 @@ pub mod LawLemmas
 pub mod WalkLemmas
 pub mod ReadLemmas
 pub mod FlowingLemmas
+pub mod ConditionLemmas

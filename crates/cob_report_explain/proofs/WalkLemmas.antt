@@ -6,7 +6,7 @@ use Rattle.cob_move_apply.specs.declared.stop.Stop.{Stop}
 use Rattle.cob_move_apply.specs.Applied.{Ending, done, stopped}
 use Rattle.cob_move_deeds.specs.Deeds.{Carried, Deeds}
 use Rattle.cob_move_deeds.specs.Prepared.{AreDeedsPrepared, deeds_of}
-use Rattle.cob_move_deeds.specs.Tests.{Judged, Past}
+use Rattle.cob_move_deeds.specs.Tests.{Judged, Test}
 use Rattle.cob_move_deeds.specs.declared.ready.ReadyDeeds.{ReadyDeeds}
 use Rattle.cob_report_explain.specs.Walked.{HasWalkRoom}
 use Rattle.cob_report_explain.specs.declared.walk.WalkRoom.{WalkRoom}
@@ -27,10 +27,10 @@ long_so cr r n same h = subst (λ (q : Records). n ≡ greatest_length q.output)
 pub room_so : (cr r : Records) (room : WalkRoom) → cr ≡ r → HasWalkRoom cr room → HasWalkRoom r room
 room_so cr r room same h = subst (λ (q : Records). HasWalkRoom q room) same h
 
-pub carried_so : (cr r : Records) (ready : ReadyDeeds) (d : Deeds Past) (input before : List ℕ) (end : Ending) → cr ≡ r → deeds_of cr ready ≡ d
+pub carried_so : (cr r : Records) (ready : ReadyDeeds) (d : Deeds Test) (input before : List ℕ) (end : Ending) → cr ≡ r → deeds_of cr ready ≡ d
     → Carried (Judged r) r (deeds_of r ready) input before end → Carried (Judged cr) cr d input before end
 carried_so cr r ready d input before end same are h =
-    subst (λ (e : Deeds Past). Carried (Judged cr) cr e input before end) are
+    subst (λ (e : Deeds Test). Carried (Judged cr) cr e input before end) are
     (subst (λ (q : Records). Carried (Judged q) q (deeds_of q ready) input before end) (sym same) h)
 
 pub becomes : (c : Conversion) (input before last written : List ℕ) → IsInitial c.records.output before → Carried (Judged c.records) c.records c.deeds input before (done last)

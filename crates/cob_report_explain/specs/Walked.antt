@@ -18,9 +18,10 @@ use Rattle.cob_report_explain.specs.declared.walk.WalkRoom.{WalkRoom}
 abbrev pub plain_stop : RecordStop → Stop
 plain_stop (stop.AtMove at) = at.stop
 plain_stop (stop.AtTest at) = at.stop
+plain_stop (stop.AtCondition at) = at.stop
 plain_stop (stop.BehindMoves at) = at
 
--- there is room for single moves, for the bounds of loops, and for the counts of the output record
+-- there is room for single moves, for the bounds of loops and the entries of conditions, and for the counts of the output record
 pub record HasWalkRoom (r : Records) (room : WalkRoom) : Type 0 where
   pub each : HasEachRoom r room.each
   pub tests : room.scratch.room ≡ room_of r

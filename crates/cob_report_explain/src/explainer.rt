@@ -12,7 +12,7 @@ ghost use Rattle.cob_report_explain.specs.Walked.{HasWalkRoom};
 
 use crate::moves::{Teller, Watching};
 use crate::reading::{Refused, input_record};
-use crate::stops::{Scene, count_words, move_words, test_words};
+use crate::stops::{Scene, condition_words, count_words, move_words, test_words};
 use crate::walk::{RecordStop, WalkRoom, walk_record};
 use cob_convert_record::{Cause, Conversion, Room, Side, stop_reason};
 use cob_convert_stream::RunFault;
@@ -115,6 +115,7 @@ fn stop_words(alloc: Global, scene: &Scene<'_>, stop: &RecordStop) -> Result<Str
     match stop {
         RecordStop::AtMove(stop) => move_words(alloc, scene, stop),
         RecordStop::AtTest(stop) => test_words(alloc, scene, stop),
+        RecordStop::AtCondition(stop) => condition_words(alloc, scene, stop),
         RecordStop::BehindMoves(stop) => {
             count_words(alloc, scene, stop.side, stop.offset, Asker::Written)
         }
@@ -176,6 +177,7 @@ fn refusal_words(
     let lines = DeedLines {
         statements: Vec::new(alloc),
         loops: Vec::new(alloc),
+        conditions: Vec::new(alloc),
     };
     let scene = Scene {
         conversion,

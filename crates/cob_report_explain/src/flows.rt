@@ -1,27 +1,31 @@
 //! What a conversion does to a record, flow by flow, its single moves and its tests handed out.
 
-ghost use Rattle.std.specs.Prelude.{◌≡◌, ◌<◌, ◌≤◌, ◌∷◌, ℕ, drop, length, slice_index_or, IfErr, IfOk, None, Some};
+ghost use Rattle.std.specs.Prelude.{◌≡◌, ◌+◌, ◌<◌, ◌≤◌, ◌∷◌, ℕ, drop, length, slice_index_or, IfErr, IfOk, None, Some};
 ghost use Rattle.std.specs.List.{slice_get};
 ghost use Rattle.cob_layout.specs.Storage.{greatest_length};
 ghost use Rattle.cob_move_apply.specs.Applied.{Applied};
 ghost use Rattle.cob_move_apply.specs.Marked.{moves_between_marks};
 ghost use Rattle.cob_move_deeds.specs.Carrying.{LeavesFlows, StopsFlows};
 ghost use Rattle.cob_move_deeds.specs.Deeds.{Carried};
-ghost use Rattle.cob_move_deeds.specs.Flows.{IsFlow, IsLoop, loop_done};
+ghost use Rattle.cob_move_condition.specs.declared.condition.Condition.{Condition};
+ghost use Rattle.cob_move_deeds.specs.Flows.{IsFlow, IsLoop, behind_skip, loop_done};
 ghost use Rattle.cob_move_deeds.specs.Prepared.{deeds_of, flow_support};
 ghost use Rattle.cob_move_deeds.specs.Tests.{BoundSays, Judged, past_bound};
 ghost use Rattle.cob_move_deeds.specs.declared.flow.Bound.{Bound};
+ghost use Rattle.cob_move_deeds.specs.declared.flow.Flow.TheVariants as flow;
 ghost use Rattle.cob_move_loops.specs.Turns.{turns_between};
 ghost use Rattle.cob_report_explain.specs.Flowing.{IsWalk, plain_answer, records_walked, walked_ending};
 ghost use Rattle.cob_report_explain.specs.Walked.{HasWalkRoom, plain_stop};
 
+use crate::conditions::condition_given;
 use crate::room::RecordLayouts;
 use crate::single::{CarriedMove, MoveStop, SingleNumber};
-use crate::tests::TakenTest;
+use crate::tests::{TakenBound, TakenCondition, TakenTest};
 use crate::walk::{RecordStop, TestStop, WalkRoom};
 use crate::walking::each;
 use crate::watcher::Watcher;
 use cob_layout::one_outcome_of_counts;
+use cob_move_condition::one_comparison;
 use cob_move_deeds::{CountedLoop, Flow, ReadyDeeds};
 
 /// What is done to a record, and the record: the layouts of both records, what is done between them, and the storage of the input record.
@@ -194,15 +198,16 @@ fn walk_turns<W: Watcher>(
     ensures room { HasWalkRoom (records_walked walk.now) room.new }
 {
     one_outcome_of_counts();
+    one_comparison();
     let gave = bound_given(walk, one.bound, output, room)?;
     let turns = turns_up_to(one, gave);
     walk_between(walk, one.first, one.first + turns, output, room, watcher)?;
-    watcher.see_test(&TakenTest {
+    watcher.see_test(&TakenTest::Until(TakenBound {
         bound: one.bound,
         item: &walk.deeds.bounds()[one.bound].item,
         number: number_past(one, gave),
         gave,
-    });
+    }));
     Ok(())
 }
 
@@ -221,6 +226,51 @@ fn behind(flows: &[Flow], count: usize) -> &[Flow]
 {
     let count = count.min(flows.len());
     &flows[count..]
+}
+
+/// Those behind so many and a skip.
+fn behind_skip(flows: &[Flow], count: usize) -> &[Flow]
+    ensures value { result.now ≡ behind_skip count flows.now }
+    ensures rest { result.now ≡ drop (count + 1) flows.now }
+{
+    behind(behind(flows, count), 1)
+}
+
+/// Tests the condition with this number, hands the test to the watcher, and answers the flows that are left behind it: those in front, which are carried out
+/// where it holds, or those behind so many and a skip.
+///
+/// # Errors
+///
+/// The first thing missing for the condition.
+fn take_branch<'f, W: Watcher>(
+    walk: &Walk<'_>,
+    condition: usize,
+    holding: usize,
+    more: &'f [Flow],
+    output: &[u8],
+    room: &mut WalkRoom,
+    watcher: &mut W,
+) -> Result<&'f [Flow], RecordStop>
+    requires walk { IsWalk walk.now }
+    requires there { (c : Condition)
+        × (slice_get walk.now.deeds.now.asked.conditions.items condition ≡ Some c) }
+    requires output { length output.now ≡ greatest_length walk.now.layouts.output.now }
+    requires room { HasWalkRoom (records_walked walk.now) room.old }
+    ensures leaves { IfOk result (λ left. (lacking : ℕ) → LeavesFlows (records_walked walk.now)
+        (flow_support walk.now.deeds.now) (flow.Where condition holding lacking ∷ more.now) left.now
+        walk.now.input.now output.now output.now) }
+    ensures stops { IfErr result (λ stop. (lacking : ℕ) → StopsFlows (records_walked walk.now)
+        (flow_support walk.now.deeds.now) (flow.Where condition holding lacking ∷ more.now)
+        walk.now.input.now output.now (plain_stop stop) output.now) }
+    ensures rest { IfOk result (λ left. (count : ℕ) × (left.now ≡ drop count more.now)) }
+    ensures room { HasWalkRoom (records_walked walk.now) room.new }
+{
+    let holds = condition_given(walk, condition, output, room)?;
+    watcher.see_test(&TakenTest::Holds(TakenCondition { condition, holds }));
+    if holds {
+        return Ok(more);
+    }
+    Ok(behind_skip(more, holding))
 }
 
 /// Carries out the flow in front of these, and answers those that are left then.
@@ -265,18 +315,27 @@ fn next<'f, W: Watcher>(
             skip,
         } => {
             let gave = bound_given(walk, bound, output, room)?;
-            watcher.see_test(&TakenTest {
+            watcher.see_test(&TakenTest::Until(TakenBound {
                 bound,
                 item: &walk.deeds.bounds()[bound].item,
                 number,
                 gave,
-            });
+            }));
             if gave < number {
                 Ok(behind(more, skip))
             } else {
                 Ok(more)
             }
         }
+        Flow::Where {
+            condition,
+            holding,
+            ..
+        } => {
+            let left = take_branch(walk, condition, holding, more, output, room, watcher)?;
+            Ok(left)
+        }
+        Flow::Skip(count) => Ok(behind(more, count)),
     }
 }
 

@@ -31,7 +31,8 @@
 //!
 //! the line of the statement, the sender's name, its offset, its bytes in hexadecimal digits and its value as `show` prints it, and then the same of the
 //! receiver behind the move. Of more than 128 bytes the first and the last 64 are told, and how many they are. A constant stands as it is written.
-//! [`move_words`] and [`count_words`] say what is wrong where a single move stops, or a count that no move asks for, by the text of `cob_report_faults`: they
+//! [`move_words`], [`test_words`], [`condition_words`] and [`count_words`] say what is wrong where a single move, a loop's test or a condition stops, or a
+//! count that none of these asks for, by the text of `cob_report_faults`: they
 //! look for what it names in the [`Scene`], the conversion and what is known of one record.
 //!
 //! What is promised is which bytes are told (`AreToldOf` of specs/Told.antt). Which words tell it is shown by `cob_test_jobs`.
@@ -44,8 +45,8 @@
 //! and each as soon as it is done, so that no text of them is kept. Where the record does not convert, the answer has the fault that a run has, and what is
 //! wrong in words.
 //!
-//! Where a paragraph has loops to a count, its flows are carried out one behind another, each stretch of moves by [`each`], and each test is handed out too
-//! ([`TakenTest`]; [`TestText`] prints it in one line).
+//! Where a paragraph has loops to a count or conditions, its flows are carried out one behind another, each stretch of moves by [`each`], and each test is
+//! handed out too ([`TakenTest`]; [`TestText`] prints it in one line). Of a condition that stops it is looked for the entry that stands there.
 //!
 //! What is promised: what becomes of a record is what a run makes of it (`converts`, `stops` of [`walk_record`], by `Becomes` and `StopsAt` of
 //! `cob_convert_record`). Which words tell it is shown by `cob_test_jobs`.
@@ -59,6 +60,7 @@
 //! are (`AreToldOf`). Its words are shown by rows.
 #![tactic(auto)]
 
+mod conditions;
 mod explainer;
 mod flows;
 mod giving;
@@ -82,8 +84,8 @@ pub use explainer::{Explanation, ReadAgain, StoppedRecord, explain};
 pub use moves::{Silent, SingleText, Teller, Watching};
 pub use room::{EachRoom, RecordLayouts};
 pub use single::{Asked, CarriedMove, MoveStop, SingleNumber};
-pub use stops::{Scene, count_words, move_words, test_words};
-pub use tests::{TakenTest, TestText};
-pub use walk::{RecordStop, TestStop, WalkRoom, walk_record};
+pub use stops::{Scene, condition_words, count_words, move_words, test_words};
+pub use tests::{TakenBound, TakenCondition, TakenTest, TestText};
+pub use walk::{ConditionStop, RecordStop, TestStop, WalkRoom, walk_record};
 pub use walking::each;
 pub use watcher::Watcher;

@@ -3,7 +3,7 @@
 ghost use Rattle.std.specs.Prelude.{None};
 
 use crate::single::CarriedMove;
-use crate::tests::{TakenTest, TestText};
+use crate::tests::{TakenTest, TestText, test_text};
 use crate::values::HeldText;
 use crate::watcher::Watcher;
 use cob_layout::Place;
@@ -75,12 +75,12 @@ impl fmt::Display for SingleText<'_> {
     }
 }
 
-/// Who tells single moves, and tests of loops.
+/// Who tells single moves, and tests.
 pub trait Teller {
     /// Tells a single move between these records, which was carried out just now. Its statement stands on this line.
     fn tell(&mut self, line: u32, records: Qualifying<'_>, one: &CarriedMove<'_>);
 
-    /// Tells a test that was taken just now, of this loop.
+    /// Tells a test that was taken just now.
     fn tell_test(&mut self, one: &TestText<'_>);
 }
 
@@ -126,14 +126,8 @@ impl<T: Teller> Watcher for Watching<'_, T> {
     }
 
     fn see_test(&mut self, one: &TakenTest<'_>) {
-        let lines = self.lines;
-        if let Some(of) = lines.loops.get(one.bound) {
-            self.teller.tell_test(&TestText {
-                line: of.line,
-                counter: of.counter.as_str(),
-                records: self.records,
-                one,
-            });
+        if let Some(text) = test_text(self.lines, self.records, one) {
+            self.teller.tell_test(&text);
         }
     }
 }

@@ -2,7 +2,7 @@
 
 use crate::moves::bytes_at;
 use crate::single::{Asked, MoveStop, SingleNumber};
-use crate::walk::TestStop;
+use crate::walk::{ConditionStop, TestStop};
 use cob_convert_record::{Conversion, Side, Stop, StopCause};
 use cob_layout::Layout;
 use cob_move_data::{Sent, single_at};
@@ -253,5 +253,68 @@ pub fn test_words(alloc: Global, scene: &Scene<'_>, at: &TestStop) -> Result<Str
     match at.stop.cause {
         StopCause::Subscript => written(alloc, Some(bound_subscript(at, asked))),
         StopCause::Count | StopCause::NoValue => bound_words(alloc, scene, at, asked),
+    }
+}
+
+/// The entry that stops a condition.
+fn condition_entry<'a>(scene: &Scene<'a>, at: &ConditionStop) -> Option<Occurrence<'a>> {
+    let entry = scene.conversion.deeds().asked().entries.get(at.entry?)?;
+    Some(Occurrence::of(scene.records, entry.side(), entry.entry()))
+}
+
+/// What is wrong with the value of an entry that a condition asks for.
+fn condition_value<'a>(
+    scene: &Scene<'a>,
+    at: &ConditionStop,
+    asked: Asker<'a>,
+) -> Option<StopText<'a>> {
+    let subject = condition_entry(scene, at)?;
+    let item = subject.item()?;
+    let (_, storage) = side_of(scene, subject.side);
+    Some(StopText {
+        subject,
+        offset: at.stop.offset,
+        case: StopCase::NoValue {
+            item,
+            bytes: bytes_at(storage, at.stop.offset as usize, usize::from(item.size())),
+            record: scene.input,
+            reading: scene.conversion.deeds().reading(),
+        },
+        asked,
+    })
+}
+
+/// What is wrong with a subscript of an entry that a condition asks for.
+fn condition_subscript<'a>(
+    scene: &Scene<'a>,
+    at: &ConditionStop,
+    asked: Asker<'a>,
+) -> Option<StopText<'a>> {
+    Some(StopText {
+        subject: condition_entry(scene, at)?,
+        offset: at.stop.offset,
+        case: StopCase::Subscript,
+        asked,
+    })
+}
+
+/// Why a condition stops, in words.
+///
+/// # Errors
+///
+/// Where no memory is left.
+pub fn condition_words(
+    alloc: Global,
+    scene: &Scene<'_>,
+    at: &ConditionStop,
+) -> Result<String, AllocError> {
+    let Some(line) = scene.lines.conditions.get(at.condition) else {
+        return Ok(String::new(alloc));
+    };
+    let asked = Asker::Condition { line: *line };
+    match at.stop.cause {
+        StopCause::NoValue => written(alloc, condition_value(scene, at, asked)),
+        StopCause::Subscript => written(alloc, condition_subscript(scene, at, asked)),
+        StopCause::Count => count_words(alloc, scene, at.stop.side, at.stop.offset, asked),
     }
 }

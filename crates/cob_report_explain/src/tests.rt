@@ -1,12 +1,13 @@
-//! The tests of loops, as they are handed out and told.
+//! The tests of loops and of conditions, as they are handed out and told.
 
 use cob_move_apply::PlacedEntry;
 use cob_report_faults::{Occurrence, Qualifying};
+use cob_report_lossless::DeedLines;
 use std::fmt;
 
 /// A test of a loop that was taken: whether the number of its counter is past what its bound gives.
 #[derive(Clone, Copy)]
-pub struct TakenTest<'a> {
+pub struct TakenBound<'a> {
     /// The number of the bound.
     pub bound: usize,
     /// The item that gives it.
@@ -17,19 +18,71 @@ pub struct TakenTest<'a> {
     pub gave: u32,
 }
 
-/// A test, which prints in one line: the line of its loop, the loop's counter and what it is tested by, and both numbers.
+/// A condition that was tested.
 #[derive(Clone, Copy)]
-pub struct TestText<'a> {
-    /// The line of its loop.
-    pub line: u32,
-    /// The name of the loop's counter.
-    pub counter: &'a str,
-    pub records: Qualifying<'a>,
-    pub one: &'a TakenTest<'a>,
+pub struct TakenCondition {
+    /// The number of the condition.
+    pub condition: usize,
+    /// Whether it holds.
+    pub holds: bool,
 }
 
-/// What a test says.
-fn verdict(one: &TakenTest<'_>) -> &'static str {
+/// A test that was taken.
+#[derive(Clone, Copy)]
+pub enum TakenTest<'a> {
+    /// Of a loop.
+    Until(TakenBound<'a>),
+    /// Of a condition.
+    Holds(TakenCondition),
+}
+
+/// A test, which prints in one line.
+#[derive(Clone, Copy)]
+pub enum TestText<'a> {
+    /// Of a loop: its line, its counter and what it is tested by, and both numbers.
+    Until {
+        /// The line of the loop.
+        line: u32,
+        /// The name of its counter.
+        counter: &'a str,
+        records: Qualifying<'a>,
+        one: &'a TakenBound<'a>,
+    },
+    /// Of a condition: the line where it stands, and whether it holds.
+    Holds {
+        line: u32,
+        holds: bool,
+    },
+}
+
+/// The text of a test, where it is known on which line it stands.
+pub(crate) fn test_text<'a>(
+    lines: &'a DeedLines,
+    records: Qualifying<'a>,
+    one: &'a TakenTest<'a>,
+) -> Option<TestText<'a>> {
+    match one {
+        TakenTest::Until(one) => {
+            let of = lines.loops.get(one.bound)?;
+            Some(TestText::Until {
+                line: of.line,
+                counter: of.counter.as_str(),
+                records,
+                one,
+            })
+        }
+        TakenTest::Holds(one) => {
+            let line = *lines.conditions.get(one.condition)?;
+            Some(TestText::Holds {
+                line,
+                holds: one.holds,
+            })
+        }
+    }
+}
+
+/// What a test of a loop says.
+fn verdict(one: &TakenBound<'_>) -> &'static str {
     if one.gave < one.number {
         "past"
     } else {
@@ -37,11 +90,29 @@ fn verdict(one: &TakenTest<'_>) -> &'static str {
     }
 }
 
+/// What is said of a condition.
+fn said(holds: bool) -> &'static str {
+    if holds { "holds" } else { "does not hold" }
+}
+
 impl fmt::Display for TestText<'_> {
     fn fmt<W: fmt::Write>(&self, f: &mut fmt::Formatter<W>) -> fmt::Result {
-        let item = Occurrence::of(self.records, self.one.item.side(), self.one.item.entry());
-        write!(f, "line {}: UNTIL {} > {item}: ", self.line, self.counter)?;
-        let verdict = verdict(self.one);
-        writeln!(f, "{} > {}, {verdict}", self.one.number, self.one.gave)
+        match *self {
+            TestText::Until {
+                line,
+                counter,
+                records,
+                one,
+            } => {
+                let item = Occurrence::of(records, one.item.side(), one.item.entry());
+                write!(f, "line {line}: UNTIL {counter} > {item}: ")?;
+                let verdict = verdict(one);
+                writeln!(f, "{} > {}, {verdict}", one.number, one.gave)
+            }
+            TestText::Holds { line, holds } => {
+                let said = said(holds);
+                writeln!(f, "line {line}: IF: {said}")
+            }
+        }
     }
 }

@@ -29,6 +29,14 @@ pub struct TestStop {
     pub stop: Stop,
 }
 
+/// Why a condition stops at a record: its number, the number of the entry that stops it, where that is one of those that it asks for, and what is missing.
+#[derive(Clone, Copy, PartialEq, Eq)]
+pub struct ConditionStop {
+    pub condition: usize,
+    pub entry: Option<usize>,
+    pub stop: Stop,
+}
+
 /// Where the conversion of a record stops.
 #[derive(Clone, Copy, PartialEq, Eq)]
 pub enum RecordStop {
@@ -36,6 +44,8 @@ pub enum RecordStop {
     AtMove(MoveStop),
     /// At the test of a loop.
     AtTest(TestStop),
+    /// At a condition.
+    AtCondition(ConditionStop),
     /// Behind all moves, at a count of the output record.
     BehindMoves(Stop),
 }
@@ -48,6 +58,7 @@ impl RecordStop {
         match self {
             RecordStop::AtMove(at) => at.stop,
             RecordStop::AtTest(at) => at.stop,
+            RecordStop::AtCondition(at) => at.stop,
             RecordStop::BehindMoves(at) => at,
         }
     }

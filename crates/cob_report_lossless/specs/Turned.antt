@@ -72,6 +72,8 @@ abbrev pub first_test : List Flow → Option FoundTest
 first_test [] = None
 first_test (flow.Moves number ∷ more) = first_test more
 first_test (flow.Turns number ∷ more) = first_test more
+first_test (flow.Where condition holding lacking ∷ more) = first_test more
+first_test (flow.Skip count ∷ more) = first_test more
 first_test (flow.Until bound number skip ∷ more) = Some (record { bound = bound; skip = skip; behind = more })
 
 -- so many turns, one behind another

@@ -386,7 +386,7 @@ pub fn told_loss<'a>(
 fn first_bound(deeds: &ReadyDeeds) -> Option<usize> {
     for flow in deeds.flows() {
         match *flow {
-            Flow::Moves(_) => {}
+            Flow::Moves(_) | Flow::Where { .. } | Flow::Skip(_) => {}
             Flow::Turns(number) => return Some(deeds.loops().get(number)?.bound),
             Flow::Until { bound, .. } => return Some(bound),
         }

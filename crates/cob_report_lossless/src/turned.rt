@@ -34,6 +34,8 @@ pub struct DeedLines {
     pub statements: Vec<u32>,
     /// For each bound, the loop that ends by it.
     pub loops: Vec<LoopLine>,
+    /// For each condition the line where it stands. No words of a paragraph are one yet, so that there is none.
+    pub conditions: Vec<u32>,
 }
 
 /// A test among flows.
@@ -57,6 +59,7 @@ fn test_at<'a>(flow: &Flow, more: &'a [Flow]) -> Option<NextTest<'a>>
     match *flow {
         Flow::Moves(_) => None,
         Flow::Turns(_) => None,
+        Flow::Where { .. } | Flow::Skip(_) => None,
         Flow::Until { bound, skip, .. } => Some(NextTest {
             bound,
             skip,
@@ -310,6 +313,7 @@ fn tested_lines(alloc: Global, text: &[u8], deeds: &ReadyDeeds) -> Result<DeedLi
     let mut lines = DeedLines {
         statements: Vec::new(alloc),
         loops: unknown_loops(alloc, deeds.bounds().len())?,
+        conditions: Vec::new(alloc),
     };
     read_passage(alloc, body, &[], deeds.flows(), &mut lines)?;
     Ok(lines)
@@ -339,6 +343,7 @@ pub fn lines_of_deeds(
         return Ok(DeedLines {
             statements,
             loops: Vec::new(alloc),
+            conditions: Vec::new(alloc),
         });
     }
     tested_lines(alloc, text, deeds)

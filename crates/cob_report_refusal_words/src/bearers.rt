@@ -15,9 +15,11 @@ pub(crate) const MOST_BEARERS: usize = 4_001;
 
 /// The words of a copybook, and whether its record is the input record.
 #[derive(Clone, Copy)]
-pub(crate) struct BookWords<'a> {
-    pub(crate) words: &'a [Token],
-    pub(crate) is_input: bool,
+pub struct BookWords<'a> {
+    /// The words.
+    pub words: &'a [Token],
+    /// Whether its record is the input record.
+    pub is_input: bool,
 }
 
 impl<'a> BookWords<'a> {
@@ -93,9 +95,11 @@ impl<'a> Bearer<'a> {
 
 /// The words of both copybooks.
 #[derive(Clone, Copy)]
-pub(crate) struct BothWords<'a> {
-    pub(crate) input: BookWords<'a>,
-    pub(crate) output: BookWords<'a>,
+pub struct BothWords<'a> {
+    /// Those of the input record.
+    pub input: BookWords<'a>,
+    /// Those of the output record.
+    pub output: BookWords<'a>,
 }
 
 /// The first entry of a record that is looked for, with no fewer than so many words before it.

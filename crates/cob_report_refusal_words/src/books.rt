@@ -1,9 +1,14 @@
 //! The blocks of a copybook.
 
+ghost use Rattle.std.specs.Prelude.{◌≡◌, List, IfSome, None};
+ghost use Rattle.cob_source.specs.Tokens.{Lexeme, lexemes};
+ghost use Rattle.cob_report_refusals.specs.Refused.{IsEntryBehind};
+ghost use Rattle.cob_report_refusal_words.specs.Pointing.{IsUnderEntry, IsUnderOne};
+
 use crate::blocks::{push_block, push_words};
 use crate::clashes::{told_placement, told_sign, told_usage};
 use crate::columns::with_columns;
-use crate::entry::{WrittenEntry, entry_at, words_with_stop};
+use crate::entry::{WrittenEntry, entry_at};
 use crate::grammar::told_grammar;
 use crate::left_out::told_left_out;
 use crate::levels::told_level_rule;
@@ -16,7 +21,7 @@ use crate::tables::told_table;
 use crate::told::{Caret, Told, advised};
 use crate::values::told_value;
 use cob_copybook::{BookRule, Role};
-use cob_report_refusals::{Refusal, book_refusals};
+use cob_report_refusals::{Refusal, book_refusals, entry_behind, entry_told};
 use cob_source::{SourceRule, Token, tokens};
 use std::alloc::{AllocError, Global};
 
@@ -103,32 +108,63 @@ fn told_too_many(entry: WrittenEntry<'_>) -> Told<'_> {
 }
 
 /// What is told of a text without entries.
-fn told_empty() -> Told<'static> {
-    advised(
-        None,
-        Phrase::plain("no entry stands in it"),
-        Phrase::plain("words stand in columns 8 to 72: --free reads a copybook without columns"),
-    )
+fn told_empty() -> Told<'static>
+    ensures { result.at ≡ None }
+{
+    Told {
+        at: None,
+        what: Phrase::plain("no entry stands in it"),
+        hint: Some(Phrase::plain(
+            "words stand in columns 8 to 72: --free reads a copybook without columns",
+        )),
+    }
+}
+
+/// What is told of the entry before which so many words stand, which breaks a rule.
+fn told_behind<'a>(
+    book: RefusedBook<'a>,
+    words: &'a [Token],
+    before: usize,
+    rule: &'a BookRule,
+) -> Told<'a>
+    ensures { IfSome result.at (λ c. (own : List Lexeme)
+        × IsEntryBehind before own (lexemes words.now) × IsUnderOne c own) }
+{
+    let own = entry_behind(words, before);
+    let told = told_entry(book, words, before, rule).among(own);
+    match rule {
+        BookRule::Grammar => with_columns(book.file, book.text, told),
+        _ => told,
+    }
+}
+
+/// What is told of a refusal of a copybook with these words: of its entry, where it is no rule of the reference format.
+pub fn told_of_entry<'a>(
+    book: RefusedBook<'a>,
+    words: &'a [Token],
+    refusal: &'a Refusal,
+) -> Told<'a>
+    // It points at a word of the entry that the refusal is told of, if at one.
+    ensures { IfSome result.at (λ c. IsUnderEntry refusal.now c (lexemes words.now)) }
+{
+    match entry_told(words, refusal) {
+        Some(before) => told_behind(book, words, before, &refusal.fault.rule),
+        None => told_empty(),
+    }
 }
 
 /// What is told of a refusal.
 fn told_of<'a>(book: RefusedBook<'a>, words: &'a [Token], refusal: &'a Refusal) -> Told<'a> {
-    let rule = &refusal.fault.rule;
-    if let BookRule::Source(broken) = rule {
-        return told_source(
+    match refusal.fault.rule {
+        BookRule::Source(broken) => told_source(
             SourceText::Copybook,
             book.file,
             book.text,
-            *broken,
+            broken,
             refusal.fault.line,
-        );
+        ),
+        _ => told_of_entry(book, words, refusal),
     }
-    let before = refusal.from.unwrap_or(0);
-    let told = told_entry(book, words, before, rule).among(words_with_stop(words, before));
-    if let BookRule::Grammar = rule {
-        return with_columns(book.file, book.text, told);
-    }
-    told
 }
 
 /// What is told of a refusal of a text that was made of others: where their lines are told elsewhere, it has none itself.

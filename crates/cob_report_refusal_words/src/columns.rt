@@ -1,5 +1,7 @@
 //! What the columns of a line say of a word that can't go on.
 
+ghost use Rattle.std.specs.Prelude.{◌≡◌};
+
 use crate::phrases::{Part, Phrase};
 use crate::source::line_in;
 use crate::told::{Caret, Told};
@@ -51,7 +53,9 @@ fn columns_hint<'a>(
 }
 
 /// What is told, with what the line of its word shows.
-pub(crate) fn with_columns<'a>(file: &'a str, text: &'a [u8], told: Told<'a>) -> Told<'a> {
+pub(crate) fn with_columns<'a>(file: &'a str, text: &'a [u8], told: Told<'a>) -> Told<'a>
+    ensures { result.at ≡ told.entry.at }
+{
     let Told { at, what, hint } = told;
     let Some(caret) = at else {
         return told;

@@ -50,12 +50,6 @@ pub(crate) fn entry_at(words: &[Token], before: usize) -> WrittenEntry<'_> {
     entry_in_front(behind_many(words, before))
 }
 
-/// The words of the entry with so many words before it, and its period.
-pub(crate) fn words_with_stop(words: &[Token], before: usize) -> &[Token] {
-    let rest = behind_many(words, before);
-    front_of(rest, sentence_len(rest).saturating_add(1))
-}
-
 /// The line of an entry's first word.
 pub(crate) fn line_of(entry: WrittenEntry<'_>) -> u32 {
     match entry.words.first() {

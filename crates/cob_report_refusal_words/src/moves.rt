@@ -1,20 +1,26 @@
-//! The block of a paragraph that is refused.
+//! The blocks of a paragraph that is refused.
+
+ghost use Rattle.std.specs.Prelude.{IfSome};
+ghost use Rattle.cob_source.specs.Tokens.{lexemes};
+ghost use Rattle.cob_report_refusal_words.specs.Pointing.{IsUnderStatement};
 
 use crate::bearers::{BookWords, BothWords};
 use crate::blocks::push_block;
 use crate::books::{Blocks, words_of};
 use crate::operands::{told_ambiguous, told_groups, told_pair, told_receiver, told_unknown};
 use crate::phrases::{Part, Phrase};
+use crate::pointing::in_statement;
 use crate::source::{SourceText, told_source};
-use crate::statements::{is_constant, statement_on};
+use crate::statements::{broken_on, is_constant, moved_on, statement_in_front, words_at};
 use crate::subscripts::told_subscripts;
 use crate::told::{Caret, Told, advised, said};
-use crate::verbs::told_words;
-use cob_move_statements::{MoveFault, MoveRule};
+use crate::verbs::told_statement_words;
+use cob_move_statements::MoveRule;
+use cob_report_refusals::{MoveRefusal, Spot};
 use cob_source::{SourceRule, Token, TokenKind, paragraph_tokens};
 use std::alloc::{AllocError, Global};
 
-/// A paragraph as its block tells it, between the records of two copybooks.
+/// A paragraph as its blocks tell it, between the records of two copybooks.
 #[derive(Clone, Copy)]
 pub struct RefusedMoves<'a> {
     /// Its file, as the command line says it.
@@ -89,11 +95,23 @@ fn told_other(statement: &[Token], rule: MoveRule) -> Told<'_> {
     }
 }
 
-/// What is told of a statement.
-fn told_statement<'a>(both: BothWords<'a>, words: &'a [Token], fault: MoveFault) -> Told<'a> {
-    let statement = statement_on(words, fault.line);
-    match fault.rule {
-        MoveRule::Grammar => told_words(words, fault.line),
+/// The words from the statement on that a refusal is told of.
+fn words_told<'a>(words: &'a [Token], refusal: &MoveRefusal) -> &'a [Token] {
+    let line = refusal.fault.line;
+    match refusal.at {
+        Some(place) => words_at(words, place),
+        None => match refusal.fault.rule {
+            MoveRule::Grammar => broken_on(words, line),
+            _ => moved_on(words, line),
+        },
+    }
+}
+
+/// What is told of the statement in front, which breaks this rule.
+fn told_statement<'a>(both: BothWords<'a>, words: &'a [Token], rule: MoveRule) -> Told<'a> {
+    let statement = statement_in_front(words);
+    match rule {
+        MoveRule::Grammar => told_statement_words(words),
         MoveRule::Unknown => told_unknown(both, statement),
         MoveRule::Ambiguous => told_ambiguous(both, statement),
         MoveRule::Subscripts => told_subscripts(both, statement),
@@ -116,6 +134,24 @@ fn told_statement<'a>(both: BothWords<'a>, words: &'a [Token], fault: MoveFault)
     }
 }
 
+/// What is told of a refusal of a paragraph with these words: of its statement, where it is no rule of the reference format.
+pub fn told_of_statement<'a>(
+    both: BothWords<'a>,
+    words: &'a [Token],
+    refusal: &MoveRefusal,
+) -> Told<'a>
+    // It points at a word of the statement that the refusal is told of, if at one.
+    ensures { IfSome result.at (λ c. IsUnderStatement refusal.now c (lexemes words.now)) }
+{
+    let rest = words_told(words, refusal);
+    let Told { at, what, hint } = told_statement(both, rest, refusal.fault.rule);
+    Told {
+        at: in_statement(words, rest, refusal, at),
+        what,
+        hint,
+    }
+}
+
 /// The words of a paragraph, none where it breaks a rule of the reference format.
 fn paragraph_words(alloc: Global, text: &[u8]) -> Result<Vec<Token>, AllocError> {
     match paragraph_tokens(alloc, text) {
@@ -127,14 +163,93 @@ fn paragraph_words(alloc: Global, text: &[u8]) -> Result<Vec<Token>, AllocError>
     }
 }
 
-/// Adds the block of a paragraph one of whose statements has this fault.
-fn push_statement(
+/// Whether one place stands behind another.
+fn is_behind(place: Spot, other: Spot) -> bool {
+    place.line > other.line || (place.line == other.line && place.column > other.column)
+}
+
+/// Whether a refusal is of a statement behind this place, if there is one.
+fn stands_behind(refusal: &MoveRefusal, last: Option<Spot>) -> bool {
+    match (refusal.at, last) {
+        (Some(place), Some(other)) => is_behind(place, other),
+        (Some(_), None) => true,
+        (None, _) => false,
+    }
+}
+
+/// The first of these in the order of the text that stands behind this place, if one does.
+fn next_behind(others: &[MoveRefusal], last: Option<Spot>) -> Option<&MoveRefusal> {
+    let mut next: Option<&MoveRefusal> = None;
+    for refusal in others {
+        let is_before = match next {
+            Some(found) => stands_behind(found, refusal.at),
+            None => true,
+        };
+        if is_before && stands_behind(refusal, last) {
+            next = Some(refusal);
+        }
+    }
+    next
+}
+
+/// Adds the block of a refusal.
+fn push_refusal(
     alloc: Global,
     out: &mut String,
     moves: RefusedMoves<'_>,
-    fault: MoveFault,
+    both: BothWords<'_>,
+    words: &[Token],
+    refusal: &MoveRefusal,
 ) -> Result<(), AllocError> {
-    let words = paragraph_words(alloc, moves.text)?;
+    let rule = refusal.fault.rule;
+    if let MoveRule::Source(broken) = rule {
+        let told = told_source(
+            SourceText::Paragraph,
+            moves.file,
+            moves.text,
+            broken,
+            refusal.fault.line,
+        );
+        return push_block(alloc, out, moves.file, moves.text, &rule, &told);
+    }
+    let told = told_of_statement(both, words, refusal);
+    push_block(alloc, out, moves.file, moves.text, &rule, &told)
+}
+
+/// Adds the blocks of refusals, at most so many: that of the first, and behind it those of the others in the order of the text.
+fn push_refusals(
+    alloc: Global,
+    out: &mut String,
+    moves: RefusedMoves<'_>,
+    both: BothWords<'_>,
+    words: &[Token],
+    refusals: &[MoveRefusal],
+    most: u32,
+) -> Result<(), AllocError> {
+    let Some((first, others)) = refusals.split_first() else {
+        return Ok(());
+    };
+    push_refusal(alloc, out, moves, both, words, first)?;
+    let mut last: Option<Spot> = None;
+    for _ in 1..most {
+        let Some(refusal) = next_behind(others, last) else {
+            return Ok(());
+        };
+        push_refusal(alloc, out, moves, both, words, refusal)?;
+        last = refusal.at;
+    }
+    Ok(())
+}
+
+/// Adds the blocks of refusals of a paragraph with these words.
+fn push_between(
+    alloc: Global,
+    out: &mut String,
+    moves: RefusedMoves<'_>,
+    words: &[Token],
+    refusals: &[MoveRefusal],
+    most: u32,
+) -> Result<(), AllocError> {
     let input = words_of(alloc, moves.in_book)?;
     let output = words_of(alloc, moves.out_book)?;
     let both = BothWords {
@@ -147,11 +262,24 @@ fn push_statement(
             is_input: false,
         },
     };
-    let told = told_statement(both, words.as_slice(), fault).among(words.as_slice());
-    push_block(alloc, out, moves.file, moves.text, &fault.rule, &told)
+    push_refusals(alloc, out, moves, both, words, refusals, most)
 }
 
-/// The block of a paragraph that has this fault.
+/// The blocks of these refusals.
+fn blocks_of(
+    alloc: Global,
+    moves: RefusedMoves<'_>,
+    refusals: &[MoveRefusal],
+    most: u32,
+) -> Result<String, AllocError> {
+    let words = paragraph_words(alloc, moves.text)?;
+    let mut text = String::new(alloc);
+    push_between(alloc, &mut text, moves, words.as_slice(), refusals, most)?;
+    Ok(text)
+}
+
+/// The blocks of a paragraph of which this is refused, at most so many, each with its line of the text. The first stays the first; the others are told in the
+/// order of the text.
 ///
 /// # Errors
 ///
@@ -159,20 +287,12 @@ fn push_statement(
 pub fn moves_blocks(
     alloc: Global,
     moves: RefusedMoves<'_>,
-    fault: MoveFault,
+    refusals: &[MoveRefusal],
+    most: u32,
 ) -> Result<Blocks, AllocError> {
-    let mut text = String::new(alloc);
-    if let MoveRule::Source(rule) = fault.rule {
-        let told = told_source(
-            SourceText::Paragraph,
-            moves.file,
-            moves.text,
-            rule,
-            fault.line,
-        );
-        push_block(alloc, &mut text, moves.file, moves.text, &fault.rule, &told)?;
-    } else {
-        push_statement(alloc, &mut text, moves, fault)?;
-    }
-    Ok(Blocks { text, count: 1 })
+    let text = blocks_of(alloc, moves, refusals, most)?;
+    Ok(Blocks {
+        text,
+        count: refusals.len().min(1_000_000) as u32,
+    })
 }

@@ -4,6 +4,7 @@ use crate::clauses::{Read, behind_term, is_characters, lacks};
 use crate::entry::{behind_many, front_of};
 use crate::terms::{behind, is_name_word, is_term};
 use cob_copybook_clauses::WordClass;
+use cob_report_refusals::Spot;
 use cob_source::{Token, TokenKind};
 
 /// The words behind the qualifiers of a name, or what lacks in them.
@@ -144,6 +145,16 @@ pub(crate) fn words_on(words: &[Token], line: u32) -> &[Token] {
     &[]
 }
 
+/// The words from the one at a place on.
+pub(crate) fn words_at(words: &[Token], place: Spot) -> &[Token] {
+    for (at, word) in words.iter().enumerate() {
+        if word.line == place.line && word.column == place.column {
+            return behind_many(words, at);
+        }
+    }
+    &[]
+}
+
 /// How many of these words stand on a line, up to the first that does not.
 fn line_len(words: &[Token], line: u32) -> usize {
     for (at, word) in words.iter().enumerate() {
@@ -166,14 +177,14 @@ pub(crate) fn broken_on(words: &[Token], line: u32) -> &[Token] {
     from
 }
 
-/// The first statement that begins with MOVE on a line, or what stands there.
-pub(crate) fn statement_on(words: &[Token], line: u32) -> &[Token] {
+/// The words from the first MOVE on a line on, or from the first word there where none is.
+pub(crate) fn moved_on(words: &[Token], line: u32) -> &[Token] {
     let from = words_on(words, line);
     for at in 0..line_len(from, line) {
         let rest = behind_many(from, at);
         if behind(rest, WordClass::Move).is_some() {
-            return statement_in_front(rest);
+            return rest;
         }
     }
-    statement_in_front(from)
+    from
 }

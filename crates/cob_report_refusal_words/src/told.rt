@@ -1,7 +1,11 @@
 //! What is told of one refusal.
 
+ghost use Rattle.std.specs.Prelude.{◌≡◌, IfSome};
+ghost use Rattle.cob_source.specs.Tokens.{lexemes};
+ghost use Rattle.cob_report_refusal_words.specs.Pointing.{IsUnderOne};
+
 use crate::phrases::Phrase;
-use cob_report_refusals::spot_at;
+use cob_report_refusals::{Spot, spot_at};
 use cob_source::{Token, TokenKind};
 
 /// The last column that is read.
@@ -9,20 +13,20 @@ const LAST_COLUMN: u32 = 72;
 
 /// Where a refusal is pointed at: so many columns of a line.
 #[derive(Clone, Copy)]
-pub(crate) struct Caret {
+pub struct Caret {
     /// The line, from 1.
-    pub(crate) line: u32,
+    pub line: u32,
     /// The first column, from 1.
-    pub(crate) column: u32,
+    pub column: u32,
     /// How many columns.
-    pub(crate) width: u32,
+    pub width: u32,
 }
 
 /// What is wrong, where, and what to do.
 #[derive(Clone, Copy)]
-pub(crate) struct Told<'a> {
+pub struct Told<'a> {
     /// Where, if a word or a byte shows it.
-    pub(crate) at: Option<Caret>,
+    pub at: Option<Caret>,
     /// What is wrong.
     pub(crate) what: Phrase<'a>,
     /// What to do, if that is known.
@@ -42,7 +46,10 @@ fn width_of(word: &Token) -> u32 {
 
 impl Caret {
     /// Under a word.
-    pub(crate) fn under(word: &Token) -> Caret {
+    pub(crate) fn under(word: &Token) -> Caret
+        ensures line { result.line ≡ word.now.line }
+        ensures column { result.column ≡ word.now.column }
+    {
         Caret {
             line: word.line,
             column: u32::from(word.column),
@@ -77,20 +84,34 @@ fn number_under(words: &[Token], caret: Caret) -> Option<usize> {
     None
 }
 
-/// A caret, at the place of that one of these words which it is under; none where it is under none of them.
-fn caret_among(words: &[Token], at: Option<Caret>) -> Option<Caret> {
-    let caret = at?;
-    let spot = spot_at(words, number_under(words, caret)?)?;
-    Some(Caret {
+/// So many columns from a place on.
+fn caret_at(spot: Spot, width: u32) -> Caret
+    ensures line { result.line ≡ spot.line }
+    ensures column { result.column ≡ spot.column }
+{
+    Caret {
         line: spot.line,
         column: u32::from(spot.column),
-        width: caret.width,
-    })
+        width,
+    }
+}
+
+/// A caret, at the place of that one of these words which it is under; none where it is under none of them.
+fn caret_among(words: &[Token], at: Option<Caret>) -> Option<Caret>
+    ensures { IfSome result (λ c. IsUnderOne c (lexemes words.now)) }
+{
+    let caret = at?;
+    match spot_at(words, number_under(words, caret)?) {
+        Some(spot) => Some(caret_at(spot, caret.width)),
+        None => None,
+    }
 }
 
 impl<'a> Told<'a> {
     /// The same, pointed at one of these words.
-    pub(crate) fn among(self, words: &[Token]) -> Told<'a> {
+    pub(crate) fn among(self, words: &[Token]) -> Told<'a>
+        ensures { IfSome result.at (λ c. IsUnderOne c (lexemes words.now)) }
+    {
         let Told { at, what, hint } = self;
         Told {
             at: caret_among(words, at),

@@ -3,7 +3,7 @@
 use crate::clauses::Lack;
 use crate::entry::{last_words, words_before};
 use crate::phrases::{Part, Phrase};
-use crate::statements::{behind_statement, broken_on};
+use crate::statements::behind_statement;
 use crate::terms::{is_name_word, is_term};
 use crate::told::{Caret, Told, advised, said};
 use cob_copybook_clauses::WordClass;
@@ -108,9 +108,8 @@ fn lack_hint<'a>(before: &'a [Token], expected: &str, word: &'a Token) -> Option
     None
 }
 
-/// What is told of words that are no statements, on a line.
-pub(crate) fn told_words(words: &[Token], line: u32) -> Told<'_> {
-    let rest = broken_on(words, line);
+/// What is told of words that begin with no statement.
+pub(crate) fn told_statement_words(rest: &[Token]) -> Told<'_> {
     let Some(first) = rest.first() else {
         return said(None, Phrase::plain("no statement stands in it"));
     };

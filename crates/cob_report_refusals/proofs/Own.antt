@@ -1,5 +1,5 @@
 -- What a text of one sentence breaks, the sentence breaks by itself.
-use Rattle.std.proofs.Common.{◌≡◌, ◌⊎◌, ℕ, suc, ◌+◌, Bool, true, false, List, [], ◌∷◌, ◌++◌, length, take, refl, sym, ap, ◌∙◌, subst, inl, inr, arith}
+use Rattle.std.proofs.Common.{◌≡◌, ◌⊎◌, ℕ, suc, ◌+◌, Bool, true, false, List, [], ◌∷◌, ◌++◌, length, take, refl, sym, ap, ◌∙◌, subst, inl, inr, arith, append_assoc}
 use Rattle.std.proofs.lemmas.Bool.{true≢false}
 use Rattle.std.proofs.lemmas.List.{length-map, take-map}
 use Rattle.cob_source.specs.Tokens.{Lexeme, lexeme, lexemes}
@@ -72,3 +72,10 @@ pub front_stop : (ts ss : List Token) (more : List Lexeme) → FirstSentence (le
 front_stop ts ss more h =
     let count : length ss + 1 ≡ suc (length (lexemes ss)) = omega (arith, length-map ss lexeme) in
     (h.0, h.1, h.2, sym (take-map lexeme (length ss + 1) ts) ∙ ap (λ (k : ℕ). take k (lexemes ts)) count ∙ ap (take (suc (length (lexemes ss)))) (h.3) ∙ take_one (lexemes ss) more h.0)
+
+pub stop_cut : (ts ss : List Token) (more : List Lexeme) → FirstSentence (lexemes ss) (lexemes ts) more → lexemes ts ≡ lexemes (take (length ss + 1) ts) ++ more
+stop_cut ts ss more h =
+    let count : length ss + 1 ≡ suc (length (lexemes ss)) = omega (arith, length-map ss lexeme) in
+    let front : lexemes (take (length ss + 1) ts) ≡ lexemes ss ++ h.0 ∷ [] =
+    sym (take-map lexeme (length ss + 1) ts) ∙ ap (λ (k : ℕ). take k (lexemes ts)) count ∙ ap (take (suc (length (lexemes ss)))) (h.3) ∙ take_one (lexemes ss) more h.0 in
+    h.3 ∙ sym (append_assoc (lexemes ss) (h.0 ∷ []) more) ∙ ap (λ (t : List Lexeme). t ++ more) (sym front)

@@ -1,18 +1,18 @@
 //! The refusals of a copybook.
 
-ghost use Rattle.std.specs.Prelude.{◌≡◌, ◌∷◌, ℕ, List, [], IfOk, IfSome};
+ghost use Rattle.std.specs.Prelude.{◌≡◌, ◌∷◌, ℕ, List, [], IfOk, IfSome, IsTrue};
 ghost use Rattle.std.specs.List.{AllByRecursion};
-ghost use Rattle.cob_source.specs.Tokens.{lexemes};
+ghost use Rattle.cob_source.specs.Tokens.{Lexeme, lexemes};
 ghost use Rattle.cob_source.specs.Words.{AreWordsOf};
 ghost use Rattle.cob_copybook.specs.Books.{IsBookOf, IsBookRefusal};
 ghost use Rattle.cob_copybook.specs.declared.role.Role.{Role};
 ghost use Rattle.cob_copybook_tree.specs.Forests.{Forest};
 ghost use Rattle.cob_copybook_tree.specs.Nodes.{Resolved};
-ghost use Rattle.cob_report_refusals.specs.Refused.{AreRefusals, BeginWith, IsRefusedText};
+ghost use Rattle.cob_report_refusals.specs.Refused.{AreRefusals, BeginWith, HasBrokenEntry, IsBrokenEntry, IsRefusedText};
 
 use crate::lines::line_refusals;
 use crate::refusal::Refusal;
-use crate::sentences::{entry_on, sentence_refusals};
+use crate::sentences::sentence_refusals;
 use cob_copybook::{Book, Role};
 use cob_copybook_entry::{BookFault, BookRule};
 use cob_source::{SourceRule, Token, tokens};
@@ -35,28 +35,48 @@ fn words_of(alloc: Global, text: &[u8]) -> Result<Option<Vec<Token>>, AllocError
     }
 }
 
-/// Whether a refusal is of this fault.
-fn is_of(fault: &BookFault, refusal: &Refusal) -> bool {
-    fault.line == refusal.fault.line && fault.rule == refusal.fault.rule
+/// Whether a rule is this one, and one that an entry can break by itself.
+fn is_own(rule: &BookRule, other: &BookRule) -> bool
+    ensures { IsTrue result → (own : List Lexeme) → IsBrokenEntry other.now own
+        → IsBrokenEntry rule.now own }
+{
+    match rule {
+        BookRule::Grammar => matches!(other, BookRule::Grammar),
+        BookRule::Name => matches!(other, BookRule::Name),
+        BookRule::Table => matches!(other, BookRule::Table),
+        BookRule::Value => matches!(other, BookRule::Value),
+        BookRule::Picture(fault) => match other {
+            BookRule::Picture(found) => fault == found,
+            _ => false,
+        },
+        BookRule::LeftOut(word) => match other {
+            BookRule::LeftOut(found) => word.as_str() == found.as_str(),
+            _ => false,
+        },
+        _ => false,
+    }
 }
 
-/// The place of the fault that is told first, and the refusals behind it: that of the first of them and the others, where the first is of this fault, and else
-/// the place that it was given and all.
-fn parted<'a>(
-    first: &BookFault,
-    from: Option<usize>,
-    found: &'a [Refusal],
-) -> (Option<usize>, &'a [Refusal])
-    ensures { (text : List ℕ) → AllByRecursion (IsRefusedText text) found.now
+/// Whether a refusal is of this fault.
+fn is_of(fault: &BookFault, refusal: &Refusal) -> bool
+    ensures { IsTrue result → (own : List Lexeme) → IsBrokenEntry refusal.now.fault.rule own
+        → IsBrokenEntry fault.now.rule own }
+{
+    fault.line == refusal.fault.line && is_own(&fault.rule, &refusal.fault.rule)
+}
+
+/// The entry of the fault that is told first, and the refusals behind it: that of the first of them and the others, where the first is of this fault, and else
+/// none and all.
+fn parted<'a>(first: &BookFault, found: &'a [Refusal]) -> (Option<usize>, &'a [Refusal])
+    ensures entry { (text : List ℕ) → AllByRecursion (IsRefusedText text) found.now
+        → HasBrokenEntry text first.now.rule result.0 }
+    ensures others { (text : List ℕ) → AllByRecursion (IsRefusedText text) found.now
         → AllByRecursion (IsRefusedText text) result.1.now }
 {
-    let Some((head, others)) = found.split_first() else {
-        return (from, found);
-    };
-    if is_of(first, head) {
-        return (head.from, others);
+    match found.split_first() {
+        Some((head, others)) if is_of(first, head) => (head.from, others),
+        _ => (None, found),
     }
-    (from, found)
 }
 
 /// A refusal, and others behind it.
@@ -81,18 +101,14 @@ fn followed(alloc: Global, first: Refusal, others: &[Refusal]) -> Result<Vec<Ref
 fn behind_first(
     alloc: Global,
     first: BookFault,
-    from: Option<usize>,
     found: &[Refusal],
 ) -> Result<Vec<Refusal>, AllocError>
     ensures begins { IfOk result (λ v. BeginWith first v.items) }
     ensures each { (role : Role) (text : List ℕ) → IsBookRefusal role first.rule first.line text
         → AllByRecursion (IsRefusedText text) found.now → IfOk result (λ v. AreRefusals role text v.items) }
 {
-    let (place, others) = parted(&first, from, found);
-    let refusal = Refusal {
-        fault: first,
-        from: place,
-    };
+    let (from, others) = parted(&first, found);
+    let refusal = Refusal { fault: first, from };
     followed(alloc, refusal, others)
 }
 
@@ -111,7 +127,7 @@ fn refusals_of_words(
         → AreWordsOf text (lexemes words.now) → IfOk result (λ v. AreRefusals role text v.items) }
 {
     let found = sentence_refusals(alloc, words)?;
-    behind_first(alloc, first, entry_on(words, first.line), found.as_slice())
+    behind_first(alloc, first, found.as_slice())
 }
 
 /// The refusals of a text that is no copybook, this fault of which is told first.
@@ -128,7 +144,7 @@ fn refusals_with(alloc: Global, text: &[u8], first: BookFault) -> Result<Vec<Ref
         Some(words) => refusals_of_words(alloc, words.as_slice(), first),
         None => {
             let found = line_refusals(alloc, text, first.line)?;
-            behind_first(alloc, first, None, found.as_slice())
+            behind_first(alloc, first, found.as_slice())
         }
     }
 }
@@ -139,7 +155,7 @@ fn refusals_with(alloc: Global, text: &[u8], first: BookFault) -> Result<Vec<Ref
 ///
 /// Where no memory is left.
 pub fn book_refusals(alloc: Global, role: Role, text: &[u8]) -> Result<Vec<Refusal>, AllocError>
-    // Each names a rule that is broken.
+    // Each names a rule that is broken, and no entry but one that breaks it by itself.
     ensures each { IfOk result (λ v. AreRefusals role text.now v.items) }
     // Of a text that is a copybook nothing is told.
     ensures none { (t : Forest Resolved) → IsBookOf role text.now t

@@ -1,6 +1,6 @@
 //! The refusals of lines, each by itself.
 
-ghost use Rattle.std.specs.Prelude.{◌≡◌, ◌≢◌, ◌<◌, ◌≤◌, ◌++◌, ◌∷◌, ℕ, List, length, take, drop, true, IfOk};
+ghost use Rattle.std.specs.Prelude.{◌≡◌, ◌≢◌, ◌<◌, ◌≤◌, ◌++◌, ◌∷◌, ℕ, List, length, take, drop, true, IfOk, None};
 ghost use Rattle.std.specs.List.{AllByRecursion};
 ghost use Rattle.cob_source.specs.Lines.{FeedFirst, lines};
 ghost use Rattle.cob_source.specs.Words.{IsSourceRefusal};
@@ -68,6 +68,7 @@ fn is_of_lines(rule: SourceRule) -> bool
 /// What is refused of a line.
 fn line_refusal(rule: SourceRule, line: u32) -> Refusal
     ensures rule { result.fault.rule ≡ Source rule }
+    ensures entry { result.from ≡ None }
     ensures line { result.fault.line ≡ line }
 {
     Refusal {

@@ -1,6 +1,6 @@
 //! The refusals of sentences, each by itself.
 
-ghost use Rattle.std.specs.Prelude.{◌≡◌, ◌++◌, ◌∷◌, ℕ, List, [], IfOk, IfSome, IsTrue};
+ghost use Rattle.std.specs.Prelude.{◌≡◌, ◌++◌, ◌∷◌, ℕ, List, [], IfOk, IfSome, IsTrue, Some};
 ghost use Rattle.std.specs.List.{AllByRecursion};
 ghost use Rattle.cob_source.specs.Tokens.{Lexeme, lexemes};
 ghost use Rattle.cob_copybook_clauses.specs.Entries.{FirstSentence, IsCondition, sentences};
@@ -17,9 +17,12 @@ use std::alloc::{AllocError, Global};
 use std::slice;
 
 /// The first sentence of these words, with its Stop.
-fn with_stop<'a>(words: &'a [Token], sentence: &[Token]) -> &'a [Token]
+pub(crate) fn with_stop<'a>(words: &'a [Token], sentence: &[Token]) -> &'a [Token]
     requires { (more : List Lexeme) × FirstSentence (lexemes sentence.now) (lexemes words.now) more }
-    ensures { FirstSentence (lexemes sentence.now) (lexemes result.now) [] }
+    ensures first { FirstSentence (lexemes sentence.now) (lexemes result.now) [] }
+    ensures cut { (more : List Lexeme)
+        → FirstSentence (lexemes sentence.now) (lexemes words.now) more
+        → lexemes words.now ≡ lexemes result.now ++ more }
 {
     &words[..sentence.len() + 1]
 }
@@ -115,7 +118,8 @@ fn line_of(words: &[Token]) -> u32 {
 
 /// What is refused of the entry that these words begin with, before which so many others stand.
 fn refusal_of(rule: BookRule, words: &[Token], from: usize) -> Refusal
-    ensures { result.fault.rule ≡ rule }
+    ensures rule { result.fault.rule ≡ rule }
+    ensures entry { result.from ≡ Some from }
 {
     Refusal {
         fault: BookFault {
@@ -153,7 +157,7 @@ fn with_first(
 ) -> Result<Vec<Refusal>, AllocError>
     requires { (more : List Lexeme) × FirstSentence (lexemes sentence.now) (lexemes words.now) more }
     ensures { (text : List ℕ)
-        → ((r : Refusal) → BreaksByItself r.fault.rule (lexemes sentence.now) → IsRefusedText text r)
+        → ((r : Refusal) → r.from ≡ Some from → BreaksByItself r.fault.rule (lexemes sentence.now) → IsRefusedText text r)
         → AllByRecursion (IsRefusedText text) refusals.items
         → IfOk result (λ v. AllByRecursion (IsRefusedText text) v.items) }
 {
@@ -184,18 +188,4 @@ pub(crate) fn sentence_refusals(alloc: Global, words: &[Token]) -> Result<Vec<Re
         return Ok(out);
     }
     pushed(out, refusal_of(BookRule::Grammar, rest, from))
-}
-
-/// How many words stand before the first entry that begins on this line.
-pub(crate) fn entry_on(words: &[Token], line: u32) -> Option<usize> {
-    let mut rest = words;
-    for _ in 0..words.len() {
-        let from = words.len().saturating_sub(rest.len());
-        if !rest.is_empty() && line_of(rest) == line {
-            return Some(from);
-        }
-        let (_, behind) = sentence_at(rest)?;
-        rest = behind;
-    }
-    None
 }

@@ -14,17 +14,15 @@ ghost use Rattle.cob_move_receive.specs.Sent.{HasAllBytes, Occupies, sent};
 ghost use Rattle.cob_move_receive.specs.Table.{sender_kind};
 
 use cob_codec::Reading;
-use cob_copybook::Role;
+use cob_copybook::{Book, Role};
+use cob_copybook_entry::Value;
 use cob_copybook_tree::{Item, Kind, is_number, is_number_item};
 use cob_move_condition::{Class, WithoutValue, compare, is_in_class, may_compare};
 use cob_move_receive::{SenderKind, Sent};
 use cob_test_layouts::{book_at, constant_of};
-use cob_test_rows::{Family, Row, RowFault};
+use cob_test_rows::{Row, RowFault};
 use std::alloc::{AllocError, Global};
 use std::cmp::Ordering;
-
-/// The tables on conditions.
-pub(crate) struct ConditionRows;
 
 /// Whether bytes can hold what an item describes.
 fn is_storable(item: &Item) -> bool
@@ -79,6 +77,53 @@ fn push_compared(
     }
 }
 
+/// Writes what an entry of this kind and size, whose bytes these are and which is read so, and a constant compare to.
+fn push_beside_constant(
+    kind: &Kind,
+    size: usize,
+    bytes: &[u8],
+    reading: Reading,
+    value: &Value,
+    out: &mut String,
+) -> Result<(), RowFault> {
+    if bytes.len() != size || !has_bytes(kind, bytes.len()) {
+        return Err(RowFault::BadRow);
+    }
+    let given = Sent::Entry {
+        kind,
+        bytes,
+        reading,
+    };
+    Ok(push_compared(
+        &given,
+        &SenderKind::Entry(kind),
+        &Sent::Constant(value),
+        &SenderKind::Constant(value),
+        out,
+    )?)
+}
+
+/// Writes what the entry of a book, which a row's bytes hold and which is read so, and a constant compare to.
+fn compare_with(
+    alloc: Global,
+    book: &Book,
+    reading: Reading,
+    value: &Value,
+    row: &Row,
+    out: &mut String,
+) -> Result<(), RowFault> {
+    let bytes = row.bytes(alloc, 2)?;
+    let size = usize::from(book.greatest());
+    push_beside_constant(
+        &book.root().kind,
+        size,
+        bytes.as_slice(),
+        reading,
+        value,
+        out,
+    )
+}
+
 /// Writes what an entry that is read so and a constant compare to.
 fn compare_constant(
     alloc: Global,
@@ -86,33 +131,19 @@ fn compare_constant(
     row: &Row,
     out: &mut String,
 ) -> Result<(), RowFault> {
-    let book = book_at(alloc, Role::In, row, 1)?;
-    let bytes = row.bytes(alloc, 2)?;
     let value = constant_of(row.field(3)?)?;
-    let kind = &book.root().kind;
-    if bytes.len() != usize::from(book.greatest()) || !has_bytes(kind, bytes.len()) {
-        return Err(RowFault::BadRow);
-    }
-    let given = Sent::Entry {
-        kind,
-        bytes: bytes.as_slice(),
-        reading,
-    };
-    Ok(push_compared(
-        &given,
-        &SenderKind::Entry(kind),
-        &Sent::Constant(&value),
-        &SenderKind::Constant(&value),
-        out,
-    )?)
+    let book = book_at(alloc, Role::In, row, 1)?;
+    compare_with(alloc, &book, reading, &value, row, out)
 }
 
-/// Writes what two entries compare to.
-fn compare_entries(alloc: Global, row: &Row, out: &mut String) -> Result<(), RowFault> {
-    let book = book_at(alloc, Role::In, row, 1)?;
-    let bytes = row.bytes(alloc, 2)?;
-    let other = book_at(alloc, Role::In, row, 3)?;
-    let others = row.bytes(alloc, 4)?;
+/// Writes what the entries of two books compare to, whose bytes these are.
+fn push_entries(
+    book: &Book,
+    bytes: &[u8],
+    other: &Book,
+    others: &[u8],
+    out: &mut String,
+) -> Result<(), RowFault> {
     let kind = &book.root().kind;
     let other_kind = &other.root().kind;
     if bytes.len() != usize::from(book.greatest()) || !has_bytes(kind, bytes.len()) {
@@ -123,12 +154,12 @@ fn compare_entries(alloc: Global, row: &Row, out: &mut String) -> Result<(), Row
     }
     let given = Sent::Entry {
         kind,
-        bytes: bytes.as_slice(),
+        bytes,
         reading: Reading::Pictured,
     };
     let beside = Sent::Entry {
         kind: other_kind,
-        bytes: others.as_slice(),
+        bytes: others,
         reading: Reading::Pictured,
     };
     Ok(push_compared(
@@ -140,29 +171,73 @@ fn compare_entries(alloc: Global, row: &Row, out: &mut String) -> Result<(), Row
     )?)
 }
 
+/// The same, where a row has the bytes of the second.
+fn compare_bytes(
+    alloc: Global,
+    book: &Book,
+    bytes: &[u8],
+    other: &Book,
+    row: &Row,
+    out: &mut String,
+) -> Result<(), RowFault> {
+    let others = row.bytes(alloc, 4)?;
+    push_entries(book, bytes, other, others.as_slice(), out)
+}
+
+/// The same, where a row has the bytes of both.
+fn compare_books(
+    alloc: Global,
+    book: &Book,
+    other: &Book,
+    row: &Row,
+    out: &mut String,
+) -> Result<(), RowFault> {
+    let bytes = row.bytes(alloc, 2)?;
+    compare_bytes(alloc, book, bytes.as_slice(), other, row, out)
+}
+
+/// The same, where a row has the second book.
+fn compare_with_other(
+    alloc: Global,
+    book: &Book,
+    row: &Row,
+    out: &mut String,
+) -> Result<(), RowFault> {
+    let other = book_at(alloc, Role::In, row, 3)?;
+    compare_books(alloc, book, &other, row, out)
+}
+
+/// Writes what two entries compare to.
+fn compare_entries(alloc: Global, row: &Row, out: &mut String) -> Result<(), RowFault> {
+    let book = book_at(alloc, Role::In, row, 1)?;
+    compare_with_other(alloc, &book, row, out)
+}
+
 /// The class of this name.
-fn class_named(name: &str) -> Option<Class> {
+fn class_named(name: &str) -> Result<Class, RowFault> {
     match name {
-        "NUMERIC" => Some(Class::Numeric),
-        "ALPHABETIC" => Some(Class::Alphabetic),
-        "ALPHABETIC-LOWER" => Some(Class::AlphabeticLower),
-        "ALPHABETIC-UPPER" => Some(Class::AlphabeticUpper),
-        _ => None,
+        "NUMERIC" => Ok(Class::Numeric),
+        "ALPHABETIC" => Ok(Class::Alphabetic),
+        "ALPHABETIC-LOWER" => Ok(Class::AlphabeticLower),
+        "ALPHABETIC-UPPER" => Ok(Class::AlphabeticUpper),
+        _ => Err(RowFault::BadRow),
     }
 }
 
-/// Writes whether an entry is of a class.
-fn tell_class(alloc: Global, row: &Row, out: &mut String) -> Result<(), RowFault> {
-    let class = class_named(row.field(1)?).ok_or(RowFault::BadRow)?;
-    let book = book_at(alloc, Role::In, row, 2)?;
-    let bytes = row.bytes(alloc, 3)?;
-    let kind = &book.root().kind;
-    if bytes.len() != usize::from(book.greatest()) || !has_bytes(kind, bytes.len()) {
+/// Writes whether an entry of this kind and size, whose bytes these are, is of a class.
+fn push_class(
+    kind: &Kind,
+    size: usize,
+    bytes: &[u8],
+    class: Class,
+    out: &mut String,
+) -> Result<(), RowFault> {
+    if bytes.len() != size || !has_bytes(kind, bytes.len()) {
         return Err(RowFault::BadRow);
     }
     let given = Sent::Entry {
         kind,
-        bytes: bytes.as_slice(),
+        bytes,
         reading: Reading::Pictured,
     };
     let word = if is_in_class(class, &given) {
@@ -173,14 +248,33 @@ fn tell_class(alloc: Global, row: &Row, out: &mut String) -> Result<(), RowFault
     Ok(out.push_str(word)?)
 }
 
-impl Family for ConditionRows {
-    fn answer(alloc: Global, _table: &str, row: &Row, out: &mut String) -> Result<(), RowFault> {
-        match row.field(0)? {
-            "constant" => compare_constant(alloc, Reading::Pictured, row, out),
-            "whole" => compare_constant(alloc, Reading::Whole, row, out),
-            "entry" => compare_entries(alloc, row, out),
-            "class" => tell_class(alloc, row, out),
-            _ => Err(RowFault::BadRow),
-        }
+/// Writes whether the entry of a book, which a row's bytes hold, is of a class.
+fn tell_class_of(
+    alloc: Global,
+    book: &Book,
+    class: Class,
+    row: &Row,
+    out: &mut String,
+) -> Result<(), RowFault> {
+    let bytes = row.bytes(alloc, 3)?;
+    let size = usize::from(book.greatest());
+    push_class(&book.root().kind, size, bytes.as_slice(), class, out)
+}
+
+/// Writes whether an entry is of a class.
+fn tell_class(alloc: Global, row: &Row, out: &mut String) -> Result<(), RowFault> {
+    let class = class_named(row.field(1)?)?;
+    let book = book_at(alloc, Role::In, row, 2)?;
+    tell_class_of(alloc, &book, class, row, out)
+}
+
+/// Writes the answer to a row's question about operands.
+pub(crate) fn answer(alloc: Global, row: &Row, out: &mut String) -> Result<(), RowFault> {
+    match row.field(0)? {
+        "constant" => compare_constant(alloc, Reading::Pictured, row, out),
+        "whole" => compare_constant(alloc, Reading::Whole, row, out),
+        "entry" => compare_entries(alloc, row, out),
+        "class" => tell_class(alloc, row, out),
+        _ => Err(RowFault::BadRow),
     }
 }

@@ -7,13 +7,10 @@ use crate::operands::{push_operand, push_reference};
 use cob_move_condition::Class;
 use cob_move_conditions::{ConditionPhrase, Quality, Relation, TestPhrase, condition};
 use cob_move_statements::MoveRule;
-use cob_source::paragraph_tokens;
-use cob_test_rows::{Family, Row, RowFault};
+use cob_source::{Token, paragraph_tokens};
+use cob_test_rows::{Row, RowFault};
 use std::alloc::{AllocError, Global};
 use std::cmp::Ordering;
-
-/// The table of conditions as they are written.
-pub(crate) struct WrittenRows;
 
 /// Writes a relation.
 fn push_relation(relation: Relation, out: &mut String) -> Result<(), AllocError> {
@@ -96,18 +93,27 @@ fn push_condition(phrase: &ConditionPhrase<'_>, out: &mut String) -> Result<(), 
     }
 }
 
-impl Family for WrittenRows {
-    fn answer(alloc: Global, _table: &str, row: &Row, out: &mut String) -> Result<(), RowFault> {
-        let text = row.lines(alloc, 0)?;
-        let Ok(words) = paragraph_tokens(alloc, text.as_slice()) else {
-            return Err(RowFault::BadRow);
-        };
-        match condition(alloc, words.as_slice()) {
-            Ok(phrase) => Ok(push_condition(&phrase, out)?),
-            Err(fault) => match fault.rule {
-                MoveRule::Memory => Err(RowFault::Memory),
-                rule => Ok(write!(out, "{rule} line {}", fault.line)?),
-            },
-        }
+/// Writes the condition that words are, or the rule that they break.
+fn push_read(alloc: Global, words: &[Token], out: &mut String) -> Result<(), RowFault> {
+    match condition(alloc, words) {
+        Ok(phrase) => Ok(push_condition(&phrase, out)?),
+        Err(fault) => match fault.rule {
+            MoveRule::Memory => Err(RowFault::Memory),
+            rule => Ok(write!(out, "{rule} line {}", fault.line)?),
+        },
     }
+}
+
+/// Writes the condition that a text is, or the rule that it breaks.
+fn push_text_of(alloc: Global, text: &[u8], out: &mut String) -> Result<(), RowFault> {
+    match paragraph_tokens(alloc, text) {
+        Ok(words) => push_read(alloc, words.as_slice(), out),
+        Err(_) => Err(RowFault::BadRow),
+    }
+}
+
+/// Writes the condition of a row as it is written, or the rule that it breaks.
+pub(crate) fn answer(alloc: Global, row: &Row, out: &mut String) -> Result<(), RowFault> {
+    let text = row.lines(alloc, 0)?;
+    push_text_of(alloc, text.as_slice(), out)
 }

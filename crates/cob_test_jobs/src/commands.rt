@@ -14,6 +14,7 @@
 //!   no file), and `stuck` where no file can be renamed: does what the words ask for. A word that begins with `@` is the whole path of the file
 //!   behind it. Printed are the lines of standard output behind `>`, those of standard error behind `!`, and the status.
 //! - `refuse`, `memory` or `not-text`: refuses words for want of memory, or because one is no text.
+//! - `lines`, a name: prints the lines of the file, each behind `|`, or that there is no file.
 //! - `file`, a name: prints behind `=` the bytes of the file in hexadecimal digits, or that there are none, or no file.
 
 use crate::stage::{Scene, Stage};
@@ -222,6 +223,14 @@ fn show_file<R: AllocGlobal + Files + Print>(rt: &R, name: &str) -> io::Result<(
     println!(rt; "= {digits}")
 }
 
+/// Prints the lines of a text.
+fn show_lines<R: AllocGlobal + Files + Print>(rt: &R, name: &str) -> io::Result<()> {
+    if !fs::exists(rt, name)? {
+        return println!(rt; "= no file");
+    }
+    print_stream(rt, "|", &fs::read(rt, name)?)
+}
+
 /// Does a step that makes, links or removes a file.
 fn make_file<R: AllocGlobal + Files + Print>(rt: &R, line: &str) -> io::Result<()> {
     let (name, second) = (field_of(line, 1), field_of(line, 2));
@@ -243,6 +252,7 @@ fn step<R: AllocGlobal + Files + Print>(rt: &R, line: &str) -> io::Result<()> {
         "run" => run_step(rt, line),
         "refuse" => refuse_words(rt, &fault_of(field_of(line, 1))),
         "file" => show_file(rt, field_of(line, 1)),
+        "lines" => show_lines(rt, field_of(line, 1)),
         _ => make_file(rt, line),
     }
 }

@@ -9,6 +9,7 @@ mod lists;
 mod stage;
 
 use crate::lists::ListRows;
+use cob_test_conditions::ConditionRows;
 use cob_test_copybooks::CopybookRows;
 use cob_test_items::ItemRows;
 use cob_test_moves::MoveRows;
@@ -23,6 +24,7 @@ fn print_rows<R: AllocGlobal + Files + Print>(rt: &R, folder: &str, table: &str)
         "items" => print_table::<ItemRows, R>(rt, folder, table),
         "copybooks" => print_table::<CopybookRows, R>(rt, folder, table),
         "moves" => print_table::<MoveRows, R>(rt, folder, table),
+        "conditions" => print_table::<ConditionRows, R>(rt, folder, table),
         _ => print_table::<ListRows, R>(rt, folder, table),
     }
 }

@@ -2,7 +2,7 @@ use Rattle.std.proofs.Common.{subst, sym}
 use Rattle.std.proofs.lemmas.Result.{err_from_is_err_and}
 use Rattle.cob_source.specs.Tokens.{lexemes}
 use Rattle.cob_move_deeds.specs.Deeds.{Deeds}
-use Rattle.cob_move_deeds.specs.Tests.{Past}
+use Rattle.cob_move_deeds.specs.Tests.{Test}
 use Rattle.cob_move.specs.DeedsRead.{SaysDeeds}
 use Rattle.cob_move.proofs.BodyLemmas.{memory_refuses}
 use Rattle.cob_move.proofs.ParagraphLemmas.{body_are_moves, literal_refused, says_literal}
@@ -20,5 +20,5 @@ straight_deeds-requires c = record {
 
 pub returns-clause-found : goal.returns-clause-found
 returns-clause-found c =
-    subst (λ (d : Deeds Past). SaysDeeds c.args.entries.now (lexemes c.args.body.now) d) (sym c.in_ok-deeds.ensures.deeds)
+    subst (λ (d : Deeds Test). SaysDeeds c.args.entries.now (lexemes c.args.body.now) d) (sym c.in_ok-deeds.ensures.deeds)
     (says_literal c.args.entries.now (lexemes c.args.body.now) c.in_ok-list.list.items c.requires.named c.requires.literal c.in_ok-list.ensures.found)

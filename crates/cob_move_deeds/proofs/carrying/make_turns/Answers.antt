@@ -35,7 +35,7 @@ returns-clause-carried c =
     let is = c.requires.counted in
     let gives = c.in_ok-number.ensures.says is.bound is.at in
     let below = below_most r (past_bound r is.bound 0) c.args.sides.now.input.now c.args.output.now c.in_ok-number.number gives in
-    loop_made c.one_outcome_of_counts.ensures.needed r on c.args.one.now is.bound c.in_ok-number.number c.args.sides.now.input.now c.args.output.now (ending c.make_moves.result c.make_moves.new.output)
+    loop_made c.tests_are_one.ensures r on c.args.one.now is.bound c.in_ok-number.number c.args.sides.now.input.now c.args.output.now (ending c.make_moves.result c.make_moves.new.output)
     c.requires.prepared.moves is is.at refl gives below
     (subst (λ (n : ℕ). Applied r (moves_between_marks r on.moves c.args.one.now.first (c.args.one.now.first + n)) c.args.sides.now.input.now c.args.output.now (ending c.make_moves.result c.make_moves.new.output)) c.turns_up_to-turns.ensures c.make_moves.ensures.applied)
 

@@ -6,8 +6,8 @@ use Rattle.cob_move_deeds.specs.Flows.{FlowSupport, IsFlow}
 use Rattle.cob_move_deeds.specs.Prepared.{flow_support}
 use Rattle.cob_move_deeds.specs.declared.flow.Flow.{Flow}
 use Rattle.cob_move_deeds.specs.declared.flow.Flow.TheVariants as flow
-use Rattle.cob_move_deeds.proofs.FlowLemmas.{leaves_on, loop_here, moves_leave, moves_stop, not_past_leaves, past_leaves, stops_on, test_stops, there, turns_leave, turns_stop}
-use Rattle.cob_move_deeds.proofs.ReadLemmas.{moves_spend, moves_stop_reads, past_spends, spends_on, test_stop_reads, turns_spend, turns_stop_reads, within_spends}
+use Rattle.cob_move_deeds.proofs.FlowLemmas.{leaves_on, loop_here, moves_leave, moves_stop, not_past_leaves, past_leaves, skip_leaves, stops_on, test_stops, there, turns_leave, turns_stop}
+use Rattle.cob_move_deeds.proofs.ReadLemmas.{moves_spend, moves_stop_reads, past_spends, skip_spends, spends_on, test_stop_reads, turns_spend, turns_stop_reads, within_spends}
 use Rattle.cob_move_deeds.proofs.RowLemmas.{stop_on}
 use Rattle.cob_move_deeds.proofs.carrying.next.Goals as goal
 
@@ -97,7 +97,7 @@ returns-in_ok-make_turns-in-Turns-clause-spends c =
     let more = c.args.more.now in
     let (l, at, is) = subst (λ (f : Flow). IsFlow on f) c.in-Turns.is c.requires.each.0 in
     subst (λ (f : Flow). FlowSpends r on (f ∷ more) more c.args.sides.now.input.now c.args.output.now c.make_turns.new.output c.args.scratch.now c.make_turns.new.scratch) (sym c.in-Turns.is)
-    (turns_spend c.one_outcome_of_counts.ensures.needed c.one_ending.ensures r on c.in-Turns.number more c.index.result.now c.args.sides.now.input.now c.args.output.now c.make_turns.new.output c.args.scratch.now c.make_turns.new.scratch
+    (turns_spend c.tests_are_one.ensures c.one_ending.ensures r on c.in-Turns.number more c.index.result.now c.args.sides.now.input.now c.args.output.now c.make_turns.new.output c.args.scratch.now c.make_turns.new.scratch
     (there on c.in-Turns.number l c.index.result.now at c.index.ensures) c.in_ok-make_turns-in-Turns.ensures.carried c.in_ok-make_turns-in-Turns.ensures.reads)
 
 pub returns-in_err-make_turns-in-Turns-clause-spent : goal.returns-in_err-make_turns-in-Turns-clause-spent
@@ -186,3 +186,39 @@ returns-in_ok-make_moves-in-Moves-clause-known c =
 pub returns-in_ok-make_turns-in-Turns-clause-known : goal.returns-in_ok-make_turns-in-Turns-clause-known
 returns-in_ok-make_turns-in-Turns-clause-known c =
     c.new.ensures (records_of_sides c.args.sides.now) (flow_support c.args.deeds.now) c.args.sides.now.input.now c.make_turns.new.output
+
+pub returns-in_err-left-in-Where-clause-spent : goal.returns-in_err-left-in-Where-clause-spent
+returns-in_err-left-in-Where-clause-spent c =
+    let r : Records = records_of_sides c.args.sides.now in
+    let on : FlowSupport = flow_support c.args.deeds.now in
+    let p = err_from_is_err_and c.from_residual-in_err-left-in-Where.result c.from_residual-in_err-left-in-Where.ensures.1 in
+    rw p.1 (subst (λ (f : Flow). FlowSpendsAtStop r on (f ∷ c.args.more.now) c.args.sides.now.input.now c.args.output.now c.args.scratch.now c.take_branch.new.scratch) (sym c.in-Where.is)
+    (c.in_err-left-in-Where.ensures.spent c.in-Where.lacking))
+
+pub returns-in_ok-left-in-Where-clause-leaves : goal.returns-in_ok-left-in-Where-clause-leaves
+returns-in_ok-left-in-Where-clause-leaves c =
+    let r : Records = records_of_sides c.args.sides.now in
+    let on : FlowSupport = flow_support c.args.deeds.now in
+    subst (λ (f : Flow). LeavesFlows r on (f ∷ c.args.more.now) c.in_ok-left-in-Where.left.now c.args.sides.now.input.now c.args.output.now c.args.output.now) (sym c.in-Where.is)
+    (c.in_ok-left-in-Where.ensures.leaves c.in-Where.lacking)
+
+pub returns-in_ok-left-in-Where-clause-spends : goal.returns-in_ok-left-in-Where-clause-spends
+returns-in_ok-left-in-Where-clause-spends c =
+    let r : Records = records_of_sides c.args.sides.now in
+    let on : FlowSupport = flow_support c.args.deeds.now in
+    subst (λ (f : Flow). FlowSpends r on (f ∷ c.args.more.now) c.in_ok-left-in-Where.left.now c.args.sides.now.input.now c.args.output.now c.args.output.now c.args.scratch.now c.take_branch.new.scratch) (sym c.in-Where.is)
+    (c.in_ok-left-in-Where.ensures.spends c.in-Where.lacking)
+
+pub returns-in-Skip-clause-leaves : goal.returns-in-Skip-clause-leaves
+returns-in-Skip-clause-leaves c =
+    let r : Records = records_of_sides c.args.sides.now in
+    let on : FlowSupport = flow_support c.args.deeds.now in
+    subst (λ (f : Flow). LeavesFlows r on (f ∷ c.args.more.now) c.behind-in-Skip.result.now c.args.sides.now.input.now c.args.output.now c.args.output.now) (sym c.in-Skip.is)
+    (skip_leaves r on c.in-Skip.count c.args.more.now c.behind-in-Skip.result.now c.args.sides.now.input.now c.args.output.now c.behind-in-Skip.ensures.value)
+
+pub returns-in-Skip-clause-spends : goal.returns-in-Skip-clause-spends
+returns-in-Skip-clause-spends c =
+    let r : Records = records_of_sides c.args.sides.now in
+    let on : FlowSupport = flow_support c.args.deeds.now in
+    subst (λ (f : Flow). FlowSpends r on (f ∷ c.args.more.now) c.behind-in-Skip.result.now c.args.sides.now.input.now c.args.output.now c.args.output.now c.args.scratch.now c.args.scratch.now) (sym c.in-Skip.is)
+    (skip_spends r on c.in-Skip.count c.args.more.now c.behind-in-Skip.result.now c.args.sides.now.input.now c.args.output.now c.args.scratch.now c.behind-in-Skip.ensures.value)

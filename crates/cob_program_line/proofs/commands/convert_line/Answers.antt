@@ -47,3 +47,9 @@ returns-in_err-forms-clause-lacks c =
     told c.from_residual.result _ _
     (λ fault is line says. c.in_err-forms.ensures.lacks line.forms says.forms)
     c.from_residual.ensures.1
+
+pub returns-in_err-most_rejects-clause-lacks : goal.returns-in_err-most_rejects-clause-lacks
+returns-in_err-most_rejects-clause-lacks c =
+    told c.from_residual-in_err-most_rejects.result _ _
+    (λ fault is line says. c.in_err-most_rejects.ensures.lacks line.most_rejects says.most_rejects)
+    c.from_residual-in_err-most_rejects.ensures.1

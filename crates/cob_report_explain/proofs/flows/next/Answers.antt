@@ -6,7 +6,7 @@ use Rattle.cob_move_deeds.specs.Carrying.{LeavesFlows, StopsFlows}
 use Rattle.cob_move_deeds.specs.Flows.{FlowSupport, IsFlow}
 use Rattle.cob_move_deeds.specs.Prepared.{flow_support}
 use Rattle.cob_move_deeds.specs.declared.flow.Flow.{Flow}
-use Rattle.cob_move_deeds.proofs.FlowLemmas.{loop_here, moves_leave, moves_stop, not_past_leaves, past_leaves, test_stops, there, turns_leave, turns_stop}
+use Rattle.cob_move_deeds.proofs.FlowLemmas.{loop_here, moves_leave, moves_stop, not_past_leaves, past_leaves, skip_leaves, test_stops, there, turns_leave, turns_stop}
 use Rattle.cob_report_explain.specs.Flowing.{records_walked}
 use Rattle.cob_report_explain.specs.Walked.{plain_stop}
 use Rattle.cob_report_explain.proofs.flows.next.Goals as goal
@@ -93,3 +93,30 @@ loop_numbered-one-requires g c =
     let on : FlowSupport = flow_support c.args.walk.now.deeds.now in
     let (l, at, is) = subst (λ (f : Flow). IsFlow on f) c.in-Turns.is c.requires.flow in
     record { within = slice_get_within on.loops c.in-Turns.number l at }
+
+pub take_branch-requires-clause-there : goal.take_branch-requires-clause-there
+take_branch-requires-clause-there g c =
+    let on : FlowSupport = flow_support c.args.walk.now.deeds.now in
+    subst (λ (f : Flow). IsFlow on f) c.in-Where.is c.requires.flow
+
+pub returns-in_err-left-in-Where-clause-stops : goal.returns-in_err-left-in-Where-clause-stops
+returns-in_err-left-in-Where-clause-stops g c =
+    let r : Records = records_walked c.args.walk.now in
+    let on : FlowSupport = flow_support c.args.walk.now.deeds.now in
+    let p = err_from_is_err_and c.from_residual-in_err-left-in-Where.result c.from_residual-in_err-left-in-Where.ensures.1 in
+    rw (p.1, p.2) (subst (λ (f : Flow). StopsFlows r on (f ∷ c.args.more.now) c.args.walk.now.input.now c.args.output.now (plain_stop c.in_err-left-in-Where.field-0.0) c.args.output.now) (sym c.in-Where.is)
+    (c.in_err-left-in-Where.ensures.stops c.in-Where.lacking))
+
+pub returns-in_ok-left-in-Where-clause-leaves : goal.returns-in_ok-left-in-Where-clause-leaves
+returns-in_ok-left-in-Where-clause-leaves g c =
+    let r : Records = records_walked c.args.walk.now in
+    let on : FlowSupport = flow_support c.args.walk.now.deeds.now in
+    subst (λ (f : Flow). LeavesFlows r on (f ∷ c.args.more.now) c.in_ok-left-in-Where.left.now c.args.walk.now.input.now c.args.output.now c.args.output.now) (sym c.in-Where.is)
+    (c.in_ok-left-in-Where.ensures.leaves c.in-Where.lacking)
+
+pub returns-in-Skip-clause-leaves : goal.returns-in-Skip-clause-leaves
+returns-in-Skip-clause-leaves g c =
+    let r : Records = records_walked c.args.walk.now in
+    let on : FlowSupport = flow_support c.args.walk.now.deeds.now in
+    subst (λ (f : Flow). LeavesFlows r on (f ∷ c.args.more.now) c.behind-in-Skip.result.now c.args.walk.now.input.now c.args.output.now c.args.output.now) (sym c.in-Skip.is)
+    (skip_leaves r on c.in-Skip.count c.args.more.now c.behind-in-Skip.result.now c.args.walk.now.input.now c.args.output.now c.behind-in-Skip.ensures.value)

@@ -5,6 +5,7 @@ use Rattle.cob_move_data.specs.Moves.{Records}
 use Rattle.cob_move_apply.specs.Applied.{Applied, Ending, done, stopped}
 use Rattle.cob_move_apply.specs.Marked.{moves_between_marks}
 use Rattle.cob_move_deeds.specs.Flows.{FlowSupport}
+use Rattle.cob_move_deeds.specs.Laws.{TestLaws}
 use Rattle.cob_move_deeds.specs.Prepared.{flow_support}
 use Rattle.cob_move_deeds.specs.Tests.{past_bound}
 use Rattle.cob_move_deeds.proofs.LoopLemmas.{few_turns, loop_made, loop_stopped}
@@ -40,10 +41,11 @@ returns-clause-carried g c =
     let r : Records = records_walked c.args.walk.now in
     let on : FlowSupport = flow_support c.args.walk.now.deeds.now in
     let is = c.requires.counted in
+    let laws : TestLaws = record { counts = c.one_outcome_of_counts.ensures.needed; compared = c.one_comparison.ensures } in
     let gives = c.in_ok-gave.ensures.says is.bound is.at in
     let below = below_most r (past_bound r is.bound 0) c.args.walk.now.input.now c.args.output.now c.in_ok-gave.gave gives in
     let end : Ending = done c.walk_between.new.output in
-    (loop_made c.one_outcome_of_counts.ensures.needed r on c.args.one.now is.bound c.in_ok-gave.gave c.args.walk.now.input.now c.args.output.now end
+    (loop_made laws r on c.args.one.now is.bound c.in_ok-gave.gave c.args.walk.now.input.now c.args.output.now end
     c.requires.walk.prepared.moves is is.at refl gives below
     (subst (λ (n : ℕ). Applied r (moves_between_marks r on.moves c.args.one.now.first (c.args.one.now.first + n)) c.args.walk.now.input.now c.args.output.now end) c.turns_up_to-turns.ensures c.in_ok-walk_between.ensures.applied))
 
@@ -52,10 +54,11 @@ returns-in_err-walk_between-clause-carried g c =
     let r : Records = records_walked c.args.walk.now in
     let on : FlowSupport = flow_support c.args.walk.now.deeds.now in
     let is = c.requires.counted in
+    let laws : TestLaws = record { counts = c.one_outcome_of_counts.ensures.needed; compared = c.one_comparison.ensures } in
     let gives = c.in_ok-gave.ensures.says is.bound is.at in
     let below = below_most r (past_bound r is.bound 0) c.args.walk.now.input.now c.args.output.now c.in_ok-gave.gave gives in
     let end : Ending = stopped (plain_stop c.in_err-walk_between.field-0.0) c.walk_between.new.output in
     let p = err_from_is_err_and c.from_residual-in_err-walk_between.result c.from_residual-in_err-walk_between.ensures.1 in
-    rw (p.1, p.2) (loop_made c.one_outcome_of_counts.ensures.needed r on c.args.one.now is.bound c.in_ok-gave.gave c.args.walk.now.input.now c.args.output.now end
+    rw (p.1, p.2) (loop_made laws r on c.args.one.now is.bound c.in_ok-gave.gave c.args.walk.now.input.now c.args.output.now end
     c.requires.walk.prepared.moves is is.at refl gives below
     (subst (λ (n : ℕ). Applied r (moves_between_marks r on.moves c.args.one.now.first (c.args.one.now.first + n)) c.args.walk.now.input.now c.args.output.now end) c.turns_up_to-turns.ensures c.in_err-walk_between.ensures.applied))

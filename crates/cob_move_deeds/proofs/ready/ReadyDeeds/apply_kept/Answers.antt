@@ -25,7 +25,7 @@ returns-then-self-clause-reads c =
     let d = c.args.self.now in
     let on : FlowSupport = flow_support d in
     let all : List Flow = d.flows.items in
-    deeds_reads r on all c.args.input.now c.args.output.now c.apply_all.result c.forget_output.new.self c.apply_all.new.scratch c.one_outcome_of_counts.ensures.needed c.one_ending.ensures c.requires.prepared.flows.each
+    deeds_reads r on all c.args.input.now c.args.output.now c.apply_all.result c.forget_output.new.self c.apply_all.new.scratch c.tests_are_one.ensures c.one_ending.ensures c.requires.prepared.flows.each
     c.requires.prepared.flows.nested c.forget_output.ensures.none (c.forget_output.ensures.unkept r.output)
     (all_reads r on all c.args.input.now c.args.output.now c.apply_all.result c.forget_output.new.self c.apply_all.new.scratch (sym d.told ∙ c.if-self.true) c.requires.prepared.moves c.requires.prepared.flows.each
     c.apply_all.ensures.reads)
@@ -41,4 +41,4 @@ pub returns-clause-reads : goal.returns-clause-reads
 returns-clause-reads c =
     let r : Records = record { input = c.args.input_layout.now; output = c.args.output_layout.now } in
     deeds_reads r (flow_support c.args.self.now) c.args.self.now.flows.items c.args.input.now c.args.output.now c.carry_out.result c.forget_output.new.self c.carry_out.new.scratch
-    c.one_outcome_of_counts.ensures.needed c.one_ending.ensures c.requires.prepared.flows.each c.requires.prepared.flows.nested c.forget_output.ensures.none (c.forget_output.ensures.unkept r.output) c.carry_out.ensures.reads
+    c.tests_are_one.ensures c.one_ending.ensures c.requires.prepared.flows.each c.requires.prepared.flows.nested c.forget_output.ensures.none (c.forget_output.ensures.unkept r.output) c.carry_out.ensures.reads

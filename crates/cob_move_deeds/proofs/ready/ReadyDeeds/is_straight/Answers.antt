@@ -14,5 +14,5 @@ returns c = λ r.
     let (q, prepared) = c.requires.prepared in
     let same = c.as_slice.ensures.value in (
       λ yes_of. move_straight r on (length fs) fs (subst (λ (gs : List Flow). AllByRecursion MovesAlone gs) same (c.all_move.ensures.0 yes_of)),
-      λ straight. c.all_move.ensures.1 (subst (λ (gs : List Flow). AllByRecursion MovesAlone gs) (sym same) (straight_move r on (length fs) fs (omega arith) prepared.flows.each straight)),
+      λ straight. c.all_move.ensures.1 (subst (λ (gs : List Flow). AllByRecursion MovesAlone gs) (sym same) (straight_move r on (length fs) fs (omega arith) prepared.flows.each prepared.flows.nested straight)),
     )

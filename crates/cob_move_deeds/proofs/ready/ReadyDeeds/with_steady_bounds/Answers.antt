@@ -4,6 +4,7 @@ pub returns-clause-prepared : goal.returns-clause-prepared
 returns-clause-prepared c = λ r same prepared. record {
   moves = prepared.moves;
   bounds = prepared.bounds;
+  asked = prepared.asked;
   flows = prepared.flows;
   steady = c.in_ok-noted.ensures r same prepared;
 }

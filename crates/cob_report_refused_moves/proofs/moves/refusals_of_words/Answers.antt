@@ -1,0 +1,6 @@
+use Rattle.std.proofs.Common.{sym, subst}
+use Rattle.cob_report_refused_moves.specs.Statements.{AreMoveRefusals}
+use Rattle.cob_report_refused_moves.proofs.moves.refusals_of_words.Goals as goal
+
+pub returns-clause-each : goal.returns-clause-each
+returns-clause-each c = λ text refused are. c.behind_first.ensures.each text _ _ refused (subst (AreMoveRefusals text c.args.input.now c.args.output.now) (sym c.as_slice.ensures.value) (c.in_ok-found.ensures text are))

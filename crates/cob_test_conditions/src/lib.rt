@@ -1,0 +1,25 @@
+//! Answers tables of rows about conditions: what two operands compare to, whether entries are of a class, and how conditions are written.
+//!
+//! [`ConditionRows`] answers them; each table belongs to one module, which says how its rows are read. The tables stand in `data/conditions` of
+//! `cob_test_jobs`, and what must be printed in its `stdout`, worked out by hand from the rules of COBOL.
+#![tactic(auto)]
+
+mod compared;
+mod operands;
+mod written;
+
+use cob_test_rows::{Family, Row, RowFault};
+use std::alloc::Global;
+
+/// The tables on conditions.
+pub struct ConditionRows;
+
+impl Family for ConditionRows {
+    fn answer(alloc: Global, table: &str, row: &Row, out: &mut String) -> Result<(), RowFault> {
+        match table {
+            "compared" => compared::answer(alloc, row, out),
+            "written" => written::answer(alloc, row, out),
+            _ => Err(RowFault::BadRow),
+        }
+    }
+}
