@@ -42,9 +42,7 @@ fn native_hint(entry: WrittenEntry<'_>) -> Phrase<'_> {
 }
 
 /// What to do with the words that are left out: the entry's storage without them.
-static WAYS_ROUND: [(&str, &str); 20] = [
-    ("SYNC", SLACK),
-    ("SYNCHRONIZED", SLACK),
+static WAYS_ROUND: [(&str, &str); 18] = [
     ("COMP-1", SINGLE),
     ("COMPUTATIONAL-1", SINGLE),
     ("COMP-2", DOUBLE),
@@ -114,6 +112,62 @@ fn is_native(text: &[u8]) -> bool {
     text == b"COMP-5".as_slice() || text == b"COMPUTATIONAL-5".as_slice()
 }
 
+/// The usages of binary items.
+static BINARY: [&str; 7] = [
+    "COMP",
+    "COMPUTATIONAL",
+    "BINARY",
+    "COMP-4",
+    "COMPUTATIONAL-4",
+    "COMP-5",
+    "COMPUTATIONAL-5",
+];
+
+/// Whether a word is the usage of a binary item.
+fn is_binary(word: &Token) -> bool {
+    for usage in &BINARY {
+        if usage.as_bytes() == word.text.as_slice() {
+            return true;
+        }
+    }
+    false
+}
+
+/// Whether one of the words is.
+fn has_binary(words: &[Token]) -> bool {
+    for word in words {
+        if is_binary(word) {
+            return true;
+        }
+    }
+    false
+}
+
+/// Which number divides the offset of an item that is aligned, where it is binary by a word of its own.
+fn boundary_of(entry: WrittenEntry<'_>) -> Option<usize> {
+    if !has_binary(entry.words) {
+        return None;
+    }
+    Some(binary_size(picture_word(entry)?).min(4))
+}
+
+/// What to do with an item that is aligned.
+fn slack_hint(entry: WrittenEntry<'_>) -> Phrase<'_> {
+    match boundary_of(entry) {
+        Some(boundary) => Phrase::of_two(
+            "SYNC wants an offset that {} divides: write {} without it, and where layout tells another offset, FILLER PIC X(n) before it with the bytes that lack",
+            Part::Number(boundary),
+            Part::Entry(entry),
+        ),
+        None => Phrase::plain(SLACK),
+    }
+}
+
+/// Whether it is the word that aligns an item.
+fn is_aligned(text: &[u8]) -> bool {
+    text == b"SYNC".as_slice() || text == b"SYNCHRONIZED".as_slice()
+}
+
 /// How it is told that a word is left out.
 fn form_of(text: &[u8]) -> &'static str {
     if text == b"COPY".as_slice() {
@@ -129,6 +183,9 @@ fn form_of(text: &[u8]) -> &'static str {
 fn hint_of<'a>(entry: WrittenEntry<'a>, text: &[u8]) -> Phrase<'a> {
     if is_native(text) {
         return native_hint(entry);
+    }
+    if is_aligned(text) {
+        return slack_hint(entry);
     }
     Phrase::plain(way_round(text))
 }

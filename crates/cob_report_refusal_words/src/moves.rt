@@ -7,7 +7,9 @@ ghost use Rattle.cob_report_refusal_words.specs.Pointing.{IsUnderStatement};
 use crate::bearers::{BookWords, BothWords};
 use crate::blocks::push_block;
 use crate::books::{Blocks, words_of};
-use crate::operands::{told_ambiguous, told_groups, told_pair, told_receiver, told_unknown};
+use crate::operands::{
+    told_ambiguous, told_category, told_groups, told_pair, told_receiver, told_unknown,
+};
 use crate::phrases::{Part, Phrase};
 use crate::pointing::in_statement;
 use crate::source::{SourceText, told_source};
@@ -116,17 +118,12 @@ fn told_statement<'a>(both: BothWords<'a>, words: &'a [Token], rule: MoveRule) -
         MoveRule::Ambiguous => told_ambiguous(both, statement),
         MoveRule::Subscripts => told_subscripts(both, statement),
         MoveRule::Receiver => told_receiver(both, statement),
-        MoveRule::NotAllowed => told_pair(
-            both,
-            statement,
-            "{}, to {}: the table of categories has no such move",
-            "change a picture, or move it to an edited item or to a whole number first (PROFILE.md has the table)",
-        ),
+        MoveRule::NotAllowed => told_category(both, statement),
         MoveRule::TooLong => told_pair(
             both,
             statement,
             "{}, to {}: to a number 31 characters are the most",
-            "move a part of it, by a group with smaller items",
+            Phrase::plain("move a part of it, by a group with smaller items"),
         ),
         MoveRule::Literal => told_literal(statement),
         MoveRule::Groups => told_groups(both, statement),

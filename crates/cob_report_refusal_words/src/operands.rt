@@ -1,13 +1,14 @@
 //! Names of a statement, and what they mean.
 
-use crate::bearers::{Bearer, BothWords, MOST_BEARERS, NamedBearers, Operand};
-use crate::entry::{behind_many, front_of, picture_word};
+use crate::bearers::{Bearer, BothWords, MOST_BEARERS, NamedBearers, Operand, meant};
+use crate::entry::{WrittenEntry, behind_many, front_of, picture_word};
 use crate::phrases::{Part, Phrase};
 use crate::search::Looked;
 use crate::statements::receivers_of;
 use crate::terms::{behind, is_name_word, is_term};
 use crate::told::{Caret, Told, advised, said};
 use cob_copybook_clauses::WordClass;
+use cob_picture::{Category, Picture};
 use cob_source::Token;
 
 /// Whether the last bracket among these words is one that opens.
@@ -156,12 +157,49 @@ fn told_input<'a>(both: BothWords<'a>, word: &'a Token, bearer: Bearer<'a>) -> T
     )
 }
 
+/// Whether an entry is a number with digits behind the point.
+fn has_fraction(entry: WrittenEntry<'_>) -> bool {
+    let Some(word) = picture_word(entry) else {
+        return false;
+    };
+    match Picture::read(word.text.as_slice()) {
+        Ok(picture) => matches!(picture.category(), Category::Numeric) && picture.scale() > 0,
+        Err(_) => false,
+    }
+}
+
+/// What to do with a move that the table of categories has not.
+fn category_hint<'a>(both: BothWords<'a>, statement: &'a [Token]) -> Phrase<'a> {
+    let sender = behind_many(statement, 1);
+    if let (Some(bearer), Some(word)) = (meant(both, sender), sender.first()) {
+        if has_fraction(bearer.entry()) {
+            return Phrase::of(
+                "{} has digits behind the point, and characters have no point: move it to an edited item, or to a whole number first",
+                Part::Word(word),
+            );
+        }
+    }
+    Phrase::plain(
+        "change a picture, or move it to an edited item or to a whole number first (PROFILE.md has the table)",
+    )
+}
+
+/// What is told of a move that the table of categories has not.
+pub(crate) fn told_category<'a>(both: BothWords<'a>, statement: &'a [Token]) -> Told<'a> {
+    told_pair(
+        both,
+        statement,
+        "{}, to {}: the table of categories has no such move",
+        category_hint(both, statement),
+    )
+}
+
 /// What is told of a move between two items, as they are described, by a form with places for both.
 pub(crate) fn told_pair<'a>(
     both: BothWords<'a>,
     statement: &'a [Token],
     form: &'static str,
-    hint: &'static str,
+    hint: Phrase<'a>,
 ) -> Told<'a> {
     let receivers = receivers_of(statement);
     let from = Operand {
@@ -175,7 +213,7 @@ pub(crate) fn told_pair<'a>(
     advised(
         Caret::under_first(receivers),
         Phrase::of_two(form, Part::Operand(from), Part::Operand(to)),
-        Phrase::plain(hint),
+        hint,
     )
 }
 

@@ -22,7 +22,7 @@ fn is_other(word: &Token) -> bool
 }
 
 /// Whether a statement goes on with a word, as it is written.
-fn goes_on(word: &Token) -> bool
+pub(crate) fn goes_on(word: &Token) -> bool
     ensures { IsTrue result → GoesOn (lexeme word.now) }
 {
     !is_stop(word) && !is_term(word, WordClass::Move) && is_other(word)

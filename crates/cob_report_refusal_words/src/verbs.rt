@@ -3,6 +3,7 @@
 use crate::clauses::Lack;
 use crate::entry::{last_words, words_before};
 use crate::phrases::{Part, Phrase};
+use crate::pointing::goes_on;
 use crate::statements::behind_statement;
 use crate::terms::{is_name_word, is_term};
 use crate::told::{Caret, Told, advised, said};
@@ -102,7 +103,7 @@ fn lack_hint<'a>(before: &'a [Token], expected: &str, word: &'a Token) -> Option
             "parts of an item are left out: redefine the item in the copybook by smaller ones",
         ));
     }
-    if expected == "TO" && is_name_word(word) {
+    if expected == "TO" && is_name_word(word) && goes_on(word) {
         return Some(Phrase::of_two("{} TO {}.", Part::Words(before), Part::Word(word)));
     }
     None
