@@ -255,12 +255,31 @@ fn digits_hint(entry: WrittenEntry<'_>, text: &[u8]) -> Option<Phrase<'static>> 
     Some(Phrase::of("PIC X({}) has its bytes", Part::Number(digits)))
 }
 
+/// Where the rules of pictures stand.
+const PICTURES: &str = "PROFILE.md, Pictures";
+
+/// What to do with symbols that are out of order: a point or a comma that is printed stands in no picture with S or V.
+fn order_hint(text: &[u8]) -> &'static str {
+    let (front, rest) = text.split_at(good_front(text).min(text.len()));
+    let is_stored = front.contains(&b'S') || front.contains(&b'V');
+    match rest.first() {
+        Some(b'.') if is_stored => {
+            "S and V stand in numbers that are stored, and the point in printed ones: write V for the point, or - for S"
+        }
+        Some(b',') if is_stored => {
+            "S and V stand in numbers that are stored, and the comma in printed ones: leave the comma out, or write - for S and . for V"
+        }
+        _ => PICTURES,
+    }
+}
+
 /// What to do with a picture that is none, if that is known.
 fn hint_of(entry: WrittenEntry<'_>, text: &[u8], fault: PictureFault) -> Option<Phrase<'static>> {
     match fault {
         PictureFault::Digits => digits_hint(entry, text),
         PictureFault::LeftOut => Some(Phrase::plain("PIC X with as many bytes has its storage")),
-        _ => Some(Phrase::plain("PROFILE.md, Pictures")),
+        PictureFault::Order => Some(Phrase::plain(order_hint(text))),
+        _ => Some(Phrase::plain(PICTURES)),
     }
 }
 

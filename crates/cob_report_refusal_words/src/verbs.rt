@@ -8,7 +8,7 @@ use crate::statements::behind_statement;
 use crate::terms::{is_name_word, is_term};
 use crate::told::{Caret, Told, advised, said};
 use cob_copybook_clauses::WordClass;
-use cob_source::Token;
+use cob_source::{Token, TokenKind};
 
 /// What to do with a condition.
 const CONDITION: &str =
@@ -17,6 +17,10 @@ const CONDITION: &str =
 /// What to do with a loop.
 const LOOP: &str =
     "PERFORM VARYING I FROM 1 BY 1 UNTIL I > 3, statements without a period, END-PERFORM";
+
+/// How a verb is told that begins no statement of a paragraph.
+const OTHER_VERB: &str =
+    "MOVE is expected, and {} stands there: a paragraph is MOVE statements and loops round them";
 
 /// What to do with the statements of other verbs.
 static VERBS: [(&str, &str); 4] = [
@@ -36,14 +40,47 @@ fn verb_hint(word: &Token) -> &'static str {
     "leave it to a program before or behind the conversion"
 }
 
-/// What is told of a word where no statement begins.
-fn told_verb(word: &Token) -> Told<'_> {
+/// Whether a word is this one.
+fn is_word(word: &Token, text: &str) -> bool {
+    word.kind == TokenKind::Word && word.text.as_slice() == text.as_bytes()
+}
+
+/// How it is told that a loop lacks its end, if these words from its PERFORM on lack it: a period ends it before, or nothing does.
+fn loop_lack(words: &[Token]) -> Option<&'static str> {
+    let mut open: usize = 0;
+    for word in words {
+        if word.kind == TokenKind::Stop {
+            return Some("a period stands before the END-PERFORM of this {}");
+        }
+        if is_word(word, "PERFORM") {
+            open = open.saturating_add(1);
+        }
+        if is_word(word, "END-PERFORM") {
+            open = open.saturating_sub(1);
+        }
+        if open == 0 {
+            return None;
+        }
+    }
+    Some("END-PERFORM is expected behind the statements of this {}, and the text ends")
+}
+
+/// What is wrong with a word where no statement begins, and with those behind it.
+fn verb_form(word: &Token, words: &[Token]) -> &'static str {
+    if !is_word(word, "PERFORM") {
+        return OTHER_VERB;
+    }
+    match loop_lack(words) {
+        Some(form) => form,
+        None => OTHER_VERB,
+    }
+}
+
+/// What is told of a word where no statement begins: of the first of these.
+fn told_verb<'a>(word: &'a Token, words: &'a [Token]) -> Told<'a> {
     advised(
         Some(Caret::under(word)),
-        Phrase::of(
-            "MOVE is expected, and {} stands there: a paragraph is MOVE statements and loops round them",
-            Part::Word(word),
-        ),
+        Phrase::of(verb_form(word, words), Part::Word(word)),
         Phrase::plain(verb_hint(word)),
     )
 }
@@ -115,7 +152,7 @@ pub(crate) fn told_statement_words(rest: &[Token]) -> Told<'_> {
         return said(None, Phrase::plain("no statement stands in it"));
     };
     if !is_term(first, WordClass::Move) {
-        return told_verb(first);
+        return told_verb(first, rest);
     }
     match behind_statement(rest) {
         Err(lack) => told_lack(rest, lack),
