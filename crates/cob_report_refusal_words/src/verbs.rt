@@ -45,12 +45,13 @@ fn is_word(word: &Token, text: &str) -> bool {
     word.kind == TokenKind::Word && word.text.as_slice() == text.as_bytes()
 }
 
-/// How it is told that a loop lacks its end, if these words from its PERFORM on lack it: a period ends it before, or nothing does.
+/// How it is told that a loop lacks its end, where it does: a period stands before it, or it is not there.
 fn loop_lack(words: &[Token]) -> Option<&'static str> {
     let mut open: usize = 0;
+    let mut is_stopped = false;
     for word in words {
         if word.kind == TokenKind::Stop {
-            return Some("a period stands before the END-PERFORM of this {}");
+            is_stopped = true;
         }
         if is_word(word, "PERFORM") {
             open = open.saturating_add(1);
@@ -58,11 +59,14 @@ fn loop_lack(words: &[Token]) -> Option<&'static str> {
         if is_word(word, "END-PERFORM") {
             open = open.saturating_sub(1);
         }
+        if open == 0 && is_stopped {
+            return Some("a period stands before the END-PERFORM of this {}");
+        }
         if open == 0 {
             return None;
         }
     }
-    Some("END-PERFORM is expected behind the statements of this {}, and the text ends")
+    Some("this {} has no END-PERFORM")
 }
 
 /// What is wrong with a word where no statement begins, and with those behind it.
