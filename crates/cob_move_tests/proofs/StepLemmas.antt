@@ -1,5 +1,5 @@
 -- The steps of reading a condition.
-use Rattle.std.proofs.Common.{◌≡◌, ◌<◌, ◌⊎◌, inl, inr, ℕ, arith, Bool, true, false, List, ◌++◌, [], ◌∷◌, length, refl, sym, ap, subst, ◌∙◌, Option, Some, None}
+use Rattle.std.proofs.Common.{◌≡◌, ◌<◌, ◌⊎◌, inl, inr, ℕ, arith, Bool, true, false, List, ◌++◌, [], ◌∷◌, length, refl, sym, ap, subst, ◌∙◌, None}
 use Rattle.std.specs.Prelude.{◌&&◌, ◌||◌, IfErr, IfOk, Ok, Err, Result}
 use Rattle.std.specs.declared.cmp.Ordering.{Ordering}
 use Rattle.std.proofs.lemmas.List.{length-append}
@@ -20,11 +20,10 @@ use Rattle.cob_move_conditions.specs.declared.phrases.Quality.{Quality}
 use Rattle.cob_move_conditions.specs.declared.phrases.Quality.TheVariants as quality
 use Rattle.cob_move_conditions.specs.declared.relations.Relation.{Relation}
 use Rattle.cob_move_conditions.specs.Conditions.{IsWholeCondition}
-use Rattle.cob_move_conditions.specs.Written.{BehindNot, Has, InBrackets, Relates, RelatesTo, StandsAlone, WithAnd, WithOr, WrittenCondition}
+use Rattle.cob_move_conditions.specs.Written.{BehindNot, Has, InBrackets, Relates, WithAnd, WithOr, WrittenCondition}
 use Rattle.cob_move_data.specs.Moves.{Entry, Records, Sender, operand_in, record_of}
 use Rattle.cob_move_names.specs.Candidates.{Candidate, all_entries}
 use Rattle.cob_move_names.specs.References.{NamesOperand}
-use Rattle.cob_move_names.specs.Senders.{kind_of_sender}
 use Rattle.cob_move_receive.specs.Table.{SenderKind}
 use Rattle.cob_move_receive.specs.Table as table
 use Rattle.cob_move_statements.specs.declared.fault.MoveRule.{MoveRule}
@@ -34,13 +33,12 @@ use Rattle.cob_source.specs.Tokens.{Lexeme}
 use Rattle.cob_move_tests.specs.declared.entries.NamedEntry.{NamedEntry}
 use Rattle.cob_move_tests.specs.declared.compared.Compared.{Compared}
 use Rattle.cob_move_tests.specs.declared.compared.Compared.TheVariants as compared
-use Rattle.cob_move_tests.specs.declared.compared.LastRelation.{LastRelation}
 use Rattle.cob_move_tests.specs.declared.compared.ReadCondition.{ReadCondition}
-use Rattle.cob_move_tests.specs.Asked.{AsksMore, IsAsked, IsNamed, IsNumberForSign, IsTestable, MayBeAsked, kind_asked, kind_named, sender_asked, sender_named}
-use Rattle.cob_move_tests.specs.Broken.{BreaksCondition, BreaksOperand, BreaksQuality, BreaksRelation, BreaksTest, BreaksWords}
-use Rattle.cob_move_tests.specs.Compared.{IsRead, IsStatedThere, IsThere, kind_of_compared, sender_in, stated_in}
-use Rattle.cob_move_tests.specs.Laws.{ConditionsBreakNoRule, OneConditionOf}
-use Rattle.cob_move_tests.specs.Meant.{HasQuality, IsConditionOf, IsMeantBy, IsNotEmpty, IsOperandOf, IsRelationOf, IsTestOf, NoneStated, Stated, StatesRelation, opposite_if, quality_asked}
+use Rattle.cob_move_tests.specs.Asked.{AsksMore, IsNumberForSign, IsTestable, MayBeAsked, kind_asked, kind_named, sender_asked, sender_named}
+use Rattle.cob_move_tests.specs.Broken.{BreaksCondition, BreaksRelation, BreaksTest, BreaksWords}
+use Rattle.cob_move_tests.specs.Compared.{IsRead, IsThere, kind_of_compared, sender_in, stated_in}
+use Rattle.cob_move_tests.specs.Laws.{ConditionsBreakNoRule}
+use Rattle.cob_move_tests.specs.Meant.{HasQuality, IsConditionOf, IsMeantBy, IsNotEmpty, IsOperandOf, IsTestOf, NoneStated, Stated, StatesRelation, opposite_if, quality_asked}
 use Rattle.cob_move_tests.specs.Qualities.{may_have}
 use Rattle.cob_move_tests.proofs.AskedLemmas.{last_get}
 use Rattle.cob_move_tests.proofs.ReadLemmas.{may_of, parts_read}

@@ -1,4 +1,4 @@
-use Rattle.std.proofs.Common.{inl, inr, refl, sym, ap, subst, ◌∙◌}
+use Rattle.std.proofs.Common.{inr, refl}
 use Rattle.std.proofs.lemmas.Result.{err_from_is_err_and}
 use Rattle.cob_move_statements.specs.Written.{written_reference, written_sender}
 use Rattle.cob_move_tests.specs.Compared.{sender_in, stated_in}
