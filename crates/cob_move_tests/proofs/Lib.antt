@@ -2,6 +2,6 @@ pub mod OwnLemmas
 mod AskedLemmas
 mod ReadLemmas
 mod StepLemmas
-mod SignLemmas
+mod CounterLemmas
 mod OneLemmas
 mod NoRuleLemmas
