@@ -1,3 +1,4 @@
+use Rattle.std.proofs.Common.{rules}
 use Rattle.std.proofs.lemmas.Result.{err_from_is_err_and}
 use Rattle.cob_move_conditions.specs.Written.{written_condition, written_test}
 use Rattle.cob_move_tests.specs.Compared.{stated_in}
