@@ -2,6 +2,5 @@ pub mod OwnLemmas
 mod AskedLemmas
 mod ReadLemmas
 mod StepLemmas
-mod CounterLemmas
 mod OneLemmas
 mod NoRuleLemmas

@@ -62,7 +62,6 @@ fn may_stand(turn: &[Counter<'_>], inside: bool, token: &Token) -> bool
 }
 
 /// Whether no counter stands among the words of a condition, outside of subscripts.
-#[tactic(auto, using(crate::proofs::CounterLemmas::word_passed, crate::proofs::CounterLemmas::word_stopped))]
 pub fn has_no_counter(turn: &[Counter<'_>], words: &[Token]) -> bool
     ensures { result ≡ has_no_counter (counters turn.now) false false (lexemes words.now) }
 {

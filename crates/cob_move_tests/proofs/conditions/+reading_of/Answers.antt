@@ -40,7 +40,7 @@ returns-in_ok-condition-in-BehindNot-clause-found t c =
 
 pub reading_of-requires-in-WithAnd-2 : goal.reading_of-requires-in-WithAnd-2
 reading_of-requires-in-WithAnd-2 t c =
-    let there = c.in_ok-one-in-WithAnd.ensures.found.there in search rules
+    (search rules, (c.requires.named, c.in_ok-one-in-WithAnd.ensures.found.there))
 
 pub returns-in_err-one-in-WithAnd-clause-fault : goal.returns-in_err-one-in-WithAnd-clause-fault
 returns-in_err-one-in-WithAnd-clause-fault t c =
@@ -74,7 +74,7 @@ returns-in_ok-condition-in-WithAnd-clause-grown t c =
 
 pub reading_of-requires-in-WithOr-2 : goal.reading_of-requires-in-WithOr-2
 reading_of-requires-in-WithOr-2 t c =
-    let there = c.in_ok-one-in-WithOr.ensures.found.there in search rules
+    (search rules, (c.requires.named, c.in_ok-one-in-WithOr.ensures.found.there))
 
 pub returns-in_err-one-in-WithOr-clause-fault : goal.returns-in_err-one-in-WithOr-clause-fault
 returns-in_err-one-in-WithOr-clause-fault t c =
