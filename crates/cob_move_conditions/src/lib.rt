@@ -26,6 +26,7 @@ mod words;
 
 pub use conditions::condition;
 pub use laws::one_written_condition;
+pub use operands::operand_at;
 pub use phrases::{ConditionPhrase, Quality, TestPhrase};
 pub use relations::Relation;
 pub use words::{ConditionWord, condition_word};

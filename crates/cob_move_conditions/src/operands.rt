@@ -39,7 +39,7 @@ fn has_no_condition_word(words: &[Token]) -> bool
 }
 
 /// The operand in front, and what is behind it.
-pub(crate) fn operand_at(words: &[Token]) -> Option<(StatementSender<'_>, &[Token])>
+pub fn operand_at(words: &[Token]) -> Option<(StatementSender<'_>, &[Token])>
     ensures found { IfSome result (λ r. StandInFront (IsWrittenOperand (written_sender r.0))
         (lexemes words.now) (lexemes r.1.now)) }
     ensures only { (x : WrittenSender) → EachCutNeither (IsWrittenOperand x) term.Of

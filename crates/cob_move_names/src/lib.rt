@@ -21,8 +21,6 @@
 //! Which entry a name with its qualifiers names, `cob_copybook_names` says, as of the count of a table (`named`); here stand what else a
 //! reference asks of that entry, and the listing of both records.
 //!
-//! What a sender means, a reference or a constant, and which rule it breaks, stands in specs/Senders.antt (`IsSenderOf`, `BreaksSender`), for the crates above.
-//!
 //! # Pairs
 //!
 //! The pairs of MOVE CORRESPONDING (ANSI X3.23-1985, Nucleus: the CORRESPONDING phrase).

@@ -1,0 +1,4 @@
+mod SpanLemmas
+mod OneLemmas
+mod NoRuleLemmas
+mod ReadLemmas

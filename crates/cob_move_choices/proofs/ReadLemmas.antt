@@ -1,0 +1,101 @@
+-- What is read of the words of a choice and of its tests.
+use Rattle.std.proofs.Common.{◌≡◌, ◌<◌, ◌⊎◌, ℕ, Bool, true, false, List, [], ◌∷◌, ◌++◌, length, refl, sym, ap, subst, ◌∙◌, arith, inl, inr, Option, Some}
+use Rattle.std.specs.List.{slice_get}
+use Rattle.std.specs.declared.cmp.Ordering.TheVariants.{Equal}
+use Rattle.std.proofs.lemmas.List.{length-append}
+use Rattle.cob_source.specs.Tokens.{Lexeme}
+use Rattle.cob_copybook_clauses.specs.Written.{WrittenValue}
+use Rattle.cob_copybook_entry.specs.Described.{PlainValue}
+use Rattle.cob_move_condition.specs.Comparable.{may_compare}
+use Rattle.cob_move_condition.specs.Conditions.{Compares, Condition}
+use Rattle.cob_move_data.specs.Moves.{Literal, Records, Sender}
+use Rattle.cob_move_loops.specs.Passages.{AnEvaluate}
+use Rattle.cob_move_loops.specs.Turns.{Counted, in_turn}
+use Rattle.cob_move_names.specs.Senders.{kind_of_sender}
+use Rattle.cob_move_receive.specs.Table.{SenderKind}
+use Rattle.cob_move_receive.specs.Table as table
+use Rattle.cob_move_statements.specs.declared.fault.MoveRule.{MoveRule}
+use Rattle.cob_move_statements.specs.declared.fault.MoveRule.TheVariants as rule
+use Rattle.cob_move_statements.specs.Written.{SentConstant}
+use Rattle.cob_move_tests.specs.declared.entries.NamedEntry.{NamedEntry}
+use Rattle.cob_move_tests.specs.Asked.{AsksMore, IsAsked, IsNamed, kind_asked, sender_asked, sender_named}
+use Rattle.cob_move_tests.specs.Counters.{HasNoCounter, has_no_counter}
+use Rattle.cob_move_tests.specs.Meant.{IsConditionOf, IsOperandOf}
+use Rattle.cob_move_tests.proofs.AskedLemmas.{last_get, one_more}
+use Rattle.cob_move_choices.specs.declared.subjects.Subject.TheVariants as subject
+use Rattle.cob_move_choices.specs.Asked.{MayBeListed, against}
+use Rattle.cob_move_choices.specs.Choices.{Against, AnEntry, BreaksBranchTest, BreaksInTurn, BreaksListed, BreaksListedValue, BreaksSpan, IsBranchTestOf, IsEvaluated, IsListed, IsSubjectOf, IsTruth, Truth, all_of}
+use Rattle.cob_move_choices.specs.Values.{FromTo, FromToWritten, IsSpanWritten, One, OneWritten, WrittenSpan, within}
+
+both : (t : Bool) → t ≡ true → t ≡ false → ⊥
+both t x y = cc
+
+-- ---- what the tests are held against
+
+asked_last : (before now : List NamedEntry) (n : NamedEntry) → now ≡ before ++ n ∷ [] → slice_get now (length before) ≡ Some n
+asked_last before now n e = ap (λ (xs : List NamedEntry). slice_get xs (length before)) e ∙ last_get before n
+
+-- the entry that an EVALUATE names stands behind those that were asked for
+pub subject_found : (r : Records) (ns : List Counted) (line : ℕ) (ws : List Lexeme) (before now : List NamedEntry) (n : NamedEntry) (number : ℕ) → (IsTruth ws → ⊥)
+    → IsEvaluated r ns ws (sender_asked r (Some n)) → number ≡ length before → now ≡ before ++ n ∷ []
+    → IsSubjectOf r ns (AnEvaluate line ws) (against (sender_named r now) (subject.Entry number))
+subject_found r ns line ws before now n number no is at e =
+    let same : sender_named r now number ≡ sender_asked r (Some n) = ap (λ (i : ℕ). sender_named r now i) at ∙ ap (sender_asked r) (asked_last before now n e) in
+    inr (no, sender_asked r (Some n), is, ap (λ (z : Sender). AnEntry z) same)
+
+pub subject_there : (before now : List NamedEntry) (n : NamedEntry) (number : ℕ) → number ≡ length before → now ≡ before ++ n ∷ [] → IsAsked now number
+subject_there before now n number at e = omega (arith, at, ap length e, length-append before (n ∷ []))
+
+pub subject_asks : (r : Records) (before now : List NamedEntry) (n : NamedEntry) → IsNamed r n → now ≡ before ++ n ∷ [] → AsksMore r before now
+subject_asks r before now n is e = one_more r before now n is e
+
+-- ---- values
+
+pub one_found : (r : Records) (s : Sender) (ws : List Lexeme) (v : WrittenValue) (x : PlainValue) (c : Condition) → IsSpanWritten (OneWritten v) ws
+    → IsOperandOf (all_of r) (SentConstant v) (Literal x) → may_compare (kind_of_sender s) (kind_of_sender (Literal x)) ≡ true → c ≡ Compares s Equal (Literal x) → IsListed r s ws c
+one_found r s ws v x c is means may e = (OneWritten v, One (Literal x), is, (Literal x, means, refl), may, e)
+
+pub two_found : (r : Records) (s : Sender) (ws : List Lexeme) (v w : WrittenValue) (x y : PlainValue) (c : Condition) → IsSpanWritten (FromToWritten v w) ws
+    → IsOperandOf (all_of r) (SentConstant v) (Literal x) → may_compare (kind_of_sender s) (kind_of_sender (Literal x)) ≡ true
+    → IsOperandOf (all_of r) (SentConstant w) (Literal y) → may_compare (kind_of_sender s) (kind_of_sender (Literal y)) ≡ true
+    → c ≡ within s (FromTo (Literal x) (Literal y)) → IsListed r s ws c
+two_found r s ws v w x y c is first may last might e =
+    (FromToWritten v w, FromTo (Literal x) (Literal y), is, (Literal x, Literal y, first, last, refl), (may, might), e)
+
+-- an entry that is asked for may be compared with what its sender may be
+kind_of_some : (r : Records) (n : NamedEntry) (o : Option NamedEntry) → o ≡ Some n → kind_of_sender (sender_asked r (Some n)) ≡ table.Entry (kind_asked r o)
+kind_of_some r n o e = ap (λ (x : Option NamedEntry). table.Entry (kind_asked r x)) (sym e)
+
+pub may_be_listed : (r : Records) (asked : List NamedEntry) (number : ℕ) (n : NamedEntry) (x : PlainValue) → IsAsked asked number → slice_get asked number ≡ Some n
+    → may_compare (kind_of_sender (sender_asked r (Some n))) (kind_of_sender (Literal x)) ≡ true → MayBeListed r asked number x
+may_be_listed r asked number n x there at may =
+    (there, ap (λ (k : SenderKind). may_compare k (table.Literal x)) (sym (kind_of_some r n (slice_get asked number) at)) ∙ may)
+
+-- the two words for one kind of refusal: no values, or one of them
+pub no_values : (records : Records) (s : Sender) (ws : List Lexeme) → ((w : WrittenSpan) → IsSpanWritten w ws → ⊥) → BreaksListed rule.Grammar records s ws
+no_values records s ws none = inl (refl, none)
+
+pub values_refused : (r : MoveRule) (records : Records) (s : Sender) (ws : List Lexeme) (w : WrittenSpan) → IsSpanWritten w ws → BreaksSpan r records s w → BreaksListed r records s ws
+values_refused r records s ws w is broken = inr (w, is, broken)
+
+pub not_comparable : (records : Records) (s : Sender) (v : WrittenValue) (x : PlainValue) → IsOperandOf (all_of records) (SentConstant v) (Literal x)
+    → may_compare (kind_of_sender s) (kind_of_sender (Literal x)) ≡ false → BreaksListedValue rule.NotComparable records s v
+not_comparable records s v x is lacks =
+    inr (refl, One (Literal x), (Literal x, is, refl), λ may. both (may_compare (kind_of_sender s) (kind_of_sender (Literal x))) may lacks)
+
+-- ---- tests in a turn
+
+pub truth_found : (r : Records) (ns : List Counted) (ws own : List Lexeme) (c : Condition) → HasNoCounter ns ws → own ≡ in_turn ns false 0 ws → IsConditionOf r own c
+    → IsBranchTestOf r ns Truth ws c
+truth_found r ns ws own c none same is = (none, subst (λ (t : List Lexeme). IsConditionOf r t c) same is)
+
+pub listed_found : (r : Records) (ns : List Counted) (s : Sender) (ws own : List Lexeme) (c : Condition) → HasNoCounter ns ws → own ≡ in_turn ns false 0 ws → IsListed r s own c
+    → IsBranchTestOf r ns (AnEntry s) ws c
+listed_found r ns s ws own c none same is = (none, subst (λ (t : List Lexeme). IsListed r s t c) same is)
+
+pub test_refused : (r : MoveRule) (records : Records) (ns : List Counted) (a : Against) (ws own : List Lexeme) → HasNoCounter ns ws → own ≡ in_turn ns false 0 ws
+    → BreaksInTurn r records a own → BreaksBranchTest r records ns a ws
+test_refused r records ns a ws own none same broken = inr (none, subst (λ (t : List Lexeme). BreaksInTurn r records a t) same broken)
+
+pub counter_among : (records : Records) (ns : List Counted) (a : Against) (ws : List Lexeme) → has_no_counter ns false false ws ≡ false → BreaksBranchTest rule.Grammar records ns a ws
+counter_among records ns a ws some = inl (refl, λ none. both (has_no_counter ns false false ws) none some)
