@@ -25,7 +25,7 @@ use Rattle.cob_move_tests.specs.Meant.{Stated, StatedAs}
 
 -- ---- lists
 
-front_get : {A : Type 0} (xs ys : List A) (n : ℕ) → n < length xs → slice_get (xs ++ ys) n ≡ slice_get xs n
+pub front_get : {A : Type 0} (xs ys : List A) (n : ℕ) → n < length xs → slice_get (xs ++ ys) n ≡ slice_get xs n
 front_get [] ys n lt = let never : ⊥ = omega (arith, lt) in absurd never
 front_get {A} (x ∷ xs) ys n lt =
     slice_get-get_or ((x ∷ xs) ++ ys) n x (omega (arith, lt, length-append (x ∷ xs) ys)) ∙ ap Some (get_or_append_left (x ∷ xs) ys x n lt) ∙ sym (slice_get-get_or (x ∷ xs) n x lt)

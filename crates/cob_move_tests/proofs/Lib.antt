@@ -1,7 +1,7 @@
 pub mod OwnLemmas
-mod AskedLemmas
+pub mod AskedLemmas
 mod ReadLemmas
 mod StepLemmas
 mod SignLemmas
-mod OneLemmas
-mod NoRuleLemmas
+pub mod OneLemmas
+pub mod NoRuleLemmas

@@ -37,7 +37,7 @@ no_sender : NamedBreakNoRule → (r : MoveRule) (all : List Candidate) (w : Writ
 no_sender law r all (SentReference w) s (side, o, names, e) b = law all w side o r names b
 no_sender law r all (SentConstant w) s (c, is, e) b = no_sent_constant r w c is b
 
-no_operand : NamedBreakNoRule → (r : MoveRule) (all : List Candidate) (w : WrittenSender) (s : Sender) → IsOperandOf all w s → BreaksOperand r all w → ⊥
+pub no_operand : NamedBreakNoRule → (r : MoveRule) (all : List Candidate) (w : WrittenSender) (s : Sender) → IsOperandOf all w s → BreaksOperand r all w → ⊥
 no_operand law r all w s is (inl b) = no_sender law r all w s is.0 b
 no_operand law r all w s is (inr b) = b.1 is.1
 

@@ -111,7 +111,7 @@ fn is_not_empty(written: &ValueClause<'_>) -> bool
 /// # Errors
 ///
 /// `Grammar` for a word that is no numeric literal; `Literal` for an empty literal, or one of too many characters or digits.
-fn constant_compared(written: &ValueClause<'_>) -> Result<Value, MoveRule>
+pub fn constant_compared(written: &ValueClause<'_>) -> Result<Value, MoveRule>
     ensures found { IfOk result (λ v. IsConstantOf (written_value written.now) (plain_value v)) }
     ensures some { IfOk result (λ v. IsNotEmpty (written_value written.now)) }
     ensures fault { IfErr result (λ r. BreaksSentConstant r (written_value written.now)

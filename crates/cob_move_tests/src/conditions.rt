@@ -46,7 +46,11 @@ use std::alloc::{AllocError, Global};
 /// # Errors
 ///
 /// Memory was refused.
-fn opposite_if(alloc: Global, opposite: bool, condition: Condition) -> Result<Condition, AllocError>
+pub fn opposite_if(
+    alloc: Global,
+    opposite: bool,
+    condition: Condition,
+) -> Result<Condition, AllocError>
     ensures means { IfOk result (λ c. (entry : ℕ → Sender)
         → condition_of entry c ≡ opposite_if opposite (condition_of entry condition)) }
     ensures testable { IfOk result (λ c. (r : Records) (asked : List Named)
@@ -64,7 +68,7 @@ fn opposite_if(alloc: Global, opposite: bool, condition: Condition) -> Result<Co
 /// # Errors
 ///
 /// Memory was refused.
-fn both(alloc: Global, first: Condition, second: Condition) -> Result<Condition, AllocError>
+pub fn both(alloc: Global, first: Condition, second: Condition) -> Result<Condition, AllocError>
     ensures means { IfOk result (λ c. (entry : ℕ → Sender)
         → condition_of entry c ≡ Both (condition_of entry first) (condition_of entry second)) }
     ensures testable { IfOk result (λ c. (r : Records) (asked : List Named)
@@ -80,7 +84,7 @@ fn both(alloc: Global, first: Condition, second: Condition) -> Result<Condition,
 /// # Errors
 ///
 /// Memory was refused.
-fn either(alloc: Global, first: Condition, second: Condition) -> Result<Condition, AllocError>
+pub fn either(alloc: Global, first: Condition, second: Condition) -> Result<Condition, AllocError>
     ensures means { IfOk result (λ c. (entry : ℕ → Sender)
         → condition_of entry c ≡ Either (condition_of entry first) (condition_of entry second)) }
     ensures testable { IfOk result (λ c. (r : Records) (asked : List Named)

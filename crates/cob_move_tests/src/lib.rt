@@ -34,7 +34,8 @@ mod laws;
 mod qualities;
 mod senders;
 
-pub use conditions::condition_of;
+pub use compared::constant_compared;
+pub use conditions::{both, condition_of, either, opposite_if};
 pub use counters::has_no_counter;
 pub use entries::{Entries, NamedEntry};
 pub use laws::{conditions_break_no_rule, one_condition_of};
