@@ -137,6 +137,14 @@ waiting_means r asked (Some d) (Some w) own c t is same e = e ∙ ap (λ (x : Co
 
 -- ---- entries that are placed
 
+-- an entry of the same side is named so
+pub named_as : (e : PlacedEntry) (n : NamedEntry) → e.side ≡ n.side → e.entry ≡ n.entry → named_of e ≡ n
+named_as e n side entry = λ i. record { side = side i; entry = entry i }
+
+pub none_left : (ns : List NamedEntry) → length ns ≡ 0 → ns ≡ []
+none_left [] none = refl
+none_left (n ∷ ns) none = absurd (omega (arith, none))
+
 get_named : (es : List PlacedEntry) (n : ℕ) → slice_get (map named_of es) n ≡ option_map named_of (slice_get es n)
 get_named [] n = refl
 get_named (e ∷ es) zero = refl

@@ -95,7 +95,8 @@ fn placed_entries(
 {
     let mut placed = Vec::new(alloc);
     for named in asked {
-        placed.push(PlacedEntry::new(named.side, named.entry, input, output))?;
+        let entry = PlacedEntry::new(named.side, named.entry, input, output);
+        placed.push(entry)?;
     }
     Ok(placed)
 }

@@ -1,6 +1,6 @@
 //! Choices: whether there are some, and what they test.
 
-ghost use Rattle.std.specs.Prelude.{◌≡◌, ◌⊎◌, ◌+◌, ◌<◌, ◌≤◌, ℕ, List, option_map, IfErr, IfOk, OnOk};
+ghost use Rattle.std.specs.Prelude.{◌≡◌, ◌⊎◌, ◌+◌, ◌<◌, ◌≤◌, ℕ, List, option_map, IfErr, IfNone, IfOk, IfSome, OnOk};
 ghost use Rattle.cob_limits.specs.Limits.{most_written_out};
 ghost use Rattle.std.specs.List.{AllByRecursion};
 ghost use Rattle.cob_move_tests.specs.Asked.{AsksMore, IsAsked, IsNamed, IsTestable, kind_named, sender_named};
@@ -9,9 +9,10 @@ ghost use Rattle.cob_move_choices.specs.Asked.{IsSubjectAsked, against};
 ghost use Rattle.cob_move_choices.specs.Choices.{IsBranchTestOf, IsSubjectOf, joined_test};
 ghost use Rattle.cob_move_condition.specs.Conditions.{condition_of};
 ghost use Rattle.cob_move_data.specs.Moves.{Records, Sender};
-ghost use Rattle.cob_move_loops.specs.Passages.{IsPassage, Passage};
-ghost use Rattle.cob_move_loops.specs.Reading.{Within, counters, item_front, written_choice};
-ghost use Rattle.cob_source.specs.Tokens.{lexemes};
+ghost use Rattle.cob_move_loops.specs.declared.parts.Place.TheVariants.{Branches as BranchesOf};
+ghost use Rattle.cob_move_loops.specs.Passages.{Branched, FrontAt, IsPassage, Passage, PassageFront};
+ghost use Rattle.cob_move_loops.specs.Reading.{Within, counters, item_front, written_choice, written_test};
+ghost use Rattle.cob_source.specs.Tokens.{Lexeme, lexemes};
 ghost use Rattle.cob_move_tests.specs.Entries.{AllMayBeNamed, records_of};
 ghost use Rattle.cob_move.specs.DeedsRead.{MayBeTestedOr, SubjectNotRead, TestNotRead, choice_in_front, made_lists, with_asked, with_one_more};
 ghost use Rattle.cob_move.specs.Paragraphs.{has_choice};
@@ -23,7 +24,10 @@ use crate::made::{Made, NotRead};
 use cob_limits::MAX_WRITTEN_OUT;
 use cob_move_choices::{Subject, branch_test, subject_of};
 use cob_move_condition::Condition;
-use cob_move_loops::{Choice, Counter, PassageItem, first_line, item_at, line_of};
+use cob_move_loops::{
+    BranchTest, Choice, ChoiceKind, Counter, PassageItem, Place, first_line, item_at, item_in,
+    line_of,
+};
 use cob_move_tests::{Entries, either};
 use cob_source::Token;
 use std::alloc::{AllocError, Global};
@@ -56,6 +60,26 @@ pub(crate) fn has_choice(words: &[Token]) -> bool
         rest = more;
     }
     false
+}
+
+/// The branch in front of those of a choice: what it is taken by, its statements, and the branches behind it.
+pub(crate) fn branch_in_front(
+    kind: ChoiceKind,
+    words: &[Token],
+) -> Option<(BranchTest<'_>, &[Token], &[Token])>
+    ensures found { IfSome result (λ r. FrontAt (BranchesOf kind)
+        (Branched (written_test r.0) (lexemes r.1.now)) (lexemes words.now) (lexemes r.2.now)) }
+    ensures only { IfSome result (λ r. (f : PassageFront) (more : List Lexeme)
+        → FrontAt (BranchesOf kind) f (lexemes words.now) more
+        → (Branched (written_test r.0) (lexemes r.1.now) ≡ f) × (lexemes r.2.now ≡ more)) }
+    ensures none { IfNone result ((f : PassageFront) (more : List Lexeme)
+        → FrontAt (BranchesOf kind) f (lexemes words.now) more → ⊥) }
+{
+    let (item, more) = item_in(Place::Branches(kind), words)?;
+    match item {
+        PassageItem::Branch { test, body } => Some((test, body, more)),
+        _ => None,
+    }
 }
 
 /// What the tests of a choice are held against, in a turn. Entries that it asks for stand behind those so far.

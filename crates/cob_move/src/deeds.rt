@@ -21,7 +21,7 @@ ghost use Rattle.cob_move.specs.DeedsRead.{AddsBranch, AddsBranches, AddsChoice,
 ghost use Rattle.cob_move.specs.Loops.{AddsRun, RunRefused};
 ghost use Rattle.cob_move.specs.declared.made.NotRead.TheVariants as unread;
 
-use crate::choosing::{count_choice, joined, read_subject, read_test};
+use crate::choosing::{branch_in_front, count_choice, joined, read_subject, read_test};
 use crate::deeds_laws::{deeds_break_no_rule, one_deeds};
 use crate::linking::{link_branches, link_turns, next_number};
 use crate::looking::{is_sure, look_at_turn, plain_depth};
@@ -38,8 +38,8 @@ use cob_move_condition::Condition;
 use cob_move_data::StatementMoves;
 use cob_move_deeds::{Bound, Flow};
 use cob_move_loops::{
-    BranchTest, Choice, ChoiceKind, Counter, Loop, LoopBound, PassageItem, Place, in_turn, item_at,
-    item_in, kind_of, no_turn, one_passage, turns_to_write, with_counter,
+    BranchTest, Choice, ChoiceKind, Counter, Loop, LoopBound, PassageItem, in_turn, item_at,
+    kind_of, no_turn, one_passage, turns_to_write, with_counter,
 };
 use cob_move_names::{Correspondences, named_break_no_rule, one_named};
 use cob_move_statements::{MoveFault, MoveRule, one_list_of_ended, one_reference, whole_reference};
@@ -586,10 +586,7 @@ fn add_branches<'a>(
     branch_tests_break_no_rule();
     let mut waiting = None;
     let mut rest = branches;
-    while let Some((item, more)) = item_in(Place::Branches(kind), rest) {
-        let PassageItem::Branch { test, body } = item else {
-            break;
-        };
+    while let Some((test, body, more)) = branch_in_front(kind, rest) {
         let BranchTest::Tested(words) = test else {
             return add_apart(alloc, entries, pairs, body, turn, made);
         };

@@ -22,23 +22,23 @@ use Rattle.cob_move_choices.specs.Values.{FromTo, FromToWritten, IsSpanOf, MayBe
 use Rattle.cob_move_choices.proofs.SpanLemmas.{one_span, one_span_of}
 
 no_evaluated : NamedBreakNoRule → (r : MoveRule) (records : Records) (ns : List Counted) (ws : List Lexeme) (s : Sender) → IsEvaluated records ns ws s → BreaksEvaluated r records ns ws → ⊥
-no_evaluated law r records ns ws s (none, w, side, o, is, names, e) (inl (same, some)) = some none
-no_evaluated law r records ns ws s (none, w, side, o, is, names, e) (inr (inl (same, no))) = no w is
-no_evaluated law r records ns ws s (none, w, side, o, is, names, e) (inr (inr (x, it, broken))) =
+no_evaluated law r records ns ws s (none, (w, side, o, is, names, e)) (inl (same, some)) = some none
+no_evaluated law r records ns ws s (none, (w, side, o, is, names, e)) (inr (inl (same, never))) = never w is
+no_evaluated law r records ns ws s (none, (w, side, o, is, names, e)) (inr (inr (x, it, broken))) =
     law (all_of records) w side o r names
     (subst (λ (z : WrittenReference). BreaksReference r (all_of records) z) (one_reference (in_turn ns false 0 ws) x w it.0 is.0) broken)
 
 pub no_subject : NamedBreakNoRule → SubjectsBreakNoRule
 no_subject law r records ns (AnIf line) a is broken = broken
 no_subject law r records ns (AnEvaluate line ws) a (inl (is, e)) broken = broken.0 is
-no_subject law r records ns (AnEvaluate line ws) a (inr (no, s, is, e)) broken = no_evaluated law r records ns ws s is broken.1
+no_subject law r records ns (AnEvaluate line ws) a (inr (other, (s, is, e))) broken = no_evaluated law r records ns ws s is broken.1
 
 no_value : OneNamed → NamedBreakNoRule → (r : MoveRule) (records : Records) (s : Sender) (v : WrittenValue) (a : Sender) → IsOperandOf (all_of records) (SentConstant v) a
     → may_compare (kind_of_sender s) (kind_of_sender a) ≡ true → BreaksListedValue r records s v → ⊥
 no_value one law r records s v a is may (inl broken) = no_operand law r (all_of records) (SentConstant v) a is broken
-no_value one law r records s v a is may (inr (same, x, it, no)) =
+no_value one law r records s v a is may (inr (same, (x, it, never))) =
     let meant : x ≡ One a = one_span_of one (all_of records) (OneWritten v) x (One a) it (a, is, refl) in
-    no (subst (λ (z : Span). MayBeWithin s z) (sym meant) may)
+    never (subst (λ (z : Span). MayBeWithin s z) (sym meant) may)
 
 no_span : OneNamed → NamedBreakNoRule → (r : MoveRule) (records : Records) (s : Sender) (w : WrittenSpan) (v : Span) → IsSpanOf (all_of records) w v → MayBeWithin s v
     → BreaksSpan r records s w → ⊥
@@ -59,6 +59,6 @@ no_listed one law r records s ws c (w, v, spelled, is, may, e) (inr (x, it, brok
 
 pub no_test : ConditionsBreakNoRule → OneNamed → NamedBreakNoRule → BranchTestsBreakNoRule
 no_test none one law r records ns Truth ws c h (inl (same, some)) = some h.0
-no_test none one law r records ns Truth ws c h (inr (no, broken)) = none r records (in_turn ns false 0 ws) c h.1 broken
+no_test none one law r records ns Truth ws c h (inr (without, broken)) = none r records (in_turn ns false 0 ws) c h.1 broken
 no_test none one law r records ns (AnEntry s) ws c h (inl (same, some)) = some h.0
-no_test none one law r records ns (AnEntry s) ws c h (inr (no, broken)) = no_listed one law r records s (in_turn ns false 0 ws) c h.1 broken
+no_test none one law r records ns (AnEntry s) ws c h (inr (without, broken)) = no_listed one law r records s (in_turn ns false 0 ws) c h.1 broken

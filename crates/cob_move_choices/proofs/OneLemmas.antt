@@ -19,7 +19,7 @@ use Rattle.cob_move_choices.specs.Values.{IsSpanOf, Span, WrittenSpan, within}
 use Rattle.cob_move_choices.proofs.SpanLemmas.{one_span, one_span_of}
 
 one_evaluated : OneNamed → (r : Records) (ns : List Counted) (ws : List Lexeme) (s t : Sender) → IsEvaluated r ns ws s → IsEvaluated r ns ws t → s ≡ t
-one_evaluated law r ns ws s t (none, w, side, o, is, names, e) (none_too, x, other, p, it, names_too, f) =
+one_evaluated law r ns ws s t (none, (w, side, o, is, names, e)) (none_too, (x, other, p, it, names_too, f)) =
     let same : w ≡ x = one_reference (in_turn ns false 0 ws) w x is.0 it.0 in
     let k : (side ≡ other) × (o ≡ p) = law (all_of r) x side other o p (subst (λ (z : WrittenReference). NamesOperand (all_of r) z side o) same names) names_too in
     e ∙ ap (λ (z : Side). Entry z Pictured o) k.0 ∙ ap (λ (z : Operand). Entry other Pictured z) k.1 ∙ sym f
@@ -27,9 +27,9 @@ one_evaluated law r ns ws s t (none, w, side, o, is, names, e) (none_too, x, oth
 pub one_subject_of : OneNamed → OneSubject
 one_subject_of law r ns (AnIf line) a b e f = e ∙ sym f
 one_subject_of law r ns (AnEvaluate line ws) a b (inl (is, e)) (inl (it, f)) = e ∙ sym f
-one_subject_of law r ns (AnEvaluate line ws) a b (inl (is, e)) (inr (no, other)) = absurd (no is)
-one_subject_of law r ns (AnEvaluate line ws) a b (inr (no, other)) (inl (is, e)) = absurd (no is)
-one_subject_of law r ns (AnEvaluate line ws) a b (inr (no, s, is, e)) (inr (none, t, it, f)) =
+one_subject_of law r ns (AnEvaluate line ws) a b (inl (is, e)) (inr (never, other)) = absurd (never is)
+one_subject_of law r ns (AnEvaluate line ws) a b (inr (never, other)) (inl (is, e)) = absurd (never is)
+one_subject_of law r ns (AnEvaluate line ws) a b (inr (never, (s, is, e))) (inr (none, (t, it, f))) =
     e ∙ ap (λ (z : Sender). AnEntry z) (one_evaluated law r ns ws s t is it) ∙ sym f
 
 one_listed : OneNamed → (r : Records) (s : Sender) (ws : List Lexeme) (c d : Condition) → IsListed r s ws c → IsListed r s ws d → c ≡ d

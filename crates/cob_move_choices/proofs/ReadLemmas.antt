@@ -6,9 +6,10 @@ use Rattle.std.proofs.lemmas.List.{length-append}
 use Rattle.cob_source.specs.Tokens.{Lexeme}
 use Rattle.cob_copybook_clauses.specs.Written.{WrittenValue}
 use Rattle.cob_copybook_entry.specs.Described.{PlainValue}
+use Rattle.cob_copybook_tree.specs.declared.node.Kind.{Kind}
 use Rattle.cob_move_condition.specs.Comparable.{may_compare}
 use Rattle.cob_move_condition.specs.Conditions.{Compares, Condition}
-use Rattle.cob_move_data.specs.Moves.{Literal, Records, Sender}
+use Rattle.cob_move_data.specs.Moves.{Literal, Records, Sender, operand_in, record_of}
 use Rattle.cob_move_loops.specs.Passages.{AnEvaluate}
 use Rattle.cob_move_loops.specs.Turns.{Counted, in_turn}
 use Rattle.cob_move_names.specs.Senders.{kind_of_sender}
@@ -19,12 +20,13 @@ use Rattle.cob_move_statements.specs.declared.fault.MoveRule.TheVariants as rule
 use Rattle.cob_move_statements.specs.Written.{SentConstant}
 use Rattle.cob_move_tests.specs.declared.entries.NamedEntry.{NamedEntry}
 use Rattle.cob_move_tests.specs.Asked.{AsksMore, IsAsked, IsNamed, kind_asked, sender_asked, sender_named}
+use Rattle.cob_move_tests.specs.Broken.{BreaksWords}
 use Rattle.cob_move_tests.specs.Counters.{HasNoCounter, has_no_counter}
 use Rattle.cob_move_tests.specs.Meant.{IsConditionOf, IsOperandOf}
 use Rattle.cob_move_tests.proofs.AskedLemmas.{last_get, one_more}
 use Rattle.cob_move_choices.specs.declared.subjects.Subject.TheVariants as subject
 use Rattle.cob_move_choices.specs.Asked.{MayBeListed, against}
-use Rattle.cob_move_choices.specs.Choices.{Against, AnEntry, BreaksBranchTest, BreaksInTurn, BreaksListed, BreaksListedValue, BreaksSpan, IsBranchTestOf, IsEvaluated, IsListed, IsSubjectOf, IsTruth, Truth, all_of}
+use Rattle.cob_move_choices.specs.Choices.{Against, AnEntry, BreaksBranchTest, BreaksEvaluated, BreaksInTurn, BreaksListed, BreaksListedValue, BreaksSpan, BreaksSubject, IsBranchTestOf, IsEvaluated, IsListed, IsSubjectOf, IsTruth, Truth, all_of}
 use Rattle.cob_move_choices.specs.Values.{FromTo, FromToWritten, IsSpanWritten, One, OneWritten, WrittenSpan, within}
 
 both : (t : Bool) → t ≡ true → t ≡ false → ⊥
@@ -39,15 +41,24 @@ asked_last before now n e = ap (λ (xs : List NamedEntry). slice_get xs (length 
 pub subject_found : (r : Records) (ns : List Counted) (line : ℕ) (ws : List Lexeme) (before now : List NamedEntry) (n : NamedEntry) (number : ℕ) → (IsTruth ws → ⊥)
     → IsEvaluated r ns ws (sender_asked r (Some n)) → number ≡ length before → now ≡ before ++ n ∷ []
     → IsSubjectOf r ns (AnEvaluate line ws) (against (sender_named r now) (subject.Entry number))
-subject_found r ns line ws before now n number no is at e =
+subject_found r ns line ws before now n number other is at e =
     let same : sender_named r now number ≡ sender_asked r (Some n) = ap (λ (i : ℕ). sender_named r now i) at ∙ ap (sender_asked r) (asked_last before now n e) in
-    inr (no, sender_asked r (Some n), is, ap (λ (z : Sender). AnEntry z) same)
+    inr (other, (sender_asked r (Some n), is, ap (λ (z : Sender). AnEntry z) same))
 
 pub subject_there : (before now : List NamedEntry) (n : NamedEntry) (number : ℕ) → number ≡ length before → now ≡ before ++ n ∷ [] → IsAsked now number
 subject_there before now n number at e = omega (arith, at, ap length e, length-append before (n ∷ []))
 
 pub subject_asks : (r : Records) (before now : List NamedEntry) (n : NamedEntry) → IsNamed r n → now ≡ before ++ n ∷ [] → AsksMore r before now
 subject_asks r before now n is e = one_more r before now n is e
+
+-- a counter is among the words of an EVALUATE
+pub counter_in_head : (records : Records) (ns : List Counted) (ws : List Lexeme) → has_no_counter ns false false ws ≡ false → BreaksEvaluated rule.Grammar records ns ws
+counter_in_head records ns ws some = inl (refl, λ none. both (has_no_counter ns false false ws) none some)
+
+-- an entry that isn't named, where the words aren't TRUE
+pub head_refused : (r : MoveRule) (records : Records) (ns : List Counted) (line : ℕ) (ws : List Lexeme) → (IsTruth ws → ⊥) → (r ≡ rule.Memory) ⊎ BreaksEvaluated r records ns ws → (r ≡ rule.Memory) ⊎ BreaksSubject r records ns (AnEvaluate line ws)
+head_refused r records ns line ws other (inl memory) = inl memory
+head_refused r records ns line ws other (inr broken) = inr (other, broken)
 
 -- ---- values
 
@@ -71,6 +82,11 @@ pub may_be_listed : (r : Records) (asked : List NamedEntry) (number : ℕ) (n : 
 may_be_listed r asked number n x there at may =
     (there, ap (λ (k : SenderKind). may_compare k (table.Literal x)) (sym (kind_of_some r n (slice_get asked number) at)) ∙ may)
 
+-- whether an entry may be compared with a constant, by what its layout says of it
+pub entry_compares : (r : Records) (n : NamedEntry) (kind : Kind) (x : PlainValue) (may : Bool) → kind ≡ (operand_in (record_of r n.side) n.entry).kind → may ≡ may_compare (table.Entry kind) (table.Literal x)
+    → may_compare (kind_of_sender (sender_asked r (Some n))) (kind_of_sender (Literal x)) ≡ may
+entry_compares r n kind x may same is = sym (is ∙ ap (λ (k : Kind). may_compare (table.Entry k) (table.Literal x)) same)
+
 -- the two words for one kind of refusal: no values, or one of them
 pub no_values : (records : Records) (s : Sender) (ws : List Lexeme) → ((w : WrittenSpan) → IsSpanWritten w ws → ⊥) → BreaksListed rule.Grammar records s ws
 no_values records s ws none = inl (refl, none)
@@ -81,7 +97,7 @@ values_refused r records s ws w is broken = inr (w, is, broken)
 pub not_comparable : (records : Records) (s : Sender) (v : WrittenValue) (x : PlainValue) → IsOperandOf (all_of records) (SentConstant v) (Literal x)
     → may_compare (kind_of_sender s) (kind_of_sender (Literal x)) ≡ false → BreaksListedValue rule.NotComparable records s v
 not_comparable records s v x is lacks =
-    inr (refl, One (Literal x), (Literal x, is, refl), λ may. both (may_compare (kind_of_sender s) (kind_of_sender (Literal x))) may lacks)
+    inr (refl, (One (Literal x), (Literal x, is, refl), λ may. both (may_compare (kind_of_sender s) (kind_of_sender (Literal x))) may lacks))
 
 -- ---- tests in a turn
 
@@ -99,3 +115,17 @@ test_refused r records ns a ws own none same broken = inr (none, subst (λ (t : 
 
 pub counter_among : (records : Records) (ns : List Counted) (a : Against) (ws : List Lexeme) → has_no_counter ns false false ws ≡ false → BreaksBranchTest rule.Grammar records ns a ws
 counter_among records ns a ws some = inl (refl, λ none. both (has_no_counter ns false false ws) none some)
+
+-- why a test isn't read, in a choice that is held against nothing
+pub truth_refused : (r : MoveRule) (records : Records) (ns : List Counted) (a : Against) (ws own : List Lexeme) → a ≡ Truth → HasNoCounter ns ws → own ≡ in_turn ns false 0 ws → (r ≡ rule.Memory) ⊎ BreaksWords r records own
+    → (r ≡ rule.Memory) ⊎ BreaksBranchTest r records ns a ws
+truth_refused r records ns a ws own held none same (inl memory) = inl memory
+truth_refused r records ns a ws own held none same (inr broken) =
+    inr (subst (λ (x : Against). BreaksBranchTest r records ns x ws) (sym held) (test_refused r records ns Truth ws own none same broken))
+
+-- and in one that is held against an entry
+pub listed_refused : (r : MoveRule) (records : Records) (ns : List Counted) (a : Against) (s : Sender) (ws own : List Lexeme) → a ≡ AnEntry s → HasNoCounter ns ws → own ≡ in_turn ns false 0 ws → (r ≡ rule.Memory) ⊎ BreaksListed r records s own
+    → (r ≡ rule.Memory) ⊎ BreaksBranchTest r records ns a ws
+listed_refused r records ns a s ws own held none same (inl memory) = inl memory
+listed_refused r records ns a s ws own held none same (inr broken) =
+    inr (subst (λ (x : Against). BreaksBranchTest r records ns x ws) (sym held) (test_refused r records ns (AnEntry s) ws own none same broken))

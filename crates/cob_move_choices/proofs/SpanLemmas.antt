@@ -5,6 +5,7 @@ use Rattle.cob_copybook_clauses.specs.Reading.{NotFirstWord}
 use Rattle.cob_copybook_clauses.specs.Terms.{term_of_kind, term_of_word, word_class}
 use Rattle.cob_copybook_clauses.specs.Written.{WrittenValue}
 use Rattle.cob_copybook_clauses.proofs.OneLemmas.{constant_cut}
+use Rattle.cob_copybook_entry.specs.Kinds.{usage_word}
 use Rattle.cob_move_data.specs.Moves.{Sender}
 use Rattle.cob_move_names.specs.Candidates.{Candidate}
 use Rattle.cob_move_names.specs.Laws.{OneNamed}
@@ -17,11 +18,11 @@ use Rattle.cob_move_choices.specs.Values.{FromTo, FromToWritten, IsSpanOf, IsSpa
 -- ---- THRU
 
 thru_word : term_of_word (codes "THRU") ≡ term.Plain
-unfolding term_of_word
+unfolding term_of_word usage_word
 thru_word = refl
 
 through_word : term_of_word (codes "THROUGH") ≡ term.Plain
-unfolding term_of_word
+unfolding term_of_word usage_word
 through_word = refl
 
 -- it is no reserved word of entries and moves

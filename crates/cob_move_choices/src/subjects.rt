@@ -12,10 +12,10 @@ ghost use Rattle.cob_move_choices.specs.Asked.{IsSubjectAsked, against};
 ghost use Rattle.cob_move_choices.specs.Choices.{BreaksEvaluated, BreaksSubject, IsEvaluated, IsSubjectOf, IsTruth};
 
 use cob_move_conditions::operand_at;
-use cob_move_loops::{Choice, Counter, in_turn};
+use cob_move_loops::{Choice, Counter, in_turn, is_that_word};
 use cob_move_statements::{MoveRule, Reference, StatementSender};
 use cob_move_tests::{Entries, NamedEntry, has_no_counter};
-use cob_source::{Token, TokenKind};
+use cob_source::Token;
 use std::alloc::Global;
 
 /// What the tests of a choice are held against.
@@ -31,11 +31,13 @@ pub enum Subject {
 fn is_truth(words: &[Token]) -> bool
     ensures { IsTrue result ↔ IsTruth (lexemes words.now) }
 {
-    match words {
-        [only] => matches!(only.kind, TokenKind::Word)
-            && only.text.as_slice() == b"TRUE".as_slice(),
-        _ => false,
+    let Some((only, more)) = words.split_first() else {
+        return false;
+    };
+    if !more.is_empty() {
+        return false;
     }
+    is_that_word(only, b"TRUE")
 }
 
 /// The entry that words of an EVALUATE name in a turn.

@@ -25,10 +25,11 @@ use cob_copybook_clauses::ValueClause;
 use cob_copybook_entry::Value;
 use cob_move_condition::{Comparand, Condition, may_compare};
 use cob_move_conditions::operand_at;
+use cob_move_loops::is_that_word;
 use cob_move_receive::SenderKind;
 use cob_move_statements::{MoveRule, StatementSender};
 use cob_move_tests::{Entries, NamedEntry, both, constant_compared, opposite_if};
-use cob_source::{Token, TokenKind};
+use cob_source::Token;
 use std::alloc::{AllocError, Global};
 use std::cmp::Ordering;
 
@@ -43,9 +44,7 @@ pub(crate) enum Listed<'a> {
 fn is_thru(token: &Token) -> bool
     ensures { IsTrue result ↔ IsThru (lexeme token.now) }
 {
-    let text = token.text.as_slice();
-    matches!(token.kind, TokenKind::Word)
-        && (text == b"THRU".as_slice() || text == b"THROUGH".as_slice())
+    is_that_word(token, b"THRU") || is_that_word(token, b"THROUGH")
 }
 
 /// The value in front, and what is behind it: a literal or a figurative constant.

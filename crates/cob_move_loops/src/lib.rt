@@ -55,5 +55,5 @@ pub use naming::{LoopFault, loops};
 pub use parts::{BranchTest, Choice, ChoiceKind, Loop, LoopBound, Place};
 pub use stops::{behind_stop, behind_stops, is_stop};
 pub use turn::{Counter, in_turn};
-pub use words::{PassageWord, first_line, passage_word};
+pub use words::{PassageWord, first_line, is_that_word, passage_word};
 pub use writing::{Run, turns_to_write, with_counter, write_out};

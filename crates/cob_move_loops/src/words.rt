@@ -104,7 +104,7 @@ fn is_text(text: &[u8], other: &[u8]) -> bool
 }
 
 /// Whether a token is a word with this text.
-pub(crate) fn is_that_word(token: &Token, text: &[u8]) -> bool
+pub fn is_that_word(token: &Token, text: &[u8]) -> bool
     ensures { IsTrue result ↔ IsWord text.now (lexeme token.now) }
 {
     token.kind == TokenKind::Word && is_text(token.text.as_slice(), text)

@@ -1,5 +1,6 @@
 use Rattle.std.proofs.Common.{refl}
 use Rattle.cob_move_data.specs.Moves.{Records}
+use Rattle.cob_move_deeds.specs.declared.flow.Asked.{Asked}
 use Rattle.cob_move.specs.DeedsRead.{made_lists}
 use Rattle.cob_move.proofs.BodyLemmas.{now_asked, now_ends, now_moves, readied, still_readied}
 use Rattle.cob_move.proofs.body.ready_deeds.Goals as goal
@@ -19,7 +20,8 @@ placed_entries-requires c =
 pub with_steady_bounds-requires : goal.with_steady_bounds-requires
 with_steady_bounds-requires c =
     let r : Records = record { input = c.args.input.now; output = c.args.output.now } in
-    let made = readied r (made_lists c.args.made) (made_lists c.close.new.self) c.in_ok-moves.moves c.new-loops.result.items c.tests c.new-deeds.result c.requires.made c.in_ok-close.ensures.closed (record {
+    let tests : Asked = record { entries = c.in_ok-entries.entries; conditions = c.close.new.self.conditions } in
+    let made = readied r (made_lists c.args.made) (made_lists c.close.new.self) c.in_ok-moves.moves c.new-loops.result.items tests c.new-deeds.result c.requires.made c.in_ok-close.ensures.closed (record {
       reading = c.in_ok-moves.ensures.reading;
       statements = c.in_ok-moves.ensures.statements;
       ends = rw c.as_slice.ensures.value at c.in_ok-moves.ensures.ends;
@@ -36,7 +38,8 @@ with_steady_bounds-requires c =
 pub returns : goal.returns
 returns c =
     let r : Records = record { input = c.args.input.now; output = c.args.output.now } in
-    let made = readied r (made_lists c.args.made) (made_lists c.close.new.self) c.in_ok-moves.moves c.new-loops.result.items c.tests c.new-deeds.result c.requires.made c.in_ok-close.ensures.closed (record {
+    let tests : Asked = record { entries = c.in_ok-entries.entries; conditions = c.close.new.self.conditions } in
+    let made = readied r (made_lists c.args.made) (made_lists c.close.new.self) c.in_ok-moves.moves c.new-loops.result.items tests c.new-deeds.result c.requires.made c.in_ok-close.ensures.closed (record {
       reading = c.in_ok-moves.ensures.reading;
       statements = c.in_ok-moves.ensures.statements;
       ends = rw c.as_slice.ensures.value at c.in_ok-moves.ensures.ends;

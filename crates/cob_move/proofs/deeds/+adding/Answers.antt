@@ -15,7 +15,7 @@ use Rattle.cob_source.specs.Tokens.{lexemes}
 use Rattle.cob_move_loops.specs.declared.front.PassageItem.{PassageItem}
 use Rattle.cob_move_loops.specs.Reading.{counters, item_front, written_bound, written_choice, written_loop, written_test}
 use Rattle.cob_move_loops.specs.declared.parts.BranchTest.{BranchTest}
-use Rattle.cob_move_loops.specs.Passages.{ARun, Branched, PassageFront, Tested, kind_of}
+use Rattle.cob_move_loops.specs.Passages.{ARun, Branched, Otherwise, PassageFront, Tested, WrittenTest, kind_of}
 use Rattle.cob_move_loops.specs.Turns.{Counted, counter_at, in_turn}
 use Rattle.cob_move_deeds.specs.declared.flow.Bound.{Bound}
 use Rattle.cob_move_deeds.specs.declared.flow.Flow.{Flow}
@@ -25,13 +25,14 @@ use Rattle.cob_move_loops.proofs.FrontLemmas.{front_size, front_smaller}
 use Rattle.cob_move_loops.proofs.PassageLemmas.{shorter}
 use Rattle.cob_move_loops.proofs.WritingLemmas.{counters_more}
 use Rattle.cob_move.specs.declared.made.BranchFlows.{BranchFlows}
-use Rattle.cob_move.specs.DeedsRead.{AddsBranch, AddsBranches, AddsDeeds, AddsFront, AddsMoved, AddsTurns, BranchesRefused, FrontHasBounds, FrontRefused, HasGrown, HaveBounds, IsFrontRead, IsMade, IsWaiting, LeavesFront, LeftOfBranches, LoopRefused, MadeLists, MovedRefused, ReadsTurns, TurnRefused, closed, flow_lists, in_its_turn, linked_branches, linked_turns, made_lists, open_statements, TakenBranch, taken_branch, taken_branches, TestNotRead, with_asked, with_one_more, without_flows}
+use Rattle.cob_move.specs.DeedsRead.{AddsBranch, AddsBranches, AddsDeeds, AddsFront, AddsMoved, AddsTurns, BranchesRefused, FrontHasBounds, FrontRefused, HasGrown, HaveBounds, IsFrontRead, IsMade, IsWaiting, LeavesFront, LeftOfBranches, LoopRefused, MadeLists, MovedRefused, ReadsApart, ReadsTurns, TurnRefused, closed, flow_lists, in_its_turn, linked_branches, linked_turns, made_lists, open_statements, TakenBranch, taken_branch, taken_branches, TestNotRead, with_asked, with_one_more, without_flows}
 use Rattle.cob_move_tests.specs.Entries.{records_of}
 use Rattle.cob_move.proofs.AskedLemmas.{against_front, or_tested_front, waiting_front, waiting_means}
-use Rattle.cob_move.proofs.ChoiceLemmas.{HasReadChoice, asked_grown, asked_made, begun, begun_grown, begun_made, branch_kept, choice_adds, choice_has_grown, choice_is_made, choice_not_read, choice_same, closed_asked, closed_branches, count_not_read, in_front_by, leaves_asked, left_begin, left_end, left_statements_refused, left_taken, left_test_refused, left_waits, nothing_there, subject_not_read}
+use Rattle.cob_move.proofs.ChoiceLemmas.{HasReadChoice, asked_grown, asked_made, apart_kept, begun, begun_grown, begun_made, branch_kept, choice_adds, choice_has_grown, choice_is_made, choice_not_read, choice_same, closed_asked, closed_branches, count_not_read, in_front_by, leaves_asked, left_begin, left_end, left_other, left_other_refused, left_statements_refused, left_taken, left_test_refused, left_waits, nothing_there, subject_not_read}
 use Rattle.cob_move.proofs.MadeLemmas.{forgotten_again, grown_both, grown_none, leaves_more, leaves_same, leaves_unbroken}
 use Rattle.cob_move.proofs.ReadingLemmas.{bounds_parted, branch_bounds, choice_bounds, deeds_end, deeds_first, deeds_more, deeds_refused, front_read, loop_bounds, pause_added}
 use Rattle.cob_move.proofs.TestedLemmas.{HasReadLoop, bound_for, bound_not_read, breaks_first, breaks_same, broken_left, closed_refused, emptied, first_refused, later_refused, loop_left, loop_same, never_refused, no_turn_comes, past_of, tested_added, tested_grown, tested_made, tried_first, tried_now, tried_step}
+use Rattle.cob_move.proofs.ChoosingLemmas.{otherwise_is}
 use Rattle.cob_move.proofs.CloseLemmas.{closed_made, closed_open}
 use Rattle.cob_move.proofs.LookLemmas.{next_sure, sure_breaks}
 use Rattle.cob_move.proofs.TurnsLemmas.{number_next, turn_refused, turns_begin, turns_end, turns_next}
@@ -661,7 +662,7 @@ add_branches-loop-item-init t c =
     }
 
 pub add_branches-loop-item-smaller : goal.add_branches-loop-item-smaller
-add_branches-loop-item-smaller t c = shorter (standing.Branches c.args.kind) (item_front c.in-Some.item) (lexemes c.loop-item.rest.now) (lexemes c.in-Some.more.now) c.in-Some.ensures.found
+add_branches-loop-item-smaller t c = shorter (standing.Branches c.args.kind) (Branched (written_test c.in-Some.test) (lexemes c.in-Some.body.now)) (lexemes c.loop-item.rest.now) (lexemes c.in-Some.more.now) c.in-Some.ensures.found
 
 pub add_branches-loop-item-preserved-then-is_empty : goal.add_branches-loop-item-preserved-then-is_empty
 add_branches-loop-item-preserved-then-is_empty t c =
@@ -675,11 +676,11 @@ add_branches-loop-item-preserved-then-is_empty t c =
     let rest = lexemes c.loop-item.rest.now in
     let more = lexemes c.in-Some.more.now in
     let ws = lexemes c.in-Tested.words.now in
-    let body = lexemes c.in-Branch.body.now in
+    let body = lexemes c.in-Some.body.now in
     let a = against (sender_named r begin.asked) c.args.subject in
     let (others, all, grows) = c.in_ok-own.ensures.asks in
-    let front = in_front_by c.args.kind (item_front c.in-Some.item) (Tested ws) body rest more (ap item_front c.in-Branch.is ∙ ap (λ (x : BranchTest). Branched (written_test x) body) c.in-Tested.is) c.in-Some.ensures.found c.in-Some.ensures.only in
-    let less = shorter (standing.Branches c.args.kind) (item_front c.in-Some.item) rest more c.in-Some.ensures.found in
+    let front = in_front_by c.args.kind (Branched (written_test c.in-Some.test) body) (Tested ws) body rest more (ap (λ (x : BranchTest). Branched (written_test x) body) c.in-Tested.is) c.in-Some.ensures.found c.in-Some.ensures.only in
+    let less = shorter (standing.Branches c.args.kind) (Branched (written_test c.in-Some.test) (lexemes c.in-Some.body.now)) rest more c.in-Some.ensures.found in
     let held : against (sender_named r before.asked) c.args.subject ≡ a = sym (against_front r begin.asked before.asked c.args.subject c.loop-item.invariant.grown.asked c.requires.there) in
     let is = subst (λ (x : Against). IsBranchTestOf r ns x ws (condition_of (sender_named r asked) c.in_ok-own.own)) held c.in_ok-own.ensures.found in
     let means = λ (waits : Option Meant) (w : IsWaiting r before.asked c.loop-item.waiting waits).
@@ -714,11 +715,11 @@ add_branches-loop-item-preserved t c =
     let rest = lexemes c.loop-item.rest.now in
     let more = lexemes c.in-Some.more.now in
     let ws = lexemes c.in-Tested.words.now in
-    let body = lexemes c.in-Branch.body.now in
+    let body = lexemes c.in-Some.body.now in
     let a = against (sender_named r begin.asked) c.args.subject in
     let (others, all, grows) = c.in_ok-own.ensures.asks in
-    let front = in_front_by c.args.kind (item_front c.in-Some.item) (Tested ws) body rest more (ap item_front c.in-Branch.is ∙ ap (λ (x : BranchTest). Branched (written_test x) body) c.in-Tested.is) c.in-Some.ensures.found c.in-Some.ensures.only in
-    let less = shorter (standing.Branches c.args.kind) (item_front c.in-Some.item) rest more c.in-Some.ensures.found in
+    let front = in_front_by c.args.kind (Branched (written_test c.in-Some.test) body) (Tested ws) body rest more (ap (λ (x : BranchTest). Branched (written_test x) body) c.in-Tested.is) c.in-Some.ensures.found c.in-Some.ensures.only in
+    let less = shorter (standing.Branches c.args.kind) (Branched (written_test c.in-Some.test) (lexemes c.in-Some.body.now)) rest more c.in-Some.ensures.found in
     let held : against (sender_named r before.asked) c.args.subject ≡ a = sym (against_front r begin.asked before.asked c.args.subject c.loop-item.invariant.grown.asked c.requires.there) in
     let is = subst (λ (x : Against). IsBranchTestOf r ns x ws (condition_of (sender_named r asked) c.in_ok-own.own)) held c.in_ok-own.ensures.found in
     let means = λ (waits : Option Meant) (w : IsWaiting r before.asked c.loop-item.waiting waits).
@@ -755,11 +756,11 @@ add_branches-add_branch-requires t c =
     let rest = lexemes c.loop-item.rest.now in
     let more = lexemes c.in-Some.more.now in
     let ws = lexemes c.in-Tested.words.now in
-    let body = lexemes c.in-Branch.body.now in
+    let body = lexemes c.in-Some.body.now in
     let a = against (sender_named r begin.asked) c.args.subject in
     let (others, all, grows) = c.in_ok-own.ensures.asks in
-    let front = in_front_by c.args.kind (item_front c.in-Some.item) (Tested ws) body rest more (ap item_front c.in-Branch.is ∙ ap (λ (x : BranchTest). Branched (written_test x) body) c.in-Tested.is) c.in-Some.ensures.found c.in-Some.ensures.only in
-    let less = shorter (standing.Branches c.args.kind) (item_front c.in-Some.item) rest more c.in-Some.ensures.found in
+    let front = in_front_by c.args.kind (Branched (written_test c.in-Some.test) body) (Tested ws) body rest more (ap (λ (x : BranchTest). Branched (written_test x) body) c.in-Tested.is) c.in-Some.ensures.found c.in-Some.ensures.only in
+    let less = shorter (standing.Branches c.args.kind) (Branched (written_test c.in-Some.test) (lexemes c.in-Some.body.now)) rest more c.in-Some.ensures.found in
     let held : against (sender_named r before.asked) c.args.subject ≡ a = sym (against_front r begin.asked before.asked c.args.subject c.loop-item.invariant.grown.asked c.requires.there) in
     let is = subst (λ (x : Against). IsBranchTestOf r ns x ws (condition_of (sender_named r asked) c.in_ok-own.own)) held c.in_ok-own.ensures.found in
     let means = λ (waits : Option Meant) (w : IsWaiting r before.asked c.loop-item.waiting waits).
@@ -791,10 +792,10 @@ add_branches-returns-in_err-own-clause-fault t c =
     let rest = lexemes c.loop-item.rest.now in
     let more = lexemes c.in-Some.more.now in
     let ws = lexemes c.in-Tested.words.now in
-    let body = lexemes c.in-Branch.body.now in
+    let body = lexemes c.in-Some.body.now in
     let a = against (sender_named r begin.asked) c.args.subject in
     let n = c.in_err-own.field-0.0 in
-    let front = in_front_by c.args.kind (item_front c.in-Some.item) (Tested ws) body rest more (ap item_front c.in-Branch.is ∙ ap (λ (x : BranchTest). Branched (written_test x) body) c.in-Tested.is) c.in-Some.ensures.found c.in-Some.ensures.only in
+    let front = in_front_by c.args.kind (Branched (written_test c.in-Some.test) body) (Tested ws) body rest more (ap (λ (x : BranchTest). Branched (written_test x) body) c.in-Tested.is) c.in-Some.ensures.found c.in-Some.ensures.only in
     let held : against (sender_named r before.asked) c.args.subject ≡ a = sym (against_front r begin.asked before.asked c.args.subject c.loop-item.invariant.grown.asked c.requires.there) in
     let p = err_from_is_err_and c.from_residual-in_err-own.result c.from_residual-in_err-own.ensures.1 in
     rw (p.1, p.2) (left_test_refused c.branch_tests_break_no_rule.ensures n e ns a c.args.kind (lexemes c.args.branches.now) rest more ws body c.loop-item.waiting (taken_branches c.loop-item.taken.items) begin before c.loop-item.invariant.left front
@@ -812,11 +813,11 @@ add_branches-returns-in_err-add_branch-clause-fault t c =
     let rest = lexemes c.loop-item.rest.now in
     let more = lexemes c.in-Some.more.now in
     let ws = lexemes c.in-Tested.words.now in
-    let body = lexemes c.in-Branch.body.now in
+    let body = lexemes c.in-Some.body.now in
     let a = against (sender_named r begin.asked) c.args.subject in
     let (others, all, grows) = c.in_ok-own.ensures.asks in
-    let front = in_front_by c.args.kind (item_front c.in-Some.item) (Tested ws) body rest more (ap item_front c.in-Branch.is ∙ ap (λ (x : BranchTest). Branched (written_test x) body) c.in-Tested.is) c.in-Some.ensures.found c.in-Some.ensures.only in
-    let less = shorter (standing.Branches c.args.kind) (item_front c.in-Some.item) rest more c.in-Some.ensures.found in
+    let front = in_front_by c.args.kind (Branched (written_test c.in-Some.test) body) (Tested ws) body rest more (ap (λ (x : BranchTest). Branched (written_test x) body) c.in-Tested.is) c.in-Some.ensures.found c.in-Some.ensures.only in
+    let less = shorter (standing.Branches c.args.kind) (Branched (written_test c.in-Some.test) (lexemes c.in-Some.body.now)) rest more c.in-Some.ensures.found in
     let held : against (sender_named r before.asked) c.args.subject ≡ a = sym (against_front r begin.asked before.asked c.args.subject c.loop-item.invariant.grown.asked c.requires.there) in
     let is = subst (λ (x : Against). IsBranchTestOf r ns x ws (condition_of (sender_named r asked) c.in_ok-own.own)) held c.in_ok-own.ensures.found in
     let means = λ (waits : Option Meant) (w : IsWaiting r before.asked c.loop-item.waiting waits).
@@ -829,6 +830,185 @@ add_branches-returns-in_err-add_branch-clause-fault t c =
     rw (p.1, p.2) (left_statements_refused c.deeds_break_no_rule.ensures n e ns a c.args.kind (lexemes c.args.branches.now) rest more ws body c.loop-item.waiting (condition_of (sender_named r asked) c.in_ok-own.own) (taken_branches c.loop-item.taken.items)
     begin before asked c.requires.named c.loop-item.invariant.left front is (subst (λ (m : MadeLists). TurnRefused n e ns body m) c.in_ok-own.ensures.same c.in_err-add_branch.ensures.fault))
 
+pub add_branches-add_apart-requires : goal.add_branches-add_apart-requires
+add_branches-add_apart-requires t c =
+    let e = c.args.entries.now in
+    let r = records_of e in
+    let ns = counters c.args.turn.now in
+    let begin = made_lists c.args.made.now in
+    let before = made_lists c.loop-item.made in
+    let words = lexemes c.args.branches.now in
+    let rest = lexemes c.loop-item.rest.now in
+    let more = lexemes c.in-Some.more.now in
+    let body = lexemes c.in-Some.body.now in
+    let a = against (sender_named r begin.asked) c.args.subject in
+    let front = in_front_by c.args.kind (Branched (written_test c.in-Some.test) body) Otherwise body rest more (ap (λ (x : WrittenTest). Branched x body) (otherwise_is c.in-Some.test c.in_default.not-Tested)) c.in-Some.ensures.found c.in-Some.ensures.only in
+    let less = shorter (standing.Branches c.args.kind) (Branched Otherwise body) rest more front.0 in
+    let bounds = branch_bounds c.args.kind Otherwise body rest more c.loop-item.invariant.bounds (omega (arith, less)) front.1 in
+    let small = front_smaller (standing.Branches c.args.kind) (Branched Otherwise body) rest more front.0 in
+    (omega (arith, c.decreases, small, c.loop-item.invariant.fewer), (c.requires.named, (c.loop-item.invariant.pairs, (c.loop-item.invariant.made, bounds.0))))
+
+pub add_branches-returns-in_default-clause-added : goal.add_branches-returns-in_default-clause-added
+add_branches-returns-in_default-clause-added t c =
+    let e = c.args.entries.now in
+    let r = records_of e in
+    let ns = counters c.args.turn.now in
+    let begin = made_lists c.args.made.now in
+    let before = made_lists c.loop-item.made in
+    let words = lexemes c.args.branches.now in
+    let rest = lexemes c.loop-item.rest.now in
+    let more = lexemes c.in-Some.more.now in
+    let body = lexemes c.in-Some.body.now in
+    let a = against (sender_named r begin.asked) c.args.subject in
+    let front = in_front_by c.args.kind (Branched (written_test c.in-Some.test) body) Otherwise body rest more (ap (λ (x : WrittenTest). Branched x body) (otherwise_is c.in-Some.test c.in_default.not-Tested)) c.in-Some.ensures.found c.in-Some.ensures.only in
+    let new = made_lists c.add_apart.new.made in
+    let taken = taken_branches c.loop-item.taken.items in
+    let inv = c.loop-item.invariant in
+    IfOk-weaker c.add_apart.result (λ v. ReadsApart e ns body v.items before new) (λ v. AddsBranches e ns a c.args.kind words taken v.items begin new)
+    (λ v apart. left_other e ns a c.args.kind words rest more body c.loop-item.waiting taken begin before new v.items inv.left front inv.none inv.marked apart) c.add_apart.ensures.apart
+
+pub add_branches-returns-in_default-clause-flows : goal.add_branches-returns-in_default-clause-flows
+add_branches-returns-in_default-clause-flows t c =
+    let e = c.args.entries.now in
+    let r = records_of e in
+    let ns = counters c.args.turn.now in
+    let begin = made_lists c.args.made.now in
+    let before = made_lists c.loop-item.made in
+    let words = lexemes c.args.branches.now in
+    let rest = lexemes c.loop-item.rest.now in
+    let more = lexemes c.in-Some.more.now in
+    let body = lexemes c.in-Some.body.now in
+    let a = against (sender_named r begin.asked) c.args.subject in
+    let front = in_front_by c.args.kind (Branched (written_test c.in-Some.test) body) Otherwise body rest more (ap (λ (x : WrittenTest). Branched x body) (otherwise_is c.in-Some.test c.in_default.not-Tested)) c.in-Some.ensures.found c.in-Some.ensures.only in
+    let new = made_lists c.add_apart.new.made in
+    let taken = taken_branches c.loop-item.taken.items in
+    let inv = c.loop-item.invariant in
+    IfOk-weaker c.add_apart.result (λ v. ReadsApart e ns body v.items before new) (λ v. new.flows ≡ []) (λ v apart. (apart_kept e ns body v.items before new inv.none apart).none) c.add_apart.ensures.apart
+
+pub add_branches-returns-in_default-clause-marked : goal.add_branches-returns-in_default-clause-marked
+add_branches-returns-in_default-clause-marked t c =
+    let e = c.args.entries.now in
+    let r = records_of e in
+    let ns = counters c.args.turn.now in
+    let begin = made_lists c.args.made.now in
+    let before = made_lists c.loop-item.made in
+    let words = lexemes c.args.branches.now in
+    let rest = lexemes c.loop-item.rest.now in
+    let more = lexemes c.in-Some.more.now in
+    let body = lexemes c.in-Some.body.now in
+    let a = against (sender_named r begin.asked) c.args.subject in
+    let front = in_front_by c.args.kind (Branched (written_test c.in-Some.test) body) Otherwise body rest more (ap (λ (x : WrittenTest). Branched x body) (otherwise_is c.in-Some.test c.in_default.not-Tested)) c.in-Some.ensures.found c.in-Some.ensures.only in
+    let new = made_lists c.add_apart.new.made in
+    let taken = taken_branches c.loop-item.taken.items in
+    let inv = c.loop-item.invariant in
+    IfOk-weaker c.add_apart.result (λ v. ReadsApart e ns body v.items before new) (λ v. open_statements new ≡ []) (λ v apart. (apart_kept e ns body v.items before new inv.none apart).marked) c.add_apart.ensures.apart
+
+pub add_branches-returns-in_default-clause-made : goal.add_branches-returns-in_default-clause-made
+add_branches-returns-in_default-clause-made t c =
+    let e = c.args.entries.now in
+    let r = records_of e in
+    let ns = counters c.args.turn.now in
+    let begin = made_lists c.args.made.now in
+    let before = made_lists c.loop-item.made in
+    let words = lexemes c.args.branches.now in
+    let rest = lexemes c.loop-item.rest.now in
+    let more = lexemes c.in-Some.more.now in
+    let body = lexemes c.in-Some.body.now in
+    let a = against (sender_named r begin.asked) c.args.subject in
+    let front = in_front_by c.args.kind (Branched (written_test c.in-Some.test) body) Otherwise body rest more (ap (λ (x : WrittenTest). Branched x body) (otherwise_is c.in-Some.test c.in_default.not-Tested)) c.in-Some.ensures.found c.in-Some.ensures.only in
+    let new = made_lists c.add_apart.new.made in
+    let taken = taken_branches c.loop-item.taken.items in
+    let inv = c.loop-item.invariant in
+    IfOk-weaker c.add_apart.result (λ v. ReadsApart e ns body v.items before new) (λ v. IsMade r new) (λ v apart. (apart_kept e ns body v.items before new inv.none apart).made) c.add_apart.ensures.apart
+
+pub add_branches-returns-in_default-clause-grown : goal.add_branches-returns-in_default-clause-grown
+add_branches-returns-in_default-clause-grown t c =
+    let e = c.args.entries.now in
+    let r = records_of e in
+    let ns = counters c.args.turn.now in
+    let begin = made_lists c.args.made.now in
+    let before = made_lists c.loop-item.made in
+    let words = lexemes c.args.branches.now in
+    let rest = lexemes c.loop-item.rest.now in
+    let more = lexemes c.in-Some.more.now in
+    let body = lexemes c.in-Some.body.now in
+    let a = against (sender_named r begin.asked) c.args.subject in
+    let front = in_front_by c.args.kind (Branched (written_test c.in-Some.test) body) Otherwise body rest more (ap (λ (x : WrittenTest). Branched x body) (otherwise_is c.in-Some.test c.in_default.not-Tested)) c.in-Some.ensures.found c.in-Some.ensures.only in
+    let new = made_lists c.add_apart.new.made in
+    let taken = taken_branches c.loop-item.taken.items in
+    let inv = c.loop-item.invariant in
+    IfOk-weaker c.add_apart.result (λ v. ReadsApart e ns body v.items before new) (λ v. HasGrown begin new) (λ v apart. grown_both begin before new inv.grown (apart_kept e ns body v.items before new inv.none apart).grown) c.add_apart.ensures.apart
+
+pub add_branches-returns-in_default-clause-fault : goal.add_branches-returns-in_default-clause-fault
+add_branches-returns-in_default-clause-fault t c =
+    let e = c.args.entries.now in
+    let r = records_of e in
+    let ns = counters c.args.turn.now in
+    let begin = made_lists c.args.made.now in
+    let before = made_lists c.loop-item.made in
+    let words = lexemes c.args.branches.now in
+    let rest = lexemes c.loop-item.rest.now in
+    let more = lexemes c.in-Some.more.now in
+    let body = lexemes c.in-Some.body.now in
+    let a = against (sender_named r begin.asked) c.args.subject in
+    let front = in_front_by c.args.kind (Branched (written_test c.in-Some.test) body) Otherwise body rest more (ap (λ (x : WrittenTest). Branched x body) (otherwise_is c.in-Some.test c.in_default.not-Tested)) c.in-Some.ensures.found c.in-Some.ensures.only in
+    let new = made_lists c.add_apart.new.made in
+    let taken = taken_branches c.loop-item.taken.items in
+    let inv = c.loop-item.invariant in
+    IfErr-weaker c.add_apart.result (λ n. TurnRefused n e ns body before) (λ n. BranchesRefused n e ns a c.args.kind words begin)
+    (λ n refused. left_other_refused n e ns a c.args.kind words rest more body c.loop-item.waiting taken begin before inv.left front refused) c.add_apart.ensures.fault
+
+pub add_branches-returns-in_default-clause-kept : goal.add_branches-returns-in_default-clause-kept
+add_branches-returns-in_default-clause-kept t c =
+    let e = c.args.entries.now in
+    let r = records_of e in
+    let ns = counters c.args.turn.now in
+    let begin = made_lists c.args.made.now in
+    let before = made_lists c.loop-item.made in
+    let words = lexemes c.args.branches.now in
+    let rest = lexemes c.loop-item.rest.now in
+    let more = lexemes c.in-Some.more.now in
+    let body = lexemes c.in-Some.body.now in
+    let a = against (sender_named r begin.asked) c.args.subject in
+    let front = in_front_by c.args.kind (Branched (written_test c.in-Some.test) body) Otherwise body rest more (ap (λ (x : WrittenTest). Branched x body) (otherwise_is c.in-Some.test c.in_default.not-Tested)) c.in-Some.ensures.found c.in-Some.ensures.only in
+    let new = made_lists c.add_apart.new.made in
+    let taken = taken_branches c.loop-item.taken.items in
+    let inv = c.loop-item.invariant in
+    IfErr-weaker c.add_apart.result (λ n. LeavesFront n before new) (λ n. LeavesFront n begin new) (λ n left. leaves_more n begin before new inv.grown left) c.add_apart.ensures.kept
+
+pub add_branches-returns-in_err-own-clause-kept : goal.add_branches-returns-in_err-own-clause-kept
+add_branches-returns-in_err-own-clause-kept t c =
+    let p = err_from_is_err_and c.from_residual-in_err-own.result c.from_residual-in_err-own.ensures.1 in
+    let begin = made_lists c.args.made.now in
+    let before = made_lists c.loop-item.made in
+    let n = c.in_err-own.field-0.0 in
+    let (more, all, grows) = c.in_err-own.ensures.asks in
+    rw (p.1, p.2) (leaves_more n begin before (made_lists c.read_test.new.made) c.loop-item.invariant.grown
+    (subst (λ (m : MadeLists). LeavesFront n before m) (sym c.in_err-own.ensures.same) (leaves_asked n before c.read_test.new.made.asked.items (more, grows))))
+
+pub add_branches-returns-in_err-test-clause-fault : goal.add_branches-returns-in_err-test-clause-fault
+add_branches-returns-in_err-test-clause-fault t c =
+    let p = err_from_is_err_and c.from_residual-in_err-test.result c.from_residual-in_err-test.ensures.1 in
+    rw (p.1, p.2) (λ p is. tt)
+
+pub add_branches-returns-in_err-test-clause-kept : goal.add_branches-returns-in_err-test-clause-kept
+add_branches-returns-in_err-test-clause-kept t c =
+    let p = err_from_is_err_and c.from_residual-in_err-test.result c.from_residual-in_err-test.ensures.1 in
+    rw (p.1, p.2) tt
+
+pub add_branches-returns-in_err-add_branch-clause-kept : goal.add_branches-returns-in_err-add_branch-clause-kept
+add_branches-returns-in_err-add_branch-clause-kept t c =
+    let p = err_from_is_err_and c.from_residual-in_err-add_branch.result c.from_residual-in_err-add_branch.ensures.1 in
+    let begin = made_lists c.args.made.now in
+    let before = made_lists c.loop-item.made in
+    let asked = c.read_test.new.made.asked.items in
+    let now = with_asked before asked in
+    let n = c.in_err-add_branch.field-0.0 in
+    let (more, all, grows) = c.in_ok-own.ensures.asks in
+    let new = made_lists c.add_branch.new.made in
+    rw (p.1, p.2) (leaves_more n begin now new (grown_both begin before now c.loop-item.invariant.grown (asked_grown before asked (more, grows)))
+    (subst (λ (m : MadeLists). LeavesFront n m new) c.in_ok-own.ensures.same c.in_err-add_branch.ensures.kept))
+
 pub add_branches-returns-clause-added : goal.add_branches-returns-clause-added
 add_branches-returns-clause-added t c =
     let e = c.args.entries.now in
@@ -836,7 +1016,7 @@ add_branches-returns-clause-added t c =
     subst (λ (fs : List Flow). AddsBranches e (counters c.args.turn.now) (against (sender_named (records_of e) begin.asked) c.args.subject) c.args.kind (lexemes c.args.branches.now) (taken_branches c.loop-item.taken.items) fs begin (made_lists c.loop-item.made))
     (sym c.new.ensures.items)
     (left_end e (counters c.args.turn.now) (against (sender_named (records_of e) begin.asked) c.args.subject) c.args.kind (lexemes c.args.branches.now) (lexemes c.loop-item.rest.now) c.loop-item.waiting (taken_branches c.loop-item.taken.items) begin
-    (made_lists c.loop-item.made) c.loop-item.invariant.left c.in_default.ensures.only)
+    (made_lists c.loop-item.made) c.loop-item.invariant.left c.in_default.ensures.none)
 
 pub add_choice-returns-clause-added : goal.add_choice-returns-clause-added
 add_choice-returns-clause-added t c =
