@@ -150,8 +150,8 @@ mixed_deeds ended one input output all ks bs es (Moves own more) plain d e m n m
     (before_deeds os others, (os, others, tnuoc, tser, third, thirds, refl, n_is))
 mixed_deeds ended one input output all ks bs es (Pause more) plain d e m n mixed are era = mixed_deeds ended one input output all ks bs es more plain d e m n mixed are era
 mixed_deeds ended one input output all ks bs es (ALoop l body more) plain d e m n mixed (f, count, own, next, turned, rest, loop, are, d_is, m_is) (g, other, nwo, txen, denrut, tser, pool, era, e_is, n_is) =
-    let (h, o, third) = mixed_loop one all ks bs es l l.bound (λ i x c. AreDeeds all input output (ks ++ counter_at l i ∷ []) body plain.0 x c)
-    (λ i x c. AreDeeds all input output (bs ++ counter_at l i ∷ []) body plain.0 x c) (λ i x c. AreDeeds all input output (es ++ counter_at l i ∷ []) body plain.0 x c) mixed
+    let (h, o, third) = mixed_loop one all ks bs es l l.bound (λ i x c. AreDeeds all input output (ks ++ counter_at l i ∷ []) body x c)
+    (λ i x c. AreDeeds all input output (bs ++ counter_at l i ∷ []) body x c) (λ i x c. AreDeeds all input output (es ++ counter_at l i ∷ []) body x c) mixed
     (λ i j x y a b first second. mixed_deeds ended one input output all (ks ++ counter_at l i ∷ []) (bs ++ counter_at l j ∷ []) (es ++ counter_at l j ∷ []) body plain.0 x y a b
     (mixed_deeper ks bs es l.counter i j j mixed (inr refl)) first second)
     (λ i j x y a b first second. mixed_deeds ended one input output all (bs ++ counter_at l i ∷ []) (es ++ counter_at l j ∷ []) (bs ++ counter_at l j ∷ []) body plain.0 x y a b
@@ -172,16 +172,16 @@ mixed_first ended one input output all ks bs es (Moves own more) plain d m many 
 mixed_first ended one input output all ks bs es (Pause more) plain d m many mixed are first = mixed_first ended one input output all ks bs es more plain d m many mixed are first
 mixed_first ended one input output all ks bs es (ALoop l body more) plain d m many mixed (f, count, own, next, turned, rest, loop, are, d_is, m_is) (inl none) = inl none
 mixed_first ended one input output all ks bs es (ALoop l body more) plain d m many mixed (f, count, own, next, turned, rest, loop, are, d_is, m_is) (inr (inl within)) =
-    inr (inl (first_loop one all ks bs es l l.bound (λ i x c. AreDeeds all input output (ks ++ counter_at l i ∷ []) body plain.0 x c)
-    (λ i x c. AreDeeds all input output (bs ++ counter_at l i ∷ []) body plain.0 x c) (λ i x c. AreDeeds all input output (es ++ counter_at l i ∷ []) body plain.0 x c)
+    inr (inl (first_loop one all ks bs es l l.bound (λ i x c. AreDeeds all input output (ks ++ counter_at l i ∷ []) body x c)
+    (λ i x c. AreDeeds all input output (bs ++ counter_at l i ∷ []) body x c) (λ i x c. AreDeeds all input output (es ++ counter_at l i ∷ []) body x c)
     (λ i c. ComeFirst all input output (bs ++ counter_at l i ∷ []) body c) (λ i c. ComeFirst all input output (es ++ counter_at l i ∷ []) body c) mixed
     (λ i j x y a b is si. mixed_deeds ended one input output all (ks ++ counter_at l i ∷ []) (bs ++ counter_at l j ∷ []) (es ++ counter_at l j ∷ []) body plain.0 x y a b
     (mixed_deeper ks bs es l.counter i j j mixed (inr refl)) is si)
     (λ i j x a o is part. mixed_first ended one input output all (ks ++ counter_at l i ∷ []) (bs ++ counter_at l j ∷ []) (es ++ counter_at l j ∷ []) body plain.0 x a o
     (mixed_deeper ks bs es l.counter i j j mixed (inr refl)) is part) f count own turned many loop within))
 mixed_first ended one input output all ks bs es (ALoop l body more) plain d m many mixed (f, count, own, next, turned, rest, loop, are, d_is, m_is) (inr (inr (g, other, nwo, denrut, tser, pool, first, cut))) =
-    let (h, o, third) = mixed_loop one all ks bs es l l.bound (λ i x c. AreDeeds all input output (ks ++ counter_at l i ∷ []) body plain.0 x c)
-    (λ i x c. AreDeeds all input output (bs ++ counter_at l i ∷ []) body plain.0 x c) (λ i x c. AreDeeds all input output (es ++ counter_at l i ∷ []) body plain.0 x c) mixed
+    let (h, o, third) = mixed_loop one all ks bs es l l.bound (λ i x c. AreDeeds all input output (ks ++ counter_at l i ∷ []) body x c)
+    (λ i x c. AreDeeds all input output (bs ++ counter_at l i ∷ []) body x c) (λ i x c. AreDeeds all input output (es ++ counter_at l i ∷ []) body x c) mixed
     (λ i j x y a b is si. mixed_deeds ended one input output all (ks ++ counter_at l i ∷ []) (bs ++ counter_at l j ∷ []) (es ++ counter_at l j ∷ []) body plain.0 x y a b
     (mixed_deeper ks bs es l.counter i j j mixed (inr refl)) is si)
     (λ i j x y a b is si. mixed_deeds ended one input output all (bs ++ counter_at l i ∷ []) (es ++ counter_at l j ∷ []) (bs ++ counter_at l j ∷ []) body plain.0 x y a b
@@ -275,8 +275,8 @@ first_within law ended one input output all ns (ALoop l body more) plain d m man
 first_within law ended one input output all ns (ALoop l body more) plain d m many (suc q) low (f, count, own, next, turned, rest, loop, are, d_is, m_is) (inl none) = omega (arith, none)
 first_within law ended one input output all ns (ALoop l body more) plain d m many (suc q) low (f, count, own, next, turned, rest, loop, are, d_is, m_is) (inr (inl within)) =
     front_within many m turned rest (suc q)
-    (loop_within all ns l l.bound (λ i x c. AreDeeds all input output (ns ++ counter_at l i ∷ []) body plain.0 x c) (λ i c. ComeFirst all input output (ns ++ counter_at l i ∷ []) body c) (suc q)
-    (λ i x y a b is si. (law all input output (ns ++ counter_at l i ∷ []) body plain.0 x y a b is si).1)
+    (loop_within all ns l l.bound (λ i x c. AreDeeds all input output (ns ++ counter_at l i ∷ []) body x c) (λ i c. ComeFirst all input output (ns ++ counter_at l i ∷ []) body c) (suc q)
+    (λ i x y a b is si. (law all input output (ns ++ counter_at l i ∷ []) body x y a b is si).1)
     (λ i x a o is part. first_within law ended one input output all (ns ++ counter_at l i ∷ []) body plain.0 x a o q (omega (arith, low, le-max_left (deep body + 1) (deep more))) is part)
     (λ i j x a o is part. mixed_first ended one input output all (ns ++ counter_at l i ∷ []) (ns ++ counter_at l j ∷ []) (ns ++ counter_at l i ∷ []) body plain.0 x a o
     (mixed_deeper ns ns ns l.counter i j i (mixed_self ns) (inl refl)) is part) f count own turned many loop within) m_is
