@@ -35,7 +35,8 @@ use Rattle.cob_move.specs.declared.made.NotRead.TheVariants as why
 use Rattle.cob_move.specs.DeedsLaws.{DeedsBreakNoRule, OneDeeds}
 use Rattle.cob_move.specs.DeedsRead.{AddsBranch, AddsBranches, AddsChoice, AddsMade, AreParted, BeginsTested, BranchesAreRefused, BranchesComeTo, BranchesRefused, ChoiceComesTo, ChoiceIsRefused, ChoiceRefused, FewWith, FirstIn, FirstInBranches, FirstInChoice, HasGrown, HasReadBranches, HaveBounds, IsConditionAt, IsFrontOf, IsMade, IsRefusedIn, IsWaiting, LeavesFront, LeftOfBranches, MadeLists, PassageComesTo, ReadsApart, ReadsBranches, RefusedMade, SubjectNotRead, TakenBranch, TestNotRead, TurnRefused, all_deeds, closed, closed_where, last_marked, linked_branches, made_deeds, moves_of_whens, open_deeds, open_statements, with_asked, with_condition, with_one_more, without_flows}
 use Rattle.cob_move.specs.Joined.{before_deeds, joined_deeds}
-use Rattle.cob_move.proofs.AskedLemmas.{all_tested_front, condition_stands, tested_front}
+use Rattle.cob_move_tests.proofs.AskedLemmas.{last_get}
+use Rattle.cob_move.proofs.AskedLemmas.{all_tested_front, condition_stands, get_front, tested_front}
 use Rattle.cob_move.proofs.BranchLemmas.{branches_deeds, branches_flows, moves_of_selection, selection_more, selection_not_straight, selection_parted, taken_more, whens_more}
 use Rattle.cob_move.proofs.CloseLemmas.{closed_deeds, closed_flows, closed_grown, closed_made, closed_open, closed_read}
 use Rattle.cob_move.proofs.FewLemmas.{count_one, turn_unbroken}
@@ -153,8 +154,7 @@ closed_asked m = asked_where (nat_eq (length m.list) (last_marked 0 m.ends)) m
     asked_where false m = refl
 
 condition_there : {A : Type 0} (xs more : List A) (x : A) → slice_get ((xs ++ x ∷ []) ++ more) (length xs) ≡ Some x
-condition_there [] more x = refl
-condition_there (y ∷ xs) more x = condition_there xs more x
+condition_there xs more x = get_front (xs ++ x ∷ []) more (length xs) (omega (arith, length-append xs (x ∷ []))) ∙ last_get xs x
 
 -- ---- branches in front
 
