@@ -1,6 +1,6 @@
 -- What is read of the words of a choice and of its tests.
-use Rattle.std.proofs.Common.{◌≡◌, ◌<◌, ◌⊎◌, ℕ, Bool, true, false, List, [], ◌∷◌, ◌++◌, length, refl, sym, ap, subst, ◌∙◌, arith, inl, inr, Option, Some}
-use Rattle.std.specs.List.{slice_get}
+use Rattle.std.proofs.Common.{◌≡◌, ◌<◌, ◌⊎◌, ℕ, zero, suc, Bool, true, false, List, [], ◌∷◌, ◌++◌, length, refl, sym, ap, subst, ◌∙◌, arith, inl, inr, Option, Some, None}
+use Rattle.std.specs.List.{AllByRecursion, slice_get}
 use Rattle.std.specs.declared.cmp.Ordering.TheVariants.{Equal}
 use Rattle.std.proofs.lemmas.List.{length-append}
 use Rattle.cob_source.specs.Tokens.{Lexeme}
@@ -86,6 +86,27 @@ may_be_listed r asked number n x there at may =
 pub entry_compares : (r : Records) (n : NamedEntry) (kind : Kind) (x : PlainValue) (may : Bool) → kind ≡ (operand_in (record_of r n.side) n.entry).kind → may ≡ may_compare (table.Entry kind) (table.Literal x)
     → may_compare (kind_of_sender (sender_asked r (Some n))) (kind_of_sender (Literal x)) ≡ may
 entry_compares r n kind x may same is = sym (is ∙ ap (λ (k : Kind). may_compare (table.Entry k) (table.Literal x)) same)
+
+-- an entry under a number is one of those that are asked for
+pub named_at : (r : Records) (asked : List NamedEntry) (number : ℕ) (n : NamedEntry) → slice_get asked number ≡ Some n → AllByRecursion (IsNamed r) asked → IsNamed r n
+named_at r [] number n at all = absurd (none_some n at)
+  where
+    none_some : (n : NamedEntry) → None ≡ Some n → ⊥
+    none_some n e = cc
+named_at r (m ∷ asked) zero n at all = subst (IsNamed r) (some_same m n at) all.0
+  where
+    some_same : (m n : NamedEntry) → Some m ≡ Some n → m ≡ n
+    some_same m n e = cc
+named_at r (m ∷ asked) (suc number) n at all = named_at r asked number n at all.1
+
+-- so it is of the sender under its number
+pub may_named : (r : Records) (asked : List NamedEntry) (number : ℕ) (n : NamedEntry) (x : PlainValue) → slice_get asked number ≡ Some n → may_compare (kind_of_sender (sender_asked r (Some n))) (kind_of_sender (Literal x)) ≡ true
+    → may_compare (kind_of_sender (sender_named r asked number)) (kind_of_sender (Literal x)) ≡ true
+may_named r asked number n x at may = ap (λ (o : Option NamedEntry). may_compare (kind_of_sender (sender_asked r o)) (kind_of_sender (Literal x))) at ∙ may
+
+pub value_refused : (r : MoveRule) (records : Records) (asked : List NamedEntry) (number : ℕ) (n : NamedEntry) (v : WrittenValue) → slice_get asked number ≡ Some n → BreaksListedValue r records (sender_asked records (Some n)) v
+    → BreaksListedValue r records (sender_named records asked number) v
+value_refused r records asked number n v at broken = subst (λ (o : Option NamedEntry). BreaksListedValue r records (sender_asked records o) v) (sym at) broken
 
 -- the two words for one kind of refusal: no values, or one of them
 pub no_values : (records : Records) (s : Sender) (ws : List Lexeme) → ((w : WrittenSpan) → IsSpanWritten w ws → ⊥) → BreaksListed rule.Grammar records s ws
