@@ -1,5 +1,5 @@
 -- Words are one condition.
-use Rattle.std.proofs.Common.{◌≡◌, inl, inr, ◌⊎◌, Bool, true, false, List, [], ◌∷◌, ◌++◌, refl, sym, ap, subst, ◌∙◌, append_assoc, Option, Some, None}
+use Rattle.std.proofs.Common.{◌≡◌, inl, inr, Bool, true, false, List, [], ◌∷◌, ◌++◌, refl, sym, ap, subst, ◌∙◌, append_assoc, Option, Some}
 use Rattle.std.specs.declared.cmp.Ordering.{Ordering}
 use Rattle.cob_source.specs.Tokens.{Lexeme}
 use Rattle.cob_copybook_clauses.specs.declared.term.WordClass.{WordClass}
@@ -7,7 +7,7 @@ use Rattle.cob_copybook_clauses.specs.declared.term.WordClass.TheVariants as ter
 use Rattle.cob_copybook_clauses.specs.Terms.{word_class}
 use Rattle.cob_copybook_clauses.specs.Clauses.{IsOptionalWord}
 use Rattle.cob_copybook_clauses.specs.Reading.{NotFirstWord}
-use Rattle.cob_move_statements.specs.Written.{SentReference, WrittenSender}
+use Rattle.cob_move_statements.specs.Written.{WrittenSender}
 use Rattle.cob_move_statements.proofs.OneLemmas.{sender_one}
 use Rattle.cob_move_conditions.specs.declared.phrases.Quality.{Quality}
 use Rattle.cob_move_conditions.specs.declared.relations.Relation.{Relation}
@@ -18,13 +18,13 @@ use Rattle.cob_move_conditions.specs.Fronts.{NotConditionWordFirst, OperandFirst
 use Rattle.cob_move_conditions.specs.Relations.{IsBehindOpposite, IsBehindOrder, IsNotOrder, IsOppositeWritten, IsOrEqual, IsOrderWritten, IsRelationBy, opposite_of_word, order_of_word}
 use Rattle.cob_move_conditions.specs.Conditions.{BeginsWithOperand, GoesBehind, IsConditionBy, IsNegation, IsQualified, IsQualityWord, IsRelated, Alone, ByNot, ByAnd, ByOr}
 use Rattle.cob_move_conditions.specs.Laws.{OneWrittenCondition}
-use Rattle.cob_move_conditions.specs.Reading.{EndsCondition, EndsTest, QualifiedBehind}
+use Rattle.cob_move_conditions.specs.Reading.{EndsCondition, EndsTest}
 use Rattle.cob_move_conditions.specs.Written.{WrittenCondition, WrittenTest, Relates, RelatesTo, StandsAlone, Has, Simple, InBrackets, BehindNot, WithAnd, WithOr}
 use Rattle.cob_move_conditions.proofs.WordLemmas.{nothing_is_some, operand_fits, plain_word}
 use Rattle.cob_move_conditions.proofs.RelationLemmas.{behind_not_no_opposite, behind_not_no_order, by_not, by_opposite, by_order, opposite_no_order, two_words}
 use Rattle.cob_move_conditions.proofs.TestLemmas.{NoRelated, ReadsRelated, behind_not, by_none, by_quality, ends_not, negation_no_is, one_quality_of, quality_no_end, quality_no_not, quality_zero, related_no_begin, related_no_end, related_no_quality, relation_no_is, same_behind, same_front, some_same, three_split}
 use Rattle.cob_move_conditions.proofs.TestLemmas as tests
-use Rattle.cob_move_conditions.proofs.ConditionLemmas.{ReadsCondition, SoFar, and_chains, and_joins, begin_stands, begins, bracket_begins, bracket_ends, by_related, by_simple, ends_here, goes_on, not_begins, not_first, or_chains, or_joins, related_no_bracket, related_no_not, whole_cut, with_bracket, with_not, without_not}
+use Rattle.cob_move_conditions.proofs.ConditionLemmas.{ReadsCondition, SoFar, and_chains, and_joins, begins, bracket_begins, bracket_ends, by_related, by_simple, ends_here, goes_on, not_begins, not_first, or_chains, or_joins, related_no_bracket, related_no_not, whole_cut, with_bracket, with_not, without_not}
 
 -- ---- words that may be left out
 

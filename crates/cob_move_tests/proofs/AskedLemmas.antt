@@ -1,5 +1,5 @@
 -- Entries that conditions ask for, with others behind them.
-use Rattle.std.proofs.Common.{◌≡◌, ◌<◌, ℕ, List, [], ◌∷◌, ◌++◌, length, refl, sym, ap, subst, ◌∙◌, append_assoc, append-nil, arith, Option, Some, None, true}
+use Rattle.std.proofs.Common.{◌≡◌, ◌<◌, ℕ, List, [], ◌∷◌, ◌++◌, length, refl, sym, ap, subst, ◌∙◌, append_assoc, append-nil, arith, Option, Some, None}
 use Rattle.std.specs.List.{AllByRecursion, slice_get}
 use Rattle.std.proofs.lemmas.List.{get_or_append_left, length-append}
 use Rattle.std.proofs.lemmas.Option.{slice_get-get_or}
@@ -21,7 +21,7 @@ use Rattle.cob_move_tests.specs.declared.compared.Compared.TheVariants as compar
 use Rattle.cob_move_tests.specs.declared.compared.LastRelation.{LastRelation}
 use Rattle.cob_move_tests.specs.Asked.{AsksMore, IsAsked, IsNamed, IsTestable, kind_asked, kind_named, sender_asked, sender_named}
 use Rattle.cob_move_tests.specs.Compared.{IsStatedThere, IsThere, sender_in, stated_in}
-use Rattle.cob_move_tests.specs.Meant.{Stated, StatedAs}
+use Rattle.cob_move_tests.specs.Meant.{StatedAs}
 
 -- ---- lists
 

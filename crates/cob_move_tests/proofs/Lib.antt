@@ -2,6 +2,6 @@ pub mod OwnLemmas
 pub mod AskedLemmas
 mod ReadLemmas
 mod StepLemmas
-mod SignLemmas
+mod CounterLemmas
 pub mod OneLemmas
 pub mod NoRuleLemmas

@@ -1,5 +1,5 @@
 -- Words that mean a condition break no rule.
-use Rattle.std.proofs.Common.{◌≡◌, Bool, true, false, List, sym, ap, subst, ◌∙◌, inl, inr, Some}
+use Rattle.std.proofs.Common.{◌≡◌, Bool, true, false, List, ap, subst, ◌∙◌, inl, inr, Some}
 use Rattle.cob_copybook_clauses.specs.Written.{WrittenValue}
 use Rattle.cob_copybook_entry.specs.Described.{PlainValue}
 use Rattle.cob_copybook_entries.proofs.NoRule.{no_constant, no_value}

@@ -1,19 +1,18 @@
 -- What conditions are read as.
 use Rattle.std.proofs.Common.{◌≡◌, ◌<◌, ℕ, zero, suc, Bool, true, List, [], ◌∷◌, ◌++◌, length, refl, sym, ap, subst, ◌∙◌, arith, Option, Some, None}
-use Rattle.std.specs.List.{AllByRecursion, slice_get}
+use Rattle.std.specs.List.{slice_get}
 use Rattle.std.proofs.lemmas.List.{length-append}
 use Rattle.cob_codec.specs.declared.reading.Reading.TheVariants.{Pictured}
-use Rattle.cob_copybook_entry.specs.Described.{PlainValue, plain_value}
+use Rattle.cob_copybook_entry.specs.Described.{PlainValue}
 use Rattle.cob_copybook_tree.specs.declared.node.Kind.{Kind}
 use Rattle.cob_move_condition.specs.declared.condition.Comparand.{Comparand}
 use Rattle.cob_move_condition.specs.declared.condition.Comparand.TheVariants as comparand
 use Rattle.cob_move_condition.specs.declared.condition.Condition as code
 use Rattle.cob_move_condition.specs.declared.condition.Condition.TheVariants as code_condition
 use Rattle.cob_move_condition.specs.Comparable.{may_compare}
-use Rattle.cob_move_condition.specs.Conditions.{Both, Compares, Condition, Either, HasClass, Not, condition_of, sender_compared}
+use Rattle.cob_move_condition.specs.Conditions.{Compares, Condition, condition_of, sender_compared}
 use Rattle.cob_move_condition.specs.Tested.{IsComparandThere, kind_compared}
 use Rattle.cob_move_conditions.specs.declared.relations.Relation.{Relation}
-use Rattle.cob_move_conditions.specs.Written.{WrittenCondition}
 use Rattle.cob_move_data.specs.Moves.{Entry, Literal, Records, Sender, operand_in, record_of}
 use Rattle.cob_move_names.specs.Candidates.{Candidate}
 use Rattle.cob_move_names.specs.References.{NamesOperand}
@@ -24,11 +23,10 @@ use Rattle.cob_move_statements.specs.Written.{SentReference, WrittenReference, W
 use Rattle.cob_move_tests.specs.declared.entries.NamedEntry.{NamedEntry}
 use Rattle.cob_move_tests.specs.declared.compared.Compared.{Compared}
 use Rattle.cob_move_tests.specs.declared.compared.Compared.TheVariants as compared
-use Rattle.cob_move_tests.specs.declared.compared.LastRelation.{LastRelation}
 use Rattle.cob_move_tests.specs.declared.compared.ReadCondition.{ReadCondition}
-use Rattle.cob_move_tests.specs.Asked.{AsksMore, IsAsked, IsNamed, IsTestable, kind_asked, kind_named, sender_asked, sender_named}
+use Rattle.cob_move_tests.specs.Asked.{AsksMore, IsAsked, IsTestable, kind_asked, kind_named, sender_asked, sender_named}
 use Rattle.cob_move_tests.specs.Compared.{IsComparandOf, IsRead, IsStatedThere, IsThere, kind_of_compared, sender_in, stated_in}
-use Rattle.cob_move_tests.specs.Meant.{IsMeantBy, IsOperandOf, IsRelationOf, IsTestOf, NoneStated, Stated, StatedAs, StatesRelation, opposite_if}
+use Rattle.cob_move_tests.specs.Meant.{IsOperandOf, Stated, StatedAs, StatesRelation, opposite_if}
 use Rattle.cob_move_tests.proofs.AskedLemmas.{compared_same, condition_same, last_get, stated_same}
 
 -- ---- an entry that is asked for

@@ -1,5 +1,5 @@
 -- The steps of reading a condition.
-use Rattle.std.proofs.Common.{◌≡◌, ◌<◌, ◌⊎◌, inl, inr, ℕ, arith, Bool, true, false, List, ◌++◌, [], ◌∷◌, length, refl, sym, ap, subst, ◌∙◌, Option, Some, None}
+use Rattle.std.proofs.Common.{◌≡◌, ◌<◌, ◌⊎◌, inl, inr, ℕ, arith, Bool, true, false, List, ◌++◌, [], ◌∷◌, length, refl, sym, ap, subst, ◌∙◌, None}
 use Rattle.std.specs.Prelude.{◌&&◌, ◌||◌, IfErr, IfOk, Ok, Err, Result}
 use Rattle.std.specs.declared.cmp.Ordering.{Ordering}
 use Rattle.std.proofs.lemmas.List.{length-append}
@@ -20,13 +20,14 @@ use Rattle.cob_move_conditions.specs.declared.phrases.Quality.{Quality}
 use Rattle.cob_move_conditions.specs.declared.phrases.Quality.TheVariants as quality
 use Rattle.cob_move_conditions.specs.declared.relations.Relation.{Relation}
 use Rattle.cob_move_conditions.specs.Conditions.{IsWholeCondition}
-use Rattle.cob_move_conditions.specs.Written.{BehindNot, Has, InBrackets, Relates, RelatesTo, StandsAlone, WithAnd, WithOr, WrittenCondition}
+use Rattle.cob_move_conditions.specs.Reading.{RefusesCondition}
+use Rattle.cob_move_conditions.specs.Written.{BehindNot, Has, InBrackets, Relates, RelatesTo, Simple, StandsAlone, WithAnd, WithOr, WrittenCondition, WrittenTest}
 use Rattle.cob_move_data.specs.Moves.{Entry, Records, Sender, operand_in, record_of}
 use Rattle.cob_move_names.specs.Candidates.{Candidate, all_entries}
 use Rattle.cob_move_names.specs.References.{NamesOperand}
-use Rattle.cob_move_names.specs.Senders.{kind_of_sender}
 use Rattle.cob_move_receive.specs.Table.{SenderKind}
 use Rattle.cob_move_receive.specs.Table as table
+use Rattle.cob_move_statements.specs.declared.fault.MoveFault.{MoveFault}
 use Rattle.cob_move_statements.specs.declared.fault.MoveRule.{MoveRule}
 use Rattle.cob_move_statements.specs.declared.fault.MoveRule.TheVariants as rule
 use Rattle.cob_move_statements.specs.Written.{SentConstant, WrittenReference, WrittenSender}
@@ -34,13 +35,12 @@ use Rattle.cob_source.specs.Tokens.{Lexeme}
 use Rattle.cob_move_tests.specs.declared.entries.NamedEntry.{NamedEntry}
 use Rattle.cob_move_tests.specs.declared.compared.Compared.{Compared}
 use Rattle.cob_move_tests.specs.declared.compared.Compared.TheVariants as compared
-use Rattle.cob_move_tests.specs.declared.compared.LastRelation.{LastRelation}
 use Rattle.cob_move_tests.specs.declared.compared.ReadCondition.{ReadCondition}
-use Rattle.cob_move_tests.specs.Asked.{AsksMore, IsAsked, IsNamed, IsNumberForSign, IsTestable, MayBeAsked, kind_asked, kind_named, sender_asked, sender_named}
-use Rattle.cob_move_tests.specs.Broken.{BreaksCondition, BreaksOperand, BreaksQuality, BreaksRelation, BreaksTest, BreaksWords}
-use Rattle.cob_move_tests.specs.Compared.{IsRead, IsStatedThere, IsThere, kind_of_compared, sender_in, stated_in}
-use Rattle.cob_move_tests.specs.Laws.{ConditionsBreakNoRule, OneConditionOf}
-use Rattle.cob_move_tests.specs.Meant.{HasQuality, IsConditionOf, IsMeantBy, IsNotEmpty, IsOperandOf, IsRelationOf, IsTestOf, NoneStated, Stated, StatesRelation, opposite_if, quality_asked}
+use Rattle.cob_move_tests.specs.Asked.{AsksMore, IsNumberForSign, IsTestable, MayBeAsked, kind_asked, kind_named, sender_asked, sender_named}
+use Rattle.cob_move_tests.specs.Broken.{BreaksCondition, BreaksRelation, BreaksTest, BreaksWords}
+use Rattle.cob_move_tests.specs.Compared.{IsRead, IsThere, kind_of_compared, sender_in, stated_in}
+use Rattle.cob_move_tests.specs.Laws.{ConditionsBreakNoRule}
+use Rattle.cob_move_tests.specs.Meant.{HasQuality, IsConditionOf, IsMeantBy, IsNotEmpty, IsOperandOf, IsTestOf, NoneStated, Stated, StatedAs, StatesRelation, opposite_if, quality_asked}
 use Rattle.cob_move_tests.specs.Qualities.{may_have}
 use Rattle.cob_move_tests.proofs.AskedLemmas.{last_get}
 use Rattle.cob_move_tests.proofs.ReadLemmas.{may_of, parts_read}
@@ -152,7 +152,25 @@ pub quality_stands : (all : List Candidate) (r : Records) (now : List NamedEntry
     → HasQuality all r w opposite q (condition_of (sender_named r now) c) → IsTestable r now c → IsRead r now (IsTestOf all r (Has w opposite q) s) (record { condition = c; last = None })
 quality_stands all r now w opposite q s c has testable = record { is = (has, refl); testable = testable; there = tt }
 
+pub relates_to_read : (all : List Candidate) (r : Records) (now : List NamedEntry) (a : Sender) (last q : Relation) (v : WrittenSender) (x : Result ReadCondition MoveRule)
+    → IfOk x (IsRead r now (StatesRelation all a q v)) → IfOk x (IsRead r now (IsTestOf all r (RelatesTo q v) (StatedAs a last)))
+relates_to_read all r now a last q v x h =
+    ok_map (IsRead r now (StatesRelation all a q v)) (IsRead r now (IsTestOf all r (RelatesTo q v) (StatedAs a last))) x
+    (λ m k. read_map r now (StatesRelation all a q v) (IsTestOf all r (RelatesTo q v) (StatedAs a last)) m (λ c next i. i) k) h
+
+pub alone_read : (all : List Candidate) (r : Records) (now : List NamedEntry) (a : Sender) (q : Relation) (v : WrittenSender) (x : Result ReadCondition MoveRule)
+    → IfOk x (IsRead r now (StatesRelation all a q v)) → IfOk x (IsRead r now (IsTestOf all r (StandsAlone v) (StatedAs a q)))
+alone_read all r now a q v x h =
+    ok_map (IsRead r now (StatesRelation all a q v)) (IsRead r now (IsTestOf all r (StandsAlone v) (StatedAs a q))) x
+    (λ m k. read_map r now (StatesRelation all a q v) (IsTestOf all r (StandsAlone v) (StatedAs a q)) m (λ c next i. i) k) h
+
 -- ---- conditions
+
+pub simple_read : (all : List Candidate) (r : Records) (now : List NamedEntry) (t : WrittenTest) (s : Stated) (x : Result ReadCondition MoveRule) → IfOk x (IsRead r now (IsTestOf all r t s))
+    → IfOk x (IsRead r now (IsMeantBy all r (Simple t) s))
+simple_read all r now t s x h =
+    ok_map (IsRead r now (IsTestOf all r t s)) (IsRead r now (IsMeantBy all r (Simple t) s)) x
+    (λ m k. read_map r now (IsTestOf all r t s) (IsMeantBy all r (Simple t) s) m (λ c next i. i) k) h
 
 pub brackets_read : (all : List Candidate) (r : Records) (now : List NamedEntry) (w : WrittenCondition) (s : Stated) (m : ReadCondition) → IsRead r now (IsMeantBy all r w NoneStated) m
     → IsRead r now (IsMeantBy all r (InBrackets w) s) (record { condition = m.condition; last = None })
@@ -194,6 +212,11 @@ pub second_broken_or : (e : MoveRule) (all : List Candidate) (r : Records) (mid 
 second_broken_or e all r mid v w s one h b = memory_map (λ k. inr (condition_of (sender_named r mid) one.condition, stated_in r mid one.last, h.is, k)) b
 
 -- ---- whole words
+
+-- the line of a refusal is left out
+pub phrase_broken : (ws : List Lexeme) (f : MoveFault) → RefusesCondition ws f → (f.rule ≡ rule.Memory) ⊎ ((f.rule ≡ rule.Grammar) × ((c : WrittenCondition) → IsWholeCondition c ws → ⊥))
+phrase_broken ws f (inl memory) = inl memory
+phrase_broken ws f (inr (grammar, line, none)) = inr (grammar, none)
 
 pub words_mean : (all : List Candidate) (r : Records) (now : List NamedEntry) (ws : List Lexeme) (w : WrittenCondition) (m : ReadCondition) → all ≡ all_entries r.input r.output → IsWholeCondition w ws
     → IsRead r now (IsMeantBy all r w NoneStated) m → IsConditionOf r ws (condition_of (sender_named r now) m.condition)

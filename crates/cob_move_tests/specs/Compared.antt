@@ -1,6 +1,5 @@
 -- What is compared, and what was stated last, as the code has them.
-use Rattle.std.specs.Prelude.{◌≡◌, ℕ, ◌<◌, List, length, Option, Some, None}
-use Rattle.cob_copybook_entry.specs.declared.value.Value.{Value}
+use Rattle.std.specs.Prelude.{◌≡◌, ◌<◌, List, length, Option, Some, None}
 use Rattle.cob_copybook_entry.specs.Described.{plain_value}
 use Rattle.cob_move_condition.specs.declared.condition.Comparand.{Comparand}
 use Rattle.cob_move_condition.specs.declared.condition.Comparand.TheVariants as comparand

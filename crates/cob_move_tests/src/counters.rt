@@ -1,6 +1,6 @@
 //! Counters among the words of a condition.
 
-ghost use Rattle.std.specs.Prelude.{◌≡◌, false, is_some};
+ghost use Rattle.std.specs.Prelude.{◌≡◌, ◌||◌, false, is_some, not};
 ghost use Rattle.cob_copybook_clauses.specs.Terms.{word_class};
 ghost use Rattle.cob_source.specs.Tokens.{lexeme, lexemes};
 ghost use Rattle.cob_move_loops.specs.Reading.{counters};
@@ -53,7 +53,16 @@ fn subscripts_behind(inside: bool, named: bool, token: &Token) -> bool
     }
 }
 
+/// Whether a word may stand where it does: in subscripts, or as no counter.
+fn may_stand(turn: &[Counter<'_>], inside: bool, token: &Token) -> bool
+    ensures { result
+        ≡ (inside || not (is_some (counted_number (counters turn.now) (lexeme token.now)))) }
+{
+    inside || !is_counter(turn, token)
+}
+
 /// Whether no counter stands among the words of a condition, outside of subscripts.
+#[tactic(auto, using(crate::proofs::CounterLemmas::word_passed, crate::proofs::CounterLemmas::word_stopped))]
 pub fn has_no_counter(turn: &[Counter<'_>], words: &[Token]) -> bool
     ensures { result ≡ has_no_counter (counters turn.now) false false (lexemes words.now) }
 {
@@ -61,7 +70,7 @@ pub fn has_no_counter(turn: &[Counter<'_>], words: &[Token]) -> bool
     let mut named = false;
     let mut rest = words;
     while let Some((first, more)) = rest.split_first() {
-        if !inside && is_counter(turn, first) {
+        if !may_stand(turn, inside, first) {
             return false;
         }
         inside = subscripts_behind(inside, named, first);

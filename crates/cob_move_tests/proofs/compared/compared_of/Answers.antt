@@ -1,4 +1,4 @@
-use Rattle.std.proofs.Common.{inl, inr, refl, sym, ap, subst, ◌∙◌}
+use Rattle.std.proofs.Common.{inr}
 use Rattle.std.proofs.lemmas.Result.{err_from_is_err_and}
 use Rattle.cob_copybook_clauses.specs.Written.{written_value}
 use Rattle.cob_move_tests.specs.Entries.{nameable, records_of}
@@ -17,7 +17,7 @@ returns-in_err-value-in-Constant-clause-fault c =
 
 pub returns-in_ok-value-in-Constant-clause-found : goal.returns-in_ok-value-in-Constant-clause-found
 returns-in_ok-value-in-Constant-clause-found c =
-    rw c.in-Constant.is (constant_found (nameable c.args.entries.now) (records_of c.args.entries.now) c.args.asked.now.items (written_value c.in-Constant.literal.now) c.in_ok-value-in-Constant.value c.in_ok-value-in-Constant.ensures.found c.in_ok-value-in-Constant.ensures.some)
+    rw c.in-Constant.is (constant_found (nameable c.args.entries.now) (records_of c.args.entries.now) c.args.asked.now.items (written_value c.in-Constant.literal) c.in_ok-value-in-Constant.value c.in_ok-value-in-Constant.ensures.found c.in_ok-value-in-Constant.ensures.some)
 
 pub returns-in_ok-value-in-Constant-clause-grown : goal.returns-in_ok-value-in-Constant-clause-grown
 returns-in_ok-value-in-Constant-clause-grown c =

@@ -1,4 +1,4 @@
-use Rattle.std.proofs.Common.{inl, inr, refl, sym, ap, subst, ◌∙◌}
+use Rattle.std.proofs.Common.{inl, inr, ◌∙◌}
 use Rattle.std.proofs.lemmas.Result.{err_from_is_err_and}
 use Rattle.cob_move_statements.specs.Written.{written_reference}
 use Rattle.cob_move_tests.specs.Entries.{nameable, records_of}
@@ -12,7 +12,7 @@ returns-in_err-named-clause-grown c =
 
 pub returns-in_err-named-clause-fault : goal.returns-in_err-named-clause-fault
 returns-in_err-named-clause-fault c =
-    let p = err_from_is_err_and c.from_residual-in_err-named.result c.from_residual-in_err-named.ensures.1 in
+    let p = err_from_is_err_and c.from_residual.result c.from_residual.ensures.1 in
     rw (p.1, p.2) (inr (inl c.in_err-named.ensures.fault))
 
 pub returns-in_err-push-clause-grown : goal.returns-in_err-push-clause-grown
@@ -21,11 +21,11 @@ returns-in_err-push-clause-grown c =
 
 pub returns-clause-found : goal.returns-clause-found
 returns-clause-found c =
-    entry_found (nameable c.args.entries.now) (records_of c.args.entries.now) c.args.asked.now.items c.push.new.self.items (written_reference c.args.reference.now) c.in_ok-named.named c.len-number.result c.clone-kind.result c.len-number.ensures c.in_ok-push.ensures.items c.in_ok-named.ensures.found
+    entry_found (nameable c.args.entries.now) (records_of c.args.entries.now) c.args.asked.now.items c.push.new.self.items (written_reference c.args.reference.now) c.in_ok-named.named c.len-number.result c.clone-kind.result (c.len-number.ensures ∙ c.args.asked.now.ok.0) c.in_ok-push.ensures.items c.in_ok-named.ensures.found
 
 pub returns-clause-there : goal.returns-clause-there
 returns-clause-there c =
-    entry_there (records_of c.args.entries.now) c.args.asked.now.items c.push.new.self.items c.in_ok-named.named c.len-number.result c.clone-kind.result c.len-number.ensures c.in_ok-push.ensures.items (c.clone-kind.ensures.same ∙ c.kind.ensures)
+    entry_there (records_of c.args.entries.now) c.args.asked.now.items c.push.new.self.items c.in_ok-named.named c.len-number.result c.clone-kind.result (c.len-number.ensures ∙ c.args.asked.now.ok.0) c.in_ok-push.ensures.items (c.clone-kind.ensures.same ∙ c.kind.ensures)
 
 pub returns-clause-grown : goal.returns-clause-grown
 returns-clause-grown c =

@@ -1,4 +1,3 @@
-use Rattle.std.proofs.Common.{inl, inr, refl, sym, ap, subst, ◌∙◌}
 use Rattle.std.proofs.lemmas.Result.{err_from_is_err_and}
 use Rattle.cob_source.specs.Tokens.{lexemes}
 use Rattle.cob_move_condition.specs.Conditions.{condition_of}

@@ -1,4 +1,4 @@
-use Rattle.std.proofs.Common.{inl, inr, refl, sym, ap, subst, ◌∙◌}
+use Rattle.std.proofs.Common.{inl, inr, refl, sym, ◌∙◌}
 use Rattle.std.proofs.lemmas.Result.{err_from_is_err_and}
 use Rattle.cob_move_data.specs.Moves.{operand_in, record_of}
 use Rattle.cob_move_statements.specs.Written.{written_reference}
@@ -13,7 +13,7 @@ returns-in_err-named-clause-grown c =
 
 pub returns-in_err-named-clause-fault : goal.returns-in_err-named-clause-fault
 returns-in_err-named-clause-fault c =
-    let p = err_from_is_err_and c.from_residual-in_err-named.result c.from_residual-in_err-named.ensures.1 in
+    let p = err_from_is_err_and c.from_residual.result c.from_residual.ensures.1 in
     rw (p.1, p.2) (inr (inl c.in_err-named.ensures.fault))
 
 pub returns-then-not-may_have-clause-grown : goal.returns-then-not-may_have-clause-grown
@@ -34,12 +34,12 @@ returns-in_err-condition-clause-grown c =
 
 pub returns-clause-found : goal.returns-clause-found
 returns-clause-found c =
-    quality_read (nameable c.args.entries.now) (records_of c.args.entries.now) c.args.asked.now.items c.push.new.self.items (written_reference c.args.written.now) c.args.opposite c.args.quality c.in_ok-named.named c.len.result c.quality_at-asks.result c.in_ok-condition.condition c.len.ensures c.in_ok-push.ensures.items
+    quality_read (nameable c.args.entries.now) (records_of c.args.entries.now) c.args.asked.now.items c.push.new.self.items (written_reference c.args.written.now) c.args.opposite c.args.quality c.in_ok-named.named c.len.result c.quality_at-asks.result c.in_ok-condition.condition (c.len.ensures ∙ c.args.asked.now.ok.0) c.in_ok-push.ensures.items
     c.in_ok-named.ensures.found (sym c.if-not-may_have.false ∙ c.may_have.ensures) c.quality_at-asks.ensures.means c.in_ok-condition.ensures.means
 
 pub returns-clause-testable : goal.returns-clause-testable
 returns-clause-testable c =
-    c.in_ok-condition.ensures.testable (records_of c.args.entries.now) c.push.new.self.items (c.quality_at-asks.ensures.testable (records_of c.args.entries.now) c.push.new.self.items (quality_there (records_of c.args.entries.now) c.args.asked.now.items c.push.new.self.items c.args.quality c.in_ok-named.named c.len.result c.len.ensures c.in_ok-push.ensures.items
+    c.in_ok-condition.ensures.testable (records_of c.args.entries.now) c.push.new.self.items (c.quality_at-asks.ensures.testable (records_of c.args.entries.now) c.push.new.self.items (quality_there (records_of c.args.entries.now) c.args.asked.now.items c.push.new.self.items c.args.quality c.in_ok-named.named c.len.result (c.len.ensures ∙ c.args.asked.now.ok.0) c.in_ok-push.ensures.items
     (sym c.if-not-may_have.false ∙ c.may_have.ensures)))
 
 pub returns-clause-grown : goal.returns-clause-grown

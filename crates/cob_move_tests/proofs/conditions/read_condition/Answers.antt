@@ -1,4 +1,3 @@
-use Rattle.std.proofs.Common.{inl, inr, refl, sym, ap, subst, ◌∙◌}
 use Rattle.std.proofs.lemmas.Result.{err_from_is_err_and}
 use Rattle.cob_source.specs.Tokens.{lexemes}
 use Rattle.cob_move_conditions.specs.Written.{written_condition}
@@ -13,7 +12,7 @@ returns-in_err-phrase-clause-grown c =
 
 pub returns-in_err-phrase-clause-fault : goal.returns-in_err-phrase-clause-fault
 returns-in_err-phrase-clause-fault c =
-    let p = err_from_is_err_and c.from_residual-in_err-phrase.result c.from_residual-in_err-phrase.ensures.1 in
+    let p = err_from_is_err_and c.from_residual.result c.from_residual.ensures.1 in
     rw (p.1, p.2) (no_words c.in_err-phrase.field-0.0 (records_of c.args.entries.now) (lexemes c.args.words.now) c.in_err-phrase.ensures.fault)
 
 pub returns-in_err-reading-clause-fault : goal.returns-in_err-reading-clause-fault

@@ -10,7 +10,7 @@ use Rattle.cob_move_tests.proofs.conditions.relation_of.Goals as goal
 
 pub returns-in_err-object-clause-fault : goal.returns-in_err-object-clause-fault
 returns-in_err-object-clause-fault c =
-    let p = err_from_is_err_and c.from_residual-in_err-object.result c.from_residual-in_err-object.ensures.1 in
+    let p = err_from_is_err_and c.from_residual.result c.from_residual.ensures.1 in
     rw (p.1, p.2) (memory_left c.in_err-object.ensures.fault)
 
 pub returns-then-not-may_compare-clause-fault : goal.returns-then-not-may_compare-clause-fault

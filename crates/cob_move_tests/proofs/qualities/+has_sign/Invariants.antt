@@ -7,4 +7,4 @@ abbrev pub decreases-has_sign : goal.decreases-has_sign
 decreases-has_sign l = goal.size-has_sign l
 
 abbrev pub invariant-loop-entry : goal.invariant-loop-entry
-invariant-loop-entry l = has_sign (forest l.entries) ≡ has_sign (forest (drop l.entry-index l.entries))
+invariant-loop-entry l = has_sign (forest (drop l.entry-index l.entries)) ≡ has_sign (forest l.entries)
