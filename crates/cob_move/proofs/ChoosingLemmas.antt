@@ -64,16 +64,16 @@ choices_end words rest left none p is =
 
 -- nothing but a branch stands in front of branches
 pub never_other : (k : ChoiceKind) (i : PassageItem) (words more : List Lexeme) → FrontAt (standing.Branches k) (item_front i) words more → ((t : BranchTest) (body : Bor (List Token)) → i ≡ item.Branch t body → ⊥) → ⊥
-never_other k (item.Run own) words more is not = is
-never_other k item.Pause words more is not = is
-never_other k (item.Loop head body) words more is not = is
-never_other k (item.Choice c branches) words more is not = is
-never_other k (item.Branch t body) words more is not = not t body refl
+never_other k (item.Run own) words more is never = is
+never_other k item.Pause words more is never = is
+never_other k (item.Loop head body) words more is never = is
+never_other k (item.Choice c branches) words more is never = is
+never_other k (item.Branch t body) words more is never = never t body refl
 
 -- what has no words is taken where no other is
 pub otherwise_is : (t : BranchTest) → ((words : Bor (List Token)) → t ≡ test.Tested words → ⊥) → written_test t ≡ Otherwise
-otherwise_is (test.Tested words) not = absurd (not words refl)
-otherwise_is test.Otherwise not = refl
+otherwise_is (test.Tested words) never = absurd (never words refl)
+otherwise_is test.Otherwise never = refl
 
 -- ---- why it isn't read
 

@@ -98,10 +98,10 @@ alone_behind v words behind (own, is, e) x h = (value_cut v x own words behind [
 
 -- no THRU stands behind the first value
 pub no_thru : (v : WrittenValue) (words behind more : List Lexeme) (thru : Lexeme) → StandInFront (IsValueWritten v) words behind → behind ≡ thru ∷ more → (IsThru thru → ⊥) → (x : WrittenSpan) → IsSpanWritten x words → ⊥
-no_thru v words behind more thru found cut not (OneWritten x) is = some_is behind (omega (arith, ap length cut)) (alone_behind v words behind found x is)
-no_thru v words behind more thru found cut not (FromToWritten x y) is =
+no_thru v words behind more thru found cut never (OneWritten x) is = some_is behind (omega (arith, ap length cut)) (alone_behind v words behind found x is)
+no_thru v words behind more thru found cut never (FromToWritten x y) is =
     let same : thru ≡ is.2 = same_first thru is.2 more is.1 (sym cut ∙ behind_first v words behind found x y is) in
-    not (subst IsThru (sym same) is.4)
+    never (subst IsThru (sym same) is.4)
 
 -- no value stands behind THRU
 pub no_last : (v : WrittenValue) (words behind more : List Lexeme) (thru : Lexeme) → StandInFront (IsValueWritten v) words behind → behind ≡ thru ∷ more
