@@ -564,7 +564,7 @@ add_branch-returns-clause-added t c =
       apart = c.in_ok-flows.ensures.apart;
       new_is = ap (λ (cs : List Condition). record { list = read.list; ends = read.ends; bounds = read.bounds; asked = read.asked; conditions = cs; flows = read.flows; read = read.read }) c.in_ok-push.ensures.items;
       taken = ap taken_branches c.in_ok-push-2.ensures.items ∙ map-append taken_branch c.args.taken.now.items _
-          ∙ ap (λ (n : ℕ). taken_branches c.args.taken.now.items ++ record { condition = n; flows = own } ∷ []) c.len-condition.ensures;
+          ∙ ap (λ (n : ℕ). taken_branches c.args.taken.now.items ++ record { condition = n; flows = own } ∷ []) (c.len-condition.ensures ∙ c.add_apart.new.made.conditions.ok.0);
     }
 
 pub add_choice-returns-in_err-subject-clause-fault : goal.add_choice-returns-in_err-subject-clause-fault

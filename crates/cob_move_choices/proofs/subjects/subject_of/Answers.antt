@@ -42,10 +42,10 @@ returns-in_ok-push-in-Evaluate-clause-found c =
     let r = records_of c.args.entries.now in
     subst (λ (w : WrittenChoice). IsSubjectOf r (counters c.args.turn.now) w (against (sender_named r c.push.new.self.items) (subject.Entry c.len-number.result))) (sym (ap written_choice c.in-Evaluate.is))
     (subject_found r (counters c.args.turn.now) c.in-Evaluate.line (lexemes c.in-Evaluate.subject.now) c.args.asked.now.items c.push.new.self.items c.in_ok-named-in-Evaluate.named c.len-number.result
-    (λ is. absurd (false_true (sym c.if-is_truth.false ∙ c.is_truth.ensures.1 is))) c.in_ok-named-in-Evaluate.ensures.found c.len-number.ensures c.in_ok-push-in-Evaluate.ensures.items)
+    (λ is. absurd (false_true (sym c.if-is_truth.false ∙ c.is_truth.ensures.1 is))) c.in_ok-named-in-Evaluate.ensures.found (c.len-number.ensures ∙ c.args.asked.now.ok.0) c.in_ok-push-in-Evaluate.ensures.items)
 
 pub returns-in_ok-push-in-Evaluate-clause-there : goal.returns-in_ok-push-in-Evaluate-clause-there
-returns-in_ok-push-in-Evaluate-clause-there c = subject_there c.args.asked.now.items c.push.new.self.items c.in_ok-named-in-Evaluate.named c.len-number.result c.len-number.ensures c.in_ok-push-in-Evaluate.ensures.items
+returns-in_ok-push-in-Evaluate-clause-there c = subject_there c.args.asked.now.items c.push.new.self.items c.in_ok-named-in-Evaluate.named c.len-number.result (c.len-number.ensures ∙ c.args.asked.now.ok.0) c.in_ok-push-in-Evaluate.ensures.items
 
 pub returns-in_ok-push-in-Evaluate-clause-asks : goal.returns-in_ok-push-in-Evaluate-clause-asks
 returns-in_ok-push-in-Evaluate-clause-asks c = subject_asks (records_of c.args.entries.now) c.args.asked.now.items c.push.new.self.items c.in_ok-named-in-Evaluate.named c.in_ok-named-in-Evaluate.ensures.operand c.in_ok-push-in-Evaluate.ensures.items

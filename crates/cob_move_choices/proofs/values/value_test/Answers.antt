@@ -21,9 +21,9 @@ value_of-requires c =
     let r = records_of c.args.entries.now in
     let asked = c.args.asked.now in
     let number = c.args.number in
-    let n = c.entry-item.result.now in
+    let n = c.index-asked-number.result in
     let ws = lexemes c.args.words.now in
-    let at : slice_get asked number ≡ Some n = slice_get_read asked (length asked) number n refl c.requires.there c.entry-item.is in
+    let at : slice_get asked number ≡ Some n = slice_get_read asked (length asked) number n refl c.requires.there c.index-asked-number.is in
     named_at r asked number n at c.requires.operands
 
 pub value_of-requires-in-FromTo : goal.value_of-requires-in-FromTo
@@ -31,9 +31,9 @@ value_of-requires-in-FromTo c =
     let r = records_of c.args.entries.now in
     let asked = c.args.asked.now in
     let number = c.args.number in
-    let n = c.entry-item.result.now in
+    let n = c.index-asked-number.result in
     let ws = lexemes c.args.words.now in
-    let at : slice_get asked number ≡ Some n = slice_get_read asked (length asked) number n refl c.requires.there c.entry-item.is in
+    let at : slice_get asked number ≡ Some n = slice_get_read asked (length asked) number n refl c.requires.there c.index-asked-number.is in
     named_at r asked number n at c.requires.operands
 
 pub value_of-requires-in-FromTo-2 : goal.value_of-requires-in-FromTo-2
@@ -41,9 +41,9 @@ value_of-requires-in-FromTo-2 c =
     let r = records_of c.args.entries.now in
     let asked = c.args.asked.now in
     let number = c.args.number in
-    let n = c.entry-item.result.now in
+    let n = c.index-asked-number.result in
     let ws = lexemes c.args.words.now in
-    let at : slice_get asked number ≡ Some n = slice_get_read asked (length asked) number n refl c.requires.there c.entry-item.is in
+    let at : slice_get asked number ≡ Some n = slice_get_read asked (length asked) number n refl c.requires.there c.index-asked-number.is in
     named_at r asked number n at c.requires.operands
 
 pub returns-in_err-value-in-One-clause-fault : goal.returns-in_err-value-in-One-clause-fault
@@ -51,11 +51,11 @@ returns-in_err-value-in-One-clause-fault c =
     let r = records_of c.args.entries.now in
     let asked = c.args.asked.now in
     let number = c.args.number in
-    let n = c.entry-item.result.now in
+    let n = c.index-asked-number.result in
     let ws = lexemes c.args.words.now in
-    let at : slice_get asked number ≡ Some n = slice_get_read asked (length asked) number n refl c.requires.there c.entry-item.is in
+    let at : slice_get asked number ≡ Some n = slice_get_read asked (length asked) number n refl c.requires.there c.index-asked-number.is in
     let spelled : IsSpanWritten (OneWritten (written_value c.in-One.written)) ws = subst (λ (l : Listed). IsSpanWritten (written_span l) ws) c.in-One.is c.in-Some.ensures.found in
-    let p = err_from_is_err_and c.from_residual-in_err-value-in-One.result c.from_residual-in_err-value-in-One.ensures.1 in
+    let p = err_from_is_err_and c.from_residual.result c.from_residual.ensures.1 in
     rw (p.1, p.2) (inr (values_refused c.in_err-value-in-One.field-0.0 r (sender_named r asked number) ws (OneWritten (written_value c.in-One.written)) spelled
     (value_refused c.in_err-value-in-One.field-0.0 r asked number n (written_value c.in-One.written) at c.in_err-value-in-One.ensures.fault)))
 
@@ -64,9 +64,9 @@ returns-in_err-first-in-FromTo-clause-fault c =
     let r = records_of c.args.entries.now in
     let asked = c.args.asked.now in
     let number = c.args.number in
-    let n = c.entry-item.result.now in
+    let n = c.index-asked-number.result in
     let ws = lexemes c.args.words.now in
-    let at : slice_get asked number ≡ Some n = slice_get_read asked (length asked) number n refl c.requires.there c.entry-item.is in
+    let at : slice_get asked number ≡ Some n = slice_get_read asked (length asked) number n refl c.requires.there c.index-asked-number.is in
     let spelled : IsSpanWritten (FromToWritten (written_value c.in-FromTo.from) (written_value c.in-FromTo.to)) ws = subst (λ (l : Listed). IsSpanWritten (written_span l) ws) c.in-FromTo.is c.in-Some.ensures.found in
     let p = err_from_is_err_and c.from_residual-in_err-first-in-FromTo.result c.from_residual-in_err-first-in-FromTo.ensures.1 in
     rw (p.1, p.2) (inr (values_refused c.in_err-first-in-FromTo.field-0.0 r (sender_named r asked number) ws (FromToWritten (written_value c.in-FromTo.from) (written_value c.in-FromTo.to)) spelled
@@ -77,9 +77,9 @@ returns-in_err-last-in-FromTo-clause-fault c =
     let r = records_of c.args.entries.now in
     let asked = c.args.asked.now in
     let number = c.args.number in
-    let n = c.entry-item.result.now in
+    let n = c.index-asked-number.result in
     let ws = lexemes c.args.words.now in
-    let at : slice_get asked number ≡ Some n = slice_get_read asked (length asked) number n refl c.requires.there c.entry-item.is in
+    let at : slice_get asked number ≡ Some n = slice_get_read asked (length asked) number n refl c.requires.there c.index-asked-number.is in
     let spelled : IsSpanWritten (FromToWritten (written_value c.in-FromTo.from) (written_value c.in-FromTo.to)) ws = subst (λ (l : Listed). IsSpanWritten (written_span l) ws) c.in-FromTo.is c.in-Some.ensures.found in
     let p = err_from_is_err_and c.from_residual-in_err-last-in-FromTo.result c.from_residual-in_err-last-in-FromTo.ensures.1 in
     rw (p.1, p.2) (inr (values_refused c.in_err-last-in-FromTo.field-0.0 r (sender_named r asked number) ws (FromToWritten (written_value c.in-FromTo.from) (written_value c.in-FromTo.to)) spelled
@@ -90,9 +90,9 @@ returns-in_ok-value-in-One-clause-found c =
     let r = records_of c.args.entries.now in
     let asked = c.args.asked.now in
     let number = c.args.number in
-    let n = c.entry-item.result.now in
+    let n = c.index-asked-number.result in
     let ws = lexemes c.args.words.now in
-    let at : slice_get asked number ≡ Some n = slice_get_read asked (length asked) number n refl c.requires.there c.entry-item.is in
+    let at : slice_get asked number ≡ Some n = slice_get_read asked (length asked) number n refl c.requires.there c.index-asked-number.is in
     let spelled : IsSpanWritten (OneWritten (written_value c.in-One.written)) ws = subst (λ (l : Listed). IsSpanWritten (written_span l) ws) c.in-One.is c.in-Some.ensures.found in
     let x = plain_value c.in_ok-value-in-One.value in
     one_found r (sender_named r asked number) ws (written_value c.in-One.written) x (condition_of (sender_named r asked) c.compares.result) spelled c.in_ok-value-in-One.ensures.found (may_named r asked number n x at c.in_ok-value-in-One.ensures.may)
@@ -103,9 +103,9 @@ returns-in_ok-value-in-One-clause-tested c =
     let r = records_of c.args.entries.now in
     let asked = c.args.asked.now in
     let number = c.args.number in
-    let n = c.entry-item.result.now in
+    let n = c.index-asked-number.result in
     let ws = lexemes c.args.words.now in
-    let at : slice_get asked number ≡ Some n = slice_get_read asked (length asked) number n refl c.requires.there c.entry-item.is in
+    let at : slice_get asked number ≡ Some n = slice_get_read asked (length asked) number n refl c.requires.there c.index-asked-number.is in
     c.compares.ensures.testable r asked (may_be_listed r asked number n (plain_value c.in_ok-value-in-One.value) c.requires.there at c.in_ok-value-in-One.ensures.may)
 
 pub returns-in_ok-within-in-FromTo-clause-found : goal.returns-in_ok-within-in-FromTo-clause-found
@@ -113,9 +113,9 @@ returns-in_ok-within-in-FromTo-clause-found c =
     let r = records_of c.args.entries.now in
     let asked = c.args.asked.now in
     let number = c.args.number in
-    let n = c.entry-item.result.now in
+    let n = c.index-asked-number.result in
     let ws = lexemes c.args.words.now in
-    let at : slice_get asked number ≡ Some n = slice_get_read asked (length asked) number n refl c.requires.there c.entry-item.is in
+    let at : slice_get asked number ≡ Some n = slice_get_read asked (length asked) number n refl c.requires.there c.index-asked-number.is in
     let spelled : IsSpanWritten (FromToWritten (written_value c.in-FromTo.from) (written_value c.in-FromTo.to)) ws = subst (λ (l : Listed). IsSpanWritten (written_span l) ws) c.in-FromTo.is c.in-Some.ensures.found in
     let x = plain_value c.in_ok-first-in-FromTo.first in
     let y = plain_value c.in_ok-last-in-FromTo.last in
@@ -128,8 +128,8 @@ returns-in_ok-within-in-FromTo-clause-tested c =
     let r = records_of c.args.entries.now in
     let asked = c.args.asked.now in
     let number = c.args.number in
-    let n = c.entry-item.result.now in
+    let n = c.index-asked-number.result in
     let ws = lexemes c.args.words.now in
-    let at : slice_get asked number ≡ Some n = slice_get_read asked (length asked) number n refl c.requires.there c.entry-item.is in
+    let at : slice_get asked number ≡ Some n = slice_get_read asked (length asked) number n refl c.requires.there c.index-asked-number.is in
     c.in_ok-within-in-FromTo.ensures.testable r asked (may_be_listed r asked number n (plain_value c.in_ok-first-in-FromTo.first) c.requires.there at c.in_ok-first-in-FromTo.ensures.may)
     (may_be_listed r asked number n (plain_value c.in_ok-last-in-FromTo.last) c.requires.there at c.in_ok-last-in-FromTo.ensures.may)
