@@ -176,8 +176,8 @@ deeds_one_at ended meant reference named tests all input output ns (InBranches a
     let same : u ≡ t = tests.1 (record { input = input; output = output }) ns a ws u t si is in
     deeds_one_at ended meant reference named tests all input output ns (InBranches a) (Some (joined_test waiting t)) others d e m n are
     (subst (λ (x : Condition). AreDeedsAt all input output ns (InBranches a) (Some (joined_test waiting x)) others e n) same era)
-deeds_one_at ended meant reference named tests all input output ns (InBranches a) waiting (ABranch (Tested ws) own others) d e m n (t, is, inl (none, are)) (u, si, inr (some, more)) = absurd (some none)
-deeds_one_at ended meant reference named tests all input output ns (InBranches a) waiting (ABranch (Tested ws) own others) d e m n (t, is, inr (some, more)) (u, si, inl (none, are)) = absurd (some none)
+deeds_one_at ended meant reference named tests all input output ns (InBranches a) waiting (ABranch (Tested ws) own others) d e m n (t, is, inl (none, are)) (u, si, inr (some, w, z, tnuoc, tser, era, dniheb, e_is, n_is)) = absurd (some none)
+deeds_one_at ended meant reference named tests all input output ns (InBranches a) waiting (ABranch (Tested ws) own others) d e m n (t, is, inr (some, x, y, count, rest, first, behind, d_is, m_is)) (u, si, inl (none, are)) = absurd (some none)
 deeds_one_at ended meant reference named tests all input output ns (InBranches a) waiting (ABranch (Tested ws) own others) d e m n (t, is, inr (some, x, y, count, rest, are, behind, d_is, m_is)) (u, si, inr (emos, w, z, tnuoc, tser, era, dniheb, e_is, n_is)) =
     let same : t ≡ u = tests.1 (record { input = input; output = output }) ns a ws t u is si in
     let first = deeds_one_at ended meant reference named tests all input output ns InStatements None own x w count tnuoc are era in

@@ -10,6 +10,7 @@ use Rattle.cob_source.specs.declared.token.TokenKind.{TokenKind}
 use Rattle.cob_copybook_names.specs.Naming.{named}
 use Rattle.cob_copybook_tree.specs.Forests.{Forest}
 use Rattle.cob_copybook_tree.specs.Nodes.{Resolved}
+use Rattle.cob_move_loops.specs.declared.parts.Place.TheVariants as standing
 use Rattle.cob_move_loops.specs.Passages.{ABranch, AChoice, ALoop, IsPassage, Moves, NoMore, Passage, Pause, WrittenLoop}
 use Rattle.cob_move_loops.specs.Few.{Clashes, IsFew, IsShallow, opening_line, loops_of}
 use Rattle.cob_move_loops.specs.Laws.{NoTurn}
@@ -59,7 +60,7 @@ pub long_refused : (f : MoveFault) (line : ℕ) (body : List Lexeme) (few : Bool
     → BreaksAnywhere f body
 long_refused f line body few p says same at first no_so must = many_refused f body same (at ∙ first) (inr (p, says, λ is. not_true few no_so (must is)))
 
-pub clash_says : (f : MoveFault) (line : ℕ) (body : List Lexeme) → f.rule ≡ rule.Counter → f.line ≡ line → ClashesIn [] body line → IsClashOf f body
+pub clash_says : (f : MoveFault) (line : ℕ) (body : List Lexeme) → f.rule ≡ rule.Counter → f.line ≡ line → ClashesIn standing.Statements [] body line → IsClashOf f body
 clash_says f line body same at clash = inr (same, λ p is. subst (λ (n : ℕ). Clashes [] p n) (sym at) (clash p is))
 
 pub judged : (all : List Candidate) (body : List Lexeme) (ls : List WrittenLoop) → HasChecked body → AreItsLoops body ls → AllByRecursion (λ (l : WrittenLoop). IsNoEntry all l.counter) ls → HasJudged all body
