@@ -1,0 +1,4 @@
+pub mod Written
+pub mod Entries
+pub mod Names
+pub mod Laws
