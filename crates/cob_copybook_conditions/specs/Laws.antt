@@ -1,7 +1,7 @@
--- Laws about condition-names.
+-- What follows from the definitions, said as laws.
 use Rattle.std.specs.Prelude.{◌≡◌, ℕ, List}
 use Rattle.cob_copybook_conditions.specs.Names.{PlainConditionName, AreConditionNamesOf}
 
--- Law: a text has one list of condition-names.
+-- law: a text has one list of condition-names at most
 abbrev pub OneListOfConditionNames : Type 0
 OneListOfConditionNames = (text : List ℕ) (ns ms : List PlainConditionName) → AreConditionNamesOf text ns → AreConditionNamesOf text ms → ns ≡ ms
