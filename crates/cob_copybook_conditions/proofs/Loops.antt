@@ -69,5 +69,11 @@ pub in_first : (first : ℕ) (words s behind : List Lexeme) (ns : List PlainCond
     → AreNamesIn first (sentences words).ended ns
 in_first first words s behind ns is h = subst (λ (ss : List (List Lexeme)). AreNamesIn first ss ns) (sym (first_ended words s behind is)) h
 
-pub in_none : (first : ℕ) (words : List Lexeme) (ns : List PlainConditionName) → HasNoStop words → ns ≡ [] → AreNamesIn first (sentences words).ended ns
-in_none first words ns none e = subst (λ (ss : List (List Lexeme)). AreNamesIn first ss ns) (sym (none_ended words none)) e
+pub in_none : (first : ℕ) (words : List Lexeme) (ns : List PlainConditionName) → HasNoStop words → AreNamesBehind first (sentences words).ended ns → AreNamesIn first (sentences words).ended ns
+in_none first words ns none h =
+    let e = none_ended words none in
+    let same : ns ≡ [] = subst (λ (ss : List (List Lexeme)). AreNamesBehind first ss ns) e h in
+    subst (λ (ss : List (List Lexeme)). AreNamesIn first ss ns) (sym e) same
+
+pub shorter_still : (ts ss bs : List Token) → FirstSentence (lexemes ss) (lexemes ts) (lexemes bs) → length bs ≤ length ts
+shorter_still ts ss bs h = omega (arith, shorter ts ss bs h)

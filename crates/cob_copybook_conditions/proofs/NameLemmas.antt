@@ -1,5 +1,6 @@
 -- The condition-name of one level 88 entry, put together of its parts.
-use Rattle.std.proofs.Common.{◌≡◌, ℕ, ◌+◌, ◌<◌, Bool, true, false, List, [], ◌∷◌, ◌++◌, length, Option, Some, None, refl, sym, subst, ap, ◌∙◌, arith, append-nil}
+use Rattle.std.proofs.Common.{◌≡◌, ℕ, ◌+◌, ◌<◌, Bool, true, false, List, [], ◌∷◌, ◌++◌, length, Option, Some, None, map, refl, sym, subst, ap, ◌∙◌, arith, append-nil}
+use Rattle.std.proofs.lemmas.List.{length-map}
 use Rattle.cob_source.specs.Tokens.{Lexeme, lexeme, lexemes}
 use Rattle.cob_source.specs.declared.token.Token.{Token}
 use Rattle.cob_copybook_clauses.specs.declared.term.WordClass.TheVariants as term
@@ -8,7 +9,8 @@ use Rattle.cob_copybook_clauses.specs.Entries.{IsCondition, is_condition}
 use Rattle.cob_copybook_clauses.specs.Reading.{EachCutNeither, StandInFront}
 use Rattle.cob_copybook_clauses.proofs.ClauseLemmas.{no_are, no_is}
 use Rattle.cob_copybook_conditions.specs.Written.{WrittenSpan}
-use Rattle.cob_copybook_conditions.specs.Names.{AreSpansOf, IsConditionNameOf, PlainConditionName, PlainSpan, SaysBy, SaysName, last_by, with_said}
+use Rattle.cob_copybook_conditions.specs.Names.{AreSpansOf, IsConditionNameOf, PlainConditionName, PlainSpan, SaysBy, SaysName, last_by, plain_span, with_said}
+use Rattle.cob_copybook_conditions.specs.declared.spans.Span.{Span}
 use Rattle.cob_copybook_conditions.specs.Reading.{AddsName, AreSpansMeant, IsNamed}
 use Rattle.cob_copybook_conditions.proofs.Ones.{same_front, values_meant}
 use Rattle.cob_copybook_conditions.proofs.SpanLemmas.{spans_not_first}
@@ -70,6 +72,13 @@ named_values last ws more vs name ss named (noise, or_are, e) are some =
       name = refl;
       values = are.mean;
     }
+
+pub no_values : (vs : List Span) → length vs ≡ 0 → map plain_span vs ≡ []
+no_values [] e = refl
+no_values (v ∷ vs) e = absurd (omega (arith, e))
+
+pub values_there : (vs : List Span) → (length vs ≡ 0 → ⊥) → 0 < length (map plain_span vs)
+values_there vs some = let many = length-map vs plain_span in omega (arith, some, many)
 
 -- ---- what a sentence adds
 

@@ -1,6 +1,6 @@
 //! The condition-names of a text.
 
-ghost use Rattle.std.specs.Prelude.{◌≡◌, ◌+◌, ◌≤◌, ◌<◌, ◌^◌, List, map, length, IfErr, IfOk};
+ghost use Rattle.std.specs.Prelude.{◌≡◌, ℕ, ◌≤◌, ◌<◌, ◌^◌, List, map, length, IfErr, IfOk};
 ghost use Rattle.cob_source.specs.Tokens.{lexemes};
 ghost use Rattle.cob_copybook_clauses.specs.Entries.{sentences};
 ghost use Rattle.cob_copybook_entry.specs.Described.{plain_entry};
@@ -43,7 +43,7 @@ pub fn condition_names(alloc: Global, text: &[u8]) -> Result<Vec<ConditionName>,
     one_list_of_condition_names();
     let words = tokens(alloc, text)?;
     let listed = entries(alloc, &words)?;
-    Ok(names_in(alloc, first_number(&listed), &words)?)
+    Ok(names_behind(alloc, first_number(&listed), behind_first(&words))?)
 }
 
 /// The number of the first data entry: 0 for the record, and 1 behind one that the text doesn't name.
@@ -57,18 +57,16 @@ fn first_number(entries: &[Entry]) -> usize
     }
 }
 
-/// The names that sentences say, of which the first is the data entry `first`.
-///
-/// # Errors
-/// Want of memory.
-fn names_in(alloc: Global, first: usize, words: &[Token]) -> Result<Vec<ConditionName>, AllocError>
-    requires { first ≤ 1 }
-    ensures { IfOk result (λ v.
-        AreNamesIn first (sentences (lexemes words.now)).ended (plain_condition_names v.items)) }
+/// The words behind the first sentence, which is that of a data entry.
+fn behind_first(words: &[Token]) -> &[Token]
+    ensures within { length result.now ≤ length words.now }
+    ensures said { (first : ℕ) (ns : List PlainConditionName)
+        → AreNamesBehind first (sentences (lexemes result.now)).ended ns
+        → AreNamesIn first (sentences (lexemes words.now)).ended ns }
 {
     match sentence_at(words) {
-        Some((_, behind)) => names_behind(alloc, first, behind),
-        None => Ok(Vec::new(alloc)),
+        Some((_, behind)) => behind,
+        None => words,
     }
 }
 
