@@ -110,6 +110,7 @@ fn relation_of(
         (StatesRelation (nameable entries.now)
         (sender_in (records_of entries.now) asked.old.items subject) relation
         (written_sender written.now))) }
+    ensures there { IfOk result (λ c. IsStatedThere (records_of entries.now) asked.new.items c.last) }
     ensures grown { AsksMore (records_of entries.now) asked.old.items asked.new.items }
     ensures fault { IfErr result (λ r. (r ≡ Memory) ⊎ BreaksRelation r (nameable entries.now)
         (sender_in (records_of entries.now) asked.old.items subject) (written_sender written.now)) }
@@ -206,6 +207,7 @@ fn test_of(
     ensures found { IfOk result (IsRead (records_of entries.now) asked.new.items
         (IsTestOf (nameable entries.now) (records_of entries.now) (written_test phrase.now)
         (stated_in (records_of entries.now) asked.old.items last))) }
+    ensures there { IfOk result (λ c. IsStatedThere (records_of entries.now) asked.new.items c.last) }
     ensures grown { AsksMore (records_of entries.now) asked.old.items asked.new.items }
     ensures fault { IfErr result (λ r. (r ≡ Memory) ⊎ BreaksTest r (nameable entries.now)
         (records_of entries.now) (written_test phrase.now)
@@ -262,6 +264,7 @@ fn reading_of(
     ensures found { IfOk result (IsRead (records_of entries.now) asked.new.items
         (IsMeantBy (nameable entries.now) (records_of entries.now) (written_condition phrase.now)
         (stated_in (records_of entries.now) asked.old.items last))) }
+    ensures there { IfOk result (λ c. IsStatedThere (records_of entries.now) asked.new.items c.last) }
     ensures grown { AsksMore (records_of entries.now) asked.old.items asked.new.items }
     ensures fault { IfErr result (λ r. (r ≡ Memory) ⊎ BreaksCondition r (nameable entries.now)
         (records_of entries.now) (written_condition phrase.now)

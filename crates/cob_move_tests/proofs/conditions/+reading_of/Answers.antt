@@ -1,4 +1,3 @@
-use Rattle.std.proofs.Common.{rules}
 use Rattle.std.proofs.lemmas.Result.{err_from_is_err_and}
 use Rattle.cob_move_conditions.specs.Written.{written_condition, written_test}
 use Rattle.cob_move_tests.specs.Compared.{stated_in}
@@ -38,10 +37,6 @@ returns-in_ok-condition-in-BehindNot-clause-found t c =
 
 -- ---- AND
 
-pub reading_of-requires-in-WithAnd-2 : goal.reading_of-requires-in-WithAnd-2
-reading_of-requires-in-WithAnd-2 t c =
-    (search rules, (c.requires.named, c.in_ok-one-in-WithAnd.ensures.found.there))
-
 pub returns-in_err-one-in-WithAnd-clause-fault : goal.returns-in_err-one-in-WithAnd-clause-fault
 returns-in_err-one-in-WithAnd-clause-fault t c =
     let p = err_from_is_err_and c.from_residual-in_err-one-in-WithAnd.result c.from_residual-in_err-one-in-WithAnd.ensures.1 in
@@ -71,10 +66,6 @@ returns-in_ok-condition-in-WithAnd-clause-grown t c =
     both_more (records_of c.args.entries.now) c.args.asked.now.items c.reading_of-in-WithAnd.new.asked.items c.reading_of-in-WithAnd-2.new.asked.items c.reading_of-in-WithAnd.ensures.grown c.reading_of-in-WithAnd-2.ensures.grown
 
 -- ---- OR
-
-pub reading_of-requires-in-WithOr-2 : goal.reading_of-requires-in-WithOr-2
-reading_of-requires-in-WithOr-2 t c =
-    (search rules, (c.requires.named, c.in_ok-one-in-WithOr.ensures.found.there))
 
 pub returns-in_err-one-in-WithOr-clause-fault : goal.returns-in_err-one-in-WithOr-clause-fault
 returns-in_err-one-in-WithOr-clause-fault t c =

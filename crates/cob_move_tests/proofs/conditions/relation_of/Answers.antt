@@ -23,3 +23,9 @@ returns-clause-found c =
     relation_read (nameable c.args.entries.now) (records_of c.args.entries.now) c.args.asked.now.items c.compared_of.new.asked.items c.args.subject c.in_ok-object.object c.comparand.result c.comparand-2.result c.args.relation (written_sender c.args.written.now) c.in_ok-condition.condition
     c.comparand.ensures c.comparand-2.ensures c.requires.there c.compared_of.ensures.grown c.in_ok-object.ensures.found c.in_ok-object.ensures.there (kinds_compare (sender_kind c.kind.result) (sender_kind c.kind-2.result) (kind_of_compared c.args.subject) (kind_of_compared c.in_ok-object.object) true (sym c.if-not-may_compare.false ∙ c.may_compare.ensures) c.kind.ensures c.kind-2.ensures)
     c.in_ok-condition.ensures.means c.in_ok-condition.ensures.testable
+
+pub returns-clause-there : goal.returns-clause-there
+returns-clause-there c =
+    (relation_read (nameable c.args.entries.now) (records_of c.args.entries.now) c.args.asked.now.items c.compared_of.new.asked.items c.args.subject c.in_ok-object.object c.comparand.result c.comparand-2.result c.args.relation (written_sender c.args.written.now) c.in_ok-condition.condition
+    c.comparand.ensures c.comparand-2.ensures c.requires.there c.compared_of.ensures.grown c.in_ok-object.ensures.found c.in_ok-object.ensures.there (kinds_compare (sender_kind c.kind.result) (sender_kind c.kind-2.result) (kind_of_compared c.args.subject) (kind_of_compared c.in_ok-object.object) true (sym c.if-not-may_compare.false ∙ c.may_compare.ensures) c.kind.ensures c.kind-2.ensures)
+    c.in_ok-condition.ensures.means c.in_ok-condition.ensures.testable).there
