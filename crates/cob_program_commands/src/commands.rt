@@ -1,6 +1,8 @@
-ghost use Rattle.std.specs.Prelude.{◌≡◌, map, string_bytes};
+ghost use Rattle.std.specs.Prelude.{◌≡◌, ◌<◌, map, string_bytes};
 ghost use Rattle.cob_program_line.specs.Lines.{HasBlocks};
 ghost use Rattle.cob_records.specs.Forms.{HasBlockSize};
+ghost use Rattle.cob_program_faults.specs.Ends.{EndsAmong};
+ghost use Rattle.cob_program_list.specs.Ends.{MayEndListing};
 ghost use Rattle.cob_program_texts.specs.CheckEnds.{EndsCheck};
 ghost use Rattle.cob_program_commands.specs.Commands.{EndsAsked, EndsConvert, IsEndOfLine, IsEndOfMeant, IsEndOfRefusal, IsEndOfSaid, IsEndOfWords, status_of_refusal};
 
@@ -13,11 +15,14 @@ use cob_program_convert::{do_convert, do_convert_aside};
 use cob_program_copies::{HandedBook, HandedRuntime, hand_over, tell_unhanded};
 use cob_program_explain::do_explain;
 use cob_program_explained::{
-    do_convert_aside_explained, do_convert_explained, files_of, tell_file_error,
+    do_convert_aside_explained, do_convert_explained, do_pieces_explained, do_show_explained,
+    files_of, tell_file_error,
 };
 use cob_program_faults::printed;
 use cob_program_job::do_job;
-use cob_program_line::{CheckLine, CommandLine, ConvertLine, Handing, Line, LineFault, line_of};
+use cob_program_line::{
+    CheckLine, CommandLine, ConvertLine, Handing, Line, LineFault, PiecesLine, ShowLine, line_of,
+};
 use cob_program_list::{do_layout, do_pieces, do_show};
 use cob_program_manual::{do_completion, do_manual};
 use cob_program_map::do_map;
@@ -102,6 +107,39 @@ fn do_plain_conversion<R: AllocGlobal + Files + Input + Print + Eprint + Clock>(
     }
 }
 
+/// Lists the values of records, and says of a record that ends the list why it does, where that is asked for.
+fn do_asked_show<R: AllocGlobal + Files + Input + Print + Eprint + Clock>(
+    rt: &R,
+    line: &ShowLine<'_>,
+    explain: bool,
+) -> Status
+    requires { HasBlockSize line.now.form }
+    ensures { EndsAmong MayEndListing result }
+{
+    if explain {
+        do_show_explained(rt, line)
+    } else {
+        do_show(rt, line)
+    }
+}
+
+/// Lists the pieces of a file, and says of a frame that ends the list why it does, where that is asked for.
+fn do_asked_pieces<R: AllocGlobal + Files + Input + Print + Eprint>(
+    rt: &R,
+    line: &PiecesLine<'_>,
+    explain: bool,
+) -> Status
+    requires block { HasBlockSize line.now.form }
+    requires pieces { 0 < line.now.pieces }
+    ensures { EndsAmong MayEndListing result }
+{
+    if explain {
+        do_pieces_explained(rt, line)
+    } else {
+        do_pieces(rt, line)
+    }
+}
+
 /// Checks the three texts of a conversion: alone, or with the lists of what the paragraph leaves open.
 fn do_checking<R: AllocGlobal + Files + Print + Eprint>(rt: &R, line: &CheckLine<'_>) -> Status
     ensures { EndsCheck line.now.strict result }
@@ -113,8 +151,8 @@ fn do_checking<R: AllocGlobal + Files + Print + Eprint>(rt: &R, line: &CheckLine
     }
 }
 
-/// Carries out what a line asks for, prints what comes of it, and of a record why it stops a conversion where that is asked for, and answers the program's
-/// status.
+/// Carries out what a line asks for, prints what comes of it, and of a record why it stops a conversion or a list where that is asked for, and answers the
+/// program's status.
 fn perform_line<R: AllocGlobal + Files + Input + Print + Eprint + Clock>(
     rt: &R,
     line: &Line<'_>,
@@ -128,9 +166,9 @@ fn perform_line<R: AllocGlobal + Files + Input + Print + Eprint + Clock>(
         Line::Convert(line) => do_asked_conversion(rt, line, explain).code(),
         Line::Check(line) => do_checking(rt, line).code(),
         Line::Layout(line) => do_layout(rt, line).code(),
-        Line::Show(line) => do_show(rt, line).code(),
+        Line::Show(line) => do_asked_show(rt, line, explain).code(),
         Line::Compare(line) => do_compare(rt, line).code(),
-        Line::Pieces(line) => do_pieces(rt, line).code(),
+        Line::Pieces(line) => do_asked_pieces(rt, line, explain).code(),
         Line::Lossless(line) => do_lossless(rt, line).code(),
         Line::Explain(line) => do_explain(rt, line).code(),
         Line::Draft(line) => do_draft(rt, line).code(),

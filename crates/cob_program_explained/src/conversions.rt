@@ -28,7 +28,7 @@ fn tell_words<R: Eprint>(rt: &R, status: Status, words: &str) -> Status
 }
 
 /// Prints what is wrong behind a fault, where it is known, and answers how a command ends that would end so.
-fn tell_known<R: Eprint>(rt: &R, status: Status, words: Option<String>) -> Status
+pub(crate) fn tell_known<R: Eprint>(rt: &R, status: Status, words: Option<String>) -> Status
     ensures { EndsAs status result }
 {
     match words {

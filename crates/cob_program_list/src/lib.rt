@@ -2,7 +2,8 @@
 //! of one begin.
 //!
 //! [`do_layout`], [`do_show`] and [`do_pieces`] carry them out, print what comes of them and answer how the program ends: by [`list_entries`],
-//! [`list_records`] and [`list_pieces`], which print the lists alone.
+//! [`list_records`] and [`list_pieces`], which print the lists alone. [`tell_shown`] and [`tell_listed`] print what these came to, and [`read_record_book`] reads
+//! the copybook of `show` and `pieces`, for `cob_program_explained`, which lists and says why a record ends a list.
 //!
 //! What is promised: which faults each command can have (`MayEndLayout`, and `MayEndListing` of the other two, of specs/Ends.antt); that it ends with the
 //! status of what it came to, or as where a device failed if its last line was not printed (`EndsAmong` of `cob_program_faults`); and that where it ends
@@ -24,6 +25,8 @@ mod entries;
 mod pieces;
 mod records;
 
+pub use copybook::{Listed, read_record_book};
+pub use ends::tell_listed;
 pub use entries::{do_layout, list_entries};
 pub use pieces::{cut, do_pieces, list_pieces};
-pub use records::{do_show, list_records};
+pub use records::{do_show, list_records, tell_shown};

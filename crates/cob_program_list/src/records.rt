@@ -271,7 +271,7 @@ fn is_for_programs(listing: Listing) -> bool
 }
 
 /// Prints how many records were listed, on standard error where the listing is for programs, or the fault of the listing, and answers how it ends.
-fn tell_shown<R: Print + Eprint>(
+pub fn tell_shown<R: Print + Eprint>(
     rt: &R,
     listing: Listing,
     outcome: Result<u64, CommandFault>,

@@ -12,7 +12,7 @@ use crate::definition::CommandDefinition;
 use crate::options::{
     ATOMIC, BOOK, BOOKS, BOTH_RECORDS, BOTH_WAYS, CHOICE, COMPARED, COMPARISON, COPIES, COVER, CUT,
     ENDS, EXPLAINED_RECORDS, FORM, FORMS, LISTING, LRECL, MAPPED_RECORDS, MOVES, ONE_RECORD, PIECE,
-    PIECES, PROGRESS, RECORD, REJECTS, REPORT, SHARED, SHARED_RUN, SHOWN,
+    PIECES, PROGRESS, RECORD, REJECTS, REPORT, SHARED, SHARED_LIST, SHARED_RUN, SHOWN,
 };
 use clap::Command;
 use std::alloc::{AllocError, Global};
@@ -174,7 +174,7 @@ const COMMANDS: [CommandDefinition<'static>; 10] = [
             &CHOICE,
             &COPIES,
             &ONE_RECORD,
-            &SHARED,
+            &SHARED_LIST,
         ],
     },
     CommandDefinition {
@@ -189,7 +189,15 @@ const COMMANDS: [CommandDefinition<'static>; 10] = [
         about: "Print where the pieces of a file of records begin",
         usage: None,
         notes: PIECES_NOTES,
-        groups: &[&CUT, &FORM, &LRECL, &PIECES, &COPIES, &ONE_RECORD, &SHARED],
+        groups: &[
+            &CUT,
+            &FORM,
+            &LRECL,
+            &PIECES,
+            &COPIES,
+            &ONE_RECORD,
+            &SHARED_LIST,
+        ],
     },
     CommandDefinition {
         name: "lossless",

@@ -59,3 +59,7 @@ pub(crate) const EXPLAINED_HELP: &str =
 // What it does of a conversion.
 pub(crate) const EXPLAINED_RUN_HELP: &str =
     "Behind a file's fault, say why the system did not open,\nread or write it; and behind a record that ends the run\nwhat is wrong with it";
+
+// What it does of a list of records, or of their pieces.
+pub(crate) const EXPLAINED_LIST_HELP: &str =
+    "Behind a file's fault, say why the system did not open,\nread or write it; and behind a record that ends the list\nwhat is wrong with it";

@@ -21,7 +21,7 @@ use cob_layout::Layout;
 use cob_move_initial::initial;
 use cob_records::Source;
 use cob_records_parts::Numbered;
-use cob_report_faults::{Asker, Qualifying, frame_words};
+use cob_report_faults::{Asker, FrameText, Qualifying, Reader};
 use cob_report_lossless::{DeedLines, lines_of_deeds};
 use std::alloc::{AllocError, Global};
 
@@ -189,10 +189,16 @@ fn refusal_words(
     };
     match refused.why.cause {
         Cause::Record(fault) => {
-            let words = frame_words(fault);
-            format!(in alloc; "{words}")
+            let text = FrameText {
+                fault,
+                reader: Reader::Conversion,
+            };
+            format!(in alloc; "{text}")
         }
-        Cause::Count => count_words(alloc, &scene, Side::In, refused.why.offset, Asker::Came),
+        Cause::Count => {
+            let asked = Asker::Came(Reader::Conversion);
+            count_words(alloc, &scene, Side::In, refused.why.offset, asked)
+        }
         Cause::NoValue | Cause::Subscript | Cause::Limit => Ok(String::new(alloc)),
     }
 }

@@ -9,6 +9,9 @@
 //! spaces were left there: fill the item before, or describe it as X and move it to an item of characters
 //! ```
 //!
+//! [`FrameText`] tells a frame that can't be read, and [`listed_count_words`] the count that stops a list of records, which has no statements. What advice
+//! names are the options of who reads the record ([`Reader`]).
+//!
 //! What to do where a number has no value is told by what its bytes look like: spaces, low-values, high-values, digits of ASCII, another item's characters,
 //! or a record that begins with the end of a line.
 //!
@@ -24,14 +27,18 @@ mod advice;
 mod counts;
 mod flaws;
 mod frames;
+mod listed;
 mod numbers;
 mod occurrences;
+mod reader;
 mod stops;
 mod words;
 
 pub use counts::{CountTable, counted_at};
 pub use flaws::number_flaw;
-pub use frames::frame_words;
+pub use frames::FrameText;
+pub use listed::listed_count_words;
 pub use occurrences::{Occurrence, Qualifying, SentText};
+pub use reader::Reader;
 pub use stops::{Asker, AskingLoop, AskingMove, StopCase, StopText};
 pub use words::FlawText;

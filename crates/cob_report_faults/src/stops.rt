@@ -4,6 +4,7 @@ use crate::advice::value_advice;
 use crate::flaws::number_flaw;
 use crate::numbers::write_number;
 use crate::occurrences::{Occurrence, SentText};
+use crate::reader::Reader;
 use crate::words::FlawText;
 use cob_codec::{NumberFlaw, Reading};
 use cob_copybook_tree::{Item, is_number_item, read_sent};
@@ -69,8 +70,8 @@ pub enum Asker<'a> {
     Loop(AskingLoop<'a>),
     /// A condition, which stands on this line.
     Condition { line: u32 },
-    /// The record that came, whose length its counts say.
-    Came,
+    /// The record that came, whose length its counts say, where this one reads it.
+    Came(Reader),
     /// The record that is to be written, behind all moves.
     Written,
 }
@@ -191,11 +192,14 @@ fn write_count_flaw<W: fmt::Write>(
     }
 }
 
-/// What to do where the count of a table of this side is none.
-fn count_advice(side: Side) -> &'static str {
-    match side {
-        Side::Out => "give the count such a value before it is needed",
-        Side::In => {
+/// What to do where the count of a table of this side is none, for which this one asked.
+fn count_advice(side: Side, asked: &Asker<'_>) -> &'static str {
+    match (side, asked) {
+        (Side::Out, _) => "give the count such a value before it is needed",
+        (Side::In, Asker::Came(Reader::List)) => {
+            "correct the count; where the first record stops so, look whether --form is right"
+        }
+        (Side::In, _) => {
             "correct the count; where the first record stops so, look whether --in-form is right"
         }
     }
@@ -264,7 +268,13 @@ impl StopText<'_> {
                 asked.line, asked.counter, asked.bound
             ),
             Asker::Condition { line } => write!(f, "asked by moves line {}: IF", *line),
-            Asker::Came => write!(f, "asked before all moves, by the record that came"),
+            Asker::Came(Reader::Conversion) => {
+                write!(f, "asked before all moves, by the record that came")
+            }
+            Asker::Came(Reader::List) => write!(
+                f,
+                "asked by the record, whose length its counts say"
+            ),
             Asker::Written => {
                 write!(
                     f,
@@ -283,7 +293,7 @@ impl StopText<'_> {
                 record,
                 ..
             } => value_advice(self.subject.side, item, record, bytes),
-            StopCase::Count { .. } => count_advice(self.subject.side),
+            StopCase::Count { .. } => count_advice(self.subject.side, &self.asked),
             StopCase::Bound { .. } => bound_advice(self.subject.side),
             StopCase::Subscript => {
                 "put the table under a group of its own and move the group, which has as many elements as its count says"

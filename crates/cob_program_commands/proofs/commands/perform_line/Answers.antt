@@ -13,13 +13,13 @@ pub returns-in-Layout : goal.returns-in-Layout
 returns-in-Layout g c = (_, rw c.in-Layout.is c.do_layout.ensures, c.code-in-Layout.ensures)
 
 pub returns-in-Show : goal.returns-in-Show
-returns-in-Show g c = (_, rw c.in-Show.is c.do_show.ensures, c.code-in-Show.ensures)
+returns-in-Show g c = (_, rw c.in-Show.is c.do_asked_show.ensures, c.code-in-Show.ensures)
 
 pub returns-in-Compare : goal.returns-in-Compare
 returns-in-Compare g c = (_, rw c.in-Compare.is c.do_compare.ensures, c.code-in-Compare.ensures)
 
 pub returns-in-Pieces : goal.returns-in-Pieces
-returns-in-Pieces g c = (_, rw c.in-Pieces.is c.do_pieces.ensures, c.code-in-Pieces.ensures)
+returns-in-Pieces g c = (_, rw c.in-Pieces.is c.do_asked_pieces.ensures, c.code-in-Pieces.ensures)
 
 pub returns-in-Lossless : goal.returns-in-Lossless
 returns-in-Lossless g c = (_, rw c.in-Lossless.is c.do_lossless.ensures, c.code-in-Lossless.ensures)
