@@ -15,18 +15,18 @@ abbrev pub EndsConvert : {A : Type 0} → Option A → Bool → Status → Type 
 EndsConvert None atomic end = EndsAmong (MayEndConvert atomic) end
 EndsConvert (Some rejects) atomic end = EndsAside (MayEndAside atomic) end
 
--- the status of a report that is not there: one that would be another file is a malformed command line
+-- the status of the fault of a report: one that would be another file is a malformed command line
 abbrev pub status_of_report : ReportFault → Status
 status_of_report (fault.OneFile name) = status.Malformed
 status_of_report fault.NotMade = status.Device
 status_of_report fault.NotWritten = status.Device
 status_of_report fault.Memory = status.Memory
 
--- the report is not there, for this reason
+-- the report is at fault, for this reason
 abbrev pub LacksReport : Status → Type 0
 LacksReport end = (why : ReportFault) × EndsAs (status_of_report why) end
 
--- A conversion that is reported ends as it ends without a report, or as one whose report is not there.
+-- A conversion that is reported ends as it ends without a report, or as one whose report is at fault.
 abbrev pub EndsReported : Type 0 → Status → Type 0
 EndsReported plain end = plain ⊎ LacksReport end
 

@@ -53,7 +53,7 @@ fn milliseconds_since<R: Clock>(rt: &R, began: Option<Instant>) -> u64 {
     }
 }
 
-/// Prints why a report is not there, and answers how the command ends.
+/// Prints what is at fault with a report, and answers how the command ends.
 fn tell_unreported<R: Eprint>(rt: &R, fault: ReportFault) -> Status
     ensures { LacksReport result }
 {

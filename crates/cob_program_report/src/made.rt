@@ -14,14 +14,14 @@ use std::io::{Print, Printer, Write};
 use std::rt::Files;
 use std::{fmt, fs};
 
-/// Why a report is not there.
+/// Why a report is not told to be in its place.
 #[derive(Clone, Copy, Debug, PartialEq, Eq)]
 pub(crate) enum ReportFault {
     /// It would be one with another file of the conversion.
     OneFile(FileName),
     /// The system does not make it.
     NotMade,
-    /// It could not be written, or not be put in its place.
+    /// It could not be written, or not be put in its place; or it is there, and its folder was not brought to the device.
     NotWritten,
     /// Memory was refused.
     Memory,
