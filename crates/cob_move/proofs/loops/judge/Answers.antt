@@ -31,4 +31,4 @@ returns-clause-found c =
 pub returns-clause-literal : goal.returns-clause-literal
 returns-clause-literal c = λ p is.
     let are : AreItsLoops (lexemes c.args.body.now) (written_loops c.as_slice-2.result.now) = rw c.as_slice-2.ensures.value c.in_ok-heads.ensures.found in
-    literal_so c.end_by_numbers.result p (written_loops c.as_slice-2.result.now) (are p is).1 c.end_by_numbers.ensures
+    literal_so c.end_by_numbers.result c.has_choice.result p (written_loops c.as_slice-2.result.now) (are p is).1 (c.has_choice.ensures p is) c.end_by_numbers.ensures
