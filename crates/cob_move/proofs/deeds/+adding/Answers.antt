@@ -645,8 +645,8 @@ pub add_item-returns-in-Choice-clause-added : goal.add_item-returns-in-Choice-cl
 add_item-returns-in-Choice-clause-added t c =
     subst (λ (f : PassageFront). OnOk c.add_choice.result (AddsFront c.args.entries.now (counters c.args.turn.now) f (made_lists c.args.made.now) (made_lists c.add_choice.new.made))) (sym (ap item_front c.in-Choice.is)) c.add_choice.ensures.added
 
-pub add_branches-loop-item-init : goal.add_branches-loop-item-init
-add_branches-loop-item-init t c =
+pub add_branches-loop-test-init : goal.add_branches-loop-test-init
+add_branches-loop-test-init t c =
     let e = c.args.entries.now in
     let m = made_lists c.args.made.now in record {
       left = subst (λ (bs : List TakenBranch). LeftOfBranches e (counters c.args.turn.now) (against (sender_named (records_of e) m.asked) c.args.subject) c.args.kind (lexemes c.args.branches.now) (lexemes c.args.branches.now) None bs m m)
@@ -661,19 +661,19 @@ add_branches-loop-item-init t c =
       pairs = c.requires.pairs;
     }
 
-pub add_branches-loop-item-smaller : goal.add_branches-loop-item-smaller
-add_branches-loop-item-smaller t c = shorter (standing.Branches c.args.kind) (Branched (written_test c.in-Some.test) (lexemes c.in-Some.body.now)) (lexemes c.loop-item.rest.now) (lexemes c.in-Some.more.now) c.in-Some.ensures.found
+pub add_branches-loop-test-smaller : goal.add_branches-loop-test-smaller
+add_branches-loop-test-smaller t c = shorter (standing.Branches c.args.kind) (Branched (written_test c.in-Some.test) (lexemes c.in-Some.body.now)) (lexemes c.loop-test.rest.now) (lexemes c.in-Some.more.now) c.in-Some.ensures.found
 
-pub add_branches-loop-item-preserved-then-is_empty : goal.add_branches-loop-item-preserved-then-is_empty
-add_branches-loop-item-preserved-then-is_empty t c =
+pub add_branches-loop-test-preserved-then-is_empty : goal.add_branches-loop-test-preserved-then-is_empty
+add_branches-loop-test-preserved-then-is_empty t c =
     let e = c.args.entries.now in
     let r = records_of e in
     let ns = counters c.args.turn.now in
     let begin = made_lists c.args.made.now in
-    let before = made_lists c.loop-item.made in
+    let before = made_lists c.loop-test.made in
     let asked = c.read_test.new.made.asked.items in
     let now = with_asked before asked in
-    let rest = lexemes c.loop-item.rest.now in
+    let rest = lexemes c.loop-test.rest.now in
     let more = lexemes c.in-Some.more.now in
     let ws = lexemes c.in-Tested.words.now in
     let body = lexemes c.in-Some.body.now in
@@ -681,38 +681,38 @@ add_branches-loop-item-preserved-then-is_empty t c =
     let (others, all, grows) = c.in_ok-own.ensures.asks in
     let front = in_front_by c.args.kind (Branched (written_test c.in-Some.test) body) (Tested ws) body rest more (ap (λ (x : BranchTest). Branched (written_test x) body) c.in-Tested.is) c.in-Some.ensures.found c.in-Some.ensures.only in
     let less = shorter (standing.Branches c.args.kind) (Branched (written_test c.in-Some.test) (lexemes c.in-Some.body.now)) rest more c.in-Some.ensures.found in
-    let held : against (sender_named r before.asked) c.args.subject ≡ a = sym (against_front r begin.asked before.asked c.args.subject c.loop-item.invariant.grown.asked c.requires.there) in
+    let held : against (sender_named r before.asked) c.args.subject ≡ a = sym (against_front r begin.asked before.asked c.args.subject c.loop-test.invariant.grown.asked c.requires.there) in
     let is = subst (λ (x : Against). IsBranchTestOf r ns x ws (condition_of (sender_named r asked) c.in_ok-own.own)) held c.in_ok-own.ensures.found in
-    let means = λ (waits : Option Meant) (w : IsWaiting r before.asked c.loop-item.waiting waits).
-    waiting_means r asked c.loop-item.waiting waits c.in_ok-own.own c.in_ok-test.test (condition_of (sender_named r asked) c.in_ok-own.own) (waiting_front r before.asked asked c.loop-item.waiting waits (others, grows) w) refl
+    let means = λ (waits : Option Meant) (w : IsWaiting r before.asked c.loop-test.waiting waits).
+    waiting_means r asked c.loop-test.waiting waits c.in_ok-own.own c.in_ok-test.test (condition_of (sender_named r asked) c.in_ok-own.own) (waiting_front r before.asked asked c.loop-test.waiting waits (others, grows) w) refl
     (c.in_ok-test.ensures.means (sender_named r asked)) in
-    let tested = c.in_ok-test.ensures.tested r asked (or_tested_front r before.asked asked c.loop-item.waiting (others, grows) c.loop-item.invariant.waits) c.in_ok-own.ensures.tested in
-    let bounds = branch_bounds c.args.kind (Tested ws) body rest more c.loop-item.invariant.bounds (omega (arith, less)) front.1 in
+    let tested = c.in_ok-test.ensures.tested r asked (or_tested_front r before.asked asked c.loop-test.waiting (others, grows) c.loop-test.invariant.waits) c.in_ok-own.ensures.tested in
+    let bounds = branch_bounds c.args.kind (Tested ws) body rest more c.loop-test.invariant.bounds (omega (arith, less)) front.1 in
     let new = made_lists c.read_test.new.made in
     let same = c.in_ok-own.ensures.same in record {
-      left = subst (λ (m : MadeLists). LeftOfBranches e ns a c.args.kind (lexemes c.args.branches.now) more (Some c.in_ok-test.test) (taken_branches c.loop-item.taken.items) begin m) (sym same)
-          (left_waits e ns a c.args.kind (lexemes c.args.branches.now) rest more ws body c.loop-item.waiting c.in_ok-own.own c.in_ok-test.test (taken_branches c.loop-item.taken.items) begin before asked c.loop-item.invariant.left front
+      left = subst (λ (m : MadeLists). LeftOfBranches e ns a c.args.kind (lexemes c.args.branches.now) more (Some c.in_ok-test.test) (taken_branches c.loop-test.taken.items) begin m) (sym same)
+          (left_waits e ns a c.args.kind (lexemes c.args.branches.now) rest more ws body c.loop-test.waiting c.in_ok-own.own c.in_ok-test.test (taken_branches c.loop-test.taken.items) begin before asked c.loop-test.invariant.left front
           (nothing_there body (omega (arith, c.if-is_empty.true))) (others, grows) is means tested);
-      fewer = omega (arith, c.loop-item.invariant.fewer, less);
+      fewer = omega (arith, c.loop-test.invariant.fewer, less);
       bounds = bounds.1;
       waits = tested;
-      made = subst (λ (m : MadeLists). IsMade r m) (sym same) (asked_made r before asked (others, all, grows) c.loop-item.invariant.made);
-      grown = subst (λ (m : MadeLists). HasGrown begin m) (sym same) (grown_both begin before now c.loop-item.invariant.grown (asked_grown before asked (others, grows)));
-      none = ap (λ (m : MadeLists). m.flows) same ∙ c.loop-item.invariant.none;
-      marked = ap open_statements same ∙ c.loop-item.invariant.marked;
-      pairs = c.loop-item.invariant.pairs;
+      made = subst (λ (m : MadeLists). IsMade r m) (sym same) (asked_made r before asked (others, all, grows) c.loop-test.invariant.made);
+      grown = subst (λ (m : MadeLists). HasGrown begin m) (sym same) (grown_both begin before now c.loop-test.invariant.grown (asked_grown before asked (others, grows)));
+      none = ap (λ (m : MadeLists). m.flows) same ∙ c.loop-test.invariant.none;
+      marked = ap open_statements same ∙ c.loop-test.invariant.marked;
+      pairs = c.loop-test.invariant.pairs;
     }
 
-pub add_branches-loop-item-preserved : goal.add_branches-loop-item-preserved
-add_branches-loop-item-preserved t c =
+pub add_branches-loop-test-preserved : goal.add_branches-loop-test-preserved
+add_branches-loop-test-preserved t c =
     let e = c.args.entries.now in
     let r = records_of e in
     let ns = counters c.args.turn.now in
     let begin = made_lists c.args.made.now in
-    let before = made_lists c.loop-item.made in
+    let before = made_lists c.loop-test.made in
     let asked = c.read_test.new.made.asked.items in
     let now = with_asked before asked in
-    let rest = lexemes c.loop-item.rest.now in
+    let rest = lexemes c.loop-test.rest.now in
     let more = lexemes c.in-Some.more.now in
     let ws = lexemes c.in-Tested.words.now in
     let body = lexemes c.in-Some.body.now in
@@ -720,25 +720,25 @@ add_branches-loop-item-preserved t c =
     let (others, all, grows) = c.in_ok-own.ensures.asks in
     let front = in_front_by c.args.kind (Branched (written_test c.in-Some.test) body) (Tested ws) body rest more (ap (λ (x : BranchTest). Branched (written_test x) body) c.in-Tested.is) c.in-Some.ensures.found c.in-Some.ensures.only in
     let less = shorter (standing.Branches c.args.kind) (Branched (written_test c.in-Some.test) (lexemes c.in-Some.body.now)) rest more c.in-Some.ensures.found in
-    let held : against (sender_named r before.asked) c.args.subject ≡ a = sym (against_front r begin.asked before.asked c.args.subject c.loop-item.invariant.grown.asked c.requires.there) in
+    let held : against (sender_named r before.asked) c.args.subject ≡ a = sym (against_front r begin.asked before.asked c.args.subject c.loop-test.invariant.grown.asked c.requires.there) in
     let is = subst (λ (x : Against). IsBranchTestOf r ns x ws (condition_of (sender_named r asked) c.in_ok-own.own)) held c.in_ok-own.ensures.found in
-    let means = λ (waits : Option Meant) (w : IsWaiting r before.asked c.loop-item.waiting waits).
-    waiting_means r asked c.loop-item.waiting waits c.in_ok-own.own c.in_ok-test.test (condition_of (sender_named r asked) c.in_ok-own.own) (waiting_front r before.asked asked c.loop-item.waiting waits (others, grows) w) refl
+    let means = λ (waits : Option Meant) (w : IsWaiting r before.asked c.loop-test.waiting waits).
+    waiting_means r asked c.loop-test.waiting waits c.in_ok-own.own c.in_ok-test.test (condition_of (sender_named r asked) c.in_ok-own.own) (waiting_front r before.asked asked c.loop-test.waiting waits (others, grows) w) refl
     (c.in_ok-test.ensures.means (sender_named r asked)) in
-    let tested = c.in_ok-test.ensures.tested r asked (or_tested_front r before.asked asked c.loop-item.waiting (others, grows) c.loop-item.invariant.waits) c.in_ok-own.ensures.tested in
-    let bounds = branch_bounds c.args.kind (Tested ws) body rest more c.loop-item.invariant.bounds (omega (arith, less)) front.1 in
+    let tested = c.in_ok-test.ensures.tested r asked (or_tested_front r before.asked asked c.loop-test.waiting (others, grows) c.loop-test.invariant.waits) c.in_ok-own.ensures.tested in
+    let bounds = branch_bounds c.args.kind (Tested ws) body rest more c.loop-test.invariant.bounds (omega (arith, less)) front.1 in
     let new = made_lists c.add_branch.new.made in
-    let taken = taken_branches c.loop-item.taken.items in
+    let taken = taken_branches c.loop-test.taken.items in
     let after = taken_branches c.add_branch.new.taken.items in
     let adds = subst (λ (m : MadeLists). AddsBranch e ns c.in_ok-test.test body taken after m new) c.in_ok-own.ensures.same c.in_ok-add_branch.ensures.added in
-    let kept = branch_kept e ns c.in_ok-test.test body taken after now new c.loop-item.invariant.none tested adds in record {
-      left = left_taken c.one_deeds.ensures e ns a c.args.kind (lexemes c.args.branches.now) rest more ws body c.loop-item.waiting c.in_ok-own.own c.in_ok-test.test taken begin before new asked after c.loop-item.invariant.left front
-          (omega (arith, c.if-is_empty.false)) (others, grows) is means tested c.loop-item.invariant.none c.loop-item.invariant.marked adds;
-      fewer = omega (arith, c.loop-item.invariant.fewer, less);
+    let kept = branch_kept e ns c.in_ok-test.test body taken after now new c.loop-test.invariant.none tested adds in record {
+      left = left_taken c.one_deeds.ensures e ns a c.args.kind (lexemes c.args.branches.now) rest more ws body c.loop-test.waiting c.in_ok-own.own c.in_ok-test.test taken begin before new asked after c.loop-test.invariant.left front
+          (omega (arith, c.if-is_empty.false)) (others, grows) is means tested c.loop-test.invariant.none c.loop-test.invariant.marked adds;
+      fewer = omega (arith, c.loop-test.invariant.fewer, less);
       bounds = bounds.1;
       waits = tt;
       made = kept.made;
-      grown = grown_both begin before new c.loop-item.invariant.grown (grown_both before now new (asked_grown before asked (others, grows)) kept.grown);
+      grown = grown_both begin before new c.loop-test.invariant.grown (grown_both before now new (asked_grown before asked (others, grows)) kept.grown);
       none = kept.none;
       marked = kept.marked;
       pairs = c.in_ok-add_branch.ensures.pairs;
@@ -750,10 +750,10 @@ add_branches-add_branch-requires t c =
     let r = records_of e in
     let ns = counters c.args.turn.now in
     let begin = made_lists c.args.made.now in
-    let before = made_lists c.loop-item.made in
+    let before = made_lists c.loop-test.made in
     let asked = c.read_test.new.made.asked.items in
     let now = with_asked before asked in
-    let rest = lexemes c.loop-item.rest.now in
+    let rest = lexemes c.loop-test.rest.now in
     let more = lexemes c.in-Some.more.now in
     let ws = lexemes c.in-Tested.words.now in
     let body = lexemes c.in-Some.body.now in
@@ -761,21 +761,21 @@ add_branches-add_branch-requires t c =
     let (others, all, grows) = c.in_ok-own.ensures.asks in
     let front = in_front_by c.args.kind (Branched (written_test c.in-Some.test) body) (Tested ws) body rest more (ap (λ (x : BranchTest). Branched (written_test x) body) c.in-Tested.is) c.in-Some.ensures.found c.in-Some.ensures.only in
     let less = shorter (standing.Branches c.args.kind) (Branched (written_test c.in-Some.test) (lexemes c.in-Some.body.now)) rest more c.in-Some.ensures.found in
-    let held : against (sender_named r before.asked) c.args.subject ≡ a = sym (against_front r begin.asked before.asked c.args.subject c.loop-item.invariant.grown.asked c.requires.there) in
+    let held : against (sender_named r before.asked) c.args.subject ≡ a = sym (against_front r begin.asked before.asked c.args.subject c.loop-test.invariant.grown.asked c.requires.there) in
     let is = subst (λ (x : Against). IsBranchTestOf r ns x ws (condition_of (sender_named r asked) c.in_ok-own.own)) held c.in_ok-own.ensures.found in
-    let means = λ (waits : Option Meant) (w : IsWaiting r before.asked c.loop-item.waiting waits).
-    waiting_means r asked c.loop-item.waiting waits c.in_ok-own.own c.in_ok-test.test (condition_of (sender_named r asked) c.in_ok-own.own) (waiting_front r before.asked asked c.loop-item.waiting waits (others, grows) w) refl
+    let means = λ (waits : Option Meant) (w : IsWaiting r before.asked c.loop-test.waiting waits).
+    waiting_means r asked c.loop-test.waiting waits c.in_ok-own.own c.in_ok-test.test (condition_of (sender_named r asked) c.in_ok-own.own) (waiting_front r before.asked asked c.loop-test.waiting waits (others, grows) w) refl
     (c.in_ok-test.ensures.means (sender_named r asked)) in
-    let tested = c.in_ok-test.ensures.tested r asked (or_tested_front r before.asked asked c.loop-item.waiting (others, grows) c.loop-item.invariant.waits) c.in_ok-own.ensures.tested in
-    let bounds = branch_bounds c.args.kind (Tested ws) body rest more c.loop-item.invariant.bounds (omega (arith, less)) front.1 in
+    let tested = c.in_ok-test.ensures.tested r asked (or_tested_front r before.asked asked c.loop-test.waiting (others, grows) c.loop-test.invariant.waits) c.in_ok-own.ensures.tested in
+    let bounds = branch_bounds c.args.kind (Tested ws) body rest more c.loop-test.invariant.bounds (omega (arith, less)) front.1 in
     let small = front_smaller (standing.Branches c.args.kind) (Branched (Tested ws) body) rest more front.0 in (
-      omega (arith, c.decreases, small, c.loop-item.invariant.fewer),
+      omega (arith, c.decreases, small, c.loop-test.invariant.fewer),
       (
         c.requires.named,
         (
-          c.loop-item.invariant.pairs,
+          c.loop-test.invariant.pairs,
           (
-            subst (λ (m : MadeLists). IsMade r m) (sym c.in_ok-own.ensures.same) (asked_made r before asked (others, all, grows) c.loop-item.invariant.made),
+            subst (λ (m : MadeLists). IsMade r m) (sym c.in_ok-own.ensures.same) (asked_made r before asked (others, all, grows) c.loop-test.invariant.made),
             bounds.0,
           ),
         ),
@@ -788,17 +788,17 @@ add_branches-returns-in_err-own-clause-fault t c =
     let r = records_of e in
     let ns = counters c.args.turn.now in
     let begin = made_lists c.args.made.now in
-    let before = made_lists c.loop-item.made in
-    let rest = lexemes c.loop-item.rest.now in
+    let before = made_lists c.loop-test.made in
+    let rest = lexemes c.loop-test.rest.now in
     let more = lexemes c.in-Some.more.now in
     let ws = lexemes c.in-Tested.words.now in
     let body = lexemes c.in-Some.body.now in
     let a = against (sender_named r begin.asked) c.args.subject in
     let n = c.in_err-own.field-0.0 in
     let front = in_front_by c.args.kind (Branched (written_test c.in-Some.test) body) (Tested ws) body rest more (ap (λ (x : BranchTest). Branched (written_test x) body) c.in-Tested.is) c.in-Some.ensures.found c.in-Some.ensures.only in
-    let held : against (sender_named r before.asked) c.args.subject ≡ a = sym (against_front r begin.asked before.asked c.args.subject c.loop-item.invariant.grown.asked c.requires.there) in
+    let held : against (sender_named r before.asked) c.args.subject ≡ a = sym (against_front r begin.asked before.asked c.args.subject c.loop-test.invariant.grown.asked c.requires.there) in
     let p = err_from_is_err_and c.from_residual-in_err-own.result c.from_residual-in_err-own.ensures.1 in
-    rw (p.1, p.2) (left_test_refused c.branch_tests_break_no_rule.ensures n e ns a c.args.kind (lexemes c.args.branches.now) rest more ws body c.loop-item.waiting (taken_branches c.loop-item.taken.items) begin before c.loop-item.invariant.left front
+    rw (p.1, p.2) (left_test_refused c.branch_tests_break_no_rule.ensures n e ns a c.args.kind (lexemes c.args.branches.now) rest more ws body c.loop-test.waiting (taken_branches c.loop-test.taken.items) begin before c.loop-test.invariant.left front
     (subst (λ (x : Against). TestNotRead n e ns x ws) held c.in_err-own.ensures.fault))
 
 pub add_branches-returns-in_err-add_branch-clause-fault : goal.add_branches-returns-in_err-add_branch-clause-fault
@@ -807,10 +807,10 @@ add_branches-returns-in_err-add_branch-clause-fault t c =
     let r = records_of e in
     let ns = counters c.args.turn.now in
     let begin = made_lists c.args.made.now in
-    let before = made_lists c.loop-item.made in
+    let before = made_lists c.loop-test.made in
     let asked = c.read_test.new.made.asked.items in
     let now = with_asked before asked in
-    let rest = lexemes c.loop-item.rest.now in
+    let rest = lexemes c.loop-test.rest.now in
     let more = lexemes c.in-Some.more.now in
     let ws = lexemes c.in-Tested.words.now in
     let body = lexemes c.in-Some.body.now in
@@ -818,17 +818,17 @@ add_branches-returns-in_err-add_branch-clause-fault t c =
     let (others, all, grows) = c.in_ok-own.ensures.asks in
     let front = in_front_by c.args.kind (Branched (written_test c.in-Some.test) body) (Tested ws) body rest more (ap (λ (x : BranchTest). Branched (written_test x) body) c.in-Tested.is) c.in-Some.ensures.found c.in-Some.ensures.only in
     let less = shorter (standing.Branches c.args.kind) (Branched (written_test c.in-Some.test) (lexemes c.in-Some.body.now)) rest more c.in-Some.ensures.found in
-    let held : against (sender_named r before.asked) c.args.subject ≡ a = sym (against_front r begin.asked before.asked c.args.subject c.loop-item.invariant.grown.asked c.requires.there) in
+    let held : against (sender_named r before.asked) c.args.subject ≡ a = sym (against_front r begin.asked before.asked c.args.subject c.loop-test.invariant.grown.asked c.requires.there) in
     let is = subst (λ (x : Against). IsBranchTestOf r ns x ws (condition_of (sender_named r asked) c.in_ok-own.own)) held c.in_ok-own.ensures.found in
-    let means = λ (waits : Option Meant) (w : IsWaiting r before.asked c.loop-item.waiting waits).
-    waiting_means r asked c.loop-item.waiting waits c.in_ok-own.own c.in_ok-test.test (condition_of (sender_named r asked) c.in_ok-own.own) (waiting_front r before.asked asked c.loop-item.waiting waits (others, grows) w) refl
+    let means = λ (waits : Option Meant) (w : IsWaiting r before.asked c.loop-test.waiting waits).
+    waiting_means r asked c.loop-test.waiting waits c.in_ok-own.own c.in_ok-test.test (condition_of (sender_named r asked) c.in_ok-own.own) (waiting_front r before.asked asked c.loop-test.waiting waits (others, grows) w) refl
     (c.in_ok-test.ensures.means (sender_named r asked)) in
-    let tested = c.in_ok-test.ensures.tested r asked (or_tested_front r before.asked asked c.loop-item.waiting (others, grows) c.loop-item.invariant.waits) c.in_ok-own.ensures.tested in
-    let bounds = branch_bounds c.args.kind (Tested ws) body rest more c.loop-item.invariant.bounds (omega (arith, less)) front.1 in
+    let tested = c.in_ok-test.ensures.tested r asked (or_tested_front r before.asked asked c.loop-test.waiting (others, grows) c.loop-test.invariant.waits) c.in_ok-own.ensures.tested in
+    let bounds = branch_bounds c.args.kind (Tested ws) body rest more c.loop-test.invariant.bounds (omega (arith, less)) front.1 in
     let n = c.in_err-add_branch.field-0.0 in
     let p = err_from_is_err_and c.from_residual-in_err-add_branch.result c.from_residual-in_err-add_branch.ensures.1 in
-    rw (p.1, p.2) (left_statements_refused c.deeds_break_no_rule.ensures n e ns a c.args.kind (lexemes c.args.branches.now) rest more ws body c.loop-item.waiting (condition_of (sender_named r asked) c.in_ok-own.own) (taken_branches c.loop-item.taken.items)
-    begin before asked c.requires.named c.loop-item.invariant.left front is (subst (λ (m : MadeLists). TurnRefused n e ns body m) c.in_ok-own.ensures.same c.in_err-add_branch.ensures.fault))
+    rw (p.1, p.2) (left_statements_refused c.deeds_break_no_rule.ensures n e ns a c.args.kind (lexemes c.args.branches.now) rest more ws body c.loop-test.waiting (condition_of (sender_named r asked) c.in_ok-own.own) (taken_branches c.loop-test.taken.items)
+    begin before asked c.requires.named c.loop-test.invariant.left front is (subst (λ (m : MadeLists). TurnRefused n e ns body m) c.in_ok-own.ensures.same c.in_err-add_branch.ensures.fault))
 
 pub add_branches-add_apart-requires : goal.add_branches-add_apart-requires
 add_branches-add_apart-requires t c =
@@ -836,17 +836,17 @@ add_branches-add_apart-requires t c =
     let r = records_of e in
     let ns = counters c.args.turn.now in
     let begin = made_lists c.args.made.now in
-    let before = made_lists c.loop-item.made in
+    let before = made_lists c.loop-test.made in
     let words = lexemes c.args.branches.now in
-    let rest = lexemes c.loop-item.rest.now in
+    let rest = lexemes c.loop-test.rest.now in
     let more = lexemes c.in-Some.more.now in
     let body = lexemes c.in-Some.body.now in
     let a = against (sender_named r begin.asked) c.args.subject in
     let front = in_front_by c.args.kind (Branched (written_test c.in-Some.test) body) Otherwise body rest more (ap (λ (x : WrittenTest). Branched x body) (otherwise_is c.in-Some.test c.in_default.not-Tested)) c.in-Some.ensures.found c.in-Some.ensures.only in
     let less = shorter (standing.Branches c.args.kind) (Branched Otherwise body) rest more front.0 in
-    let bounds = branch_bounds c.args.kind Otherwise body rest more c.loop-item.invariant.bounds (omega (arith, less)) front.1 in
+    let bounds = branch_bounds c.args.kind Otherwise body rest more c.loop-test.invariant.bounds (omega (arith, less)) front.1 in
     let small = front_smaller (standing.Branches c.args.kind) (Branched Otherwise body) rest more front.0 in
-    (omega (arith, c.decreases, small, c.loop-item.invariant.fewer), (c.requires.named, (c.loop-item.invariant.pairs, (c.loop-item.invariant.made, bounds.0))))
+    (omega (arith, c.decreases, small, c.loop-test.invariant.fewer), (c.requires.named, (c.loop-test.invariant.pairs, (c.loop-test.invariant.made, bounds.0))))
 
 pub add_branches-returns-in_default-clause-added : goal.add_branches-returns-in_default-clause-added
 add_branches-returns-in_default-clause-added t c =
@@ -854,18 +854,18 @@ add_branches-returns-in_default-clause-added t c =
     let r = records_of e in
     let ns = counters c.args.turn.now in
     let begin = made_lists c.args.made.now in
-    let before = made_lists c.loop-item.made in
+    let before = made_lists c.loop-test.made in
     let words = lexemes c.args.branches.now in
-    let rest = lexemes c.loop-item.rest.now in
+    let rest = lexemes c.loop-test.rest.now in
     let more = lexemes c.in-Some.more.now in
     let body = lexemes c.in-Some.body.now in
     let a = against (sender_named r begin.asked) c.args.subject in
     let front = in_front_by c.args.kind (Branched (written_test c.in-Some.test) body) Otherwise body rest more (ap (λ (x : WrittenTest). Branched x body) (otherwise_is c.in-Some.test c.in_default.not-Tested)) c.in-Some.ensures.found c.in-Some.ensures.only in
     let new = made_lists c.add_apart.new.made in
-    let taken = taken_branches c.loop-item.taken.items in
-    let inv = c.loop-item.invariant in
+    let taken = taken_branches c.loop-test.taken.items in
+    let inv = c.loop-test.invariant in
     IfOk-weaker c.add_apart.result (λ v. ReadsApart e ns body v.items before new) (λ v. AddsBranches e ns a c.args.kind words taken v.items begin new)
-    (λ v apart. left_other e ns a c.args.kind words rest more body c.loop-item.waiting taken begin before new v.items inv.left front inv.none inv.marked apart) c.add_apart.ensures.apart
+    (λ v apart. left_other e ns a c.args.kind words rest more body c.loop-test.waiting taken begin before new v.items inv.left front inv.none inv.marked apart) c.add_apart.ensures.apart
 
 pub add_branches-returns-in_default-clause-flows : goal.add_branches-returns-in_default-clause-flows
 add_branches-returns-in_default-clause-flows t c =
@@ -873,16 +873,16 @@ add_branches-returns-in_default-clause-flows t c =
     let r = records_of e in
     let ns = counters c.args.turn.now in
     let begin = made_lists c.args.made.now in
-    let before = made_lists c.loop-item.made in
+    let before = made_lists c.loop-test.made in
     let words = lexemes c.args.branches.now in
-    let rest = lexemes c.loop-item.rest.now in
+    let rest = lexemes c.loop-test.rest.now in
     let more = lexemes c.in-Some.more.now in
     let body = lexemes c.in-Some.body.now in
     let a = against (sender_named r begin.asked) c.args.subject in
     let front = in_front_by c.args.kind (Branched (written_test c.in-Some.test) body) Otherwise body rest more (ap (λ (x : WrittenTest). Branched x body) (otherwise_is c.in-Some.test c.in_default.not-Tested)) c.in-Some.ensures.found c.in-Some.ensures.only in
     let new = made_lists c.add_apart.new.made in
-    let taken = taken_branches c.loop-item.taken.items in
-    let inv = c.loop-item.invariant in
+    let taken = taken_branches c.loop-test.taken.items in
+    let inv = c.loop-test.invariant in
     IfOk-weaker c.add_apart.result (λ v. ReadsApart e ns body v.items before new) (λ v. new.flows ≡ []) (λ v apart. (apart_kept e ns body v.items before new inv.none apart).none) c.add_apart.ensures.apart
 
 pub add_branches-returns-in_default-clause-marked : goal.add_branches-returns-in_default-clause-marked
@@ -891,16 +891,16 @@ add_branches-returns-in_default-clause-marked t c =
     let r = records_of e in
     let ns = counters c.args.turn.now in
     let begin = made_lists c.args.made.now in
-    let before = made_lists c.loop-item.made in
+    let before = made_lists c.loop-test.made in
     let words = lexemes c.args.branches.now in
-    let rest = lexemes c.loop-item.rest.now in
+    let rest = lexemes c.loop-test.rest.now in
     let more = lexemes c.in-Some.more.now in
     let body = lexemes c.in-Some.body.now in
     let a = against (sender_named r begin.asked) c.args.subject in
     let front = in_front_by c.args.kind (Branched (written_test c.in-Some.test) body) Otherwise body rest more (ap (λ (x : WrittenTest). Branched x body) (otherwise_is c.in-Some.test c.in_default.not-Tested)) c.in-Some.ensures.found c.in-Some.ensures.only in
     let new = made_lists c.add_apart.new.made in
-    let taken = taken_branches c.loop-item.taken.items in
-    let inv = c.loop-item.invariant in
+    let taken = taken_branches c.loop-test.taken.items in
+    let inv = c.loop-test.invariant in
     IfOk-weaker c.add_apart.result (λ v. ReadsApart e ns body v.items before new) (λ v. open_statements new ≡ []) (λ v apart. (apart_kept e ns body v.items before new inv.none apart).marked) c.add_apart.ensures.apart
 
 pub add_branches-returns-in_default-clause-made : goal.add_branches-returns-in_default-clause-made
@@ -909,16 +909,16 @@ add_branches-returns-in_default-clause-made t c =
     let r = records_of e in
     let ns = counters c.args.turn.now in
     let begin = made_lists c.args.made.now in
-    let before = made_lists c.loop-item.made in
+    let before = made_lists c.loop-test.made in
     let words = lexemes c.args.branches.now in
-    let rest = lexemes c.loop-item.rest.now in
+    let rest = lexemes c.loop-test.rest.now in
     let more = lexemes c.in-Some.more.now in
     let body = lexemes c.in-Some.body.now in
     let a = against (sender_named r begin.asked) c.args.subject in
     let front = in_front_by c.args.kind (Branched (written_test c.in-Some.test) body) Otherwise body rest more (ap (λ (x : WrittenTest). Branched x body) (otherwise_is c.in-Some.test c.in_default.not-Tested)) c.in-Some.ensures.found c.in-Some.ensures.only in
     let new = made_lists c.add_apart.new.made in
-    let taken = taken_branches c.loop-item.taken.items in
-    let inv = c.loop-item.invariant in
+    let taken = taken_branches c.loop-test.taken.items in
+    let inv = c.loop-test.invariant in
     IfOk-weaker c.add_apart.result (λ v. ReadsApart e ns body v.items before new) (λ v. IsMade r new) (λ v apart. (apart_kept e ns body v.items before new inv.none apart).made) c.add_apart.ensures.apart
 
 pub add_branches-returns-in_default-clause-grown : goal.add_branches-returns-in_default-clause-grown
@@ -927,16 +927,16 @@ add_branches-returns-in_default-clause-grown t c =
     let r = records_of e in
     let ns = counters c.args.turn.now in
     let begin = made_lists c.args.made.now in
-    let before = made_lists c.loop-item.made in
+    let before = made_lists c.loop-test.made in
     let words = lexemes c.args.branches.now in
-    let rest = lexemes c.loop-item.rest.now in
+    let rest = lexemes c.loop-test.rest.now in
     let more = lexemes c.in-Some.more.now in
     let body = lexemes c.in-Some.body.now in
     let a = against (sender_named r begin.asked) c.args.subject in
     let front = in_front_by c.args.kind (Branched (written_test c.in-Some.test) body) Otherwise body rest more (ap (λ (x : WrittenTest). Branched x body) (otherwise_is c.in-Some.test c.in_default.not-Tested)) c.in-Some.ensures.found c.in-Some.ensures.only in
     let new = made_lists c.add_apart.new.made in
-    let taken = taken_branches c.loop-item.taken.items in
-    let inv = c.loop-item.invariant in
+    let taken = taken_branches c.loop-test.taken.items in
+    let inv = c.loop-test.invariant in
     IfOk-weaker c.add_apart.result (λ v. ReadsApart e ns body v.items before new) (λ v. HasGrown begin new) (λ v apart. grown_both begin before new inv.grown (apart_kept e ns body v.items before new inv.none apart).grown) c.add_apart.ensures.apart
 
 pub add_branches-returns-in_default-clause-fault : goal.add_branches-returns-in_default-clause-fault
@@ -945,18 +945,18 @@ add_branches-returns-in_default-clause-fault t c =
     let r = records_of e in
     let ns = counters c.args.turn.now in
     let begin = made_lists c.args.made.now in
-    let before = made_lists c.loop-item.made in
+    let before = made_lists c.loop-test.made in
     let words = lexemes c.args.branches.now in
-    let rest = lexemes c.loop-item.rest.now in
+    let rest = lexemes c.loop-test.rest.now in
     let more = lexemes c.in-Some.more.now in
     let body = lexemes c.in-Some.body.now in
     let a = against (sender_named r begin.asked) c.args.subject in
     let front = in_front_by c.args.kind (Branched (written_test c.in-Some.test) body) Otherwise body rest more (ap (λ (x : WrittenTest). Branched x body) (otherwise_is c.in-Some.test c.in_default.not-Tested)) c.in-Some.ensures.found c.in-Some.ensures.only in
     let new = made_lists c.add_apart.new.made in
-    let taken = taken_branches c.loop-item.taken.items in
-    let inv = c.loop-item.invariant in
+    let taken = taken_branches c.loop-test.taken.items in
+    let inv = c.loop-test.invariant in
     IfErr-weaker c.add_apart.result (λ n. TurnRefused n e ns body before) (λ n. BranchesRefused n e ns a c.args.kind words begin)
-    (λ n refused. left_other_refused n e ns a c.args.kind words rest more body c.loop-item.waiting taken begin before inv.left front refused) c.add_apart.ensures.fault
+    (λ n refused. left_other_refused n e ns a c.args.kind words rest more body c.loop-test.waiting taken begin before inv.left front refused) c.add_apart.ensures.fault
 
 pub add_branches-returns-in_default-clause-kept : goal.add_branches-returns-in_default-clause-kept
 add_branches-returns-in_default-clause-kept t c =
@@ -964,26 +964,26 @@ add_branches-returns-in_default-clause-kept t c =
     let r = records_of e in
     let ns = counters c.args.turn.now in
     let begin = made_lists c.args.made.now in
-    let before = made_lists c.loop-item.made in
+    let before = made_lists c.loop-test.made in
     let words = lexemes c.args.branches.now in
-    let rest = lexemes c.loop-item.rest.now in
+    let rest = lexemes c.loop-test.rest.now in
     let more = lexemes c.in-Some.more.now in
     let body = lexemes c.in-Some.body.now in
     let a = against (sender_named r begin.asked) c.args.subject in
     let front = in_front_by c.args.kind (Branched (written_test c.in-Some.test) body) Otherwise body rest more (ap (λ (x : WrittenTest). Branched x body) (otherwise_is c.in-Some.test c.in_default.not-Tested)) c.in-Some.ensures.found c.in-Some.ensures.only in
     let new = made_lists c.add_apart.new.made in
-    let taken = taken_branches c.loop-item.taken.items in
-    let inv = c.loop-item.invariant in
+    let taken = taken_branches c.loop-test.taken.items in
+    let inv = c.loop-test.invariant in
     IfErr-weaker c.add_apart.result (λ n. LeavesFront n before new) (λ n. LeavesFront n begin new) (λ n left. leaves_more n begin before new inv.grown left) c.add_apart.ensures.kept
 
 pub add_branches-returns-in_err-own-clause-kept : goal.add_branches-returns-in_err-own-clause-kept
 add_branches-returns-in_err-own-clause-kept t c =
     let p = err_from_is_err_and c.from_residual-in_err-own.result c.from_residual-in_err-own.ensures.1 in
     let begin = made_lists c.args.made.now in
-    let before = made_lists c.loop-item.made in
+    let before = made_lists c.loop-test.made in
     let n = c.in_err-own.field-0.0 in
     let (more, all, grows) = c.in_err-own.ensures.asks in
-    rw (p.1, p.2) (leaves_more n begin before (made_lists c.read_test.new.made) c.loop-item.invariant.grown
+    rw (p.1, p.2) (leaves_more n begin before (made_lists c.read_test.new.made) c.loop-test.invariant.grown
     (subst (λ (m : MadeLists). LeavesFront n before m) (sym c.in_err-own.ensures.same) (leaves_asked n before c.read_test.new.made.asked.items (more, grows))))
 
 pub add_branches-returns-in_err-test-clause-fault : goal.add_branches-returns-in_err-test-clause-fault
@@ -1000,23 +1000,23 @@ pub add_branches-returns-in_err-add_branch-clause-kept : goal.add_branches-retur
 add_branches-returns-in_err-add_branch-clause-kept t c =
     let p = err_from_is_err_and c.from_residual-in_err-add_branch.result c.from_residual-in_err-add_branch.ensures.1 in
     let begin = made_lists c.args.made.now in
-    let before = made_lists c.loop-item.made in
+    let before = made_lists c.loop-test.made in
     let asked = c.read_test.new.made.asked.items in
     let now = with_asked before asked in
     let n = c.in_err-add_branch.field-0.0 in
     let (more, all, grows) = c.in_ok-own.ensures.asks in
     let new = made_lists c.add_branch.new.made in
-    rw (p.1, p.2) (leaves_more n begin now new (grown_both begin before now c.loop-item.invariant.grown (asked_grown before asked (more, grows)))
+    rw (p.1, p.2) (leaves_more n begin now new (grown_both begin before now c.loop-test.invariant.grown (asked_grown before asked (more, grows)))
     (subst (λ (m : MadeLists). LeavesFront n m new) c.in_ok-own.ensures.same c.in_err-add_branch.ensures.kept))
 
 pub add_branches-returns-clause-added : goal.add_branches-returns-clause-added
 add_branches-returns-clause-added t c =
     let e = c.args.entries.now in
     let begin = made_lists c.args.made.now in
-    subst (λ (fs : List Flow). AddsBranches e (counters c.args.turn.now) (against (sender_named (records_of e) begin.asked) c.args.subject) c.args.kind (lexemes c.args.branches.now) (taken_branches c.loop-item.taken.items) fs begin (made_lists c.loop-item.made))
+    subst (λ (fs : List Flow). AddsBranches e (counters c.args.turn.now) (against (sender_named (records_of e) begin.asked) c.args.subject) c.args.kind (lexemes c.args.branches.now) (taken_branches c.loop-test.taken.items) fs begin (made_lists c.loop-test.made))
     (sym c.new.ensures.items)
-    (left_end e (counters c.args.turn.now) (against (sender_named (records_of e) begin.asked) c.args.subject) c.args.kind (lexemes c.args.branches.now) (lexemes c.loop-item.rest.now) c.loop-item.waiting (taken_branches c.loop-item.taken.items) begin
-    (made_lists c.loop-item.made) c.loop-item.invariant.left c.in_default.ensures.none)
+    (left_end e (counters c.args.turn.now) (against (sender_named (records_of e) begin.asked) c.args.subject) c.args.kind (lexemes c.args.branches.now) (lexemes c.loop-test.rest.now) c.loop-test.waiting (taken_branches c.loop-test.taken.items) begin
+    (made_lists c.loop-test.made) c.loop-test.invariant.left c.in_default.ensures.none)
 
 pub add_choice-returns-clause-added : goal.add_choice-returns-clause-added
 add_choice-returns-clause-added t c =

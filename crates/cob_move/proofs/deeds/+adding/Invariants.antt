@@ -78,8 +78,8 @@ decreases-add_branch l = 6 * length (lexemes l.words.now) + 2
 abbrev pub decreases-add_apart : goal.decreases-add_apart
 decreases-add_apart l = 6 * length (lexemes l.words.now) + 1
 
-abbrev pub invariant-add_branches-loop-item : goal.invariant-add_branches-loop-item
-invariant-add_branches-loop-item l = record {
+abbrev pub invariant-add_branches-loop-test : goal.invariant-add_branches-loop-test
+invariant-add_branches-loop-test l = record {
   left : LeftOfBranches l.entries (counters l.turn) (against (sender_named (records_of l.entries) l.fn.made.asked.items) l.subject) l.kind (lexemes l.branches) (lexemes l.rest) l.waiting (taken_branches l.taken.items) (made_lists l.fn.made)
       (made_lists l.made);
   fewer : length (lexemes l.rest) ≤ length (lexemes l.branches);
@@ -92,5 +92,5 @@ invariant-add_branches-loop-item l = record {
   pairs : ArePairsOf (records_of l.entries) l.pairs;
 }
 
-abbrev pub decreases-add_branches-loop-item : goal.decreases-add_branches-loop-item
-decreases-add_branches-loop-item l = length (lexemes l.rest)
+abbrev pub decreases-add_branches-loop-test : goal.decreases-add_branches-loop-test
+decreases-add_branches-loop-test l = length (lexemes l.rest)

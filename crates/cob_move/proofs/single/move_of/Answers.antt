@@ -15,7 +15,7 @@ returns-in_err-receivers-clause-fault c =
 
 pub returns-in_err-sender-clause-fault : goal.returns-in_err-sender-clause-fault
 returns-in_err-sender-clause-fault c =
-    let p = err_from_is_err_and c.from_residual-in_err-sender.result c.from_residual-in_err-sender.ensures.1 in
+    let p = err_from_is_err_and c.from_residual.result c.from_residual.ensures.1 in
     rw (p.1, p.2)
     (λ input output. sender_fault c.in_err-sender.field-0.0 (entries_named c.args.entries.now.names.now) (written_sender c.args.written.now)
     (written_references c.args.references.now) input output c.in_err-sender.ensures.fault)
