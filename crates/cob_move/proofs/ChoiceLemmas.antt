@@ -777,10 +777,6 @@ leaves_asked why.Memory m asked more = tt
 leaves_asked why.TooMany m asked more = tt
 leaves_asked (why.Broken f) m asked more = asked_grown m asked more
 
-pub nothing_there : (ws : List Lexeme) → length ws ≡ 0 → ws ≡ []
-nothing_there [] none = refl
-nothing_there (w ∷ ws) none = absurd (omega (arith, none))
-
 -- what is made with a choice, by its parts
 pub choice_same : (old now : MadeLists) (flows outside linked : List Flow) → flows ≡ outside ++ linked → outside ≡ (closed old).flows
     → record { list = now.list; ends = now.ends; bounds = now.bounds; asked = now.asked; conditions = now.conditions; flows = flows; read = now.read } ≡ with_choice old now linked

@@ -130,16 +130,17 @@ literal_none (ALoop l body more) is = ap (λ (b : Bool). b || has_choice more) (
 literal_none (AChoice c branches more) is = absurd is
 literal_none (ABranch t own others) is = absurd is
 
-literal_by : (ends choice : Bool) (p : Passage) → choice ≡ has_choice p → ((ends ≡ true) ↔ AllByRecursion (λ (l : WrittenLoop). EndsByNumber l.bound) (loops_of p)) → (((ends && not choice) ≡ true) ↔ IsLiteral p)
-literal_by true true p same is = (λ e. absurd (let never : false ≡ true = e in cc), λ literal. absurd (let never : true ≡ false = same ∙ literal_none p literal in cc))
-literal_by true false p same is = (λ e. literal_yes p (is.0 refl) (sym same), λ literal. refl)
-literal_by false choice p same is = (λ e. absurd (let never : false ≡ true = e in cc), λ literal. is.1 (literal_ends p literal))
+-- a passage with a choice is not read run by run
+pub choice_literal : (p : Passage) → true ≡ has_choice p → ((false ≡ true) ↔ IsLiteral p)
+choice_literal p same = (λ e. absurd (let never : false ≡ true = e in cc), λ literal. absurd (let never : true ≡ false = same ∙ literal_none p literal in cc))
 
--- whether its loops end by numbers and no choice stands in it is so of the passage
-pub literal_so : (ends choice : Bool) (p : Passage) (ls : List WrittenLoop) → ls ≡ loops_of p → choice ≡ has_choice p → ((ends ≡ true) ↔ AllByRecursion (λ (l : WrittenLoop). EndsByNumber l.bound) ls)
-    → (((ends && not choice) ≡ true) ↔ IsLiteral p)
-literal_so ends choice p ls same none is =
-    literal_by ends choice p none (subst (λ (ks : List WrittenLoop). ((ends ≡ true) ↔ AllByRecursion (λ (l : WrittenLoop). EndsByNumber l.bound) ks)) same is)
+-- one without is where its loops end by numbers
+pub plain_literal : (ends : Bool) (p : Passage) (ls : List WrittenLoop) → ls ≡ loops_of p → false ≡ has_choice p → ((ends ≡ true) ↔ AllByRecursion (λ (l : WrittenLoop). EndsByNumber l.bound) ls)
+    → ((ends ≡ true) ↔ IsLiteral p)
+plain_literal ends p ls same none is = (
+  λ e. literal_yes p (subst (λ (ks : List WrittenLoop). AllByRecursion (λ (l : WrittenLoop). EndsByNumber l.bound) ks) same (is.0 e)) (sym none),
+  λ literal. is.1 (subst (λ (ks : List WrittenLoop). AllByRecursion (λ (l : WrittenLoop). EndsByNumber l.bound) ks) (sym same) (literal_ends p literal)),
+)
 
 -- words that are no statements refuse a run
 pub run_refused : (r : MoveRule) (line : ℕ) (ws : List Lexeme)

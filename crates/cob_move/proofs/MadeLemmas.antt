@@ -1,5 +1,5 @@
 -- What is made of a paragraph so far, and more of it.
-use Rattle.std.proofs.Common.{◌≡◌, ◌⊎◌, inl, inr, false, ℕ, ◌+◌, ◌<◌, ◌≤◌, List, [], ◌∷◌, ◌++◌, drop, length, take, refl, sym, ap, subst, ◌∙◌, append_assoc, append-nil, arith}
+use Rattle.std.proofs.Common.{◌≡◌, ◌⊎◌, inl, inr, false, ℕ, ◌+◌, ◌<◌, ◌≤◌, List, [], ◌∷◌, ◌++◌, drop, length, map, take, refl, sym, ap, subst, ◌∙◌, append_assoc, append-nil, arith}
 use Rattle.std.proofs.lemmas.Grind.{flat_map-append}
 use Rattle.std.proofs.lemmas.List.{drop-append-le, length-append, take-append-le}
 use Rattle.std.proofs.Math.Seq.{take-length}
@@ -26,7 +26,7 @@ use Rattle.cob_move.specs.declared.made.Sizes.{Sizes}
 use Rattle.cob_move_tests.specs.declared.entries.Entries.{Entries}
 use Rattle.cob_move.specs.Deeds.{IsRunMeant}
 use Rattle.cob_move_tests.specs.Entries.{AllMayBeNamed, nameable, records_of}
-use Rattle.cob_move.specs.DeedsRead.{AddsMoved, AreParted, IsNotBroken, LeavesFront, LoopRefused, MovedRefused, TurnRefused, HasGrown, IsFrontOf, IsMade, IsSizeOf, FirstInRun, MadeLists, all_deeds, forgotten, last_marked, made_deeds, open_deeds, open_statements, taken_back}
+use Rattle.cob_move.specs.DeedsRead.{AddsMoved, AreParted, IsNotBroken, LeavesFront, LoopRefused, MovedRefused, TurnRefused, HasGrown, IsFrontOf, IsMade, IsSizeOf, FirstInRun, MadeLists, all_deeds, forgotten, last_marked, made_deeds, named_of, open_deeds, open_statements, taken_back}
 use Rattle.cob_move.specs.Joined.{joined_deeds}
 use Rattle.cob_move.specs.Loops.{AddsRun, RunRefused}
 use Rattle.cob_move.specs.Meaning.{AreMeant}
@@ -71,7 +71,7 @@ front_back old new on g f = record {
     f.marks.1 ∙ ap (λ (t : List ℕ). 0 ∷ t) (behind_both old.ends new.ends (new.ends ++ f.marks.0) g.ends.0 f.marks.0 g.ends.1 refl),
   );
   bounds = (g.bounds.0 ++ f.bounds.0, behind_both old.bounds new.bounds on.bounds g.bounds.0 f.bounds.0 g.bounds.1 f.bounds.1);
-  asked = (g.asked.0 ++ f.asked.0, behind_both old.asked new.asked on.asked g.asked.0 f.asked.0 g.asked.1 f.asked.1);
+  asked = (g.asked.0 ++ f.asked.0, behind_both old.asked new.asked (map named_of on.entries) g.asked.0 f.asked.0 g.asked.1 f.asked.1);
   conditions = (g.conditions.0 ++ f.conditions.0, behind_both old.conditions new.conditions on.conditions g.conditions.0 f.conditions.0 g.conditions.1 f.conditions.1);
 }
 

@@ -172,13 +172,13 @@ taken_back s m = record { list = take s.list m.list; ends = take s.ends m.ends; 
 abbrev pub forgotten : Sizes → MadeLists → MadeLists
 forgotten s m = record { list = take s.list m.list; ends = take s.ends m.ends; bounds = take s.bounds m.bounds; asked = take s.asked m.asked; conditions = take s.conditions m.conditions; flows = take s.flows m.flows; read = s.read }
 
--- what stands in front, if it is a run, is words of MOVE statements; and the first branch of a choice has a test
+-- what stands in front, if it is a run, is words of MOVE statements; and the first branch of a choice has a test; no branch stands among statements
 abbrev pub IsFrontRead : PassageFront → Type 0
 IsFrontRead (ARun own) = IsRun own
 IsFrontRead APause = Unit {0}
 IsFrontRead (Looped l own) = Unit {0}
 IsFrontRead (Chosen c own) = BranchesBegin c own
-IsFrontRead (Branched t own) = Unit {0}
+IsFrontRead (Branched t own) = ⊥
 
 -- words are a passage whose loops to items are bounded
 abbrev pub HasBounds : List Lexeme → Type 0

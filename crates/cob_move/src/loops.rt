@@ -2,6 +2,7 @@
 
 ghost use Rattle.std.specs.Prelude.{◌≡◌, ◌↔◌, IfErr, IfOk, IsTrue, OnOk};
 ghost use Rattle.std.specs.List.{AllByRecursion};
+ghost use Rattle.cob_move_loops.specs.Few.{loops_of};
 ghost use Rattle.cob_move_loops.specs.Passages.{IsPassage, Passage};
 ghost use Rattle.cob_move_loops.specs.Reading.{all_runs, run_words, written_loop, written_loops};
 ghost use Rattle.cob_move_names.specs.Directory.{entries_named};
@@ -164,6 +165,17 @@ fn end_by_numbers(heads: &[Loop<'_>]) -> bool
     true
 }
 
+/// Whether the loops of a passage all end by numbers, and it has no choice.
+fn is_literal(heads: &[Loop<'_>], body: &[Token]) -> bool
+    ensures { (p : Passage) → IsPassage p (lexemes body.now)
+        → written_loops heads.now ≡ loops_of p → (IsTrue result ↔ IsLiteral p) }
+{
+    if has_choice(body) {
+        return false;
+    }
+    end_by_numbers(heads)
+}
+
 /// Checks that the words behind a heading are a passage, and keep the rules of loops. The answer is whether its loops all end by numbers and no choice stands in
 /// it.
 ///
@@ -180,7 +192,7 @@ pub(crate) fn judge(alloc: Global, names: &Names<'_>, body: &[Token]) -> Result<
     check_passage(body)?;
     let heads = apart_loops(alloc, body)?;
     check_names(names, heads.as_slice())?;
-    Ok(end_by_numbers(heads.as_slice()) && !has_choice(body))
+    Ok(is_literal(heads.as_slice(), body))
 }
 
 /// Puts the moves of words behind those so far.

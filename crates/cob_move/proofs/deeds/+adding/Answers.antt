@@ -22,13 +22,13 @@ use Rattle.cob_move_deeds.specs.declared.flow.Flow.{Flow}
 use Rattle.cob_move.specs.declared.made.NotRead.{NotRead}
 use Rattle.cob_move_loops.specs.declared.parts.Place.TheVariants as standing
 use Rattle.cob_move_loops.proofs.FrontLemmas.{front_size, front_smaller}
-use Rattle.cob_move_loops.proofs.PassageLemmas.{shorter}
+use Rattle.cob_move_loops.proofs.PassageLemmas.{none_left, shorter, some_left}
 use Rattle.cob_move_loops.proofs.WritingLemmas.{counters_more}
 use Rattle.cob_move.specs.declared.made.BranchFlows.{BranchFlows}
 use Rattle.cob_move.specs.DeedsRead.{AddsBranch, AddsBranches, AddsDeeds, AddsFront, AddsMoved, AddsTurns, BranchesRefused, FrontHasBounds, FrontRefused, HasGrown, HaveBounds, IsFrontRead, IsMade, IsWaiting, LeavesFront, LeftOfBranches, LoopRefused, MadeLists, MovedRefused, ReadsApart, ReadsTurns, TurnRefused, closed, flow_lists, in_its_turn, linked_branches, linked_turns, made_lists, open_statements, TakenBranch, taken_branch, taken_branches, TestNotRead, with_asked, with_one_more, without_flows}
 use Rattle.cob_move_tests.specs.Entries.{records_of}
 use Rattle.cob_move.proofs.AskedLemmas.{against_front, or_tested_front, waiting_front, waiting_means}
-use Rattle.cob_move.proofs.ChoiceLemmas.{HasReadChoice, asked_grown, asked_made, apart_kept, begun, begun_grown, begun_made, branch_kept, choice_adds, choice_has_grown, choice_is_made, choice_not_read, choice_same, closed_asked, closed_branches, count_not_read, in_front_by, leaves_asked, left_begin, left_end, left_other, left_other_refused, left_statements_refused, left_taken, left_test_refused, left_waits, nothing_there, subject_not_read}
+use Rattle.cob_move.proofs.ChoiceLemmas.{HasReadChoice, asked_grown, asked_made, apart_kept, begun, begun_grown, begun_made, branch_kept, choice_adds, choice_has_grown, choice_is_made, choice_not_read, choice_same, closed_asked, closed_branches, count_not_read, in_front_by, leaves_asked, left_begin, left_end, left_other, left_other_refused, left_statements_refused, left_taken, left_test_refused, left_waits, subject_not_read}
 use Rattle.cob_move.proofs.MadeLemmas.{forgotten_again, grown_both, grown_none, leaves_more, leaves_same, leaves_unbroken}
 use Rattle.cob_move.proofs.ReadingLemmas.{bounds_parted, branch_bounds, choice_bounds, deeds_end, deeds_first, deeds_more, deeds_refused, front_read, loop_bounds, pause_added}
 use Rattle.cob_move.proofs.TestedLemmas.{HasReadLoop, bound_for, bound_not_read, breaks_first, breaks_same, broken_left, closed_refused, emptied, first_refused, later_refused, loop_left, loop_same, never_refused, no_turn_comes, past_of, tested_added, tested_grown, tested_made, tried_first, tried_now, tried_step}
@@ -637,6 +637,9 @@ add_item-add_choice-requires t c =
       ),
     )
 
+pub add_item-returns-in-Branch-clause-added : goal.add_item-returns-in-Branch-clause-added
+add_item-returns-in-Branch-clause-added t c = absurd (subst (λ (f : PassageFront). IsFrontRead f) (ap item_front c.in-Branch.is) c.requires.run)
+
 pub add_item-returns-in-Choice-clause-fault : goal.add_item-returns-in-Choice-clause-fault
 add_item-returns-in-Choice-clause-fault t c =
     subst (λ (f : PassageFront). IfErr c.add_choice.result (λ n. FrontRefused n c.args.entries.now (counters c.args.turn.now) f (made_lists c.args.made.now))) (sym (ap item_front c.in-Choice.is)) c.add_choice.ensures.fault
@@ -692,7 +695,7 @@ add_branches-loop-test-preserved-then-is_empty t c =
     let same = c.in_ok-own.ensures.same in record {
       left = subst (λ (m : MadeLists). LeftOfBranches e ns a c.args.kind (lexemes c.args.branches.now) more (Some c.in_ok-test.test) (taken_branches c.loop-test.taken.items) begin m) (sym same)
           (left_waits e ns a c.args.kind (lexemes c.args.branches.now) rest more ws body c.loop-test.waiting c.in_ok-own.own c.in_ok-test.test (taken_branches c.loop-test.taken.items) begin before asked c.loop-test.invariant.left front
-          (nothing_there body (omega (arith, c.if-is_empty.true))) (others, grows) is means tested);
+          (none_left c.in-Some.body.now c.is_empty.result c.is_empty.ensures c.if-is_empty.true) (others, grows) is means tested);
       fewer = omega (arith, c.loop-test.invariant.fewer, less);
       bounds = bounds.1;
       waits = tested;
@@ -733,7 +736,7 @@ add_branches-loop-test-preserved t c =
     let adds = subst (λ (m : MadeLists). AddsBranch e ns c.in_ok-test.test body taken after m new) c.in_ok-own.ensures.same c.in_ok-add_branch.ensures.added in
     let kept = branch_kept e ns c.in_ok-test.test body taken after now new c.loop-test.invariant.none tested adds in record {
       left = left_taken c.one_deeds.ensures e ns a c.args.kind (lexemes c.args.branches.now) rest more ws body c.loop-test.waiting c.in_ok-own.own c.in_ok-test.test taken begin before new asked after c.loop-test.invariant.left front
-          (omega (arith, c.if-is_empty.false)) (others, grows) is means tested c.loop-test.invariant.none c.loop-test.invariant.marked adds;
+          (some_left c.in-Some.body.now c.is_empty.result c.is_empty.ensures c.if-is_empty.false) (others, grows) is means tested c.loop-test.invariant.none c.loop-test.invariant.marked adds;
       fewer = omega (arith, c.loop-test.invariant.fewer, less);
       bounds = bounds.1;
       waits = tt;
@@ -797,7 +800,7 @@ add_branches-returns-in_err-own-clause-fault t c =
     let n = c.in_err-own.field-0.0 in
     let front = in_front_by c.args.kind (Branched (written_test c.in-Some.test) body) (Tested ws) body rest more (ap (λ (x : BranchTest). Branched (written_test x) body) c.in-Tested.is) c.in-Some.ensures.found c.in-Some.ensures.only in
     let held : against (sender_named r before.asked) c.args.subject ≡ a = sym (against_front r begin.asked before.asked c.args.subject c.loop-test.invariant.grown.asked c.requires.there) in
-    let p = err_from_is_err_and c.from_residual-in_err-own.result c.from_residual-in_err-own.ensures.1 in
+    let p = err_from_is_err_and c.from_residual.result c.from_residual.ensures.1 in
     rw (p.1, p.2) (left_test_refused c.branch_tests_break_no_rule.ensures n e ns a c.args.kind (lexemes c.args.branches.now) rest more ws body c.loop-test.waiting (taken_branches c.loop-test.taken.items) begin before c.loop-test.invariant.left front
     (subst (λ (x : Against). TestNotRead n e ns x ws) held c.in_err-own.ensures.fault))
 
@@ -842,14 +845,14 @@ add_branches-add_apart-requires t c =
     let more = lexemes c.in-Some.more.now in
     let body = lexemes c.in-Some.body.now in
     let a = against (sender_named r begin.asked) c.args.subject in
-    let front = in_front_by c.args.kind (Branched (written_test c.in-Some.test) body) Otherwise body rest more (ap (λ (x : WrittenTest). Branched x body) (otherwise_is c.in-Some.test c.in_default.not-Tested)) c.in-Some.ensures.found c.in-Some.ensures.only in
+    let front = in_front_by c.args.kind (Branched (written_test c.in-Some.test) body) Otherwise body rest more (ap (λ (x : WrittenTest). Branched x body) (otherwise_is c.in-Some.test c.in_default-test.not-Tested)) c.in-Some.ensures.found c.in-Some.ensures.only in
     let less = shorter (standing.Branches c.args.kind) (Branched Otherwise body) rest more front.0 in
     let bounds = branch_bounds c.args.kind Otherwise body rest more c.loop-test.invariant.bounds (omega (arith, less)) front.1 in
     let small = front_smaller (standing.Branches c.args.kind) (Branched Otherwise body) rest more front.0 in
     (omega (arith, c.decreases, small, c.loop-test.invariant.fewer), (c.requires.named, (c.loop-test.invariant.pairs, (c.loop-test.invariant.made, bounds.0))))
 
-pub add_branches-returns-in_default-clause-added : goal.add_branches-returns-in_default-clause-added
-add_branches-returns-in_default-clause-added t c =
+pub add_branches-returns-in_default-test-clause-added : goal.add_branches-returns-in_default-test-clause-added
+add_branches-returns-in_default-test-clause-added t c =
     let e = c.args.entries.now in
     let r = records_of e in
     let ns = counters c.args.turn.now in
@@ -860,15 +863,15 @@ add_branches-returns-in_default-clause-added t c =
     let more = lexemes c.in-Some.more.now in
     let body = lexemes c.in-Some.body.now in
     let a = against (sender_named r begin.asked) c.args.subject in
-    let front = in_front_by c.args.kind (Branched (written_test c.in-Some.test) body) Otherwise body rest more (ap (λ (x : WrittenTest). Branched x body) (otherwise_is c.in-Some.test c.in_default.not-Tested)) c.in-Some.ensures.found c.in-Some.ensures.only in
+    let front = in_front_by c.args.kind (Branched (written_test c.in-Some.test) body) Otherwise body rest more (ap (λ (x : WrittenTest). Branched x body) (otherwise_is c.in-Some.test c.in_default-test.not-Tested)) c.in-Some.ensures.found c.in-Some.ensures.only in
     let new = made_lists c.add_apart.new.made in
     let taken = taken_branches c.loop-test.taken.items in
     let inv = c.loop-test.invariant in
     IfOk-weaker c.add_apart.result (λ v. ReadsApart e ns body v.items before new) (λ v. AddsBranches e ns a c.args.kind words taken v.items begin new)
     (λ v apart. left_other e ns a c.args.kind words rest more body c.loop-test.waiting taken begin before new v.items inv.left front inv.none inv.marked apart) c.add_apart.ensures.apart
 
-pub add_branches-returns-in_default-clause-flows : goal.add_branches-returns-in_default-clause-flows
-add_branches-returns-in_default-clause-flows t c =
+pub add_branches-returns-in_default-test-clause-marked : goal.add_branches-returns-in_default-test-clause-marked
+add_branches-returns-in_default-test-clause-marked t c =
     let e = c.args.entries.now in
     let r = records_of e in
     let ns = counters c.args.turn.now in
@@ -879,32 +882,14 @@ add_branches-returns-in_default-clause-flows t c =
     let more = lexemes c.in-Some.more.now in
     let body = lexemes c.in-Some.body.now in
     let a = against (sender_named r begin.asked) c.args.subject in
-    let front = in_front_by c.args.kind (Branched (written_test c.in-Some.test) body) Otherwise body rest more (ap (λ (x : WrittenTest). Branched x body) (otherwise_is c.in-Some.test c.in_default.not-Tested)) c.in-Some.ensures.found c.in-Some.ensures.only in
-    let new = made_lists c.add_apart.new.made in
-    let taken = taken_branches c.loop-test.taken.items in
-    let inv = c.loop-test.invariant in
-    IfOk-weaker c.add_apart.result (λ v. ReadsApart e ns body v.items before new) (λ v. new.flows ≡ []) (λ v apart. (apart_kept e ns body v.items before new inv.none apart).none) c.add_apart.ensures.apart
-
-pub add_branches-returns-in_default-clause-marked : goal.add_branches-returns-in_default-clause-marked
-add_branches-returns-in_default-clause-marked t c =
-    let e = c.args.entries.now in
-    let r = records_of e in
-    let ns = counters c.args.turn.now in
-    let begin = made_lists c.args.made.now in
-    let before = made_lists c.loop-test.made in
-    let words = lexemes c.args.branches.now in
-    let rest = lexemes c.loop-test.rest.now in
-    let more = lexemes c.in-Some.more.now in
-    let body = lexemes c.in-Some.body.now in
-    let a = against (sender_named r begin.asked) c.args.subject in
-    let front = in_front_by c.args.kind (Branched (written_test c.in-Some.test) body) Otherwise body rest more (ap (λ (x : WrittenTest). Branched x body) (otherwise_is c.in-Some.test c.in_default.not-Tested)) c.in-Some.ensures.found c.in-Some.ensures.only in
+    let front = in_front_by c.args.kind (Branched (written_test c.in-Some.test) body) Otherwise body rest more (ap (λ (x : WrittenTest). Branched x body) (otherwise_is c.in-Some.test c.in_default-test.not-Tested)) c.in-Some.ensures.found c.in-Some.ensures.only in
     let new = made_lists c.add_apart.new.made in
     let taken = taken_branches c.loop-test.taken.items in
     let inv = c.loop-test.invariant in
     IfOk-weaker c.add_apart.result (λ v. ReadsApart e ns body v.items before new) (λ v. open_statements new ≡ []) (λ v apart. (apart_kept e ns body v.items before new inv.none apart).marked) c.add_apart.ensures.apart
 
-pub add_branches-returns-in_default-clause-made : goal.add_branches-returns-in_default-clause-made
-add_branches-returns-in_default-clause-made t c =
+pub add_branches-returns-in_default-test-clause-made : goal.add_branches-returns-in_default-test-clause-made
+add_branches-returns-in_default-test-clause-made t c =
     let e = c.args.entries.now in
     let r = records_of e in
     let ns = counters c.args.turn.now in
@@ -915,14 +900,14 @@ add_branches-returns-in_default-clause-made t c =
     let more = lexemes c.in-Some.more.now in
     let body = lexemes c.in-Some.body.now in
     let a = against (sender_named r begin.asked) c.args.subject in
-    let front = in_front_by c.args.kind (Branched (written_test c.in-Some.test) body) Otherwise body rest more (ap (λ (x : WrittenTest). Branched x body) (otherwise_is c.in-Some.test c.in_default.not-Tested)) c.in-Some.ensures.found c.in-Some.ensures.only in
+    let front = in_front_by c.args.kind (Branched (written_test c.in-Some.test) body) Otherwise body rest more (ap (λ (x : WrittenTest). Branched x body) (otherwise_is c.in-Some.test c.in_default-test.not-Tested)) c.in-Some.ensures.found c.in-Some.ensures.only in
     let new = made_lists c.add_apart.new.made in
     let taken = taken_branches c.loop-test.taken.items in
     let inv = c.loop-test.invariant in
     IfOk-weaker c.add_apart.result (λ v. ReadsApart e ns body v.items before new) (λ v. IsMade r new) (λ v apart. (apart_kept e ns body v.items before new inv.none apart).made) c.add_apart.ensures.apart
 
-pub add_branches-returns-in_default-clause-grown : goal.add_branches-returns-in_default-clause-grown
-add_branches-returns-in_default-clause-grown t c =
+pub add_branches-returns-in_default-test-clause-grown : goal.add_branches-returns-in_default-test-clause-grown
+add_branches-returns-in_default-test-clause-grown t c =
     let e = c.args.entries.now in
     let r = records_of e in
     let ns = counters c.args.turn.now in
@@ -933,14 +918,14 @@ add_branches-returns-in_default-clause-grown t c =
     let more = lexemes c.in-Some.more.now in
     let body = lexemes c.in-Some.body.now in
     let a = against (sender_named r begin.asked) c.args.subject in
-    let front = in_front_by c.args.kind (Branched (written_test c.in-Some.test) body) Otherwise body rest more (ap (λ (x : WrittenTest). Branched x body) (otherwise_is c.in-Some.test c.in_default.not-Tested)) c.in-Some.ensures.found c.in-Some.ensures.only in
+    let front = in_front_by c.args.kind (Branched (written_test c.in-Some.test) body) Otherwise body rest more (ap (λ (x : WrittenTest). Branched x body) (otherwise_is c.in-Some.test c.in_default-test.not-Tested)) c.in-Some.ensures.found c.in-Some.ensures.only in
     let new = made_lists c.add_apart.new.made in
     let taken = taken_branches c.loop-test.taken.items in
     let inv = c.loop-test.invariant in
     IfOk-weaker c.add_apart.result (λ v. ReadsApart e ns body v.items before new) (λ v. HasGrown begin new) (λ v apart. grown_both begin before new inv.grown (apart_kept e ns body v.items before new inv.none apart).grown) c.add_apart.ensures.apart
 
-pub add_branches-returns-in_default-clause-fault : goal.add_branches-returns-in_default-clause-fault
-add_branches-returns-in_default-clause-fault t c =
+pub add_branches-returns-in_default-test-clause-fault : goal.add_branches-returns-in_default-test-clause-fault
+add_branches-returns-in_default-test-clause-fault t c =
     let e = c.args.entries.now in
     let r = records_of e in
     let ns = counters c.args.turn.now in
@@ -951,15 +936,15 @@ add_branches-returns-in_default-clause-fault t c =
     let more = lexemes c.in-Some.more.now in
     let body = lexemes c.in-Some.body.now in
     let a = against (sender_named r begin.asked) c.args.subject in
-    let front = in_front_by c.args.kind (Branched (written_test c.in-Some.test) body) Otherwise body rest more (ap (λ (x : WrittenTest). Branched x body) (otherwise_is c.in-Some.test c.in_default.not-Tested)) c.in-Some.ensures.found c.in-Some.ensures.only in
+    let front = in_front_by c.args.kind (Branched (written_test c.in-Some.test) body) Otherwise body rest more (ap (λ (x : WrittenTest). Branched x body) (otherwise_is c.in-Some.test c.in_default-test.not-Tested)) c.in-Some.ensures.found c.in-Some.ensures.only in
     let new = made_lists c.add_apart.new.made in
     let taken = taken_branches c.loop-test.taken.items in
     let inv = c.loop-test.invariant in
     IfErr-weaker c.add_apart.result (λ n. TurnRefused n e ns body before) (λ n. BranchesRefused n e ns a c.args.kind words begin)
     (λ n refused. left_other_refused n e ns a c.args.kind words rest more body c.loop-test.waiting taken begin before inv.left front refused) c.add_apart.ensures.fault
 
-pub add_branches-returns-in_default-clause-kept : goal.add_branches-returns-in_default-clause-kept
-add_branches-returns-in_default-clause-kept t c =
+pub add_branches-returns-in_default-test-clause-kept : goal.add_branches-returns-in_default-test-clause-kept
+add_branches-returns-in_default-test-clause-kept t c =
     let e = c.args.entries.now in
     let r = records_of e in
     let ns = counters c.args.turn.now in
@@ -970,7 +955,7 @@ add_branches-returns-in_default-clause-kept t c =
     let more = lexemes c.in-Some.more.now in
     let body = lexemes c.in-Some.body.now in
     let a = against (sender_named r begin.asked) c.args.subject in
-    let front = in_front_by c.args.kind (Branched (written_test c.in-Some.test) body) Otherwise body rest more (ap (λ (x : WrittenTest). Branched x body) (otherwise_is c.in-Some.test c.in_default.not-Tested)) c.in-Some.ensures.found c.in-Some.ensures.only in
+    let front = in_front_by c.args.kind (Branched (written_test c.in-Some.test) body) Otherwise body rest more (ap (λ (x : WrittenTest). Branched x body) (otherwise_is c.in-Some.test c.in_default-test.not-Tested)) c.in-Some.ensures.found c.in-Some.ensures.only in
     let new = made_lists c.add_apart.new.made in
     let taken = taken_branches c.loop-test.taken.items in
     let inv = c.loop-test.invariant in
@@ -978,7 +963,7 @@ add_branches-returns-in_default-clause-kept t c =
 
 pub add_branches-returns-in_err-own-clause-kept : goal.add_branches-returns-in_err-own-clause-kept
 add_branches-returns-in_err-own-clause-kept t c =
-    let p = err_from_is_err_and c.from_residual-in_err-own.result c.from_residual-in_err-own.ensures.1 in
+    let p = err_from_is_err_and c.from_residual.result c.from_residual.ensures.1 in
     let begin = made_lists c.args.made.now in
     let before = made_lists c.loop-test.made in
     let n = c.in_err-own.field-0.0 in
@@ -1048,9 +1033,9 @@ add_choice-returns-clause-added t c =
       grown = subst (λ (m : MadeLists). HasGrown m now) start c.in_ok-other.ensures.grown;
       none = c.in_ok-other.ensures.flows;
       marked = c.in_ok-other.ensures.marked;
-      reads = subst (λ (m : MadeLists). AddsBranches e ns a (kind_of choice) words taken other m now) start
-          (subst (λ (k : ChoiceKind). AddsBranches e ns a k words taken other _ now) c.kind_of-kind.ensures
-          (subst (λ (x : Against). AddsBranches e ns x c.kind_of-kind.result words taken other _ now) held c.in_ok-other.ensures.added));
+      reads = subst (λ (k : ChoiceKind). AddsBranches e ns a k words taken other (without_flows (closed old)) now) c.kind_of-kind.ensures
+          (subst (λ (x : Against). AddsBranches e ns x c.kind_of-kind.result words taken other (without_flows (closed old)) now) held
+          (subst (λ (m : MadeLists). AddsBranches e ns (against (sender_named r c.close.new.self.asked.items) c.in_ok-subject.subject) c.kind_of-kind.result words taken other m now) start c.in_ok-other.ensures.added));
     } in
     let same = choice_same old now c.link_branches.new.flows.items c.replace-outside.result.items linked
     (c.in_ok-link_branches.ensures ∙ ap (λ (bs : List BranchFlows). c.replace-outside.result.items ++ linked_branches (taken_branches bs) c.as_slice-2.result.now) c.as_slice.ensures.value
@@ -1087,9 +1072,9 @@ add_choice-returns-clause-made t c =
       grown = subst (λ (m : MadeLists). HasGrown m now) start c.in_ok-other.ensures.grown;
       none = c.in_ok-other.ensures.flows;
       marked = c.in_ok-other.ensures.marked;
-      reads = subst (λ (m : MadeLists). AddsBranches e ns a (kind_of choice) words taken other m now) start
-          (subst (λ (k : ChoiceKind). AddsBranches e ns a k words taken other _ now) c.kind_of-kind.ensures
-          (subst (λ (x : Against). AddsBranches e ns x c.kind_of-kind.result words taken other _ now) held c.in_ok-other.ensures.added));
+      reads = subst (λ (k : ChoiceKind). AddsBranches e ns a k words taken other (without_flows (closed old)) now) c.kind_of-kind.ensures
+          (subst (λ (x : Against). AddsBranches e ns x c.kind_of-kind.result words taken other (without_flows (closed old)) now) held
+          (subst (λ (m : MadeLists). AddsBranches e ns (against (sender_named r c.close.new.self.asked.items) c.in_ok-subject.subject) c.kind_of-kind.result words taken other m now) start c.in_ok-other.ensures.added));
     } in
     let same = choice_same old now c.link_branches.new.flows.items c.replace-outside.result.items linked
     (c.in_ok-link_branches.ensures ∙ ap (λ (bs : List BranchFlows). c.replace-outside.result.items ++ linked_branches (taken_branches bs) c.as_slice-2.result.now) c.as_slice.ensures.value
@@ -1126,9 +1111,9 @@ add_choice-returns-clause-grown t c =
       grown = subst (λ (m : MadeLists). HasGrown m now) start c.in_ok-other.ensures.grown;
       none = c.in_ok-other.ensures.flows;
       marked = c.in_ok-other.ensures.marked;
-      reads = subst (λ (m : MadeLists). AddsBranches e ns a (kind_of choice) words taken other m now) start
-          (subst (λ (k : ChoiceKind). AddsBranches e ns a k words taken other _ now) c.kind_of-kind.ensures
-          (subst (λ (x : Against). AddsBranches e ns x c.kind_of-kind.result words taken other _ now) held c.in_ok-other.ensures.added));
+      reads = subst (λ (k : ChoiceKind). AddsBranches e ns a k words taken other (without_flows (closed old)) now) c.kind_of-kind.ensures
+          (subst (λ (x : Against). AddsBranches e ns x c.kind_of-kind.result words taken other (without_flows (closed old)) now) held
+          (subst (λ (m : MadeLists). AddsBranches e ns (against (sender_named r c.close.new.self.asked.items) c.in_ok-subject.subject) c.kind_of-kind.result words taken other m now) start c.in_ok-other.ensures.added));
     } in
     let same = choice_same old now c.link_branches.new.flows.items c.replace-outside.result.items linked
     (c.in_ok-link_branches.ensures ∙ ap (λ (bs : List BranchFlows). c.replace-outside.result.items ++ linked_branches (taken_branches bs) c.as_slice-2.result.now) c.as_slice.ensures.value
@@ -1158,9 +1143,9 @@ add_choice-returns-in_err-other-clause-fault t c =
     ap (λ (es : List NamedEntry). against (sender_named r es) c.in_ok-subject.subject) (ap (λ (m : MadeLists). m.asked) marked ∙ closed_asked old) in
     let n = c.in_err-other.field-0.0 in
     let p = err_from_is_err_and c.from_residual-in_err-other.result c.from_residual-in_err-other.ensures.1 in
-    let refused = subst (λ (m : MadeLists). BranchesRefused n e ns a (kind_of choice) words m) start
-    (subst (λ (k : ChoiceKind). BranchesRefused n e ns a k words _) c.kind_of-kind.ensures
-    (subst (λ (x : Against). BranchesRefused n e ns x c.kind_of-kind.result words _) held c.in_err-other.ensures.fault)) in
+    let refused = subst (λ (k : ChoiceKind). BranchesRefused n e ns a k words (without_flows (closed old))) c.kind_of-kind.ensures
+    (subst (λ (x : Against). BranchesRefused n e ns x c.kind_of-kind.result words (without_flows (closed old))) held
+    (subst (λ (m : MadeLists). BranchesRefused n e ns (against (sender_named r c.close.new.self.asked.items) c.in_ok-subject.subject) c.kind_of-kind.result words m) start c.in_err-other.ensures.fault)) in
     rw (p.1, p.2) (choice_not_read c.one_subject.ensures n e ns choice a words begin old c.in_ok-subject.ensures.found refl few (closed_branches n e ns a (kind_of choice) words old refused))
 
 pub add_choice-returns-in_err-other-clause-kept : goal.add_choice-returns-in_err-other-clause-kept
