@@ -67,8 +67,8 @@ pub enum Asker<'a> {
     Move(AskingMove<'a>),
     /// The test of a loop.
     Loop(AskingLoop<'a>),
-    /// A condition, which stands on this line.
-    Condition { line: u32 },
+    /// A condition, which stands on this line behind this word.
+    Condition { line: u32, word: &'static str },
     /// The record that came, whose length its counts say.
     Came,
     /// The record that is to be written, behind all moves.
@@ -263,7 +263,9 @@ impl StopText<'_> {
                 "asked by moves line {}: UNTIL {} > {}",
                 asked.line, asked.counter, asked.bound
             ),
-            Asker::Condition { line } => write!(f, "asked by moves line {}: IF", *line),
+            Asker::Condition { line, word } => {
+                write!(f, "asked by moves line {}: {}", *line, *word)
+            }
             Asker::Came => write!(f, "asked before all moves, by the record that came"),
             Asker::Written => {
                 write!(

@@ -7,13 +7,15 @@ ghost use Rattle.cob_report_refusal_words.specs.Pointing.{IsUnderStatement};
 use crate::bearers::{BookWords, BothWords};
 use crate::blocks::push_block;
 use crate::books::{Blocks, words_of};
+use crate::comparisons::told_comparison;
+use crate::entry::behind_many;
 use crate::operands::{
     told_ambiguous, told_category, told_groups, told_pair, told_receiver, told_unknown,
 };
 use crate::phrases::{Part, Phrase};
 use crate::pointing::in_statement;
 use crate::source::{SourceText, told_source};
-use crate::statements::{broken_on, is_constant, moved_on, statement_in_front, words_at};
+use crate::statements::{broken_on, is_constant, statement_in_front, tested_on, words_at};
 use crate::subscripts::told_subscripts;
 use crate::told::{Caret, Told, advised, said};
 use crate::verbs::told_statement_words;
@@ -86,7 +88,7 @@ fn told_other(statement: &[Token], rule: MoveRule) -> Told<'_> {
         ),
         MoveRule::TooMany => told_whole(
             statement,
-            "the loops come to more than 100,000 statements, or more than 16 hold one another",
+            "the paragraph comes to more than 100,000 statements, or more than 16 loops and choices hold one another",
             "move groups, or cut the paragraph in two conversions",
         ),
         _ => told_whole(
@@ -104,7 +106,7 @@ fn words_told<'a>(words: &'a [Token], refusal: &MoveRefusal) -> &'a [Token] {
         Some(place) => words_at(words, place),
         None => match refusal.fault.rule {
             MoveRule::Grammar => broken_on(words, line),
-            _ => moved_on(words, line),
+            _ => tested_on(words, line),
         },
     }
 }
@@ -114,7 +116,7 @@ fn told_statement<'a>(both: BothWords<'a>, words: &'a [Token], rule: MoveRule) -
     let statement = statement_in_front(words);
     match rule {
         MoveRule::Grammar => told_statement_words(words),
-        MoveRule::Unknown => told_unknown(both, statement),
+        MoveRule::Unknown => told_unknown(both, statement, behind_many(words, statement.len())),
         MoveRule::Ambiguous => told_ambiguous(both, statement),
         MoveRule::Subscripts => told_subscripts(both, statement),
         MoveRule::Receiver => told_receiver(both, statement),
@@ -127,6 +129,7 @@ fn told_statement<'a>(both: BothWords<'a>, words: &'a [Token], rule: MoveRule) -
         ),
         MoveRule::Literal => told_literal(statement),
         MoveRule::Groups => told_groups(both, statement),
+        MoveRule::NotComparable => told_comparison(both, statement),
         rule => told_other(statement, rule),
     }
 }
