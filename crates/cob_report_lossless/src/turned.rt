@@ -239,7 +239,7 @@ fn behind_test<'a>(
     lines: &mut DeedLines,
 ) -> &'a [Flow]
     ensures fewer { length result.now ≤ length flows.now }
-    ensures told { TellTest kind (written_test test) flows.now (told_lines lines.old) result.now
+    ensures told { TellTest kind (written_test test.entry) flows.now (told_lines lines.old) result.now
         (told_lines lines.new) }
 {
     match test {
@@ -380,7 +380,7 @@ fn read_branch<'a>(
 ) -> Result<&'a [Flow], MoveFault>
     ensures fewer { IfOk result (λ left. length left.now ≤ length flows.now) }
     ensures told { IfOk result (λ left. (p : Passage) → IsPassage p (lexemes body.now)
-        → TellBranch (TellPassage (counters turn.now) standing.Statements p) kind (written_test test) p
+        → TellBranch (TellPassage (counters turn.now) standing.Statements p) kind (written_test test.entry) p
         flows.now (told_lines lines.old) left.now (told_lines lines.new)) }
 {
     if body.is_empty() {

@@ -38,7 +38,7 @@ static OTHERS: [&str; 5] = ["THEN", "TRUE", "OTHER", "THRU", "THROUGH"];
 
 /// What to do with a comparison.
 const COMPARED: &str =
-    "beside characters a number is DISPLAY and whole, without a sign; beside numbers all are numbers (PROFILE.md, Conditions)";
+    "beside characters an item is DISPLAY and whole, and a number has no sign and no point (PROFILE.md, Conditions)";
 
 /// What to do with a class.
 const CLASS: &str =

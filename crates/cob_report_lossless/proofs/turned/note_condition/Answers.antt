@@ -1,4 +1,4 @@
-use Rattle.std.proofs.Common.{◌∙◌, List, ap, arith, map, slice_set}
+use Rattle.std.proofs.Common.{◌∙◌, ℕ, List, ap, arith, map, slice_set}
 use Rattle.std.proofs.lemmas.List.{with_items_is}
 use Rattle.cob_report_lossless.specs.Turned.{ToldCondition, plain_condition, told_loop}
 use Rattle.cob_report_lossless.specs.declared.turned.ConditionLine.{ConditionLine}

@@ -1,6 +1,5 @@
-use Rattle.std.proofs.Common.{[], List, ap, length, map, subst}
+use Rattle.std.proofs.Common.{◌∙◌, [], List, ap, length, map, subst}
 use Rattle.cob_source.specs.Tokens.{lexemes}
-use Rattle.cob_move_condition.specs.declared.condition.Condition.{Condition}
 use Rattle.cob_move_deeds.specs.declared.flow.Asked.{Asked}
 use Rattle.cob_move_deeds.specs.declared.flow.Bound.{Bound}
 use Rattle.cob_move_deeds.specs.declared.flow.Flow.{Flow}
@@ -15,8 +14,8 @@ returns c =
     let conditions = length c.args.deeds.now.asked.conditions.items in
     let has = c.in_ok-body.ensures.found in
     let start = nothing_told c.new.result.items (map told_loop c.in_ok-unknown_loops.field-0.items) (map plain_condition c.in_ok-unknown_conditions.field-0.items) (length c.bounds.result.now) bounds
-    (length c.asked.result.now.conditions.items) conditions c.new.ensures.items
-    c.in_ok-unknown_loops.ensures (ap (λ (bs : List Bound). length bs) c.bounds.ensures) c.in_ok-unknown_conditions.ensures (ap (λ (a : Asked). length a.conditions.items) c.asked.ensures) in record {
+    c.len.result conditions c.new.ensures.items
+    c.in_ok-unknown_loops.ensures (ap (λ (bs : List Bound). length bs) c.bounds.ensures) c.in_ok-unknown_conditions.ensures (c.len.ensures ∙ c.asked.result.now.conditions.ok.0 ∙ ap (λ (a : Asked). length a.conditions.items) c.asked.ensures) in record {
       words = lexemes c.as_slice.result.now;
       body = lexemes c.in_ok-body.body.now;
       left = c.in_ok-read_passage.field-0.now;
