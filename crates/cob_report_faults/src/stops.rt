@@ -209,6 +209,17 @@ fn bound_advice(side: Side) -> &'static str {
     }
 }
 
+/// What to do where an element is not there that is asked for.
+fn subscript_advice(asked: &Asker<'_>) -> &'static str {
+    match asked {
+        Asker::Condition { .. } =>
+            "ask for the table's count first, and for its element behind AND",
+        Asker::Move(_) | Asker::Loop(_) | Asker::Came | Asker::Written => {
+            "put the table under a group of its own and move the group, which has as many elements as its count says"
+        }
+    }
+}
+
 impl StopText<'_> {
     /// Writes what is wrong.
     fn write_case<W: fmt::Write>(&self, f: &mut fmt::Formatter<W>) -> fmt::Result {
@@ -287,9 +298,7 @@ impl StopText<'_> {
             } => value_advice(self.subject.side, item, record, bytes),
             StopCase::Count { .. } => count_advice(self.subject.side),
             StopCase::Bound { .. } => bound_advice(self.subject.side),
-            StopCase::Subscript => {
-                "put the table under a group of its own and move the group, which has as many elements as its count says"
-            }
+            StopCase::Subscript => subscript_advice(&self.asked),
         }
     }
 }

@@ -1,6 +1,10 @@
 -- What is told of a passage, front by front and turn by turn.
-use Rattle.std.proofs.Common.{◌≡◌, ◌⊎◌, inl, inr, ℕ, zero, suc, ◌+◌, ◌-◌, ◌<◌, ◌≤◌, List, [], ◌∷◌, ◌++◌, length, map, replicate, slice_set, refl, sym, ap, subst, ◌∙◌, arith, false, Option, Some, None}
-use Rattle.cob_source.specs.Tokens.{Lexeme}
+use Rattle.std.proofs.Common.{◌≡◌, ◌⊎◌, inl, inr, Bool, true, ℕ, zero, suc, ◌+◌, ◌-◌, ◌<◌, ◌≤◌, List, [], ◌∷◌, ◌++◌, length, map, replicate, slice_set, refl, sym, ap, subst, ◌∙◌, arith, false, Option, Some, None}
+use Rattle.std.proofs.lemmas.Bool.Decides.{Decides-eqb}
+use Rattle.std.proofs.lemmas.List.{length-map}
+use Rattle.std.specs.Prelude.{◌==◌}
+use Rattle.cob_source.specs.Tokens.{Lexeme, lexeme, lexemes}
+use Rattle.cob_source.specs.declared.token.Token.{Token}
 use Rattle.cob_move_deeds.specs.declared.flow.Flow.{Flow}
 use Rattle.cob_move_loops.specs.declared.parts.ChoiceKind.{ChoiceKind}
 use Rattle.cob_move_loops.specs.declared.parts.Place.{Place}
@@ -53,6 +57,17 @@ tell_end ns at words rest fs left start now so none p is =
     told left now (subst (λ (d : Passage). TellPassage ns at d left now left now) (sym (nothing_left at q rest are none)) (refl, refl))
 
 -- ---- branches of a choice
+
+-- there are no words
+pub no_words : (words : List Token) (b : Bool) → b ≡ (length words == 0) → b ≡ true → length (lexemes words) ≡ 0
+no_words words b e is = length-map words lexeme ∙ (Decides-eqb (length words) 0).0 (sym e ∙ is)
+
+-- there are some
+pub some_words : (words : List Token) (b : Bool) → b ≡ (length words == 0) → b ≡ false → length (lexemes words) ≡ 0 → ⊥
+some_words words b e is none =
+    let yes_is : (length words == 0) ≡ true = (Decides-eqb (length words) 0).1 (sym (length-map words lexeme) ∙ none) in
+    let never : true ≡ false = sym yes_is ∙ sym e ∙ is in
+    absurd (cc (never))
 
 -- nothing is told of a branch without statements
 pub none_in_branch : (one : Telling) (k : ChoiceKind) (t : WrittenTest) (own : Passage) (ws : List Lexeme) (fs : List Flow) (now : ToldLines) → IsPassage own ws → length ws ≡ 0 → TellBranch one k t own fs now fs now

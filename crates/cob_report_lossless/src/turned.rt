@@ -387,7 +387,8 @@ fn read_branch<'a>(
         return Ok(flows);
     }
     let rest = behind_test(kind, test, flows, lines);
-    read_passage(alloc, Place::Statements, body, turn, rest, lines)
+    let left = read_passage(alloc, Place::Statements, body, turn, rest, lines)?;
+    Ok(left)
 }
 
 /// Reads what stands in front of statements or branches, in a turn.

@@ -91,7 +91,18 @@ fn told_other(statement: &[Token], rule: MoveRule) -> Told<'_> {
             "the paragraph comes to more than 100,000 statements, or more than 16 loops and choices hold one another",
             "move groups, or cut the paragraph in two conversions",
         ),
-        _ => told_whole(
+        MoveRule::Source(_)
+        | MoveRule::Grammar
+        | MoveRule::Unknown
+        | MoveRule::Ambiguous
+        | MoveRule::Subscripts
+        | MoveRule::Receiver
+        | MoveRule::NotAllowed
+        | MoveRule::Literal
+        | MoveRule::Groups
+        | MoveRule::TooLong
+        | MoveRule::NotComparable
+        | MoveRule::Memory => told_whole(
             statement,
             "the statement breaks this rule",
             "FAULTS.md, A paragraph",
@@ -130,7 +141,11 @@ fn told_statement<'a>(both: BothWords<'a>, words: &'a [Token], rule: MoveRule) -
         MoveRule::Literal => told_literal(statement),
         MoveRule::Groups => told_groups(both, statement),
         MoveRule::NotComparable => told_comparison(both, statement),
-        rule => told_other(statement, rule),
+        MoveRule::Source(_)
+        | MoveRule::Twice
+        | MoveRule::Counter
+        | MoveRule::TooMany
+        | MoveRule::Memory => told_other(statement, rule),
     }
 }
 

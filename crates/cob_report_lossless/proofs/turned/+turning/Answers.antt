@@ -6,7 +6,7 @@ use Rattle.cob_move_loops.specs.Reading.{counters, item_front, written_loop, wri
 use Rattle.cob_move_loops.specs.Turns.{counter_at}
 use Rattle.cob_move_loops.proofs.PassageLemmas.{shorter}
 use Rattle.cob_report_lossless.specs.Turned.{TellPassage, Telling, found_test, told_lines}
-use Rattle.cob_report_lossless.proofs.TurnedLemmas.{last_told, none_in_branch, none_told, some_in_branch, tell_end, tell_more, tests_more, turns_more}
+use Rattle.cob_report_lossless.proofs.TurnedLemmas.{last_told, no_words, none_in_branch, none_told, some_in_branch, some_words, tell_end, tell_more, tests_more, turns_more}
 use Rattle.cob_report_lossless.proofs.turned.+turning.Goals as goal
 
 pub read_passage-loop-item-preserved : goal.read_passage-loop-item-preserved
@@ -58,8 +58,10 @@ read_turns-loop-left-preserved t c = record {
 pub read_branch-returns-then-is_empty-clause-told : goal.read_branch-returns-then-is_empty-clause-told
 read_branch-returns-then-is_empty-clause-told t c = λ p is.
     none_in_branch (TellPassage (counters c.args.turn.now) standing.Statements p) c.args.kind (written_test c.args.test) p (lexemes c.args.body.now) c.args.flows.now (told_lines c.args.lines.now)
-    is ?
+    is (no_words c.args.body.now c.is_empty.result c.is_empty.ensures c.if-is_empty.true)
 
 pub read_branch-returns-clause-told : goal.read_branch-returns-clause-told
 read_branch-returns-clause-told t c = λ p is.
-    ?
+    some_in_branch (TellPassage (counters c.args.turn.now) standing.Statements p) c.args.kind (written_test c.args.test) p (lexemes c.args.body.now) c.args.flows.now c.behind_test-rest.result.now c.in_ok-left.left.now
+    (told_lines c.args.lines.now) (told_lines c.behind_test.new.lines) (told_lines c.read_passage.new.lines) is (some_words c.args.body.now c.is_empty.result c.is_empty.ensures c.if-is_empty.false)
+    c.behind_test-rest.ensures.told (c.in_ok-left.ensures.told p is)
