@@ -7,7 +7,7 @@ ghost use Rattle.cob_report_refusal_words.specs.Pointing.{IsUnderStatement};
 use crate::bearers::{BookWords, BothWords};
 use crate::blocks::push_block;
 use crate::books::{Blocks, words_of};
-use crate::comparisons::told_comparison;
+use crate::comparisons::{is_test, told_comparison};
 use crate::entry::behind_many;
 use crate::operands::{
     told_ambiguous, told_category, told_groups, told_pair, told_receiver, told_unknown,
@@ -45,6 +45,41 @@ fn literal_of(statement: &[Token]) -> Option<&Token> {
         }
     }
     None
+}
+
+/// Whether a literal is empty, or longer than any may be.
+fn is_no_length(word: &Token) -> bool {
+    let count = word.text.len();
+    match word.kind {
+        TokenKind::Literal => count == 0 || count > 160,
+        TokenKind::Word => is_constant(word) && count > 31,
+        TokenKind::Stop => false,
+    }
+}
+
+/// The first literal of a test that may not be compared, or else the first.
+fn literal_compared(statement: &[Token]) -> Option<&Token> {
+    for word in statement {
+        if is_no_length(word) {
+            return Some(word);
+        }
+    }
+    literal_of(statement)
+}
+
+/// What is told of a literal of a test.
+fn told_compared(statement: &[Token]) -> Told<'_> {
+    match literal_compared(statement) {
+        Some(word) => advised(
+            Some(Caret::under(word)),
+            Phrase::of("{} may not be compared", Part::Word(word)),
+            Phrase::plain("a literal has 1 to 160 characters, and a number at most 31 digits"),
+        ),
+        None => said(
+            Caret::under_first(statement),
+            Phrase::plain("a literal may not be compared"),
+        ),
+    }
 }
 
 /// What is told of a literal that its receiver can't take.
@@ -138,6 +173,7 @@ fn told_statement<'a>(both: BothWords<'a>, words: &'a [Token], rule: MoveRule) -
             "{}, to {}: to a number 31 characters are the most",
             Phrase::plain("move a part of it, by a group with smaller items"),
         ),
+        MoveRule::Literal if is_test(statement) => told_compared(statement),
         MoveRule::Literal => told_literal(statement),
         MoveRule::Groups => told_groups(both, statement),
         MoveRule::NotComparable => told_comparison(both, statement),
