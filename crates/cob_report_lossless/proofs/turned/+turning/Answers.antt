@@ -63,5 +63,5 @@ read_branch-returns-then-is_empty-clause-told t c = λ p is.
 pub read_branch-returns-clause-told : goal.read_branch-returns-clause-told
 read_branch-returns-clause-told t c = λ p is.
     some_in_branch (TellPassage (counters c.args.turn.now) standing.Statements p) c.args.kind (written_test c.args.test) p (lexemes c.args.body.now) c.args.flows.now c.behind_test-rest.result.now c.in_ok-left.left.now
-    (told_lines c.args.lines.now) (told_lines c.behind_test.new.lines) (told_lines c.read_passage.new.lines) is (some_words c.args.body.now c.is_empty.result c.is_empty.ensures c.if-is_empty.false)
+    (told_lines c.args.lines.now) (told_lines c.behind_test-rest.new.lines) (told_lines c.read_passage.new.lines) is (some_words c.args.body.now c.is_empty.result c.is_empty.ensures c.if-is_empty.false)
     c.behind_test-rest.ensures.told (c.in_ok-left.ensures.told p is)
