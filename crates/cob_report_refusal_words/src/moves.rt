@@ -15,7 +15,9 @@ use crate::operands::{
 use crate::phrases::{Part, Phrase};
 use crate::pointing::in_statement;
 use crate::source::{SourceText, told_source};
-use crate::statements::{broken_on, is_constant, statement_in_front, tested_on, words_at};
+use crate::statements::{
+    broken_on, is_constant, statement_in_front, tested_on, with_head, words_at,
+};
 use crate::subscripts::told_subscripts;
 use crate::told::{Caret, Told, advised, said};
 use crate::verbs::told_statement_words;
@@ -195,7 +197,7 @@ pub fn told_of_statement<'a>(
     ensures { IfSome result.at (λ c. IsUnderStatement refusal.now c (lexemes words.now)) }
 {
     let rest = words_told(words, refusal);
-    let Told { at, what, hint } = told_statement(both, rest, refusal.fault.rule);
+    let Told { at, what, hint } = told_statement(both, with_head(words, rest), refusal.fault.rule);
     Told {
         at: in_statement(words, rest, refusal, at),
         what,

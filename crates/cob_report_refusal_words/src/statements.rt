@@ -3,7 +3,7 @@
 use crate::choices::{is_branch_word, is_word};
 use crate::clauses::{Read, behind_term, is_characters, lacks};
 use crate::comparisons::is_test;
-use crate::entry::{behind_many, front_of};
+use crate::entry::{behind_many, front_of, last_words, words_before};
 use crate::terms::{behind, is_name_word, is_term};
 use cob_copybook_clauses::WordClass;
 use cob_move_loops::passage_word;
@@ -183,6 +183,16 @@ pub(crate) fn broken_on(words: &[Token], line: u32) -> &[Token] {
         }
     }
     from
+}
+
+/// These last words of all, with the IF, EVALUATE or WHEN before them, where one stands there: a test may begin on a line of its own.
+pub(crate) fn with_head<'a>(words: &'a [Token], rest: &'a [Token]) -> &'a [Token] {
+    let before = words_before(words, rest);
+    let head = last_words(before, 1);
+    if is_test(head) {
+        return behind_many(words, before.len().saturating_sub(1));
+    }
+    rest
 }
 
 /// Whether a test comes first: that of a choice, or of a loop.
