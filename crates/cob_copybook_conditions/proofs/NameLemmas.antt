@@ -1,11 +1,12 @@
 -- The condition-name of one level 88 entry, put together of its parts.
-use Rattle.std.proofs.Common.{◌≡◌, ℕ, ◌+◌, ◌<◌, Bool, true, false, List, [], ◌∷◌, ◌++◌, length, Option, Some, None, map, refl, sym, subst, ap, ◌∙◌, arith, append-nil}
-use Rattle.std.proofs.lemmas.List.{length-map}
+use Rattle.std.proofs.Common.{◌≡◌, ℕ, ◌+◌, ◌-◌, ◌<◌, Bool, true, false, List, [], ◌∷◌, ◌++◌, length, take, drop, Option, Some, None, map, refl, sym, subst, ap, ◌∙◌, arith, append-nil}
+use Rattle.std.proofs.lemmas.List.{drop-map, length-map, take_rest}
 use Rattle.cob_source.specs.Tokens.{Lexeme, lexeme, lexemes}
 use Rattle.cob_source.specs.declared.token.Token.{Token}
 use Rattle.cob_copybook_clauses.specs.declared.term.WordClass.TheVariants as term
 use Rattle.cob_copybook_clauses.specs.Clauses.{IsOrAre}
 use Rattle.cob_copybook_clauses.specs.Entries.{IsCondition, is_condition}
+use Rattle.cob_copybook_clauses.specs.Names.{IsName}
 use Rattle.cob_copybook_clauses.specs.Reading.{EachCutNeither, StandInFront}
 use Rattle.cob_copybook_clauses.proofs.ClauseLemmas.{no_are, no_is}
 use Rattle.cob_copybook_conditions.specs.Written.{WrittenSpan}
@@ -16,10 +17,12 @@ use Rattle.cob_copybook_conditions.proofs.Ones.{same_front, values_meant}
 use Rattle.cob_copybook_conditions.proofs.SpanLemmas.{spans_not_first}
 
 -- the words behind the third of a level 88 entry are those behind VALUE
-pub behind_value : (ts more : List Token) (a b c : Token) (name : List ℕ) (is : IsCondition (lexemes ts) name) → ts ≡ a ∷ (b ∷ (c ∷ more)) → is.more ≡ lexemes more
-behind_value ts more a b c name is e =
-    let words : is.level ∷ (is.named ∷ (is.value ∷ is.more)) ≡ lexeme a ∷ (lexeme b ∷ (lexeme c ∷ lexemes more)) = sym is.words ∙ ap lexemes e in
-    cc
+behind_value : (ts : List Token) (name : List ℕ) (is : IsCondition (lexemes ts) name) → is.more ≡ lexemes (take (length ts - 3) (drop 3 ts))
+behind_value ts name is = sym (ap (drop 3) is.words) ∙ drop-map lexeme 3 ts ∙ ap lexemes (sym (take_rest ts 3))
+
+pub named_found : (ts : List Token) (name text : List ℕ) → IsCondition (lexemes ts) text → IsName text → name ≡ text → IsNamed (lexemes ts) name (lexemes (take (length ts - 3) (drop 3 ts)))
+named_found ts name text is legal e =
+    subst (λ (n : List ℕ). IsNamed (lexemes ts) n (lexemes (take (length ts - 3) (drop 3 ts)))) (sym e) (record { is = is; legal = legal; behind = behind_value ts text is })
 
 -- a level 88 entry is named once
 pub named_once : (ws : List Lexeme) (a b : List ℕ) (more others : List Lexeme) → IsNamed ws a more → IsNamed ws b others → (a ≡ b) × (more ≡ others)
