@@ -1,5 +1,5 @@
 -- The condition-name of one level 88 entry, put together of its parts.
-use Rattle.std.proofs.Common.{◌≡◌, ℕ, ◌+◌, ◌-◌, ◌<◌, Bool, true, false, List, [], ◌∷◌, ◌++◌, length, take, drop, Option, Some, None, map, refl, sym, subst, ap, ◌∙◌, arith, append-nil}
+use Rattle.std.proofs.Common.{◌≡◌, ℕ, ◌+◌, ◌-◌, ◌<◌, Bool, true, false, List, [], ◌∷◌, ◌++◌, length, take, drop, Some, None, map, refl, sym, subst, ap, ◌∙◌, arith, append-nil}
 use Rattle.std.proofs.lemmas.List.{drop-map, length-map, take_rest}
 use Rattle.cob_source.specs.Tokens.{Lexeme, lexeme, lexemes}
 use Rattle.cob_source.specs.declared.token.Token.{Token}
@@ -10,7 +10,7 @@ use Rattle.cob_copybook_clauses.specs.Names.{IsName}
 use Rattle.cob_copybook_clauses.specs.Reading.{EachCutNeither, StandInFront}
 use Rattle.cob_copybook_clauses.proofs.ClauseLemmas.{no_are, no_is}
 use Rattle.cob_copybook_conditions.specs.Written.{WrittenSpan}
-use Rattle.cob_copybook_conditions.specs.Names.{AreSpansOf, IsConditionNameOf, PlainConditionName, PlainSpan, SaysBy, SaysName, last_by, plain_span, with_said}
+use Rattle.cob_copybook_conditions.specs.Names.{AreSpansOf, IsConditionNameOf, PlainConditionName, PlainSpan, SaysBy, SaysName, last_by, plain_span}
 use Rattle.cob_copybook_conditions.specs.declared.spans.Span.{Span}
 use Rattle.cob_copybook_conditions.specs.Reading.{AddsName, AreSpansMeant, IsNamed}
 use Rattle.cob_copybook_conditions.proofs.Ones.{same_front, values_meant}

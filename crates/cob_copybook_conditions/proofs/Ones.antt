@@ -1,5 +1,5 @@
 -- A text has one list of condition-names at most.
-use Rattle.std.proofs.Common.{◌≡◌, ℕ, ◌<◌, Bool, true, false, List, [], ◌∷◌, ◌++◌, length, Option, Some, None, refl, sym, subst, ap, ◌∙◌, inl, inr}
+use Rattle.std.proofs.Common.{◌≡◌, ℕ, Bool, true, false, List, [], ◌∷◌, ◌++◌, Option, Some, None, refl, sym, subst, ap, ◌∙◌, inl, inr}
 use Rattle.cob_source.specs.Tokens.{Lexeme}
 use Rattle.cob_source.specs.Words.{WordsAreOne}
 use Rattle.cob_copybook_entry.specs.Described.{PlainEntry}
@@ -10,7 +10,7 @@ use Rattle.cob_copybook_clauses.specs.Reading.{NotFirstWord}
 use Rattle.cob_copybook_clauses.proofs.ClauseLemmas.{no_are, no_is}
 use Rattle.cob_copybook_entries.specs.Books.{AreEntriesOf}
 use Rattle.cob_copybook_entries.specs.Laws.{OneListOfEntries}
-use Rattle.cob_copybook_conditions.specs.Names.{AreConditionNamesOf, AreNamesBehind, AreNamesIn, IsConditionNameOf, PlainConditionName, PlainSpan, SaysBy, SaysName, first_number, last_by, with_said}
+use Rattle.cob_copybook_conditions.specs.Names.{AreNamesBehind, AreNamesIn, IsConditionNameOf, PlainConditionName, PlainSpan, SaysBy, SaysName, first_number, last_by, with_said}
 use Rattle.cob_copybook_conditions.specs.Laws.{OneListOfConditionNames}
 use Rattle.cob_copybook_conditions.specs.Reading.{AreSpansMeant}
 use Rattle.cob_copybook_conditions.proofs.SpanLemmas.{spans_not_first, spans_one}

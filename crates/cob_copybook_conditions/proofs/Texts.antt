@@ -1,5 +1,5 @@
 -- How the faults of a text's words are those of reading its condition-names.
-use Rattle.std.proofs.Common.{◌≡◌, refl, sym, subst, ℕ, List, [], ◌∷◌, Bool, true, false, inl, inr}
+use Rattle.std.proofs.Common.{◌≡◌, refl, subst, ℕ, List, [], ◌∷◌, Bool, true, false, inl, inr}
 use Rattle.cob_source.specs.Tokens.{Lexeme}
 use Rattle.cob_source.specs.Words.{AreWordsOf, WordsAreOne}
 use Rattle.cob_source.specs.declared.fault.SourceRule.{SourceRule}

@@ -1,10 +1,8 @@
 -- The words of one value: with which word they begin, and that they are cut off in one way.
 use Rattle.std.proofs.Common.{◌≡◌, ℕ, ◌<◌, ◌≤◌, List, [], ◌∷◌, ◌++◌, codes, false, length, sym, subst, ap, ◌∙◌, inl, inr, arith, Some, None}
 use Rattle.cob_source.specs.Tokens.{Lexeme}
-use Rattle.cob_source.specs.declared.token.TokenKind.TheVariants as kind
 use Rattle.cob_decimal.specs.Literals.{Literal}
 use Rattle.cob_copybook_entry.specs.Described.{PlainValue, Numeric, Quoted as QuotedMeant, Figure as FigureMeant, Repeated as RepeatedMeant}
-use Rattle.cob_copybook_clauses.specs.declared.term.WordClass.{WordClass}
 use Rattle.cob_copybook_clauses.specs.declared.term.WordClass.TheVariants as term
 use Rattle.cob_copybook_clauses.specs.Terms.{term_of_kind, word_class}
 use Rattle.cob_copybook_clauses.specs.Clauses.{IsConstant, IsFree, figurative_of}

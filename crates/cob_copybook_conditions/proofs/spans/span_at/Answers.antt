@@ -1,5 +1,5 @@
-use Rattle.std.proofs.Common.{ap, ◌∙◌, ◌++◌, ◌∷◌, List}
-use Rattle.cob_source.specs.Tokens.{Lexeme, lexemes}
+use Rattle.std.proofs.Common.{ap, ◌∙◌, ◌++◌, ◌∷◌}
+use Rattle.cob_source.specs.Tokens.{lexemes}
 use Rattle.cob_copybook_entry.specs.Described.{PlainValue, plain_value}
 use Rattle.cob_copybook_conditions.specs.Names.{FromTo}
 use Rattle.cob_copybook_conditions.proofs.SpanLemmas.{alone, both_meant, one_meant, through_ends, through_words, value_in_front}
