@@ -218,7 +218,7 @@ fn subscript_advice(asked: &Asker<'_>) -> &'static str {
     match asked {
         Asker::Condition { .. } =>
             "ask for the table's count first, and for its element behind AND",
-        Asker::Move(_) | Asker::Loop(_) | Asker::Came | Asker::Written => {
+        Asker::Move(_) | Asker::Loop(_) | Asker::Came(_) | Asker::Written => {
             "put the table under a group of its own and move the group, which has as many elements as its count says"
         }
     }
