@@ -88,7 +88,7 @@ impl<'a, R, T> Progress<'a, R, T> {
 
     /// The source inside.
     pub fn into_inner(self) -> R
-        ensures { result ≡ progress_inner self }
+        ensures { result ≡ progress_inner self.entry }
     {
         self.inner
     }
