@@ -180,6 +180,14 @@ fn told_evaluate<'a>(first: &'a Token, more: &'a [Token]) -> Told<'a> {
     }
 }
 
+/// Whether a WHEN comes first with which the one before may share statements: not with WHEN OTHER.
+fn begins_shared(words: &[Token]) -> bool {
+    match words {
+        [first, second, ..] => is_word(first, "WHEN") && !is_word(second, "OTHER"),
+        _ => false,
+    }
+}
+
 /// What is told of a WHEN.
 fn told_when<'a>(first: &'a Token, more: &'a [Token]) -> Told<'a> {
     let count = test_len(more);
@@ -193,10 +201,7 @@ fn told_when<'a>(first: &'a Token, more: &'a [Token]) -> Told<'a> {
         );
     };
     let is_other = is_word(word, "OTHER");
-    let is_shared = match behind.first() {
-        Some(next) => is_word(next, "WHEN") && !is_other,
-        None => false,
-    };
+    let is_shared = !is_other && begins_shared(behind);
     if !is_shared && !begins_statement(behind) {
         return told_test(test, "a statement is expected behind {}", NOTHING);
     }
