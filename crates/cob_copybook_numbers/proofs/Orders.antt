@@ -1,5 +1,5 @@
 -- That the entries of a record's tree are those of its text in order.
-use Rattle.std.proofs.Common.{◌≡◌, ℕ, ◌+◌, List, [], ◌∷◌, ◌++◌, length, refl, sym, subst, ap, ◌∙◌, arith, Option, None}
+use Rattle.std.proofs.Common.{◌≡◌, ℕ, ◌+◌, List, [], ◌∷◌, ◌++◌, length, refl, sym, subst, ap, arith, Option, None}
 use Rattle.cob_copybook_entry.specs.declared.kinds.Usage.{Usage}
 use Rattle.cob_copybook_entry.specs.declared.kinds.Sign.{Sign}
 use Rattle.cob_copybook_entry.specs.Described.{PlainEntry}
@@ -7,8 +7,6 @@ use Rattle.cob_copybook_tree.specs.Forests.{Forest, NoEntries, AnEntry, entries_
 use Rattle.cob_copybook_tree.specs.Nodes.{Resolved}
 use Rattle.cob_copybook_tree.specs.Resolving.{inherited, resolved}
 use Rattle.cob_copybook_tree.proofs.StandsForLemmas.{as_many_of}
-use Rattle.cob_copybook.specs.declared.role.Role.{Role}
-use Rattle.cob_copybook.specs.Books.{IsBookOf}
 use Rattle.cob_copybook_numbers.specs.Numbers.{AreInOrder}
 use Rattle.cob_copybook_numbers.specs.Laws.{NumbersInOrder}
 

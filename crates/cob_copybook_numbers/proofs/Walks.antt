@@ -1,18 +1,18 @@
 -- That condition-names belong to the entries that have their numbers.
-use Rattle.std.proofs.Common.{◌≡◌, ℕ, ◌+◌, ◌==◌, if◌then◌else◌, Bool, true, false, List, [], ◌∷◌, refl, sym, subst, ap, ◌∙◌, Option}
+use Rattle.std.proofs.Common.{◌≡◌, ℕ, ◌+◌, ◌==◌, if◌then◌else◌, Bool, true, false, List, [], ◌∷◌, refl, sym, subst, ap, ◌∙◌}
 use Rattle.cob_source.specs.Tokens.{Lexeme}
 use Rattle.cob_source.specs.Words.{WordsAreOne}
 use Rattle.cob_copybook_clauses.specs.Entries.{is_condition, sentences}
 use Rattle.cob_copybook_entry.specs.Described.{PlainEntry}
 use Rattle.cob_copybook_entries.specs.Books.{AreDescribed, AreEntriesOf, BeginsWithData, IsEntry, IsSentence}
 use Rattle.cob_copybook_entries.specs.Laws.{OneListOfEntries}
-use Rattle.cob_copybook_conditions.specs.Names.{AreConditionNamesOf, AreNamesBehind, AreNamesIn, PlainConditionName, first_number, last_by}
-use Rattle.cob_copybook_tree.specs.Forests.{Forest, flat}
+use Rattle.cob_copybook_conditions.specs.Names.{AreNamesBehind, AreNamesIn, PlainConditionName, first_number, last_by}
+use Rattle.cob_copybook_tree.specs.Forests.{flat}
 use Rattle.cob_copybook_tree.specs.Nodes.{Resolved}
 use Rattle.cob_copybook.specs.declared.role.Role.{Role}
-use Rattle.cob_copybook.specs.Books.{IsBookOf, implied, with_record}
+use Rattle.cob_copybook.specs.Books.{implied, with_record}
 use Rattle.cob_copybook_numbers.specs.Numbers.{AreInOrder}
-use Rattle.cob_copybook_numbers.specs.Belonging.{AreNamesOf, AreNamesOfTree, IsFirst, IsLast, IsSentenceOf}
+use Rattle.cob_copybook_numbers.specs.Belonging.{AreNamesOf, AreNamesOfTree, IsFirst, IsLast}
 use Rattle.cob_copybook_numbers.specs.Laws.{NamesOfEntries}
 use Rattle.cob_copybook_numbers.proofs.Orders.{book_in_order}
 
