@@ -28,7 +28,7 @@ struct Repeated {
 impl fmt::Display for Repeated {
     fn fmt<W: fmt::Write>(&self, f: &mut fmt::Formatter<W>) -> fmt::Result {
         for _ in 0..self.count.min(MOST_COLUMNS) {
-            write!(f, "{}", self.character)?;
+            f.write_char(self.character)?;
         }
         Ok(())
     }

@@ -8,8 +8,8 @@ ghost use Rattle.cob_report_refusal_words.specs.Pointing.{IsUnderEntry, IsUnderO
 use crate::blocks::{push_block, push_words};
 use crate::clashes::{told_placement, told_sign, told_usage};
 use crate::columns::with_columns;
-use crate::entry::{WrittenEntry, entry_at};
-use crate::grammar::told_grammar;
+use crate::entry::entry_at;
+use crate::grammar::{told_grammar, written_entry};
 use crate::left_out::told_left_out;
 use crate::levels::told_level_rule;
 use crate::names::told_name;
@@ -18,7 +18,7 @@ use crate::pictures::told_picture;
 use crate::references::{told_count, told_redefinition};
 use crate::source::{SourceText, told_source};
 use crate::tables::told_table;
-use crate::told::{Caret, Told, advised};
+use crate::told::{Told, advised_plainly};
 use crate::values::told_value;
 use cob_copybook::{BookRule, Role};
 use cob_report_refusals::{Refusal, book_refusals, entry_behind, entry_told};
@@ -71,7 +71,7 @@ fn told_entry<'a>(
 ) -> Told<'a> {
     let entry = entry_at(words, before);
     match rule {
-        BookRule::Grammar => told_grammar(entry),
+        BookRule::Grammar => told_grammar(written_entry(words, before)),
         BookRule::Level => told_level_rule(words, before, entry, book.record_option),
         BookRule::Picture(fault) => told_picture(entry, *fault),
         BookRule::Usage => told_usage(words, before, entry),
@@ -90,20 +90,20 @@ fn told_entry<'a>(
 }
 
 /// What is told of a record that is too long.
-fn told_too_long(entry: WrittenEntry<'_>) -> Told<'_> {
-    advised(
-        Caret::under_first(entry.words),
-        Phrase::plain("the record is longer than 32,752 bytes, which are the most"),
-        Phrase::plain("split the record, or make its longest table shorter"),
+fn told_too_long(entry: &[Token]) -> Told<'_> {
+    advised_plainly(
+        entry,
+        "the record is longer than 32,752 bytes, which are the most",
+        "split the record, or make its longest table shorter",
     )
 }
 
 /// What is told of the first entry that is one too many.
-fn told_too_many(entry: WrittenEntry<'_>) -> Told<'_> {
-    advised(
-        Caret::under_first(entry.words),
-        Phrase::plain("this is entry 2,001, and 2,000 are the most"),
-        Phrase::plain("split the copybook"),
+fn told_too_many(entry: &[Token]) -> Told<'_> {
+    advised_plainly(
+        entry,
+        "this is entry 2,001, and 2,000 are the most",
+        "split the copybook",
     )
 }
 

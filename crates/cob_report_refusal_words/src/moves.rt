@@ -15,7 +15,7 @@ use crate::pointing::in_statement;
 use crate::source::{SourceText, told_source};
 use crate::statements::{broken_on, is_constant, moved_on, statement_in_front, words_at};
 use crate::subscripts::told_subscripts;
-use crate::told::{Caret, Told, advised, said};
+use crate::told::{Told, advised_at, advised_plainly, said_plainly};
 use crate::verbs::told_statement_words;
 use cob_move_statements::MoveRule;
 use cob_report_refusals::{MoveRefusal, Spot};
@@ -48,53 +48,38 @@ fn literal_of(statement: &[Token]) -> Option<&Token> {
 /// What is told of a literal that its receiver can't take.
 fn told_literal(statement: &[Token]) -> Told<'_> {
     match literal_of(statement) {
-        Some(word) => advised(
-            Some(Caret::under(word)),
+        Some(word) => advised_at(
+            word,
             Phrase::of("{} does not fit what receives it", Part::Word(word)),
-            Phrase::plain(
-                "a number takes digits, a group characters or a whole number without a sign; 160 characters or 31 digits are the most",
-            ),
+            "a number takes digits, a group characters or a whole number without a sign; 160 characters or 31 digits are the most",
         ),
-        None => said(
-            Caret::under_first(statement),
-            Phrase::plain("the literal does not fit what receives it"),
-        ),
+        None => said_plainly(statement, "the literal does not fit what receives it"),
     }
 }
 
-/// What is told of a statement that breaks a rule as a whole.
-fn told_whole<'a>(statement: &'a [Token], words: &'static str, hint: &'static str) -> Told<'a> {
-    advised(
-        Caret::under_first(statement),
-        Phrase::plain(words),
-        Phrase::plain(hint),
-    )
+/// What is wrong with a statement that breaks a rule that no one word of it breaks, and what to do.
+fn other_words(rule: MoveRule) -> (&'static str, &'static str) {
+    match rule {
+        MoveRule::Twice => (
+            "an item of one of the groups is in two pairs",
+            "give one of the items another name, or the FILLER group a name",
+        ),
+        MoveRule::Counter => (
+            "the loop tests another name than its counter's, or its counter has the name of an entry or of a counter round it, or nothing bounds it",
+            "give the counter a name of its own, and end the loop by a number or a whole item",
+        ),
+        MoveRule::TooMany => (
+            "the loops come to more than 100,000 statements, or more than 16 hold one another",
+            "move groups, or cut the paragraph in two conversions",
+        ),
+        _ => ("the statement breaks this rule", "FAULTS.md, A paragraph"),
+    }
 }
 
 /// What is told of a statement that breaks a rule that no one word of it breaks.
 fn told_other(statement: &[Token], rule: MoveRule) -> Told<'_> {
-    match rule {
-        MoveRule::Twice => told_whole(
-            statement,
-            "an item of one of the groups is in two pairs",
-            "give one of the items another name, or the FILLER group a name",
-        ),
-        MoveRule::Counter => told_whole(
-            statement,
-            "the loop tests another name than its counter's, or its counter has the name of an entry or of a counter round it, or nothing bounds it",
-            "give the counter a name of its own, and end the loop by a number or a whole item",
-        ),
-        MoveRule::TooMany => told_whole(
-            statement,
-            "the loops come to more than 100,000 statements, or more than 16 hold one another",
-            "move groups, or cut the paragraph in two conversions",
-        ),
-        _ => told_whole(
-            statement,
-            "the statement breaks this rule",
-            "FAULTS.md, A paragraph",
-        ),
-    }
+    let (what, hint) = other_words(rule);
+    advised_plainly(statement, what, hint)
 }
 
 /// The words from the statement on that a refusal is told of.
@@ -122,7 +107,7 @@ fn told_statement<'a>(both: BothWords<'a>, words: &'a [Token], rule: MoveRule) -
         MoveRule::TooLong => told_pair(
             both,
             statement,
-            "{}, to {}: to a number 31 characters are the most",
+            "{}{}, to {}{}: to a number 31 characters are the most",
             Phrase::plain("move a part of it, by a group with smaller items"),
         ),
         MoveRule::Literal => told_literal(statement),

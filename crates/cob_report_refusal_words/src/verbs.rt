@@ -6,7 +6,7 @@ use crate::phrases::{Part, Phrase};
 use crate::pointing::goes_on;
 use crate::statements::behind_statement;
 use crate::terms::{is_name_word, is_term};
-use crate::told::{Caret, Told, advised, said};
+use crate::told::{Caret, Told, advised_at, said, said_at};
 use cob_copybook_clauses::WordClass;
 use cob_source::{Token, TokenKind};
 
@@ -50,15 +50,8 @@ fn loop_lack(words: &[Token]) -> Option<&'static str> {
     let mut open: usize = 0;
     let mut is_stopped = false;
     for word in words {
-        if word.kind == TokenKind::Stop {
-            is_stopped = true;
-        }
-        if is_word(word, "PERFORM") {
-            open = open.saturating_add(1);
-        }
-        if is_word(word, "END-PERFORM") {
-            open = open.saturating_sub(1);
-        }
+        is_stopped = is_stopped || word.kind == TokenKind::Stop;
+        open = open_behind(open, word);
         if open == 0 && is_stopped {
             return Some("a period stands before the END-PERFORM of this {}");
         }
@@ -69,47 +62,60 @@ fn loop_lack(words: &[Token]) -> Option<&'static str> {
     Some("this {} has no END-PERFORM")
 }
 
+/// How many loops are open behind a word, of so many before it.
+fn open_behind(open: usize, word: &Token) -> usize {
+    if is_word(word, "PERFORM") {
+        open.saturating_add(1)
+    } else if is_word(word, "END-PERFORM") {
+        open.saturating_sub(1)
+    } else {
+        open
+    }
+}
+
 /// What is wrong with a word where no statement begins, and with those behind it.
 fn verb_form(word: &Token, words: &[Token]) -> &'static str {
     if !is_word(word, "PERFORM") {
         return OTHER_VERB;
     }
-    match loop_lack(words) {
-        Some(form) => form,
-        None => OTHER_VERB,
-    }
+    loop_lack(words).unwrap_or(OTHER_VERB)
 }
 
 /// What is told of a word where no statement begins: of the first of these.
 fn told_verb<'a>(word: &'a Token, words: &'a [Token]) -> Told<'a> {
-    advised(
-        Some(Caret::under(word)),
+    advised_at(
+        word,
         Phrase::of(verb_form(word, words), Part::Word(word)),
-        Phrase::plain(verb_hint(word)),
+        verb_hint(word),
     )
 }
 
-/// What is expected where a word can't go on, behind those before it.
-fn lack_words<'a>(before: &'a [Token], expected: &'static str, word: &'a Token) -> Phrase<'a> {
-    let behind = Part::Words(last_words(before, 1));
-    let found = Part::Word(word);
-    match expected {
-        "a subscript" => Phrase::of(
-            "a subscript is a whole number without a sign, or a counter, and {} stands there",
-            found,
-        ),
-        "TO" => Phrase::of_two(
+/// What is expected where a word can't go on, behind the last of those before it.
+fn expected_words<'a>(last: &'a [Token], expected: &'static str, word: &'a Token) -> Phrase<'a> {
+    if expected == "TO" {
+        return Phrase::of_two(
             "TO is expected behind the sender {}, and {} stands there",
-            behind,
-            found,
-        ),
-        _ => Phrase::of_three(
-            "{} is expected behind {}, and {} stands there",
-            Part::Text(expected),
-            behind,
-            found,
-        ),
+            Part::Words(last),
+            Part::Word(word),
+        );
     }
+    Phrase::of_three(
+        "{} is expected behind {}, and {} stands there",
+        Part::Text(expected),
+        Part::Words(last),
+        Part::Word(word),
+    )
+}
+
+/// What is wrong with a word that can't go on behind those before it.
+fn lack_words<'a>(before: &'a [Token], expected: &'static str, word: &'a Token) -> Phrase<'a> {
+    if expected == "a subscript" {
+        return Phrase::of(
+            "a subscript is a whole number without a sign, or a counter, and {} stands there",
+            Part::Word(word),
+        );
+    }
+    expected_words(last_words(before, 1), expected, word)
 }
 
 /// What is told of a statement whose words can't go on.
@@ -137,6 +143,14 @@ fn told_end<'a>(last: &'a [Token], expected: &'static str) -> Told<'a> {
     )
 }
 
+/// What to do where a word stands in the place of TO, if it may be a name behind it.
+fn name_hint<'a>(before: &'a [Token], word: &'a Token) -> Option<Phrase<'a>> {
+    if !is_name_word(word) || !goes_on(word) {
+        return None;
+    }
+    Some(Phrase::of_two("{} TO {}.", Part::Words(before), Part::Word(word)))
+}
+
 /// What to do where a word can't go on, if that is known.
 fn lack_hint<'a>(before: &'a [Token], expected: &str, word: &'a Token) -> Option<Phrase<'a>> {
     if word.text.contains(&b':') {
@@ -144,8 +158,8 @@ fn lack_hint<'a>(before: &'a [Token], expected: &str, word: &'a Token) -> Option
             "parts of an item are left out: redefine the item in the copybook by smaller ones",
         ));
     }
-    if expected == "TO" && is_name_word(word) && goes_on(word) {
-        return Some(Phrase::of_two("{} TO {}.", Part::Words(before), Part::Word(word)));
+    if expected == "TO" {
+        return name_hint(before, word);
     }
     None
 }
@@ -160,9 +174,6 @@ pub(crate) fn told_statement_words(rest: &[Token]) -> Told<'_> {
     }
     match behind_statement(rest) {
         Err(lack) => told_lack(rest, lack),
-        Ok(_) => said(
-            Some(Caret::under(first)),
-            Phrase::plain("no statement stands there"),
-        ),
+        Ok(_) => said_at(first, Phrase::plain("no statement stands there")),
     }
 }
