@@ -1,6 +1,6 @@
 //! The words of a statement, as far as they go on.
 
-use crate::clauses::{Read, behind_term, is_characters, lacks};
+use crate::clauses::{Read, behind_characters, behind_term, is_characters, lacks};
 use crate::entry::{behind_many, front_of};
 use crate::terms::{behind, is_name_word, is_term};
 use crate::words::has_digits_alone;
@@ -79,14 +79,6 @@ fn behind_reference<'a>(words: &'a [Token], expected: &'static str) -> Read<'a> 
 /// Whether a word is a literal, of characters or of digits.
 pub(crate) fn is_constant(word: &Token) -> bool {
     is_characters(word) || (is_term(word, WordClass::Plain) && !is_name_word(word))
-}
-
-/// The words behind a literal in quotes or a figurative constant, or what lacks there.
-fn behind_characters(words: &[Token]) -> Read<'_> {
-    match words.first() {
-        Some(first) if is_characters(first) => Ok(behind_many(words, 1)),
-        _ => lacks(words, "a literal"),
-    }
 }
 
 /// The words behind what is sent, or what lacks in it.
