@@ -6,7 +6,7 @@ use crate::phrases::{Part, Phrase};
 use crate::search::Looked;
 use crate::statements::receivers_of;
 use crate::terms::{behind, is_name_word, is_term};
-use crate::told::{Caret, Told, advised, advised_at, advised_first, said_plainly};
+use crate::told::{Caret, Told, advised, advised_at, said_plainly};
 use cob_copybook_clauses::WordClass;
 use cob_picture::{Category, Picture};
 use cob_source::Token;
