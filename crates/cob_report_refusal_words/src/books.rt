@@ -189,8 +189,34 @@ fn made_refusal(
         None => refusal.fault.line,
     };
     let mut text = String::new(alloc);
-    push_words(alloc, &mut text, &refusal.fault.rule, &told)?;
+    push_words(&mut text, &refusal.fault.rule, &told)?;
     Ok(MadeRefusal { line, words: text })
+}
+
+/// The first of these refusals of a copybook with these words, at most so many.
+fn made_among(
+    alloc: Global,
+    book: RefusedBook<'_>,
+    words: &[Token],
+    refusals: &[Refusal],
+    most: usize,
+) -> Result<Vec<MadeRefusal>, AllocError> {
+    let mut made: Vec<MadeRefusal> = Vec::new(alloc);
+    for refusal in refusals.iter().take(most) {
+        made.push(made_refusal(alloc, book, words, refusal)?)?;
+    }
+    Ok(made)
+}
+
+/// The first of these refusals of a copybook, at most so many.
+fn made_of(
+    alloc: Global,
+    book: RefusedBook<'_>,
+    refusals: &[Refusal],
+    most: usize,
+) -> Result<Vec<MadeRefusal>, AllocError> {
+    let words = words_of(alloc, book.text)?;
+    made_among(alloc, book, words.as_slice(), refusals, most)
 }
 
 /// The refusals of a copybook whose text was made of others, at most so many, in words without their lines.
@@ -204,12 +230,35 @@ pub fn made_refusals(
     most: usize,
 ) -> Result<Vec<MadeRefusal>, AllocError> {
     let refusals = book_refusals(alloc, book.role, book.text)?;
-    let words = words_of(alloc, book.text)?;
-    let mut made: Vec<MadeRefusal> = Vec::new(alloc);
-    for refusal in refusals.iter().take(most) {
-        made.push(made_refusal(alloc, book, words.as_slice(), refusal)?)?;
+    made_of(alloc, book, &refusals, most)
+}
+
+/// Adds the blocks of the first of these refusals of a copybook with these words, at most so many.
+fn push_blocks(
+    out: &mut String,
+    book: RefusedBook<'_>,
+    words: &[Token],
+    refusals: &[Refusal],
+    most: u32,
+) -> Result<(), AllocError> {
+    for refusal in refusals.iter().take(most as usize) {
+        let told = told_of(book, words, refusal);
+        push_block(out, book.file, book.text, &refusal.fault.rule, &told)?;
     }
-    Ok(made)
+    Ok(())
+}
+
+/// The blocks of the first of these refusals of a copybook, at most so many.
+fn text_of(
+    alloc: Global,
+    book: RefusedBook<'_>,
+    refusals: &[Refusal],
+    most: u32,
+) -> Result<String, AllocError> {
+    let words = words_of(alloc, book.text)?;
+    let mut text = String::new(alloc);
+    push_blocks(&mut text, book, words.as_slice(), refusals, most)?;
+    Ok(text)
 }
 
 /// The blocks of a copybook that is refused, at most so many, each with its line of the text; none of one that is not.
@@ -219,16 +268,9 @@ pub fn made_refusals(
 /// Where no memory is left.
 pub fn book_blocks(alloc: Global, book: RefusedBook<'_>, most: u32) -> Result<Blocks, AllocError> {
     let refusals = book_refusals(alloc, book.role, book.text)?;
-    let words = words_of(alloc, book.text)?;
-    let mut text = String::new(alloc);
-    let mut count: u32 = 0;
-    for refusal in &refusals {
-        if count < most {
-            let told = told_of(book, words.as_slice(), refusal);
-            let rule = &refusal.fault.rule;
-            push_block(alloc, &mut text, book.file, book.text, rule, &told)?;
-        }
-        count = count.saturating_add(1);
-    }
-    Ok(Blocks { text, count })
+    let text = text_of(alloc, book, &refusals, most)?;
+    Ok(Blocks {
+        text,
+        count: refusals.len().min(1_000_000) as u32,
+    })
 }

@@ -176,7 +176,6 @@ fn next_behind(others: &[MoveRefusal], last: Option<Spot>) -> Option<&MoveRefusa
 
 /// Adds the block of a refusal.
 fn push_refusal(
-    alloc: Global,
     out: &mut String,
     moves: RefusedMoves<'_>,
     both: BothWords<'_>,
@@ -192,15 +191,14 @@ fn push_refusal(
             broken,
             refusal.fault.line,
         );
-        return push_block(alloc, out, moves.file, moves.text, &rule, &told);
+        return push_block(out, moves.file, moves.text, &rule, &told);
     }
     let told = told_of_statement(both, words, refusal);
-    push_block(alloc, out, moves.file, moves.text, &rule, &told)
+    push_block(out, moves.file, moves.text, &rule, &told)
 }
 
 /// Adds the blocks of refusals, at most so many: that of the first, and behind it those of the others in the order of the text.
 fn push_refusals(
-    alloc: Global,
     out: &mut String,
     moves: RefusedMoves<'_>,
     both: BothWords<'_>,
@@ -211,16 +209,39 @@ fn push_refusals(
     let Some((first, others)) = refusals.split_first() else {
         return Ok(());
     };
-    push_refusal(alloc, out, moves, both, words, first)?;
+    push_refusal(out, moves, both, words, first)?;
     let mut last: Option<Spot> = None;
     for _ in 1..most {
         let Some(refusal) = next_behind(others, last) else {
             return Ok(());
         };
-        push_refusal(alloc, out, moves, both, words, refusal)?;
+        push_refusal(out, moves, both, words, refusal)?;
         last = refusal.at;
     }
     Ok(())
+}
+
+/// The words of the copybook of a record.
+fn book_words(words: &[Token], is_input: bool) -> BookWords<'_> {
+    BookWords { words, is_input }
+}
+
+/// Adds the blocks of refusals of a paragraph with these words, between an input record whose copybook has those words and the output record.
+fn push_behind(
+    alloc: Global,
+    out: &mut String,
+    moves: RefusedMoves<'_>,
+    input: &[Token],
+    words: &[Token],
+    refusals: &[MoveRefusal],
+    most: u32,
+) -> Result<(), AllocError> {
+    let output = words_of(alloc, moves.out_book)?;
+    let both = BothWords {
+        input: book_words(input, true),
+        output: book_words(output.as_slice(), false),
+    };
+    push_refusals(out, moves, both, words, refusals, most)
 }
 
 /// Adds the blocks of refusals of a paragraph with these words.
@@ -233,18 +254,20 @@ fn push_between(
     most: u32,
 ) -> Result<(), AllocError> {
     let input = words_of(alloc, moves.in_book)?;
-    let output = words_of(alloc, moves.out_book)?;
-    let both = BothWords {
-        input: BookWords {
-            words: input.as_slice(),
-            is_input: true,
-        },
-        output: BookWords {
-            words: output.as_slice(),
-            is_input: false,
-        },
-    };
-    push_refusals(alloc, out, moves, both, words, refusals, most)
+    push_behind(alloc, out, moves, input.as_slice(), words, refusals, most)
+}
+
+/// The blocks of these refusals of a paragraph with these words.
+fn text_of(
+    alloc: Global,
+    moves: RefusedMoves<'_>,
+    words: &[Token],
+    refusals: &[MoveRefusal],
+    most: u32,
+) -> Result<String, AllocError> {
+    let mut text = String::new(alloc);
+    push_between(alloc, &mut text, moves, words, refusals, most)?;
+    Ok(text)
 }
 
 /// The blocks of these refusals.
@@ -255,9 +278,7 @@ fn blocks_of(
     most: u32,
 ) -> Result<String, AllocError> {
     let words = paragraph_words(alloc, moves.text)?;
-    let mut text = String::new(alloc);
-    push_between(alloc, &mut text, moves, words.as_slice(), refusals, most)?;
-    Ok(text)
+    text_of(alloc, moves, words.as_slice(), refusals, most)
 }
 
 /// The blocks of a paragraph of which this is refused, at most so many, each with its line of the text. The first stays the first; the others are told in the
