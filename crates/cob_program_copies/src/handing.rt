@@ -202,7 +202,7 @@ fn text_copied(
         return text_of_record(alloc, book, handing, how, None, words, text);
     };
     match record.to_ascii_uppercase(alloc) {
-        Ok(name) => text_of_record(alloc, book, handing, how, Some(&name), words, text),
+        Ok(name) => text_of_record(alloc, book, handing, how, Some(name.as_str()), words, text),
         Err(_) => Err(BookRefusal::Memory),
     }
 }
