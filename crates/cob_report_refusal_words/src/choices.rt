@@ -8,39 +8,77 @@ use cob_copybook_clauses::WordClass;
 use cob_move_loops::{PassageWord, passage_word};
 use cob_source::{Token, TokenKind};
 
-/// A statement that holds others: its first word, the word that ends it, and how it is told that this lacks.
-struct Block {
-    begins: &'static str,
-    ends: &'static str,
-    stopped: &'static str,
-    missing: &'static str,
-    hint: &'static str,
+/// A statement that holds others.
+#[derive(Clone, Copy)]
+enum Block {
+    /// A loop.
+    Perform,
+    /// IF.
+    If,
+    /// EVALUATE.
+    Evaluate,
 }
 
-/// The statements that hold others.
-static BLOCKS: [Block; 3] = [
-    Block {
-        begins: "PERFORM",
-        ends: "END-PERFORM",
-        stopped: "a period stands before the END-PERFORM of this {}",
-        missing: "this {} has no END-PERFORM",
-        hint: "PERFORM VARYING I FROM 1 BY 1 UNTIL I > 3, statements without a period, END-PERFORM",
-    },
-    Block {
-        begins: "IF",
-        ends: "END-IF",
-        stopped: "a period stands before the END-IF of this {}",
-        missing: "this {} has no END-IF",
-        hint: "IF, a condition, statements without a period, ELSE with others where there are some, END-IF",
-    },
-    Block {
-        begins: "EVALUATE",
-        ends: "END-EVALUATE",
-        stopped: "a period stands before the END-EVALUATE of this {}",
-        missing: "this {} has no END-EVALUATE",
-        hint: "EVALUATE, an item or TRUE, WHEN with statements without a period, END-EVALUATE",
-    },
-];
+/// The statement that holds others which a word begins, if it begins one.
+fn begun_block(word: &Token) -> Option<Block> {
+    match passage_word(word) {
+        Some(PassageWord::Perform) => Some(Block::Perform),
+        Some(PassageWord::If) => Some(Block::If),
+        Some(PassageWord::Evaluate) => Some(Block::Evaluate),
+        Some(PassageWord::EndPerform) | Some(PassageWord::Continue) | None => None,
+    }
+}
+
+/// The word that begins such a statement.
+fn first_word(block: Block) -> &'static str {
+    match block {
+        Block::Perform => "PERFORM",
+        Block::If => "IF",
+        Block::Evaluate => "EVALUATE",
+    }
+}
+
+/// The word that ends it.
+fn end_word(block: Block) -> &'static str {
+    match block {
+        Block::Perform => "END-PERFORM",
+        Block::If => "END-IF",
+        Block::Evaluate => "END-EVALUATE",
+    }
+}
+
+/// How it is told that a period stands before its end.
+fn stopped_form(block: Block) -> &'static str {
+    match block {
+        Block::Perform => "a period stands before the END-PERFORM of this {}",
+        Block::If => "a period stands before the END-IF of this {}",
+        Block::Evaluate => "a period stands before the END-EVALUATE of this {}",
+    }
+}
+
+/// How it is told that its end lacks.
+fn missing_form(block: Block) -> &'static str {
+    match block {
+        Block::Perform => "this {} has no END-PERFORM",
+        Block::If => "this {} has no END-IF",
+        Block::Evaluate => "this {} has no END-EVALUATE",
+    }
+}
+
+/// What it looks like.
+fn block_hint(block: Block) -> &'static str {
+    match block {
+        Block::Perform => {
+            "PERFORM VARYING I FROM 1 BY 1 UNTIL I > 3, statements without a period, END-PERFORM"
+        }
+        Block::If => {
+            "IF, a condition, statements without a period, ELSE with others where there are some, END-IF"
+        }
+        Block::Evaluate => {
+            "EVALUATE, an item or TRUE, WHEN with statements without a period, END-EVALUATE"
+        }
+    }
+}
 
 /// The words that part the branches of a choice, and those that end it.
 static BRANCH_WORDS: [&str; 4] = ["ELSE", "END-IF", "WHEN", "END-EVALUATE"];
@@ -76,7 +114,7 @@ fn ends_test(word: &Token) -> bool {
 }
 
 /// How many words of a test stand in front.
-fn test_len(words: &[Token]) -> usize {
+pub(crate) fn test_len(words: &[Token]) -> usize {
     for (at, word) in words.iter().enumerate() {
         if ends_test(word) {
             return at;
@@ -105,27 +143,28 @@ fn behind_then(words: &[Token]) -> &[Token] {
 }
 
 /// How it is told that such a statement lacks its end, where it does: a period stands before it, or it is not there.
-fn lack_of_end(block: &Block, words: &[Token]) -> Option<&'static str> {
+fn lack_of_end(block: Block, words: &[Token]) -> Option<&'static str> {
+    let (begins, ends) = (first_word(block), end_word(block));
     let mut open: usize = 0;
     let mut is_stopped = false;
     for word in words {
         if word.kind == TokenKind::Stop {
             is_stopped = true;
         }
-        if is_word(word, block.begins) {
+        if is_word(word, begins) {
             open = open.saturating_add(1);
         }
-        if is_word(word, block.ends) {
+        if is_word(word, ends) {
             open = open.saturating_sub(1);
         }
         if open == 0 && is_stopped {
-            return Some(block.stopped);
+            return Some(stopped_form(block));
         }
         if open == 0 {
             return None;
         }
     }
-    Some(block.missing)
+    Some(missing_form(block))
 }
 
 /// What is told of a word, by a form with a place for it, and what to do.
@@ -233,28 +272,24 @@ fn told_branch<'a>(first: &'a Token, more: &'a [Token]) -> Told<'a> {
     )
 }
 
-/// What is told of a statement that holds others, if it has its end.
-fn told_inside<'a>(first: &'a Token, more: &'a [Token]) -> Option<Told<'a>> {
-    match passage_word(first) {
-        Some(PassageWord::If) => Some(told_if(first, more)),
-        Some(PassageWord::Evaluate) => Some(told_evaluate(first, more)),
-        _ => None,
+/// What is told of a statement that holds others and has its end, if that is known.
+fn told_inside<'a>(block: Block, first: &'a Token, more: &'a [Token]) -> Option<Told<'a>> {
+    match block {
+        Block::Perform => None,
+        Block::If => Some(told_if(first, more)),
+        Block::Evaluate => Some(told_evaluate(first, more)),
     }
 }
 
 /// What is told of words of loops and choices in front that are no statement; nothing, where none comes first or it is not known.
 pub(crate) fn told_block(words: &[Token]) -> Option<Told<'_>> {
     let (first, more) = words.split_first()?;
-    for block in &BLOCKS {
-        if is_word(first, block.begins) {
-            return match lack_of_end(block, words) {
-                Some(form) => Some(told_at(first, form, block.hint)),
-                None => told_inside(first, more),
-            };
-        }
-    }
     if is_branch_word(first) {
         return Some(told_branch(first, more));
     }
-    None
+    let block = begun_block(first)?;
+    match lack_of_end(block, words) {
+        Some(form) => Some(told_at(first, form, block_hint(block))),
+        None => told_inside(block, first, more),
+    }
 }

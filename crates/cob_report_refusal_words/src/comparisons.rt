@@ -1,7 +1,7 @@
 //! Operands that can't be compared or tested.
 
 use crate::bearers::{Bearer, BothWords, described_part, meant, operand_part};
-use crate::choices::is_word;
+use crate::choices::{is_word, test_len};
 use crate::entry::{behind_many, front_of, picture_word, word_of};
 use crate::phrases::{Part, Phrase};
 use crate::statements::is_constant;
@@ -70,34 +70,46 @@ pub(crate) fn is_test_word(word: &Token) -> bool {
         || is_one_of(word, &OTHERS)
 }
 
-/// Whether a word may stand before an operand: a bracket or NOT.
-fn is_before(word: &Token) -> bool {
-    is_term(word, WordClass::OpenBracket) || is_word(word, "NOT") || is_one_of(word, &FIRST_WORDS)
+/// Which words stand side by side in a simple condition.
+#[derive(Clone, Copy)]
+enum Stretch {
+    /// Those before its first operand: a bracket, NOT, or the first word of all.
+    Front,
+    /// Those of an operand.
+    Operand,
+    /// Those of a relation, before the second operand. OR is one of GREATER THAN OR EQUAL TO.
+    Relation,
+    /// Those up to AND or OR.
+    Rest,
 }
 
-/// How many of these words are so, up to the first that is not.
-fn front_len(words: &[Token], is_so: fn(&Token) -> bool) -> usize {
+/// Whether a word may be one of these.
+fn is_of(word: &Token, stretch: Stretch) -> bool {
+    match stretch {
+        Stretch::Front => {
+            is_term(word, WordClass::OpenBracket)
+                || is_word(word, "NOT")
+                || is_one_of(word, &FIRST_WORDS)
+        }
+        Stretch::Operand => {
+            !is_one_of(word, &RELATIONS)
+                && !is_one_of(word, &CLASSES)
+                && !is_one_of(word, &SIGNS)
+                && !is_one_of(word, &JOINING)
+        }
+        Stretch::Relation => is_one_of(word, &RELATIONS) || is_word(word, "OR"),
+        Stretch::Rest => !is_one_of(word, &JOINING),
+    }
+}
+
+/// How many such words stand in front.
+fn front_len(words: &[Token], stretch: Stretch) -> usize {
     for (at, word) in words.iter().enumerate() {
-        if !is_so(word) {
+        if !is_of(word, stretch) {
             return at;
         }
     }
     words.len()
-}
-
-/// Whether a word stands in a relation, before its second operand.
-fn relates(word: &Token) -> bool {
-    is_one_of(word, &RELATIONS) || is_one_of(word, &["OR"])
-}
-
-/// Whether a word is none of a relation, a class or a sign.
-fn is_of_operand(word: &Token) -> bool {
-    !is_one_of(word, &RELATIONS) && !is_one_of(word, &CLASSES) && !is_one_of(word, &SIGNS)
-}
-
-/// Whether a word joins no conditions.
-fn joins_none(word: &Token) -> bool {
-    !is_one_of(word, &JOINING)
 }
 
 /// A simple condition: its first operand, and the words behind that.
@@ -107,16 +119,35 @@ struct Simple<'a> {
     rest: &'a [Token],
 }
 
+/// The first operand of the simple condition in front, and the words behind it.
+fn operand_at(words: &[Token]) -> (&[Token], &[Token]) {
+    let own = behind_many(words, front_len(words, Stretch::Front));
+    let count = front_len(own, Stretch::Operand);
+    (front_of(own, count), behind_many(own, count))
+}
+
+/// How many words of a simple condition stand behind its first operand: none where AND or OR does.
+fn rest_len(words: &[Token]) -> usize {
+    let joined = match words.first() {
+        Some(first) => is_one_of(first, &JOINING),
+        None => true,
+    };
+    if joined {
+        return 0;
+    }
+    let related = front_len(words, Stretch::Relation);
+    related.saturating_add(front_len(behind_many(words, related), Stretch::Rest))
+}
+
 /// The simple condition in front, and the words behind AND or OR behind it.
 fn simple_at(words: &[Token]) -> (Simple<'_>, &[Token]) {
-    let own = behind_many(words, front_len(words, is_before));
-    let count = front_len(own, is_of_operand);
-    let first = front_of(own, count);
-    let rest = behind_many(own, count);
-    // Words of a relation may hold OR: GREATER THAN OR EQUAL TO.
-    let second = behind_many(rest, front_len(rest, relates));
-    let behind = behind_many(second, front_len(second, joins_none));
-    (Simple { first, rest }, behind_many(behind, 1))
+    let (first, behind) = operand_at(words);
+    let count = rest_len(behind);
+    let rest = front_of(behind, count);
+    (
+        Simple { first, rest },
+        behind_many(behind, count.saturating_add(1)),
+    )
 }
 
 /// What an operand is beside another one, as far as its own words say.
@@ -180,7 +211,7 @@ fn are_apart(first: Form, second: Form) -> bool {
 
 /// The second operand of a relation.
 fn second_of<'a>(simple: Simple<'a>) -> &'a [Token] {
-    behind_many(simple.rest, front_len(simple.rest, relates))
+    behind_many(simple.rest, front_len(simple.rest, Stretch::Relation))
 }
 
 /// Whether a simple condition is at fault, as far as its own words say.
@@ -259,25 +290,45 @@ fn has_quality(simple: Simple<'_>) -> bool {
     quality_of(simple).is_some()
 }
 
+/// A simple condition with the subject that was stated before, where it leaves that out.
+fn completed<'a>(simple: Simple<'a>, subject: &'a [Token]) -> Simple<'a> {
+    if simple.first.is_empty() {
+        return Simple {
+            first: subject,
+            rest: simple.rest,
+        };
+    }
+    if simple.rest.is_empty() && !subject.is_empty() {
+        return Simple {
+            first: subject,
+            rest: simple.first,
+        };
+    }
+    simple
+}
+
 /// The simple condition that is told of: the first at fault as far as its own words say, or else the first that tests a class or a sign, or else the first.
-fn told_of(both: BothWords<'_>, words: &[Token]) -> usize {
+fn told_of<'a>(both: BothWords<'_>, words: &'a [Token]) -> Simple<'a> {
+    let (first, _) = simple_at(words);
+    let mut told = first;
+    let mut subject: &'a [Token] = &[];
     let mut rest = words;
-    let mut quality: Option<usize> = None;
     for _ in 0..words.len() {
-        if rest.is_empty() {
-            break;
-        }
-        let at = words.len().saturating_sub(rest.len());
         let (simple, more) = simple_at(rest);
-        if is_apart(both, simple) {
-            return at;
+        let own = completed(simple, subject);
+        if is_apart(both, own) {
+            return own;
         }
-        if quality.is_none() && has_quality(simple) {
-            quality = Some(at);
+        if has_quality(own) && !has_quality(told) {
+            told = own;
+        }
+        subject = if has_quality(own) { &[] } else { own.first };
+        if more.is_empty() {
+            return told;
         }
         rest = more;
     }
-    quality.unwrap_or(0)
+    told
 }
 
 /// What is told of the values of a WHEN, which can't be compared with what its EVALUATE tests.
@@ -299,17 +350,15 @@ fn are_values(words: &[Token]) -> bool {
         Some(first) => first.kind == TokenKind::Literal || !is_name_word(first),
         None => false,
     };
-    is_listed && words.iter().all(is_of_operand)
+    is_listed && front_len(words, Stretch::Operand) == words.len()
 }
 
 /// What is told of a test whose operands can't be compared or tested.
 pub(crate) fn told_comparison<'a>(both: BothWords<'a>, statement: &'a [Token]) -> Told<'a> {
-    let words = behind_many(statement, 1);
+    let behind = behind_many(statement, 1);
+    let words = front_of(behind, test_len(behind));
     match statement.first() {
         Some(first) if is_word(first, "WHEN") && are_values(words) => told_values(first, words),
-        _ => {
-            let (simple, _) = simple_at(behind_many(words, told_of(both, words)));
-            told_simple(both, simple)
-        }
+        _ => told_simple(both, told_of(both, words)),
     }
 }
