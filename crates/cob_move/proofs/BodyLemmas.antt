@@ -1,5 +1,5 @@
 -- Words behind a heading, read turn by turn.
-use Rattle.std.proofs.Common.{◌≡◌, ◌⊎◌, inl, inr, ℕ, ◌+◌, ◌<◌, ◌≤◌, Bool, true, false, nat_eq, List, [], ◌∷◌, ◌++◌, length, refl, sym, ap, subst, ◌∙◌, append-nil, arith}
+use Rattle.std.proofs.Common.{◌≡◌, ◌⊎◌, inl, inr, ℕ, ◌+◌, ◌<◌, ◌≤◌, Bool, true, false, nat_eq, List, [], ◌∷◌, ◌++◌, length, map, refl, sym, ap, subst, ◌∙◌, append-nil, arith}
 use Rattle.std.proofs.lemmas.List.{length-append}
 use Rattle.std.specs.List.{AllByRecursion}
 use Rattle.cob_codec.specs.declared.reading.Reading.TheVariants.{Pictured}
@@ -11,19 +11,18 @@ use Rattle.cob_move_deeds.specs.declared.flow.Bound.{Bound}
 use Rattle.cob_move_deeds.specs.declared.flow.CountedLoop.{CountedLoop}
 use Rattle.cob_move_apply.specs.declared.marked.MarkedMoves.{MarkedMoves}
 use Rattle.cob_move_deeds.specs.Deeds.{Deeds, IsStraight, moves_of_deeds}
-use Rattle.cob_move_deeds.specs.Prepared.{AreDeedsPrepared, IsThere, MayBeAsked, deeds_of, kind_at}
+use Rattle.cob_move_deeds.specs.Prepared.{AreDeedsPrepared, MayBeAsked, deeds_of}
 use Rattle.cob_move_deeds.specs.declared.ready.ReadyDeeds.{ReadyDeeds}
 use Rattle.cob_move_apply.specs.Entries.{IsPlacedEntry}
-use Rattle.cob_move_apply.specs.declared.placed.PlacedEntry.{PlacedEntry}
+use Rattle.cob_move_tests.specs.Asked.{IsAsked, IsNamed, kind_named}
 use Rattle.cob_move_condition.specs.Tested.{MayBeTested}
-use Rattle.cob_move_condition.specs.declared.condition.Condition.{Condition}
 use Rattle.cob_move_deeds.specs.declared.flow.Asked.{Asked}
 use Rattle.cob_move_deeds.specs.Flows.{AreFlows, FlowSupport, support_of}
 use Rattle.cob_move_apply.specs.Marked.{AreMarkedPrepared, RiseUpTo, ends_of_marks}
 use Rattle.cob_move_apply.specs.Prepared.{moves_of}
 use Rattle.cob_move_deeds.specs.Tests.{IsBound, Test}
 use Rattle.cob_move_loops.specs.Bounded.{AreBounded, LacksBound}
-use Rattle.cob_move_loops.specs.Few.{loop_line}
+use Rattle.cob_move_loops.specs.Few.{opening_line}
 use Rattle.cob_move_loops.specs.Passages.{IsPassage, Passage}
 use Rattle.cob_move_statements.specs.declared.fault.MoveFault.{MoveFault}
 use Rattle.cob_move_statements.specs.declared.fault.MoveRule.{MoveRule}
@@ -32,14 +31,14 @@ use Rattle.std.specs.Global.{Vec}
 use Rattle.cob_move.specs.declared.made.Made.{Made}
 use Rattle.cob_move.specs.declared.made.NotRead.{NotRead}
 use Rattle.cob_move.specs.declared.made.NotRead.TheVariants as why
-use Rattle.cob_move.specs.declared.entries.Entries.{Entries}
-use Rattle.cob_move.specs.Among.{nameable}
-use Rattle.cob_move.specs.DeedsRead.{AddsDeeds, DeedsRefused, HasItemLoop, IsFrontOf, IsMade, MadeLists, IsReadied, SaysDeeds, TellsFault, TurnRefused, all_deeds, closed, closed_where, last_marked, made_deeds, made_lists, nothing_made, open_deeds}
-use Rattle.cob_move.specs.Entries.{records_of}
+use Rattle.cob_move_tests.specs.declared.entries.Entries.{Entries}
+use Rattle.cob_move_tests.specs.Entries.{nameable, records_of}
+use Rattle.cob_move.specs.DeedsRead.{AddsDeeds, DeedsRefused, HasTests, IsFrontOf, IsMade, MadeLists, IsReadied, SaysDeeds, TellsFault, TurnRefused, all_deeds, closed, named_of, closed_where, last_marked, made_deeds, made_lists, nothing_made, open_deeds}
 use Rattle.cob_move.specs.Loops.{HasJudged}
 use Rattle.cob_move.specs.Bodies.{IsPassageRefusal}
 use Rattle.cob_move.specs.Paragraphs.{AreReady}
 use Rattle.cob_move.specs.Pieces.{IsRefusedMemory}
+use Rattle.cob_move.proofs.AskedLemmas.{may_be_asked}
 use Rattle.cob_move.proofs.CloseLemmas.{closed_deeds, closed_flows, closed_grown, equal_is, rise_more}
 use Rattle.cob_move.proofs.MadeLemmas.{front_back}
 use Rattle.cob_move.proofs.WholeLemmas.{moves_of_open}
@@ -50,6 +49,8 @@ empty_made r = record {
   ends = refl;
   behind = omega arith;
   bounds = tt;
+  asked = tt;
+  conditions = tt;
   flows = λ on f. record { each = tt; nested = refl };
   parted = λ on f. tt;
   few = omega arith;
@@ -60,7 +61,7 @@ empty_made r = record {
 pub memory_refuses : (f : MoveFault) (e : Entries) (body : List Lexeme) → IsRefusedMemory f → DeedsRefused f e body
 memory_refuses f e body is = subst (λ (g : MoveFault). DeedsRefused g e body) (sym is) (inl refl)
 
-pub body_refused : (n : NotRead) (f : MoveFault) (e : Entries) (body : List Lexeme) (p : Passage) → IsPassage p body → HasItemLoop body → TellsFault n f body → TurnRefused n e [] body nothing_made → DeedsRefused f e body
+pub body_refused : (n : NotRead) (f : MoveFault) (e : Entries) (body : List Lexeme) (p : Passage) → IsPassage p body → HasTests body → TellsFault n f body → TurnRefused n e [] body nothing_made → DeedsRefused f e body
 body_refused why.Memory f e body p is item told refused = memory_refuses f e body told
 body_refused why.TooMany f e body p is item told refused =
     let (m, first, most) = refused p is in
@@ -72,22 +73,15 @@ unbounded_refused f e body p is same lacks = inr (p, is, inl (same, lacks p is))
 
 -- ---- what they come to
 
--- no condition asks for anything
-pub nothing_asked : (r : Records) (moves : MarkedMoves) (bounds : List Bound) (loops : List CountedLoop) (asked : Asked) → asked.entries.items ≡ [] → asked.conditions.items ≡ []
-    → MayBeAsked r (support_of moves bounds loops asked)
-nothing_asked r moves bounds loops asked entries conditions =
-    let on : FlowSupport = support_of moves bounds loops asked in record {
-      entries = subst (λ (es : List PlacedEntry). AllByRecursion (IsPlacedEntry r) es) (sym entries) tt;
-      conditions = subst (λ (cs : List Condition). AllByRecursion (MayBeTested (IsThere on) (kind_at r on)) cs) (sym conditions) tt;
-    }
-
 pub body_front : (m : MadeLists) (moves : MarkedMoves) (loops : List CountedLoop) (asked : Asked) → moves.moves.reading ≡ Pictured → moves.moves.statements.items ≡ m.list → ends_of_marks moves ≡ 0 ∷ m.ends
-    → IsFrontOf m (support_of moves m.bounds loops asked)
-body_front m moves loops asked reading statements ends = record {
+    → map named_of asked.entries.items ≡ m.asked → asked.conditions.items ≡ m.conditions → IsFrontOf m (support_of moves m.bounds loops asked)
+body_front m moves loops asked reading statements ends entries conditions = record {
   reading = reading;
   statements = ([], statements ∙ sym (append-nil m.list));
   marks = ([], ends ∙ ap (λ (t : List ℕ). 0 ∷ t) (sym (append-nil m.ends)));
   bounds = ([], sym (append-nil m.bounds));
+  asked = ([], entries ∙ sym (append-nil m.asked));
+  conditions = ([], conditions ∙ sym (append-nil m.conditions));
 }
 
 rise_where : (b : Bool) (r : Records) (m : MadeLists) → b ≡ nat_eq (length m.list) (last_marked 0 m.ends) → IsMade r m → RiseUpTo 0 (length (closed_where b m).list) (closed_where b m).ends
@@ -111,6 +105,21 @@ bounds_where false r m is = is.bounds
 pub body_bounds : (r : Records) (m : MadeLists) → IsMade r m → AllByRecursion (IsBound r) (closed m).bounds
 body_bounds r m is = bounds_where (nat_eq (length m.list) (last_marked 0 m.ends)) r m is
 
+tested_where : (b : Bool) (r : Records) (m : MadeLists) → IsMade r m → AllByRecursion (MayBeTested (IsAsked (closed_where b m).asked) (kind_named r (closed_where b m).asked)) (closed_where b m).conditions
+tested_where true r m is = is.conditions
+tested_where false r m is = is.conditions
+
+body_tested : (r : Records) (m : MadeLists) → IsMade r m → AllByRecursion (MayBeTested (IsAsked (closed m).asked) (kind_named r (closed m).asked)) (closed m).conditions
+body_tested r m is = tested_where (nat_eq (length m.list) (last_marked 0 m.ends)) r m is
+
+asked_where : (b : Bool) (r : Records) (m : MadeLists) → IsMade r m → AllByRecursion (IsNamed r) (closed_where b m).asked
+asked_where true r m is = is.asked
+asked_where false r m is = is.asked
+
+pub now_asked : (r : Records) (m now : MadeLists) → IsMade r m → now ≡ closed m → AllByRecursion (IsNamed r) now.asked
+now_asked r m now is same =
+    subst (λ (t : MadeLists). AllByRecursion (IsNamed r) t.asked) (sym same) (asked_where (nat_eq (length m.list) (last_marked 0 m.ends)) r m is)
+
 -- what was put together of what is made
 pub record IsPutTogether (r : Records) (m : MadeLists) (moves_made : MarkedMoves) (loops : List CountedLoop) (asked : Asked) (d : ReadyDeeds) : Type 0 where
   pub reading : moves_made.moves.reading ≡ Pictured
@@ -120,7 +129,9 @@ pub record IsPutTogether (r : Records) (m : MadeLists) (moves_made : MarkedMoves
   pub marked : AreMarkedPrepared r moves_made
   pub same : d.moves ≡ moves_made
   pub deeds : deeds_of r d ≡ all_deeds r (support_of moves_made m.bounds loops asked) m.flows
-  pub none_asked : MayBeAsked r (support_of moves_made m.bounds loops asked)
+  pub entries : map named_of asked.entries.items ≡ m.asked
+  pub conditions : asked.conditions.items ≡ m.conditions
+  pub placed : AllByRecursion (IsPlacedEntry r) asked.entries.items
   pub prepared : AreMarkedPrepared r moves_made → AllByRecursion (IsBound r) m.bounds → MayBeAsked r (support_of moves_made m.bounds loops asked) → AreFlows (support_of moves_made m.bounds loops asked) m.flows → AreDeedsPrepared r d
 
 closed_list_is : (m : MadeLists) → (closed m).list ≡ m.list
@@ -135,8 +146,8 @@ pub readied : (r : Records) (m now : MadeLists) (moves_made : MarkedMoves) (loop
 readied r m now moves_made loops asked d is same put =
     let k : IsPutTogether r (closed m) moves_made loops asked d = subst (λ (t : MadeLists). IsPutTogether r t moves_made loops asked d) same put in
     let on = support_of moves_made (closed m).bounds loops asked in
-    let front : IsFrontOf (closed m) on = body_front (closed m) moves_made loops asked k.reading k.statements k.ends in record {
-      prepared = k.prepared k.marked (body_bounds r m is) k.none_asked (closed_flows r m is on front);
+    let front : IsFrontOf (closed m) on = body_front (closed m) moves_made loops asked k.reading k.statements k.ends k.entries k.conditions in record {
+      prepared = k.prepared k.marked (body_bounds r m is) (may_be_asked r on (closed m).asked (closed m).conditions k.entries k.conditions k.placed (body_tested r m is)) (closed_flows r m is on front);
       comes = λ own so. k.deeds ∙ closed_deeds r m is on front ∙ so on (front_back m (closed m) on (closed_grown m) front);
       moves = ap (λ (t : MarkedMoves). moves_of r t.moves) k.same ∙ k.are ∙ ap (λ (ss : List StatementMoves). moves r ss) (closed_list_is m);
       ends = ap (λ (t : MarkedMoves). ends_of_marks t) k.same ∙ k.ends;
@@ -179,11 +190,11 @@ made_ready r m d own is comes whole straight =
 
 -- statements, and nothing else
 abbrev pub list_made : List StatementMoves → MadeLists
-list_made list = record { list = list; ends = []; bounds = []; flows = []; read = 0 }
+list_made list = record { list = list; ends = []; bounds = []; asked = []; conditions = []; flows = []; read = 0 }
 
 -- nothing made yet, with these statements in its place
-pub set_list : (new : Made) (list : Vec StatementMoves) → made_lists new ≡ nothing_made → made_lists (record { list = list; ends = new.ends; bounds = new.bounds; flows = new.flows; read = new.read }) ≡ list_made list.items
-set_list new list none = λ i. record { list = list.items; ends = (none i).ends; bounds = (none i).bounds; flows = (none i).flows; read = (none i).read }
+pub set_list : (new : Made) (list : Vec StatementMoves) → made_lists new ≡ nothing_made → made_lists (record { list = list; ends = new.ends; bounds = new.bounds; asked = new.asked; conditions = new.conditions; flows = new.flows; read = new.read }) ≡ list_made list.items
+set_list new list none = λ i. record { list = list.items; ends = (none i).ends; bounds = (none i).bounds; asked = (none i).asked; conditions = (none i).conditions; flows = (none i).flows; read = (none i).read }
 
 pub list_is_made : (r : Records) (list : List StatementMoves) → AreMoves r (moves r list) → IsMade r (list_made list)
 list_is_made r list given = record {
@@ -191,6 +202,8 @@ list_is_made r list given = record {
   ends = refl;
   behind = omega arith;
   bounds = tt;
+  asked = tt;
+  conditions = tt;
   flows = λ on f. record { each = tt; nested = refl };
   parted = λ on f. tt;
   few = omega arith;

@@ -15,12 +15,11 @@ use Rattle.cob_move_statements.specs.Written.{WrittenReference}
 use Rattle.cob_move_data.specs.declared.operands.Side.{Side}
 use Rattle.cob_move_data.specs.Moves.{operand_in, record_of}
 use Rattle.cob_layout_places.specs.declared.reference.Ref.{Ref}
-use Rattle.cob_move.specs.declared.entries.Entries.{Entries}
-use Rattle.cob_move.specs.declared.entries.NamedEntry.{NamedEntry}
+use Rattle.cob_move_tests.specs.declared.entries.Entries.{Entries}
+use Rattle.cob_move_tests.specs.declared.entries.NamedEntry.{NamedEntry}
 use Rattle.cob_move.specs.declared.made.NotRead.TheVariants as why
-use Rattle.cob_move.specs.Among.{NamesAmong, nameable}
+use Rattle.cob_move_tests.specs.Entries.{NamesAmong, nameable, records_of}
 use Rattle.cob_move.specs.DeedsRead.{BoundNotRead, BoundRefused, IsBoundRead}
-use Rattle.cob_move.specs.Entries.{records_of}
 
 -- ---- entries that are whole numbers
 
@@ -55,6 +54,7 @@ bound_breaks rule.Twice e w ws is breaks = absurd breaks
 bound_breaks rule.TooLong e w ws is breaks = absurd breaks
 bound_breaks rule.Counter e w ws is breaks = absurd breaks
 bound_breaks rule.TooMany e w ws is breaks = absurd breaks
+bound_breaks rule.NotComparable e w ws is breaks = absurd breaks
 
 pub bound_no_number : (e : Entries) (w : WrittenReference) (ws : List Lexeme) (n : NamedEntry) (k : Kind) → IsReference w ws → NamesAmong e w n.side n.entry
     → k ≡ (operand_in (record_of (records_of e) n.side) n.entry).kind → ((i : Item) → IsBoundItem k i → ⊥) → BoundRefused rule.Counter e ws

@@ -88,6 +88,8 @@ marked_grown m = record {
   list = ([], sym (append-nil m.list));
   ends = (length m.list ∷ [], refl);
   bounds = ([], sym (append-nil m.bounds));
+  asked = ([], sym (append-nil m.asked));
+  conditions = ([], sym (append-nil m.conditions));
   flows = (flow.Moves (length m.ends) ∷ [], refl);
 }
 
@@ -154,6 +156,8 @@ none_made true r m is = record {
   ends = is.ends;
   behind = is.behind;
   bounds = is.bounds;
+  asked = is.asked;
+  conditions = is.conditions;
   flows = λ on f. record { each = tt; nested = refl };
   parted = λ on f. tt;
   few = is.few;
@@ -163,6 +167,8 @@ none_made false r m is = record {
   ends = subst (λ (n : ℕ). RiseUpTo 0 n (m.ends ++ length m.list ∷ [])) (sym (last_of 0 (length m.list) m.ends)) (rise_more 0 (last_marked 0 m.ends) (length m.list) m.ends is.behind is.ends);
   behind = omega (arith, last_of 0 (length m.list) m.ends);
   bounds = is.bounds;
+  asked = is.asked;
+  conditions = is.conditions;
   flows = λ on f. record { each = tt; nested = refl };
   parted = λ on f. tt;
   few = is.few;

@@ -27,7 +27,7 @@ use Rattle.cob_move.specs.Meaning.{AreGroupsOf, AreMovesOf, IsAllowedMove, pair_
 use Rattle.cob_move_apply.specs.Some.{SomeOf}
 use Rattle.cob_move.specs.Refusals.{BreaksBetween, BreaksPair, BreaksStatement, LacksGroup}
 use Rattle.cob_move.specs.Between.{MayMoveBetween, numbered, numbers_of}
-use Rattle.cob_move.proofs.OwnLemmas.{own_operand}
+use Rattle.cob_move_tests.proofs.OwnLemmas.{own_operand}
 use Rattle.cob_move.proofs.SomeLemmas.{next, none_of, some_here}
 
 pub sending_fault : (r : MoveRule) (all : List Candidate) (from to : WrittenReference) (input output : Forest Resolved)
@@ -69,6 +69,7 @@ pair_fault rule.Groups all from to input output g named h = absurd (none_of (Bre
 pair_fault rule.Twice all from to input output g named h = absurd (none_of (BreaksPair rule.Twice) (λ p b. b) (pairs_of input output g) h)
 pair_fault rule.Counter all from to input output g named h = absurd (none_of (BreaksPair rule.Counter) (λ p b. b) (pairs_of input output g) h)
 pair_fault rule.TooMany all from to input output g named h = absurd (none_of (BreaksPair rule.TooMany) (λ p b. b) (pairs_of input output g) h)
+pair_fault rule.NotComparable all from to input output g named h = absurd (none_of (BreaksPair rule.NotComparable) (λ p b. b) (pairs_of input output g) h)
 pair_fault (rule.Source s) all from to input output g named h = absurd (none_of (BreaksPair (rule.Source s)) (λ p b. b) (pairs_of input output g) h)
 
 twice_fault : (r : MoveRule) (all : List Candidate) (from to : WrittenReference) (input output : Forest Resolved) (g : TwoGroups) → AreGroupsOf all from to g

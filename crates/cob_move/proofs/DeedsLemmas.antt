@@ -1,5 +1,5 @@
 -- What a passage comes to in a turn is one thing; and what comes to something is refused for want of memory alone.
-use Rattle.std.proofs.Common.{◌≡◌, ◌⊎◌, ℕ, zero, suc, ◌+◌, ◌-◌, ◌*◌, ◌/◌, ◌<◌, ◌≤◌, Bool, false, nat_lt, inl, inr, List, [], ◌∷◌, ◌++◌, length, refl, sym, ap, subst, ◌∙◌, arith}
+use Rattle.std.proofs.Common.{◌≡◌, ◌⊎◌, ℕ, zero, suc, ◌+◌, ◌-◌, ◌*◌, ◌/◌, ◌<◌, ◌≤◌, Bool, false, nat_lt, inl, inr, List, [], ◌∷◌, ◌++◌, length, refl, sym, ap, subst, ◌∙◌, arith, Option, Some, None}
 use Rattle.std.specs.Prelude.{if◌then◌else◌}
 use Rattle.std.proofs.Math.Nat.{div-mul-le_self, suc-mul}
 use Rattle.cob_limits.specs.Limits.{longest_record}
@@ -10,11 +10,14 @@ use Rattle.cob_copybook_tree.specs.Nodes.{Resolved}
 use Rattle.cob_move_data.specs.declared.operands.Operand.{Operand}
 use Rattle.cob_move_data.specs.declared.operands.Side.{Side}
 use Rattle.cob_move_data.specs.Moves.{Move}
+use Rattle.cob_move_choices.specs.Choices.{Against, joined_test}
+use Rattle.cob_move_choices.specs.Laws.{BranchTestsBreakNoRule, OneBranchTest, OneSubject, SubjectsBreakNoRule}
+use Rattle.cob_move_condition.specs.Conditions.{Condition}
 use Rattle.cob_move_deeds.specs.Deeds.{Choice, Deeds, Nothing, both_deeds}
 use Rattle.cob_move.specs.Joined.{before_deeds, joined_deeds}
-use Rattle.cob_move_deeds.specs.Tests.{IsBoundItem, Past, Test, Until, with_number}
+use Rattle.cob_move_deeds.specs.Tests.{Holds, IsBoundItem, Past, Test, Until, with_number}
 use Rattle.cob_move_deeds.specs.Turns.{turns_from}
-use Rattle.cob_move_loops.specs.Passages.{ALoop, Moves, NoMore, Passage, Pause, ToItem, ToNumber, WrittenBound, WrittenLoop}
+use Rattle.cob_move_loops.specs.Passages.{ABranch, AChoice, ALoop, Moves, NoMore, Otherwise, Passage, Pause, Tested, ToItem, ToNumber, WrittenBound, WrittenLoop}
 use Rattle.cob_move_loops.specs.Turns.{Counted, counter_at, in_turn, turns_between}
 use Rattle.cob_move_names.specs.Candidates.{Candidate, all_entries}
 use Rattle.cob_move_names.specs.Laws.{NamedBreakNoRule, OneNamed}
@@ -25,7 +28,7 @@ use Rattle.cob_move_statements.specs.declared.fault.MoveRule.TheVariants as rule
 use Rattle.cob_move_statements.specs.Laws.{OneListOfEnded, OneReference}
 use Rattle.cob_move_statements.specs.Statements.{IsReference}
 use Rattle.cob_move_statements.specs.Written.{WrittenReference, WrittenStatement}
-use Rattle.cob_move.specs.Deeds.{AreDeeds, IsBoundOf, IsBoundRefusal, IsLoopOf, IsLoopRefused, IsRunMeant, IsTurnRefused, count_of_turns, deeds_of_turns}
+use Rattle.cob_move.specs.Deeds.{AreDeeds, AreDeedsAt, InBranches, InStatements, IsBoundOf, IsBoundRefusal, IsLoopOf, IsLoopRefused, IsRunMeant, IsTurnRefused, IsTurnRefusedAt, Standing, count_of_turns, deeds_of_turns}
 use Rattle.cob_move.specs.Meaning.{AreMeant}
 use Rattle.cob_move.specs.MeaningLaws.{MeantBreakNoRule, OneMeant}
 use Rattle.cob_move.specs.Bodies.{IsRunRefusal, RunIsRefused}
@@ -132,23 +135,61 @@ loop_one reference named all ns l (ToItem ws) meant one f g count other d e m n 
           ∙ ap (λ (k : ℕ). count_of_turns other 1 (k + 1 - l.from) l.from) most ∙ sym n_is,
     )
 
-pub deeds_one : OneListOfEnded → OneMeant → OneReference → OneNamed → (all : List Candidate) (input output : Forest Resolved) (ns : List Counted) (p : Passage) (d e : Deeds Test) (m n : ℕ)
-    → AreDeeds all input output ns p d m → AreDeeds all input output ns p e n → (d ≡ e) × (m ≡ n)
-deeds_one ended meant reference named all input output ns NoMore d e m n p q = (p.0 ∙ sym q.0, p.1 ∙ sym q.1)
-deeds_one ended meant reference named all input output ns (Moves own more) d e m n (ms, next, count, rest, run, are, d_is, m_is) (sm, txen, tnuoc, tser, nur, era, e_is, n_is) =
+-- what tests are held against, and what they mean, is one thing
+abbrev pub TestsAreOne : Type 0
+TestsAreOne = OneSubject × OneBranchTest
+
+pub deeds_one_at : OneListOfEnded → OneMeant → OneReference → OneNamed → TestsAreOne → (all : List Candidate) (input output : Forest Resolved) (ns : List Counted) (at : Standing) (waiting : Option Condition) (p : Passage) (d e : Deeds Test) (m n : ℕ)
+    → AreDeedsAt all input output ns at waiting p d m → AreDeedsAt all input output ns at waiting p e n → (d ≡ e) × (m ≡ n)
+deeds_one_at ended meant reference named tests all input output ns at waiting NoMore d e m n p q = (p.0 ∙ sym q.0, p.1 ∙ sym q.1)
+deeds_one_at ended meant reference named tests all input output ns InStatements waiting (Moves own more) d e m n (ms, next, count, rest, run, are, d_is, m_is) (sm, txen, tnuoc, tser, nur, era, e_is, n_is) =
     let first = run_one ended meant input output (in_turn ns false 0 own) ms sm count tnuoc run nur in
-    let behind = deeds_one ended meant reference named all input output ns more next txen rest tser are era in (
+    let behind = deeds_one_at ended meant reference named tests all input output ns InStatements None more next txen rest tser are era in (
       d_is ∙ ap (λ (t : List Move). before_deeds t next) first.0 ∙ ap (λ (k : Deeds Test). before_deeds sm k) behind.0 ∙ sym e_is,
       m_is ∙ ap (λ (k : ℕ). k + rest) first.1 ∙ ap (λ (k : ℕ). tnuoc + k) behind.1 ∙ sym n_is,
     )
-deeds_one ended meant reference named all input output ns (Pause more) d e m n p q = deeds_one ended meant reference named all input output ns more d e m n p q
-deeds_one ended meant reference named all input output ns (ALoop l body more) d e m n (f, count, own, next, turned, rest, loop, are, d_is, m_is) (g, other, nwo, txen, denrut, tser, pool, era, e_is, n_is) =
+deeds_one_at ended meant reference named tests all input output ns InStatements waiting (Pause more) d e m n p q =
+    deeds_one_at ended meant reference named tests all input output ns InStatements None more d e m n p q
+deeds_one_at ended meant reference named tests all input output ns InStatements waiting (ALoop l body more) d e m n (f, count, own, next, turned, rest, loop, are, d_is, m_is) (g, other, nwo, txen, denrut, tser, pool, era, e_is, n_is) =
     let turns = loop_one reference named all ns l l.bound (λ i k c. AreDeeds all input output (ns ++ counter_at l i ∷ []) body k c)
-    (λ i a b x y p q. deeds_one ended meant reference named all input output (ns ++ counter_at l i ∷ []) body a b x y p q) f g count other own nwo turned denrut loop pool in
-    let behind = deeds_one ended meant reference named all input output ns more next txen rest tser are era in (
+    (λ i a b x y p q. deeds_one_at ended meant reference named tests all input output (ns ++ counter_at l i ∷ []) InStatements None body a b x y p q) f g count other own nwo turned denrut loop pool in
+    let behind = deeds_one_at ended meant reference named tests all input output ns InStatements None more next txen rest tser are era in (
       d_is ∙ ap (λ (k : Deeds Test). joined_deeds k next) turns.0 ∙ ap (λ (k : Deeds Test). joined_deeds nwo k) behind.0 ∙ sym e_is,
       m_is ∙ ap (λ (k : ℕ). k + rest) turns.1 ∙ ap (λ (k : ℕ). denrut + k) behind.1 ∙ sym n_is,
     )
+deeds_one_at ended meant reference named tests all input output ns InStatements waiting (AChoice c branches more) d e m n (a, own, next, inside, rest, is, within, are, d_is, m_is) (b, nwo, txen, edisni, tser, si, nihtiw, era, e_is, n_is) =
+    let held : b ≡ a = tests.0 (record { input = input; output = output }) ns c b a si is in
+    let first = deeds_one_at ended meant reference named tests all input output ns (InBranches a) None branches own nwo inside edisni within
+    (subst (λ (x : Against). AreDeedsAt all input output ns (InBranches x) None branches nwo edisni) held nihtiw) in
+    let behind = deeds_one_at ended meant reference named tests all input output ns InStatements None more next txen rest tser are era in (
+      d_is ∙ ap (λ (k : Deeds Test). joined_deeds k next) first.0 ∙ ap (λ (k : Deeds Test). joined_deeds nwo k) behind.0 ∙ sym e_is,
+      omega (arith, m_is, n_is, first.1, behind.1),
+    )
+deeds_one_at ended meant reference named tests all input output ns InStatements waiting (ABranch t own others) d e m n p q = absurd p
+deeds_one_at ended meant reference named tests all input output ns (InBranches a) waiting (Moves own more) d e m n p q = absurd p
+deeds_one_at ended meant reference named tests all input output ns (InBranches a) waiting (Pause more) d e m n p q = absurd p
+deeds_one_at ended meant reference named tests all input output ns (InBranches a) waiting (ALoop l body more) d e m n p q = absurd p
+deeds_one_at ended meant reference named tests all input output ns (InBranches a) waiting (AChoice c branches more) d e m n p q = absurd p
+deeds_one_at ended meant reference named tests all input output ns (InBranches a) waiting (ABranch Otherwise own others) d e m n p q =
+    deeds_one_at ended meant reference named tests all input output ns InStatements None own d e m n p q
+deeds_one_at ended meant reference named tests all input output ns (InBranches a) waiting (ABranch (Tested ws) own others) d e m n (t, is, inl (none, are)) (u, si, inl (enon, era)) =
+    let same : u ≡ t = tests.1 (record { input = input; output = output }) ns a ws u t si is in
+    deeds_one_at ended meant reference named tests all input output ns (InBranches a) (Some (joined_test waiting t)) others d e m n are
+    (subst (λ (x : Condition). AreDeedsAt all input output ns (InBranches a) (Some (joined_test waiting x)) others e n) same era)
+deeds_one_at ended meant reference named tests all input output ns (InBranches a) waiting (ABranch (Tested ws) own others) d e m n (t, is, inl (none, are)) (u, si, inr (some, w, z, tnuoc, tser, era, dniheb, e_is, n_is)) = absurd (some none)
+deeds_one_at ended meant reference named tests all input output ns (InBranches a) waiting (ABranch (Tested ws) own others) d e m n (t, is, inr (some, x, y, count, rest, first, behind, d_is, m_is)) (u, si, inl (none, are)) = absurd (some none)
+deeds_one_at ended meant reference named tests all input output ns (InBranches a) waiting (ABranch (Tested ws) own others) d e m n (t, is, inr (some, x, y, count, rest, are, behind, d_is, m_is)) (u, si, inr (emos, w, z, tnuoc, tser, era, dniheb, e_is, n_is)) =
+    let same : t ≡ u = tests.1 (record { input = input; output = output }) ns a ws t u is si in
+    let first = deeds_one_at ended meant reference named tests all input output ns InStatements None own x w count tnuoc are era in
+    let left = deeds_one_at ended meant reference named tests all input output ns (InBranches a) None others y z rest tser behind dniheb in (
+      d_is ∙ ap (λ (k : Condition). Choice (Holds (joined_test waiting k)) x y Nothing) same ∙ ap (λ (k : Deeds Test). Choice (Holds (joined_test waiting u)) k y Nothing) first.0
+          ∙ ap (λ (k : Deeds Test). Choice (Holds (joined_test waiting u)) w k Nothing) left.0 ∙ sym e_is,
+      omega (arith, m_is, n_is, first.1, left.1),
+    )
+
+pub deeds_one : OneListOfEnded → OneMeant → OneReference → OneNamed → TestsAreOne → (all : List Candidate) (input output : Forest Resolved) (ns : List Counted) (p : Passage) (d e : Deeds Test) (m n : ℕ)
+    → AreDeeds all input output ns p d m → AreDeeds all input output ns p e n → (d ≡ e) × (m ≡ n)
+deeds_one ended meant reference named tests all input output ns p d e m n is si = deeds_one_at ended meant reference named tests all input output ns InStatements None p d e m n is si
 
 -- ---- what comes to something is refused for want of memory alone
 
@@ -178,6 +219,7 @@ bound_refused reference named none rule.Groups all ws t is refused = refused
 bound_refused reference named none rule.Twice all ws t is refused = refused
 bound_refused reference named none rule.TooLong all ws t is refused = refused
 bound_refused reference named none rule.TooMany all ws t is refused = refused
+bound_refused reference named none rule.NotComparable all ws t is refused = refused
 bound_refused reference named none rule.Memory all ws t is refused = refused
 
 loop_refused : OneReference → OneNamed → NamedBreakNoRule → (f : MoveFault) (all : List Candidate) (ns : List Counted) (l : WrittenLoop) (b : WrittenBound) (meant : ℕ → Deeds Test → ℕ → Type 0) (refused : ℕ → Type 0)
@@ -193,17 +235,50 @@ loop_refused reference named none f all ns l (ToItem ws) meant refused never g c
     let (k, c, behind) = all_are (t.most + 1) (omega (arith, first)) (omega (arith, last)) in
     absurd (end k c behind)
 
-pub deeds_unrefused : OneListOfEnded → MeantBreakNoRule → OneReference → OneNamed → NamedBreakNoRule → (f : MoveFault) (input output : Forest Resolved) (ns : List Counted) (p : Passage) (d : Deeds Test) (m : ℕ)
-    → AreDeeds (all_entries input output) input output ns p d m → IsTurnRefused f (all_entries input output) input output ns p → f.rule ≡ rule.Memory
-deeds_unrefused ended unbroken reference named none f input output ns NoMore d m are refused = absurd refused
-deeds_unrefused ended unbroken reference named none f input output ns (Moves own more) d m (ms, next, count, rest, run, are, d_is, m_is) (inl broken) =
+-- what tests are held against, and what they mean, breaks no rule, and is one thing
+abbrev pub TestsAreUnbroken : Type 0
+TestsAreUnbroken = SubjectsBreakNoRule × BranchTestsBreakNoRule × OneSubject
+
+deeds_unrefused_at : OneListOfEnded → MeantBreakNoRule → OneReference → OneNamed → NamedBreakNoRule → TestsAreUnbroken → (f : MoveFault) (input output : Forest Resolved) (ns : List Counted) (at : Standing) (waiting : Option Condition) (p : Passage) (d : Deeds Test) (m : ℕ)
+    → AreDeedsAt (all_entries input output) input output ns at waiting p d m → IsTurnRefusedAt f (all_entries input output) input output ns at p → f.rule ≡ rule.Memory
+deeds_unrefused_at ended unbroken reference named none tests f input output ns at waiting NoMore d m are refused = absurd refused
+deeds_unrefused_at ended unbroken reference named none tests f input output ns InStatements waiting (Moves own more) d m (ms, next, count, rest, run, are, d_is, m_is) (inl broken) =
     run_refused ended unbroken f input output (in_turn ns false 0 own) ms count run broken
-deeds_unrefused ended unbroken reference named none f input output ns (Moves own more) d m (ms, next, count, rest, run, are, d_is, m_is) (inr behind) =
-    deeds_unrefused ended unbroken reference named none f input output ns more next rest are behind
-deeds_unrefused ended unbroken reference named none f input output ns (Pause more) d m are refused = deeds_unrefused ended unbroken reference named none f input output ns more d m are refused
-deeds_unrefused ended unbroken reference named none f input output ns (ALoop l body more) d m (g, count, own, next, turned, rest, loop, are, d_is, m_is) (inl broken) =
+deeds_unrefused_at ended unbroken reference named none tests f input output ns InStatements waiting (Moves own more) d m (ms, next, count, rest, run, are, d_is, m_is) (inr behind) =
+    deeds_unrefused_at ended unbroken reference named none tests f input output ns InStatements None more next rest are behind
+deeds_unrefused_at ended unbroken reference named none tests f input output ns InStatements waiting (Pause more) d m are refused =
+    deeds_unrefused_at ended unbroken reference named none tests f input output ns InStatements None more d m are refused
+deeds_unrefused_at ended unbroken reference named none tests f input output ns InStatements waiting (ALoop l body more) d m (g, count, own, next, turned, rest, loop, are, d_is, m_is) (inl broken) =
     loop_refused reference named none f (all_entries input output) ns l l.bound (λ i k c. AreDeeds (all_entries input output) input output (ns ++ counter_at l i ∷ []) body k c)
     (λ i. IsTurnRefused f (all_entries input output) input output (ns ++ counter_at l i ∷ []) body)
-    (λ i k c is at. deeds_unrefused ended unbroken reference named none f input output (ns ++ counter_at l i ∷ []) body k c is at) g count own turned loop broken
-deeds_unrefused ended unbroken reference named none f input output ns (ALoop l body more) d m (g, count, own, next, turned, rest, loop, are, d_is, m_is) (inr behind) =
-    deeds_unrefused ended unbroken reference named none f input output ns more next rest are behind
+    (λ i k c is at. deeds_unrefused_at ended unbroken reference named none tests f input output (ns ++ counter_at l i ∷ []) InStatements None body k c is at) g count own turned loop broken
+deeds_unrefused_at ended unbroken reference named none tests f input output ns InStatements waiting (ALoop l body more) d m (g, count, own, next, turned, rest, loop, are, d_is, m_is) (inr behind) =
+    deeds_unrefused_at ended unbroken reference named none tests f input output ns InStatements None more next rest are behind
+deeds_unrefused_at ended unbroken reference named none tests f input output ns InStatements waiting (AChoice c branches more) d m (a, own, next, inside, rest, is, within, are, d_is, m_is) (inl (inl broken)) =
+    absurd (tests.0 f.rule (record { input = input; output = output }) ns c a is broken.0)
+deeds_unrefused_at ended unbroken reference named none tests f input output ns InStatements waiting (AChoice c branches more) d m (a, own, next, inside, rest, is, within, are, d_is, m_is) (inl (inr (b, si, broken))) =
+    deeds_unrefused_at ended unbroken reference named none tests f input output ns (InBranches a) None branches own inside within
+    (subst (λ (x : Against). IsTurnRefusedAt f (all_entries input output) input output ns (InBranches x) branches) (tests.2 (record { input = input; output = output }) ns c b a si is) broken)
+deeds_unrefused_at ended unbroken reference named none tests f input output ns InStatements waiting (AChoice c branches more) d m (a, own, next, inside, rest, is, within, are, d_is, m_is) (inr behind) =
+    deeds_unrefused_at ended unbroken reference named none tests f input output ns InStatements None more next rest are behind
+deeds_unrefused_at ended unbroken reference named none tests f input output ns InStatements waiting (ABranch t own others) d m are refused = absurd are
+deeds_unrefused_at ended unbroken reference named none tests f input output ns (InBranches a) waiting (Moves own more) d m are refused = absurd are
+deeds_unrefused_at ended unbroken reference named none tests f input output ns (InBranches a) waiting (Pause more) d m are refused = absurd are
+deeds_unrefused_at ended unbroken reference named none tests f input output ns (InBranches a) waiting (ALoop l body more) d m are refused = absurd are
+deeds_unrefused_at ended unbroken reference named none tests f input output ns (InBranches a) waiting (AChoice c branches more) d m are refused = absurd are
+deeds_unrefused_at ended unbroken reference named none tests f input output ns (InBranches a) waiting (ABranch Otherwise own others) d m are refused =
+    deeds_unrefused_at ended unbroken reference named none tests f input output ns InStatements None own d m are refused
+deeds_unrefused_at ended unbroken reference named none tests f input output ns (InBranches a) waiting (ABranch (Tested ws) own others) d m (t, is, more) (inl broken) =
+    absurd (tests.1 f.rule (record { input = input; output = output }) ns a ws t is broken.0)
+deeds_unrefused_at ended unbroken reference named none tests f input output ns (InBranches a) waiting (ABranch (Tested ws) own others) d m (t, is, inl (empty, are)) (inr (inl broken)) =
+    absurd (subst (λ (q : Passage). IsTurnRefused f (all_entries input output) input output ns q) empty broken)
+deeds_unrefused_at ended unbroken reference named none tests f input output ns (InBranches a) waiting (ABranch (Tested ws) own others) d m (t, is, inl (empty, are)) (inr (inr behind)) =
+    deeds_unrefused_at ended unbroken reference named none tests f input output ns (InBranches a) (Some (joined_test waiting t)) others d m are behind
+deeds_unrefused_at ended unbroken reference named none tests f input output ns (InBranches a) waiting (ABranch (Tested ws) own others) d m (t, is, inr (some, x, y, count, rest, are, left, d_is, m_is)) (inr (inl broken)) =
+    deeds_unrefused_at ended unbroken reference named none tests f input output ns InStatements None own x count are broken
+deeds_unrefused_at ended unbroken reference named none tests f input output ns (InBranches a) waiting (ABranch (Tested ws) own others) d m (t, is, inr (some, x, y, count, rest, are, left, d_is, m_is)) (inr (inr behind)) =
+    deeds_unrefused_at ended unbroken reference named none tests f input output ns (InBranches a) None others y rest left behind
+
+pub deeds_unrefused : OneListOfEnded → MeantBreakNoRule → OneReference → OneNamed → NamedBreakNoRule → TestsAreUnbroken → (f : MoveFault) (input output : Forest Resolved) (ns : List Counted) (p : Passage) (d : Deeds Test) (m : ℕ)
+    → AreDeeds (all_entries input output) input output ns p d m → IsTurnRefused f (all_entries input output) input output ns p → f.rule ≡ rule.Memory
+deeds_unrefused ended unbroken reference named none tests f input output ns p d m are refused = deeds_unrefused_at ended unbroken reference named none tests f input output ns InStatements None p d m are refused

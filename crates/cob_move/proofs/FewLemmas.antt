@@ -7,7 +7,7 @@ use Rattle.cob_move_deeds.specs.Deeds.{Deeds, Moving, Nothing}
 use Rattle.cob_move_deeds.specs.Tests.{Test}
 use Rattle.cob_move_loops.specs.Bounded.{AreBounded}
 use Rattle.cob_move_loops.specs.Few.{statements_of}
-use Rattle.cob_move_loops.specs.Passages.{ALoop, APause, ARun, IsPassage, Looped, Moves, NoMore, Passage, PassageFront, Pause, ToItem, ToNumber, WrittenBound, WrittenLoop}
+use Rattle.cob_move_loops.specs.Passages.{ALoop, APause, ARun, Branched, Chosen, IsPassage, Looped, Moves, NoMore, Passage, PassageFront, Pause, ToItem, ToNumber, WrittenBound, WrittenLoop}
 use Rattle.cob_move_loops.specs.Turns.{Counted, in_turn, turns_between}
 use Rattle.cob_move_loops.proofs.PassageLemmas.{joined}
 use Rattle.cob_move_names.specs.Candidates.{Candidate, all_entries}
@@ -18,13 +18,12 @@ use Rattle.cob_move_statements.specs.declared.fault.MoveRule.{MoveRule}
 use Rattle.cob_move_statements.specs.Laws.{OneListOfEnded, OneReference}
 use Rattle.cob_move_statements.specs.Statements.{IsEndedStatement, Several}
 use Rattle.cob_move_statements.specs.Written.{WrittenStatement}
-use Rattle.cob_move.specs.declared.entries.Entries.{Entries}
-use Rattle.cob_move.specs.Among.{nameable}
+use Rattle.cob_move_tests.specs.declared.entries.Entries.{Entries}
+use Rattle.cob_move_tests.specs.Entries.{AllMayBeNamed, nameable, records_of}
 use Rattle.cob_move.specs.Bodies.{RunIsRefused}
 use Rattle.cob_move.specs.Deeds.{AreDeeds, ComeFirstInLoop, IsBoundRefusal, IsTurnRefused, count_of_turns}
 use Rattle.cob_move.specs.DeedsLaws.{DeedsBreakNoRule, OneDeeds}
 use Rattle.cob_move.specs.DeedsRead.{AreKept, AreTurnsMeant, FewWith, FirstIn, FirstInFront, FirstInLoop, FirstInRun, FirstInTurns, FirstBelow, FrontComesTo, FrontIsRefused, IsRefusedIn, PassageComesTo, TurnComesTo, in_its_turn}
-use Rattle.cob_move.specs.Entries.{AllMayBeNamed, records_of}
 use Rattle.cob_move.specs.Joined.{joined_deeds}
 use Rattle.cob_move.specs.Loops.{RunRefused}
 use Rattle.cob_move.specs.MeaningLaws.{MeantBreakNoRule}
@@ -40,11 +39,15 @@ comes_joined e ns APause body others own d count m (e_is, none) is =
     subst (λ (n : ℕ). PassageComesTo e ns others (joined_deeds own d) n) (omega (arith, none))
     (subst (λ (k : Deeds Test). PassageComesTo e ns others (joined_deeds k d) m) (sym e_is) is)
 comes_joined e ns (Looped l ws) body others own d count m (f, counted, loop) is = (f, counted, own, d, count, m, loop, is, refl, refl)
+comes_joined e ns (Chosen c ws) body others own d count m (a, inside, held, branches, count_is) is = (a, own, d, inside, m, held, branches, is, refl, ap (λ (k : ℕ). k + m) count_is)
+comes_joined e ns (Branched t ws) body others own d count m comes is = absurd comes
 
 pub refused_joined : (g : MoveFault) (e : Entries) (ns : List Counted) (f : PassageFront) (body others : Passage) → FrontIsRefused g e ns f body → IsRefusedIn g e ns (joined f body others)
 refused_joined g e ns (ARun ws) body others refused = inl refused
 refused_joined g e ns APause body others refused = absurd refused
 refused_joined g e ns (Looped l ws) body others refused = inl refused
+refused_joined g e ns (Chosen c ws) body others refused = inl refused
+refused_joined g e ns (Branched t ws) body others refused = absurd refused
 
 -- ---- what comes to something does so once
 
@@ -65,7 +68,7 @@ front_unbroken law g e ns f body d m named comes refused =
     (subst (λ (all : List Candidate). AreDeeds all e.input.now e.output.now ns (joined f body NoMore) (joined_deeds d Nothing) (m + 0)) named (comes_joined e ns f body NoMore d Nothing m 0 comes (refl, refl)))
     (subst (λ (all : List Candidate). IsTurnRefused g all e.input.now e.output.now ns (joined f body NoMore)) named (refused_joined g e ns f body NoMore refused))
 
-turn_unbroken : DeedsBreakNoRule → (g : MoveFault) (e : Entries) (ns : List Counted) (p : Passage) (d : Deeds Test) (m : ℕ) → AllMayBeNamed e → PassageComesTo e ns p d m → IsRefusedIn g e ns p → g.rule ≡ rule.Memory
+pub turn_unbroken : DeedsBreakNoRule → (g : MoveFault) (e : Entries) (ns : List Counted) (p : Passage) (d : Deeds Test) (m : ℕ) → AllMayBeNamed e → PassageComesTo e ns p d m → IsRefusedIn g e ns p → g.rule ≡ rule.Memory
 turn_unbroken law g e ns p d m named comes refused =
     law g e.input.now e.output.now ns p d m (subst (λ (all : List Candidate). AreDeeds all e.input.now e.output.now ns p d m) named comes)
     (subst (λ (all : List Candidate). IsTurnRefused g all e.input.now e.output.now ns p) named refused)
@@ -98,6 +101,10 @@ first_parts e ns APause body others m first = inr (inr (Nothing, 0, m, (refl, re
 first_parts e ns (Looped l ws) body others m (inl none) = inl none
 first_parts e ns (Looped l ws) body others m (inr (inl within)) = inr (inl within)
 first_parts e ns (Looped l ws) body others m (inr (inr (f, count, own, turned, rest, loop, first, is))) = inr (inr (own, turned, rest, (f, count, loop), first, is))
+first_parts e ns (Chosen c ws) body others m (inl none) = inl none
+first_parts e ns (Chosen c ws) body others m (inr (inl within)) = inr (inl within)
+first_parts e ns (Chosen c ws) body others m (inr (inr (a, own, inside, rest, held, branches, first, is))) = inr (inr (own, 1 + inside, rest, (a, inside, held, branches, refl), first, is))
+first_parts e ns (Branched t ws) body others m first = inl first
 
 -- Behind so many statements, if these are few, those that are made now are few; and what comes first in a passage is few, or comes first in what is left of it.
 abbrev pub LeftFew : Entries → List Counted → (p q : Passage) → (old now : ℕ) → Type 0

@@ -53,11 +53,11 @@ parted_joined (Choice t holding lacking more) b c is = ap (λ d. Choice t holdin
 
 -- ---- flows one behind another
 
-nothing_done : (r : Records) (on : FlowSupport) (n : ℕ) → deeds_from r on n [] ≡ Nothing
+pub nothing_done : (r : Records) (on : FlowSupport) (n : ℕ) → deeds_from r on n [] ≡ Nothing
 nothing_done r on zero = refl
 nothing_done r on (suc n) = refl
 
-none_nested : (n : ℕ) → AreNestedFlows n []
+pub none_nested : (n : ℕ) → AreNestedFlows n []
 none_nested zero = refl
 none_nested (suc n) = tt
 
@@ -85,7 +85,7 @@ test_deeds r on bound number b rest at =
     ∙ ap (λ t. Choice (Until (past_bound r b number)) Nothing (all_deeds r on rest) (deeds_from r on (length rest) t)) (drop-length rest)
     ∙ ap (λ d. Choice (Until (past_bound r b number)) Nothing (all_deeds r on rest) d) (nothing_done r on (length rest))
 
-no_flows : (on : FlowSupport) → AreFlows on []
+pub no_flows : (on : FlowSupport) → AreFlows on []
 no_flows on = record { each = tt; nested = refl }
 
 pub linked_flows : (r : Records) (on : FlowSupport) (f : ℕ → Deeds Test) (bound by i : ℕ) (b : Bound) (turns : List (List Flow)) → slice_get on.bounds bound ≡ Some b → AreTurns r on f by i turns

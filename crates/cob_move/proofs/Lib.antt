@@ -11,7 +11,11 @@ pub mod PieceLemmas
 pub mod PassageLemmas
 pub mod PlainLemmas
 pub mod LoopLemmas
+mod AskedLemmas
+mod ChoosingLemmas
 mod FlowLemmas
+mod BranchLemmas
+mod ChoiceLemmas
 mod DeedsLemmas
 mod FewLemmas
 mod WholeLemmas

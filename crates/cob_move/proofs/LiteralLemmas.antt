@@ -2,7 +2,6 @@
 use Rattle.std.proofs.Common.{◌≡◌, ◌⊎◌, inl, inr, ℕ, zero, suc, ◌+◌, ◌*◌, ◌<◌, ◌≤◌, false, List, [], ◌∷◌, ◌++◌, length, refl, sym, ap, subst, ◌∙◌, append_assoc, append-nil, arith}
 use Rattle.std.proofs.lemmas.List.{length-append}
 use Rattle.std.proofs.Math.Nat.{suc-mul}
-use Rattle.std.specs.List.{AllByRecursion}
 use Rattle.cob_source.specs.Tokens.{Lexeme}
 use Rattle.cob_copybook_tree.specs.Forests.{Forest}
 use Rattle.cob_copybook_tree.specs.Nodes.{Resolved}
@@ -11,8 +10,7 @@ use Rattle.cob_move_data.specs.Moves.{Move}
 use Rattle.cob_move_deeds.specs.Deeds.{Deeds, Moving, Nothing}
 use Rattle.cob_move_deeds.specs.Tests.{Test}
 use Rattle.cob_move_loops.specs.Bounded.{AreBounded, IsBounded}
-use Rattle.cob_move_loops.specs.Few.{loops_of}
-use Rattle.cob_move_loops.specs.Passages.{ALoop, IsHead, IsPassage, IsRun, Moves, NoMore, Passage, Pause, ToItem, ToNumber, WrittenBound, WrittenLoop}
+use Rattle.cob_move_loops.specs.Passages.{ABranch, AChoice, ALoop, IsHead, IsPassage, IsRun, Moves, NoMore, Passage, Pause, ToItem, ToNumber, WrittenBound, WrittenLoop}
 use Rattle.cob_move_loops.specs.Turns.{Counted, counter_at, in_turn, turns, turns_between, turns_of, turns_up_to, words_by_turn}
 use Rattle.cob_move_names.specs.Candidates.{Candidate, all_entries}
 use Rattle.cob_move_statements.specs.declared.fault.MoveFault.{MoveFault}
@@ -30,19 +28,11 @@ use Rattle.cob_move.proofs.TurnsLemmas.{chosen}
 
 -- ---- loops that end by numbers
 
-all_front : {A : Type 0} (P : A → Type 0) (xs ys : List A) → AllByRecursion P (xs ++ ys) → AllByRecursion P xs
-all_front P [] ys all = tt
-all_front P (x ∷ xs) ys all = (all.0, all_front P xs ys all.1)
-
-all_behind : {A : Type 0} (P : A → Type 0) (xs ys : List A) → AllByRecursion P (xs ++ ys) → AllByRecursion P ys
-all_behind P [] ys all = all
-all_behind P (x ∷ xs) ys all = all_behind P xs ys all.1
-
 literal_within : (l : WrittenLoop) (body more : Passage) → IsLiteral (ALoop l body more) → IsLiteral body
-literal_within l body more all = all_front (λ (k : WrittenLoop). EndsByNumber k.bound) (loops_of body) (loops_of more) all.1
+literal_within l body more all = all.1
 
 literal_behind : (l : WrittenLoop) (body more : Passage) → IsLiteral (ALoop l body more) → IsLiteral more
-literal_behind l body more all = all_behind (λ (k : WrittenLoop). EndsByNumber k.bound) (loops_of body) (loops_of more) all.1
+literal_behind l body more all = all.2
 
 number_bounded : (b : WrittenBound) (name : List ℕ) (body : Passage) → EndsByNumber b → IsBounded b name body
 number_bounded (ToNumber n) name body ends = tt
@@ -54,6 +44,8 @@ literal_bounded (Moves own more) all = literal_bounded more all
 literal_bounded (Pause more) all = literal_bounded more all
 literal_bounded (ALoop l body more) all =
     (number_bounded l.bound l.counter body all.0, literal_bounded body (literal_within l body more all), literal_bounded more (literal_behind l body more all))
+literal_bounded (AChoice c branches more) all = absurd all
+literal_bounded (ABranch t own others) all = absurd all
 
 head_adds : (l : WrittenLoop) (ws : List Lexeme) → IsHead l ws → 0 < l.by
 head_adds l ws (varying, stepping, until, v, (begins, first, adds, step, from, one, by, two, e), u, f) = two.some
@@ -228,6 +220,8 @@ literal_comes input output ns (ALoop l body more) ws (head, own, stops, rest, en
       done_as (k.count + k.rest) m (k.first ++ k.behind) ms (joined_deeds d next) (joined_deeds d next) (sym k.many) (sym k.moves) refl
           (done_both k.count k.rest k.first k.behind d next done all_done),
     )
+literal_comes input output ns (AChoice c branches more) ws says all ms m h = absurd all
+literal_comes input output ns (ABranch t own others) ws says all ms m h = absurd all
 
 -- ---- and back
 
@@ -286,6 +280,8 @@ comes_literal input output ns (ALoop l body more) ws (head, within, stops, rest,
     means_as input output (turns out l.by (turns_of l) l.from ++ words_by_turn ns more) (joined_deeds own next) d (turned + others) m (sym d_is) (sym m_is)
     (means_both input output (turns out l.by (turns_of l) l.from) (words_by_turn ns more) own next turned others first
     (comes_literal input output ns more rest is (literal_behind l body more all) next others behind))
+comes_literal input output ns (AChoice c branches more) ws says all d m h = absurd all
+comes_literal input output ns (ABranch t own others) ws says all d m h = absurd all
 
 -- ---- what refuses runs refuses a passage
 
@@ -331,3 +327,5 @@ runs_turn_refused f all input output ns (ALoop l body more) literal h =
           (λ i x. runs_turn_refused f all input output (ns ++ counter_at l i ∷ []) body (literal_within l body more literal) x) l.by (turns_of l) l.from here))
       | inr there ↦ inr (runs_turn_refused f all input output ns more (literal_behind l body more literal) there)
     ]
+runs_turn_refused f all input output ns (AChoice c branches more) literal h = absurd literal
+runs_turn_refused f all input output ns (ABranch t own others) literal h = absurd literal

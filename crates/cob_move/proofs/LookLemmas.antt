@@ -5,19 +5,20 @@ use Rattle.cob_limits.specs.Limits.{most_written_out}
 use Rattle.cob_source.specs.Tokens.{Lexeme}
 use Rattle.cob_move_deeds.specs.Deeds.{Deeds}
 use Rattle.cob_move_deeds.specs.Tests.{Test}
-use Rattle.cob_move_loops.specs.Passages.{APause, ARun, FrontStands, IsPassage, Looped, Passage, PassageFront, ToItem, ToNumber, WrittenBound, WrittenLoop}
+use Rattle.cob_move_loops.specs.Passages.{APause, ARun, Branched, Chosen, FrontStands, IsPassage, Looped, Passage, PassageFront, ToItem, ToNumber, WrittenBound, WrittenLoop}
 use Rattle.cob_move_loops.specs.Reading.{Within}
 use Rattle.cob_move_loops.specs.Turns.{Counted, in_turn, turns_between}
+use Rattle.cob_move_loops.specs.declared.parts.Place.TheVariants as standing
 use Rattle.cob_move_loops.proofs.FrontLemmas.{front_smaller}
-use Rattle.cob_move_loops.proofs.PassageLemmas.{IsOnlyFront, Parted, joined, nothing_left, parted}
+use Rattle.cob_move_loops.proofs.PassageLemmas.{IsOnlyFront, Parted, joined, nothing_left, parted, shorter}
 use Rattle.cob_move_statements.specs.Laws.{OneListOfEnded, OneReference}
 use Rattle.cob_move_statements.specs.declared.fault.MoveFault.{MoveFault}
 use Rattle.cob_move_statements.specs.declared.fault.MoveRule.TheVariants as rule
 use Rattle.cob_move.specs.declared.made.NotRead.{NotRead}
 use Rattle.cob_move.specs.declared.made.NotRead.TheVariants as why
 use Rattle.cob_move.specs.declared.made.Sizes.{Sizes}
-use Rattle.cob_move.specs.declared.entries.Entries.{Entries}
-use Rattle.cob_move.specs.Among.{nameable}
+use Rattle.cob_move_tests.specs.declared.entries.Entries.{Entries}
+use Rattle.cob_move_tests.specs.Entries.{nameable}
 use Rattle.cob_move.specs.Deeds.{IsLoopRefused}
 use Rattle.cob_move.specs.DeedsLaws.{OneDeeds}
 use Rattle.cob_move.specs.DeedsRead.{AddsDeeds, BoundNotRead, BreaksInTurn, FrontStops, IsRefusedIn, IsSure, LoopStops, MadeLists, PassageComesTo, RunRefusedIn, StopsAt, WordsStop, closed, closed_where, deep, deep_front, in_its_turn, last_marked, taken_back, without_flows, words_in_front}
@@ -25,7 +26,8 @@ use Rattle.cob_move.specs.Loops.{RunRefused}
 use Rattle.cob_move.proofs.DeedsLemmas.{either_side, up_to_some}
 use Rattle.cob_move.proofs.FewLemmas.{refused_joined}
 use Rattle.cob_move.proofs.MadeLemmas.{either_memory, told_refused}
-use Rattle.cob_move.proofs.MixedTurns.{late_within}
+use Rattle.cob_move.specs.Paragraphs.{has_choice}
+use Rattle.cob_move.proofs.MixedTurns.{late_within, plain_so}
 use Rattle.cob_move.proofs.ReadingLemmas.{refused_behind}
 
 -- ---- words of MOVE statements
@@ -72,21 +74,21 @@ LeftOfLook e ns words rest = (p : Passage) → IsPassage p words → (q : Passag
 pub look_first : (e : Entries) (ns : List Counted) (words : List Lexeme) → LeftOfLook e ns words words
 look_first e ns words p is = (p, is, λ f k. k)
 
-pub look_more : (e : Entries) (ns : List Counted) (words rest more : List Lexeme) (f : PassageFront) → LeftOfLook e ns words rest → 0 < length rest → IsOnlyFront f rest more → LeftOfLook e ns words more
+pub look_more : (e : Entries) (ns : List Counted) (words rest more : List Lexeme) (f : PassageFront) → LeftOfLook e ns words rest → 0 < length rest → IsOnlyFront standing.Statements f rest more → LeftOfLook e ns words more
 look_more e ns words rest more f left some only p is =
     let (q, are, so) = left p is in
-    let k : Parted f more q = parted f rest more q are some only in
+    let k : Parted standing.Statements f more q = parted standing.Statements f rest more q are some only in
     (k.others, k.is, λ g x. so g (subst (λ (t : Passage). IsRefusedIn g e ns t) (sym k.same) (refused_behind g e ns f k.body k.others x)))
 
-pub look_stops : (n : NotRead) (e : Entries) (ns : List Counted) (words rest more : List Lexeme) (f : PassageFront) → LeftOfLook e ns words rest → 0 < length rest → IsOnlyFront f rest more → FrontStops n e ns f → WordsStop n e ns words
+pub look_stops : (n : NotRead) (e : Entries) (ns : List Counted) (words rest more : List Lexeme) (f : PassageFront) → LeftOfLook e ns words rest → 0 < length rest → IsOnlyFront standing.Statements f rest more → FrontStops n e ns f → WordsStop n e ns words
 look_stops why.Memory e ns words rest more f left some only stops p is = tt
 look_stops why.TooMany e ns words rest more f left some only stops p is =
     let (q, are, so) = left p is in
-    let k : Parted f more q = parted f rest more q are some only in
+    let k : Parted standing.Statements f more q = parted standing.Statements f rest more q are some only in
     stops k.body k.within
 look_stops (why.Broken g) e ns words rest more f left some only stops p is =
     let (q, are, so) = left p is in
-    let k : Parted f more q = parted f rest more q are some only in
+    let k : Parted standing.Statements f more q = parted standing.Statements f rest more q are some only in
     let (other, refused) = stops k.body k.within in
     (other, so g (subst (λ (t : Passage). IsRefusedIn g e ns t) (sym k.same) (refused_joined g e ns f k.body k.others refused)))
 
@@ -96,6 +98,8 @@ deep_joined : (f : PassageFront) (body others : Passage) (n : ℕ) → deep_fron
 deep_joined (ARun ws) body others n front behind = behind
 deep_joined APause body others n front behind = behind
 deep_joined (Looped l ws) body others n front behind = max-le front behind
+deep_joined (Chosen c ws) body others n front behind = behind
+deep_joined (Branched t ws) body others n front behind = behind
 
 -- of what is behind what was passed, no more hold one another than of all, and of what was passed no more than so many
 abbrev pub LeftOfDeep : ℕ → (words rest : List Lexeme) → Type 0
@@ -104,11 +108,11 @@ LeftOfDeep most words rest = (p : Passage) → IsPassage p words → (q : Passag
 pub deep_first : (words : List Lexeme) → LeftOfDeep 0 words words
 deep_first words p is = (p, is, λ n some k. k)
 
-pub deep_more : (most here then_most : ℕ) (words rest more : List Lexeme) (f : PassageFront) → LeftOfDeep most words rest → 0 < length rest → IsOnlyFront f rest more → ((p : Passage) → Within f p → deep_front f p ≤ here)
+pub deep_more : (most here then_most : ℕ) (words rest more : List Lexeme) (f : PassageFront) → LeftOfDeep most words rest → 0 < length rest → IsOnlyFront standing.Statements f rest more → ((p : Passage) → Within f p → deep_front f p ≤ here)
     → most ≤ then_most → here ≤ then_most → LeftOfDeep then_most words more
 deep_more most here then_most words rest more f left some only front before own p is =
     let (q, are, behind) = left p is in
-    let k : Parted f more q = parted f rest more q are some only in (
+    let k : Parted standing.Statements f more q = parted standing.Statements f rest more q are some only in (
       k.others,
       k.is,
       λ n greater others. behind n (omega (arith, greater, before))
@@ -118,12 +122,14 @@ deep_more most here then_most words rest more f left some only front before own 
 pub deep_end : (most : ℕ) (words rest : List Lexeme) → LeftOfDeep most words rest → ((f : PassageFront) (more : List Lexeme) → FrontStands f rest more → ⊥) → (p : Passage) → IsPassage p words → deep p ≤ most
 deep_end most words rest left none p is =
     let (q, are, behind) = left p is in
-    behind most (omega arith) (subst (λ (t : Passage). deep t ≤ most) (sym (nothing_left q rest are none)) (omega arith))
+    behind most (omega arith) (subst (λ (t : Passage). deep t ≤ most) (sym (nothing_left standing.Statements q rest are none)) (omega arith))
 
 pub words_smaller : (f : PassageFront) (ws more : List Lexeme) → FrontStands f ws more → words_in_front f < length ws
-words_smaller (ARun own) ws more stands = front_smaller (ARun own) ws more stands
-words_smaller APause ws more stands = front_smaller APause ws more stands
-words_smaller (Looped l own) ws more stands = front_smaller (Looped l own) ws more stands
+words_smaller (ARun own) ws more stands = front_smaller standing.Statements (ARun own) ws more stands
+words_smaller APause ws more stands = front_smaller standing.Statements APause ws more stands
+words_smaller (Looped l own) ws more stands = front_smaller standing.Statements (Looped l own) ws more stands
+words_smaller (Chosen c own) ws more stands = omega (arith, shorter standing.Statements (Chosen c own) ws more stands)
+words_smaller (Branched t own) ws more stands = absurd stands
 
 -- ---- a turn that is sure to come to few
 
@@ -145,12 +151,12 @@ reads_same number next size mid after kept passed = elim (either_side number nex
 ]
 
 pub next_sure : OneDeeds → OneListOfEnded → OneReference → (e : Entries) (ns : List Counted) (l : WrittenLoop) (body : List Lexeme) (step number next deepest before : ℕ) (size : Sizes) (now mid after : MadeLists) → number ≡ l.from + step
-    → AddsDeeds e (in_its_turn ns l number) body now mid → ((p : Passage) → IsPassage p body → deep p ≤ deepest) → before ≡ mid.read - now.read → mid.read + before * (deepest + 1) ≤ most_written_out
+    → AddsDeeds e (in_its_turn ns l number) body now mid → ((p : Passage) → IsPassage p body → (has_choice p ≡ false) × (deep p ≤ deepest)) → before ≡ mid.read - now.read → mid.read + before * (deepest + 1) ≤ most_written_out
     → (number ≡ next → after ≡ without_flows (closed mid)) → ((number ≡ next → ⊥) → after ≡ taken_back size mid) → IsSure e (in_its_turn ns l (l.from + (step + 1))) body after.read
 next_sure law ended one e ns l body step number next deepest before size now mid after at adds low own few kept passed p is le many first =
     let a = adds p is in
     let within : many ≤ a.many * suc deepest =
-    late_within law ended one e.input.now e.output.now (nameable e) ns l p number (l.from + (step + 1)) a.deeds a.many many deepest (low p is) a.are first in
+    late_within law ended one e.input.now e.output.now (nameable e) ns l p number (l.from + (step + 1)) a.deeds a.many many deepest (plain_so p (low p is).0) (low p is).1 a.are first in
     let product : before * (deepest + 1) ≡ a.many * suc deepest =
     ap (λ (t : ℕ). t * (deepest + 1)) (omega (arith, own, a.longer)) ∙ ap (λ (t : ℕ). a.many * t) (omega arith) in
     omega (arith, within, few, product, reads_same number next size mid after kept passed)

@@ -3,21 +3,22 @@ use Rattle.std.proofs.Common.{◌≡◌, ◌⊎◌, inl, inr, ℕ, ◌+◌, ◌<
 use Rattle.std.proofs.lemmas.List.{drop_all, length-append, map-append, take_more}
 use Rattle.std.proofs.lemmas.Bool.Decides.{Decides-eqb}
 use Rattle.std.proofs.lemmas.Grind.{flat_map-append}
-use Rattle.std.specs.Prelude.{◌==◌, ◌↔◌}
+use Rattle.std.specs.Prelude.{◌==◌, ◌↔◌, ◌&&◌, ◌||◌, not}
 use Rattle.std.specs.List.{AllByRecursion}
 use Rattle.cob_source.specs.Tokens.{Lexeme, lexemes}
 use Rattle.cob_source.specs.declared.token.TokenKind.{TokenKind}
 use Rattle.cob_copybook_names.specs.Naming.{named}
 use Rattle.cob_copybook_tree.specs.Forests.{Forest}
 use Rattle.cob_copybook_tree.specs.Nodes.{Resolved}
-use Rattle.cob_move_loops.specs.Passages.{IsPassage, Passage, WrittenLoop}
-use Rattle.cob_move_loops.specs.Few.{Clashes, IsFew, IsShallow, loop_line, loops_of}
+use Rattle.cob_move_loops.specs.declared.parts.Place.TheVariants as standing
+use Rattle.cob_move_loops.specs.Passages.{ABranch, AChoice, ALoop, IsPassage, Moves, NoMore, Passage, Pause, WrittenLoop}
+use Rattle.cob_move_loops.specs.Few.{Clashes, IsFew, IsShallow, opening_line, loops_of}
 use Rattle.cob_move_loops.specs.Laws.{NoTurn}
 use Rattle.cob_move_loops.specs.Reading.{ClashesIn, all_runs, counters, run_words}
 use Rattle.cob_move_loops.specs.declared.turn.Counter.{Counter}
 use Rattle.cob_move_loops.specs.declared.writing.Run.{Run}
 use Rattle.cob_move_loops.specs.Turns.{in_turn, words_by_turn}
-use Rattle.cob_move_loops.specs.Words.{IsOther, IsPeriod, loop_word_of_kind}
+use Rattle.cob_move_loops.specs.Words.{IsOther, IsPeriod, passage_word_of_kind}
 use Rattle.cob_move_names.specs.Candidates.{Candidate, all_entries}
 use Rattle.cob_move_names.specs.References.{BreaksReference, NamesOperand}
 use Rattle.cob_move_apply.specs.Some.{SomeOf}
@@ -31,13 +32,13 @@ use Rattle.cob_move_data.specs.Moves.{Move, moves, statement_moves}
 use Rattle.cob_move_data.specs.declared.operands.Operand.{Operand}
 use Rattle.cob_move_data.specs.declared.operands.Side.{Side}
 use Rattle.cob_source.specs.Words.{AreParagraphWordsOf}
-use Rattle.cob_move.specs.declared.entries.Entries.{Entries}
-use Rattle.cob_move.specs.Among.{AreMeaningsAmong, nameable}
-use Rattle.cob_move.specs.Entries.{AllMayBeNamed, records_of}
+use Rattle.cob_move_tests.specs.declared.entries.Entries.{Entries}
+use Rattle.cob_move.specs.Among.{AreMeaningsAmong}
+use Rattle.cob_move_tests.specs.Entries.{AllMayBeNamed, nameable, records_of}
 use Rattle.cob_move.specs.Meaning.{AreMeanings}
 use Rattle.cob_move.specs.Loops.{AddsRun, AreItsLoops, BodyRefused, BreaksAnywhere, HasChecked, HasJudged, IsClashOf, RunRefused, SayRuns, SaysBody}
 use Rattle.cob_move.specs.Bodies.{AreSpelled, BreaksCounters, BreaksFew, BreaksPassage, IsBodyIn, IsNoEntry, IsPassageRefusal, IsRunRefusal}
-use Rattle.cob_move.specs.Paragraphs.{EndsByNumber, IsLiteral}
+use Rattle.cob_move.specs.Paragraphs.{EndsByNumber, IsLiteral, has_choice}
 use Rattle.cob_move.proofs.PieceLemmas.{meanings_both}
 use Rattle.cob_move.proofs.SomeLemmas.{next}
 
@@ -49,17 +50,17 @@ not_true b f t = let never : true ≡ false = sym t ∙ f in cc
 pub grammar_refused : (f : MoveFault) (line : ℕ) (body : List Lexeme) → f.rule ≡ rule.Grammar → f.line ≡ line → BreaksPassage body line → BreaksAnywhere f body
 grammar_refused f line body same at broken = λ all. subst (λ (r : MoveRule). IsPassageRefusal r f.line all body) (sym same) (subst (λ (n : ℕ). BreaksPassage body n) (sym at) broken)
 
-many_refused : (f : MoveFault) (body : List Lexeme) → f.rule ≡ rule.TooMany → f.line ≡ loop_line body → BreaksFew body → BreaksAnywhere f body
+many_refused : (f : MoveFault) (body : List Lexeme) → f.rule ≡ rule.TooMany → f.line ≡ opening_line body → BreaksFew body → BreaksAnywhere f body
 many_refused f body same at many = λ all. subst (λ (r : MoveRule). IsPassageRefusal r f.line all body) (sym same) (many, at)
 
-pub deep_refused : (f : MoveFault) (line : ℕ) (body : List Lexeme) (shallow : Bool) → f.rule ≡ rule.TooMany → f.line ≡ line → line ≡ loop_line body → shallow ≡ false → (IsShallow body → shallow ≡ true) → BreaksAnywhere f body
+pub deep_refused : (f : MoveFault) (line : ℕ) (body : List Lexeme) (shallow : Bool) → f.rule ≡ rule.TooMany → f.line ≡ line → line ≡ opening_line body → shallow ≡ false → (IsShallow body → shallow ≡ true) → BreaksAnywhere f body
 deep_refused f line body shallow same at first no_so must = many_refused f body same (at ∙ first) (inl (λ is. not_true shallow no_so (must is)))
 
-pub long_refused : (f : MoveFault) (line : ℕ) (body : List Lexeme) (few : Bool) (p : Passage) → IsPassage p body → f.rule ≡ rule.TooMany → f.line ≡ line → line ≡ loop_line body → few ≡ false → (IsFew p → few ≡ true)
+pub long_refused : (f : MoveFault) (line : ℕ) (body : List Lexeme) (few : Bool) (p : Passage) → IsPassage p body → f.rule ≡ rule.TooMany → f.line ≡ line → line ≡ opening_line body → few ≡ false → (IsFew p → few ≡ true)
     → BreaksAnywhere f body
 long_refused f line body few p says same at first no_so must = many_refused f body same (at ∙ first) (inr (p, says, λ is. not_true few no_so (must is)))
 
-pub clash_says : (f : MoveFault) (line : ℕ) (body : List Lexeme) → f.rule ≡ rule.Counter → f.line ≡ line → ClashesIn [] body line → IsClashOf f body
+pub clash_says : (f : MoveFault) (line : ℕ) (body : List Lexeme) → f.rule ≡ rule.Counter → f.line ≡ line → ClashesIn standing.Statements [] body line → IsClashOf f body
 clash_says f line body same at clash = inr (same, λ p is. subst (λ (n : ℕ). Clashes [] p n) (sym at) (clash p is))
 
 pub judged : (all : List Candidate) (body : List Lexeme) (ls : List WrittenLoop) → HasChecked body → AreItsLoops body ls → AllByRecursion (λ (l : WrittenLoop). IsNoEntry all l.counter) ls → HasJudged all body
@@ -82,9 +83,64 @@ pub names_refused : (all : List Candidate) (body : List Lexeme) (ls : List Writt
 names_refused all body ls f h are same broken =
     subst (λ (r : MoveRule). IsPassageRefusal r f.line all body) (sym same) (h.passage, h.says, inr (subst (λ (ks : List WrittenLoop). BreaksCounters all f.line ks) (are h.passage h.says).1 broken))
 
--- whether its loops end by numbers is so of the passage
-pub literal_so : (literal : Bool) (p : Passage) (ls : List WrittenLoop) → ls ≡ loops_of p → ((literal ≡ true) ↔ AllByRecursion (λ (l : WrittenLoop). EndsByNumber l.bound) ls) → ((literal ≡ true) ↔ IsLiteral p)
-literal_so literal p ls same is = subst (λ (ks : List WrittenLoop). ((literal ≡ true) ↔ AllByRecursion (λ (l : WrittenLoop). EndsByNumber l.bound) ks)) same is
+all_front : {A : Type 0} (P : A → Type 0) (xs ys : List A) → AllByRecursion P (xs ++ ys) → AllByRecursion P xs
+all_front P [] ys all = tt
+all_front P (x ∷ xs) ys all = (all.0, all_front P xs ys all.1)
+
+all_behind : {A : Type 0} (P : A → Type 0) (xs ys : List A) → AllByRecursion P (xs ++ ys) → AllByRecursion P ys
+all_behind P [] ys all = all
+all_behind P (x ∷ xs) ys all = all_behind P xs ys all.1
+
+all_both : {A : Type 0} (P : A → Type 0) (xs ys : List A) → AllByRecursion P xs → AllByRecursion P ys → AllByRecursion P (xs ++ ys)
+all_both P [] ys all more = more
+all_both P (x ∷ xs) ys all more = (all.0, all_both P xs ys all.1 more)
+
+-- neither the one nor the other
+pub neither : (b c : Bool) → (b || c) ≡ false → (b ≡ false) × (c ≡ false)
+neither true c e = absurd (let never : true ≡ false = e in cc)
+neither false c e = (refl, e)
+
+-- a passage without choices whose loops all end by numbers has no test, and back
+literal_yes : (p : Passage) → AllByRecursion (λ (l : WrittenLoop). EndsByNumber l.bound) (loops_of p) → has_choice p ≡ false → IsLiteral p
+literal_yes NoMore all none = tt
+literal_yes (Moves own more) all none = literal_yes more all none
+literal_yes (Pause more) all none = literal_yes more all none
+literal_yes (ALoop l body more) all none =
+    let both = neither (has_choice body) (has_choice more) none in (
+      all.0,
+      literal_yes body (all_front (λ (k : WrittenLoop). EndsByNumber k.bound) (loops_of body) (loops_of more) all.1) both.0,
+      literal_yes more (all_behind (λ (k : WrittenLoop). EndsByNumber k.bound) (loops_of body) (loops_of more) all.1) both.1,
+    )
+literal_yes (AChoice c branches more) all none = absurd (let never : true ≡ false = none in cc)
+literal_yes (ABranch t own others) all none = absurd (let never : true ≡ false = none in cc)
+
+literal_ends : (p : Passage) → IsLiteral p → AllByRecursion (λ (l : WrittenLoop). EndsByNumber l.bound) (loops_of p)
+literal_ends NoMore is = tt
+literal_ends (Moves own more) is = literal_ends more is
+literal_ends (Pause more) is = literal_ends more is
+literal_ends (ALoop l body more) is = (is.0, all_both (λ (k : WrittenLoop). EndsByNumber k.bound) (loops_of body) (loops_of more) (literal_ends body is.1) (literal_ends more is.2))
+literal_ends (AChoice c branches more) is = absurd is
+literal_ends (ABranch t own others) is = absurd is
+
+literal_none : (p : Passage) → IsLiteral p → has_choice p ≡ false
+literal_none NoMore is = refl
+literal_none (Moves own more) is = literal_none more is
+literal_none (Pause more) is = literal_none more is
+literal_none (ALoop l body more) is = ap (λ (b : Bool). b || has_choice more) (literal_none body is.1) ∙ literal_none more is.2
+literal_none (AChoice c branches more) is = absurd is
+literal_none (ABranch t own others) is = absurd is
+
+-- a passage with a choice is not read run by run
+pub choice_literal : (p : Passage) → true ≡ has_choice p → ((false ≡ true) ↔ IsLiteral p)
+choice_literal p same = (λ e. absurd (let never : false ≡ true = e in cc), λ literal. absurd (let never : true ≡ false = same ∙ literal_none p literal in cc))
+
+-- one without is where its loops end by numbers
+pub plain_literal : (ends : Bool) (p : Passage) (ls : List WrittenLoop) → ls ≡ loops_of p → false ≡ has_choice p → ((ends ≡ true) ↔ AllByRecursion (λ (l : WrittenLoop). EndsByNumber l.bound) ls)
+    → ((ends ≡ true) ↔ IsLiteral p)
+plain_literal ends p ls same none is = (
+  λ e. literal_yes p (subst (λ (ks : List WrittenLoop). AllByRecursion (λ (l : WrittenLoop). EndsByNumber l.bound) ks) same (is.0 e)) (sym none),
+  λ literal. is.1 (subst (λ (ks : List WrittenLoop). AllByRecursion (λ (l : WrittenLoop). EndsByNumber l.bound) ks) (sym same) (literal_ends p literal)),
+)
 
 -- words that are no statements refuse a run
 pub run_refused : (r : MoveRule) (line : ℕ) (ws : List Lexeme)
@@ -105,6 +161,7 @@ run_refused rule.Twice line ws fault is = absurd is
 run_refused rule.TooLong line ws fault is = absurd is
 run_refused rule.Counter line ws fault is = absurd is
 run_refused rule.TooMany line ws fault is = absurd is
+run_refused rule.NotComparable line ws fault is = absurd is
 
 -- words of a run outside of loops
 pub none_in : {A : Type 0} (xs : List A) → length xs ≡ 0 → xs ≡ []
@@ -184,6 +241,7 @@ unknown_entry all w rule.Twice broken none = absurd broken
 unknown_entry all w rule.TooLong broken none = absurd broken
 unknown_entry all w rule.Counter broken none = absurd broken
 unknown_entry all w rule.TooMany broken none = absurd broken
+unknown_entry all w rule.NotComparable broken none = absurd broken
 unknown_entry all w rule.Memory broken none = absurd broken
 
 pub entry_unknown : (all : List Candidate) (w : WrittenReference) (r : MoveRule) → BreaksReference r all w → r ≡ rule.Unknown → named w.name w.qualifiers all ≡ []
@@ -196,7 +254,7 @@ named_entry all w side o is none = let never : is.bearer ∷ [] ≡ [] = sym is.
 -- ---- the words behind the heading
 
 period_other : (w : Lexeme) → IsPeriod w → IsOther w
-period_other w is = ap (λ (k : TokenKind). loop_word_of_kind k w.text) is
+period_other w is = ap (λ (k : TokenKind). passage_word_of_kind k w.text) is
 
 heading_other : (words heading body : List Lexeme) (w : Lexeme) (more : List Lexeme) → words ≡ w ∷ more → IsOther w → IsHeading heading → words ≡ heading ++ body → AllByRecursion IsOther heading
 heading_other words [] body w more e other are is = tt

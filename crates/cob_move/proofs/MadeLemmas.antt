@@ -1,5 +1,5 @@
 -- What is made of a paragraph so far, and more of it.
-use Rattle.std.proofs.Common.{◌≡◌, ◌⊎◌, inl, inr, false, ℕ, ◌+◌, ◌<◌, ◌≤◌, List, [], ◌∷◌, ◌++◌, drop, length, take, refl, sym, ap, subst, ◌∙◌, append_assoc, append-nil, arith}
+use Rattle.std.proofs.Common.{◌≡◌, ◌⊎◌, inl, inr, false, ℕ, ◌+◌, ◌<◌, ◌≤◌, List, [], ◌∷◌, ◌++◌, drop, length, map, take, refl, sym, ap, subst, ◌∙◌, append_assoc, append-nil, arith}
 use Rattle.std.proofs.lemmas.Grind.{flat_map-append}
 use Rattle.std.proofs.lemmas.List.{drop-append-le, length-append, take-append-le}
 use Rattle.std.proofs.Math.Seq.{take-length}
@@ -23,11 +23,10 @@ use Rattle.cob_move_statements.specs.Written.{WrittenStatement}
 use Rattle.cob_move.specs.declared.made.NotRead.{NotRead}
 use Rattle.cob_move.specs.declared.made.NotRead.TheVariants as why
 use Rattle.cob_move.specs.declared.made.Sizes.{Sizes}
-use Rattle.cob_move.specs.declared.entries.Entries.{Entries}
+use Rattle.cob_move_tests.specs.declared.entries.Entries.{Entries}
 use Rattle.cob_move.specs.Deeds.{IsRunMeant}
-use Rattle.cob_move.specs.Among.{nameable}
-use Rattle.cob_move.specs.DeedsRead.{AddsMoved, AreParted, IsNotBroken, LeavesFront, LoopRefused, MovedRefused, TurnRefused, HasGrown, IsFrontOf, IsMade, IsSizeOf, FirstInRun, MadeLists, all_deeds, forgotten, last_marked, made_deeds, open_deeds, open_statements, taken_back}
-use Rattle.cob_move.specs.Entries.{AllMayBeNamed, records_of}
+use Rattle.cob_move_tests.specs.Entries.{AllMayBeNamed, nameable, records_of}
+use Rattle.cob_move.specs.DeedsRead.{AddsMoved, AreParted, IsNotBroken, LeavesFront, LoopRefused, MovedRefused, TurnRefused, HasGrown, IsFrontOf, IsMade, IsSizeOf, FirstInRun, MadeLists, all_deeds, forgotten, last_marked, made_deeds, named_of, open_deeds, open_statements, taken_back}
 use Rattle.cob_move.specs.Joined.{joined_deeds}
 use Rattle.cob_move.specs.Loops.{AddsRun, RunRefused}
 use Rattle.cob_move.specs.Meaning.{AreMeant}
@@ -44,6 +43,8 @@ grown_none m = record {
   list = ([], sym (append-nil m.list));
   ends = ([], sym (append-nil m.ends));
   bounds = ([], sym (append-nil m.bounds));
+  asked = ([], sym (append-nil m.asked));
+  conditions = ([], sym (append-nil m.conditions));
   flows = ([], sym (append-nil m.flows));
 }
 
@@ -55,6 +56,8 @@ grown_both a b c g h = record {
   list = (g.list.0 ++ h.list.0, behind_both a.list b.list c.list g.list.0 h.list.0 g.list.1 h.list.1);
   ends = (g.ends.0 ++ h.ends.0, behind_both a.ends b.ends c.ends g.ends.0 h.ends.0 g.ends.1 h.ends.1);
   bounds = (g.bounds.0 ++ h.bounds.0, behind_both a.bounds b.bounds c.bounds g.bounds.0 h.bounds.0 g.bounds.1 h.bounds.1);
+  asked = (g.asked.0 ++ h.asked.0, behind_both a.asked b.asked c.asked g.asked.0 h.asked.0 g.asked.1 h.asked.1);
+  conditions = (g.conditions.0 ++ h.conditions.0, behind_both a.conditions b.conditions c.conditions g.conditions.0 h.conditions.0 g.conditions.1 h.conditions.1);
   flows = (g.flows.0 ++ h.flows.0, behind_both a.flows b.flows c.flows g.flows.0 h.flows.0 g.flows.1 h.flows.1);
 }
 
@@ -68,6 +71,8 @@ front_back old new on g f = record {
     f.marks.1 ∙ ap (λ (t : List ℕ). 0 ∷ t) (behind_both old.ends new.ends (new.ends ++ f.marks.0) g.ends.0 f.marks.0 g.ends.1 refl),
   );
   bounds = (g.bounds.0 ++ f.bounds.0, behind_both old.bounds new.bounds on.bounds g.bounds.0 f.bounds.0 g.bounds.1 f.bounds.1);
+  asked = (g.asked.0 ++ f.asked.0, behind_both old.asked new.asked (map named_of on.entries) g.asked.0 f.asked.0 g.asked.1 f.asked.1);
+  conditions = (g.conditions.0 ++ f.conditions.0, behind_both old.conditions new.conditions on.conditions g.conditions.0 f.conditions.0 g.conditions.1 f.conditions.1);
 }
 
 -- ---- what is taken back
@@ -78,10 +83,10 @@ front_taken xs ys more n size e =
 
 -- the same, but so many statements were read
 abbrev pub with_read : MadeLists → ℕ → MadeLists
-with_read m read = record { list = m.list; ends = m.ends; bounds = m.bounds; flows = m.flows; read = read }
+with_read m read = record { list = m.list; ends = m.ends; bounds = m.bounds; asked = m.asked; conditions = m.conditions; flows = m.flows; read = read }
 
 pub read_front : (m : MadeLists) (read : ℕ) (on : FlowSupport) → IsFrontOf (with_read m read) on → IsFrontOf m on
-read_front m read on f = record { reading = f.reading; statements = f.statements; marks = f.marks; bounds = f.bounds }
+read_front m read on f = record { reading = f.reading; statements = f.statements; marks = f.marks; bounds = f.bounds; asked = f.asked; conditions = f.conditions }
 
 pub read_made : (r : Records) (m : MadeLists) (read : ℕ) → read ≤ most_written_out → IsMade r m → IsMade r (with_read m read)
 read_made r m read few is = record {
@@ -89,19 +94,23 @@ read_made r m read few is = record {
   ends = is.ends;
   behind = is.behind;
   bounds = is.bounds;
+  asked = is.asked;
+  conditions = is.conditions;
   flows = λ on f. is.flows on (read_front m read on f);
   parted = λ on f. is.parted on (read_front m read on f);
   few = few;
 }
 
 pub read_grown : (old now : MadeLists) (read : ℕ) → HasGrown old now → HasGrown old (with_read now read)
-read_grown old now read g = record { list = g.list; ends = g.ends; bounds = g.bounds; flows = g.flows }
+read_grown old now read g = record { list = g.list; ends = g.ends; bounds = g.bounds; asked = g.asked; conditions = g.conditions; flows = g.flows }
 
 pub back_again : (s : Sizes) (old new : MadeLists) → IsSizeOf old s → HasGrown old new → taken_back s new ≡ with_read old new.read
 back_again s old new size g = λ i. record {
   list = front_taken old.list new.list g.list.0 s.list size.list g.list.1 i;
   ends = front_taken old.ends new.ends g.ends.0 s.ends size.ends g.ends.1 i;
   bounds = front_taken old.bounds new.bounds g.bounds.0 s.bounds size.bounds g.bounds.1 i;
+  asked = front_taken old.asked new.asked g.asked.0 s.asked size.asked g.asked.1 i;
+  conditions = front_taken old.conditions new.conditions g.conditions.0 s.conditions size.conditions g.conditions.1 i;
   flows = front_taken old.flows new.flows g.flows.0 s.flows size.flows g.flows.1 i;
   read = new.read;
 }
@@ -111,6 +120,8 @@ forgotten_again s old new size g = λ i. record {
   list = front_taken old.list new.list g.list.0 s.list size.list g.list.1 i;
   ends = front_taken old.ends new.ends g.ends.0 s.ends size.ends g.ends.1 i;
   bounds = front_taken old.bounds new.bounds g.bounds.0 s.bounds size.bounds g.bounds.1 i;
+  asked = front_taken old.asked new.asked g.asked.0 s.asked size.asked g.asked.1 i;
+  conditions = front_taken old.conditions new.conditions g.conditions.0 s.conditions size.conditions g.conditions.1 i;
   flows = front_taken old.flows new.flows g.flows.0 s.flows size.flows g.flows.1 i;
   read = size.read i;
 }
@@ -128,13 +139,15 @@ open_more r (x ∷ xs) y ys = ap (λ (ms : List Move). Moving ms Nothing) (moves
 
 -- the same with statements more, which were read
 abbrev pub with_more : MadeLists → List StatementMoves → MadeLists
-with_more m own = record { list = m.list ++ own; ends = m.ends; bounds = m.bounds; flows = m.flows; read = m.read + length own }
+with_more m own = record { list = m.list ++ own; ends = m.ends; bounds = m.bounds; asked = m.asked; conditions = m.conditions; flows = m.flows; read = m.read + length own }
 
 pub more_grown : (m : MadeLists) (own : List StatementMoves) → HasGrown m (with_more m own)
 more_grown m own = record {
   list = (own, refl);
   ends = ([], sym (append-nil m.ends));
   bounds = ([], sym (append-nil m.bounds));
+  asked = ([], sym (append-nil m.asked));
+  conditions = ([], sym (append-nil m.conditions));
   flows = ([], sym (append-nil m.flows));
 }
 
@@ -144,6 +157,8 @@ more_made r m own given few is = record {
   ends = is.ends;
   behind = omega (arith, is.behind, length-append m.list own);
   bounds = is.bounds;
+  asked = is.asked;
+  conditions = is.conditions;
   flows = λ on f. is.flows on (front_back m (with_more m own) on (more_grown m own) f);
   parted = λ on f. is.parted on (front_back m (with_more m own) on (more_grown m own) f);
   few = few;
@@ -186,7 +201,7 @@ moved_by e ns ws m ss (s ∷ own) is spelled meant many some one fits = record {
 
 -- the same with these statements, where so many were read
 abbrev pub with_list : MadeLists → List StatementMoves → ℕ → MadeLists
-with_list m xs read = record { list = xs; ends = m.ends; bounds = m.bounds; flows = m.flows; read = read }
+with_list m xs read = record { list = xs; ends = m.ends; bounds = m.bounds; asked = m.asked; conditions = m.conditions; flows = m.flows; read = read }
 
 -- with a run more there are not fewer
 pub run_longer : (e : Entries) (ws : List Lexeme) (old new : List StatementMoves) → AddsRun e ws old new → length old ≤ length new
@@ -196,7 +211,7 @@ run_longer e ws old new a = omega (arith, ap length a.added, length-append old a
 more_as : (e : Entries) (ws : List Lexeme) (m : MadeLists) (new : List StatementMoves) (read : ℕ) → read + length m.list ≡ m.read + length new → (a : AddsRun e ws m.list new) → with_more m a.own ≡ with_list m new read
 more_as e ws m new read size a =
     let all : m.read + length a.own ≡ read = omega (arith, size, ap length a.added, length-append m.list a.own) in
-    λ i. record { list = sym a.added i; ends = m.ends; bounds = m.bounds; flows = m.flows; read = all i }
+    λ i. record { list = sym a.added i; ends = m.ends; bounds = m.bounds; asked = m.asked; conditions = m.conditions; flows = m.flows; read = all i }
 
 pub adds_moved : OneListOfEnded → (e : Entries) (ns : List Counted) (ws : List Lexeme) (m : MadeLists) (new : List StatementMoves) (read : ℕ) → AllMayBeNamed e → IsMade (records_of e) m → IsRun ws → read ≤ most_written_out
     → read + length m.list ≡ m.read + length new → AddsRun e (in_turn ns false 0 ws) m.list new → AddsMoved e ns ws m (with_list m new read)
@@ -218,6 +233,8 @@ moved_grown e ws m new read a = record {
   list = (a.own, a.added);
   ends = ([], sym (append-nil m.ends));
   bounds = ([], sym (append-nil m.bounds));
+  asked = ([], sym (append-nil m.asked));
+  conditions = ([], sym (append-nil m.conditions));
   flows = ([], sym (append-nil m.flows));
 }
 
@@ -256,6 +273,7 @@ either_memory rule.Twice = inr (λ e. absurd (let never : rule.Twice ≡ rule.Me
 either_memory rule.TooLong = inr (λ e. absurd (let never : rule.TooLong ≡ rule.Memory = e in cc))
 either_memory rule.Counter = inr (λ e. absurd (let never : rule.Counter ≡ rule.Memory = e in cc))
 either_memory rule.TooMany = inr (λ e. absurd (let never : rule.TooMany ≡ rule.Memory = e in cc))
+either_memory rule.NotComparable = inr (λ e. absurd (let never : rule.NotComparable ≡ rule.Memory = e in cc))
 
 pub told_refused : (f : MoveFault) (e : Entries) (ns : List Counted) (ws : List Lexeme) → ((f.rule ≡ rule.Memory) → ⊥) → (f.rule ≡ rule.Memory) ⊎ RunRefused f e (in_turn ns false 0 ws) → RunRefused f e (in_turn ns false 0 ws)
 told_refused f e ns ws other (inl is) = absurd (other is)

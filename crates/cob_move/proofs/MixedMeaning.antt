@@ -23,7 +23,8 @@ use Rattle.cob_move_statements.specs.Written.{MoveCorresponding, MoveTo, SentCon
 use Rattle.cob_source.specs.Tokens.{Lexeme}
 use Rattle.cob_move.specs.declared.corresponding.TwoGroups.{TwoGroups}
 use Rattle.cob_move.specs.Deeds.{IsRunMeant}
-use Rattle.cob_move.specs.Meaning.{AreMeanings, AreMeant, AreMovesOf, AreReceiversOf, IsAllowedMove, IsMeaning, IsMoveOf, IsSenderOf, kind_of_sender, pair_move, pairs_of}
+use Rattle.cob_move.specs.Meaning.{AreMeanings, AreMeant, AreMovesOf, AreReceiversOf, IsAllowedMove, IsMeaning, IsMoveOf, pair_move, pairs_of}
+use Rattle.cob_move_names.specs.Senders.{IsSenderOf, kind_of_sender}
 use Rattle.cob_move.proofs.MixedStatements.{AllMixed, AreMixedActions, AreMixedReferences, AreMixedSenders, AreMixedStatements, AreMixedTexts, mixed_ended, mixed_length, mixed_several}
 use Rattle.cob_move.proofs.MixedWords.{AreMixed}
 

@@ -16,7 +16,8 @@ use Rattle.cob_move_names.specs.Groups.{IsListed, SubordinatesAreOperands, entri
 use Rattle.cob_move_names.specs.Pairs.{Pair, Subordinate, correspond, pairs_among, pairs_from, subordinates}
 use Rattle.cob_layout.specs.Sound.{RecordsAreSound}
 use Rattle.cob_move.specs.declared.corresponding.TwoGroups.{TwoGroups}
-use Rattle.cob_move.specs.Meaning.{AreGroupsOf, AreMeant, AreMovesOf, AreReceiversOf, IsMeaning, IsSenderOf, pair_move, pairs_of}
+use Rattle.cob_move.specs.Meaning.{AreGroupsOf, AreMeant, AreMovesOf, AreReceiversOf, IsMeaning, pair_move, pairs_of}
+use Rattle.cob_move_names.specs.Senders.{IsSenderOf}
 use Rattle.cob_move_names.specs.Between.{entries_of}
 use Rattle.cob_move.specs.MeaningLaws.{MeantAreMoves}
 use Rattle.cob_move.proofs.SomeLemmas.{all_append, all_map, all_weaken}

@@ -23,7 +23,8 @@ use Rattle.cob_move_names.specs.Laws.{NamedBreakNoRule, OneNamed}
 use Rattle.cob_move_names.specs.References.{BreaksReceiver, BreaksReference, NamesOperand}
 use Rattle.cob_move_names.specs.Pairs.{AreOnce, Pair, is_elementary}
 use Rattle.cob_move.specs.declared.corresponding.TwoGroups.{TwoGroups}
-use Rattle.cob_move.specs.Meaning.{AreMeanings, AreReceiversOf, IsAllowedMove, IsMeaning, IsSenderOf, kind_of_sender, pair_move, pairs_of}
+use Rattle.cob_move.specs.Meaning.{AreMeanings, AreReceiversOf, IsAllowedMove, IsMeaning, pair_move, pairs_of}
+use Rattle.cob_move_names.specs.Senders.{IsSenderOf, kind_of_sender}
 use Rattle.cob_move_apply.specs.Some.{SomeOf}
 use Rattle.cob_move.specs.Refusals.{BreaksMove, BreaksOn, BreaksPair, BreaksReceiving, BreaksStatement, IsNoGroup, SomeBreak, fault_on, receivers, references, sent_references, sent_constant}
 use Rattle.cob_move.specs.MeaningLaws.{MeaningsBreakNoRule, MeantBreakNoRule}
@@ -162,6 +163,7 @@ no_rule one law all input output a ms rule.TooLong h b = absurd (no_single one r
 no_rule one law all input output a ms rule.Memory h b = refl
 no_rule one law all input output a ms rule.Counter h b = absurd b
 no_rule one law all input output a ms rule.TooMany h b = absurd b
+no_rule one law all input output a ms rule.NotComparable h b = absurd b
 no_rule one law all input output a ms (rule.Source s) h b = absurd b
 
 some_broken : MeaningsBreakNoRule → (all : List Candidate) (input output : Forest Resolved) (ss : List WrittenStatement) (ms : List Move) (f : MoveFault)

@@ -11,7 +11,8 @@ use Rattle.cob_move_statements.specs.Written.{WrittenReference, WrittenSender, S
 use Rattle.cob_move_names.specs.Candidates.{Candidate}
 use Rattle.cob_move_names.specs.Laws.{OneNamed}
 use Rattle.cob_move.specs.declared.corresponding.TwoGroups.{TwoGroups}
-use Rattle.cob_move.specs.Meaning.{AreGroupsOf, AreReceiversOf, IsMoveOf, IsSenderOf, pair_move, pairs_of}
+use Rattle.cob_move.specs.Meaning.{AreGroupsOf, AreReceiversOf, IsMoveOf, pair_move, pairs_of}
+use Rattle.cob_move_names.specs.Senders.{IsSenderOf}
 use Rattle.cob_move.specs.MeaningLaws.{OneMeaning, OneMeant}
 
 pub one_sender : OneNamed → (all : List Candidate) (s : WrittenSender) (m n : Sender) → IsSenderOf all s m → IsSenderOf all s n → m ≡ n

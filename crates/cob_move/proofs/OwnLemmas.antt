@@ -1,47 +1,10 @@
--- Operands of a record, known by their entries.
-use Rattle.std.proofs.Common.{◌≡◌, ◌<◌, ◌++◌, List, [], ◌∷◌, map, sym, ap, subst, ◌∙◌, Option, Some, None}
+-- Operands of a record, one more.
+use Rattle.std.proofs.Common.{◌≡◌, ◌++◌, List, [], ◌∷◌, map, ap, ◌∙◌}
 use Rattle.std.proofs.lemmas.List.{map-append}
-use Rattle.cob_copybook.specs.Books.{IsRecordDescription}
-use Rattle.cob_copybook_tree.specs.Forests.{Forest, entries_in}
-use Rattle.cob_layout.specs.Sound.{IsSound}
-use Rattle.cob_move_apply.proofs.SeenLemmas.{there}
+use Rattle.cob_copybook_tree.specs.Forests.{Forest}
 use Rattle.cob_copybook_tree.specs.Nodes.{Resolved}
-use Rattle.cob_copybook_tree.specs.declared.node.Kind.{Kind}
-use Rattle.cob_layout_places.specs.Counts.{kind_in}
-use Rattle.cob_move_data.specs.declared.operands.Side.{Side}
-use Rattle.cob_move_data.specs.declared.operands.Operand.{Operand}
 use Rattle.cob_layout_places.specs.declared.reference.Ref.{Ref}
-use Rattle.cob_move_data.specs.Moves.{IsOperand, Records, operand_in, or_group, record_of}
-use Rattle.cob_move_statements.specs.Written.{WrittenReference}
-use Rattle.cob_move_names.specs.Candidates.{Candidate, all_entries}
-use Rattle.cob_move_names.specs.Laws.{NamedAreOperands}
-use Rattle.cob_move_names.specs.References.{NamesOperand}
-
-some_kind : (o : Option Kind) (k : Kind) → o ≡ Some k → k ≡ or_group o
-some_kind None k e = cc
-some_kind (Some x) k e = cc
-
--- what an operand's entry describes in the record is what the operand says
-pub own_operand : (tree : Forest Resolved) (o : Operand) → IsOperand tree o → o ≡ operand_in tree o.entry
-own_operand tree o is = ap (λ (k : Kind). record { entry = o.entry; kind = k }) (some_kind (kind_in o.entry.node tree) o.kind is.is)
-
-pub own_named : (all : List Candidate) (w : WrittenReference) (side : Side) (tree : Forest Resolved) (o : Operand) → IsOperand tree o → NamesOperand all w side o
-    → NamesOperand all w side (operand_in tree o.entry)
-own_named all w side tree o is h = subst (λ (x : Operand). NamesOperand all w side x) (own_operand tree o is) h
-
-pub own_is : (tree : Forest Resolved) (o : Operand) → IsOperand tree o → IsOperand tree (operand_in tree o.entry)
-own_is tree o is = subst (λ (x : Operand). IsOperand tree x) (own_operand tree o is) is
-
--- what a reference names is an operand of its record
-pub named_is : NamedAreOperands → (r : Records) (all : List Candidate) (w : WrittenReference) (side : Side) (o : Operand) → all ≡ all_entries r.input r.output
-    → IsRecordDescription r.input → IsRecordDescription r.output → NamesOperand all w side o → IsOperand (record_of r side) o
-named_is law r all w side o same input output h = law r w side o input output (subst (λ (cs : List Candidate). NamesOperand cs w side o) same h)
-
-pub kind_is : (tree other : Forest Resolved) (r : Ref) (k : Kind) → other ≡ tree → kind_in r.node other ≡ Some k → k ≡ (operand_in tree r).kind
-kind_is tree other r k same is = some_kind (kind_in r.node tree) k (ap (λ (t : Forest Resolved). kind_in r.node t) (sym same) ∙ is)
-
-pub number_is : (tree other : Forest Resolved) (r : Ref) → other ≡ tree → IsSound tree → IsOperand tree (operand_in tree r) → r.node < entries_in other
-number_is tree other r same sound is = subst (λ (t : Forest Resolved). r.node < entries_in t) (sym same) (there tree (operand_in tree r) sound.numbered is)
+use Rattle.cob_move_data.specs.Moves.{operand_in}
 
 -- the operands of entries, with one more
 pub pushed : (tree : Forest Resolved) (now new : List Ref) (r : Ref) → new ≡ now ++ r ∷ [] → map (operand_in tree) new ≡ map (operand_in tree) now ++ operand_in tree r ∷ []

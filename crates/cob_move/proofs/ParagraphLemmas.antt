@@ -21,15 +21,14 @@ use Rattle.cob_move_deeds.specs.Tests.{Judged, Test}
 use Rattle.cob_move_names.specs.Candidates.{Candidate, all_entries}
 use Rattle.cob_move_loops.specs.Bounded.{AreBounded, IsBounded, LacksBound}
 use Rattle.cob_move_loops.specs.Laws.{BreaksNone, OnePassage}
-use Rattle.cob_move_loops.specs.Passages.{ALoop, IsPassage, Moves, NoMore, Passage, Pause}
+use Rattle.cob_move_loops.specs.Passages.{ABranch, AChoice, ALoop, IsPassage, Moves, NoMore, Passage, Pause}
 use Rattle.cob_move_loops.specs.Turns.{words_by_turn}
-use Rattle.cob_move.specs.declared.entries.Entries.{Entries}
-use Rattle.cob_move.specs.Among.{nameable}
+use Rattle.cob_move_tests.specs.declared.entries.Entries.{Entries}
+use Rattle.cob_move_tests.specs.Entries.{AllMayBeNamed, nameable, records_of}
 use Rattle.cob_move.specs.Bodies.{AreCounters, HasPassage, IsBodyIn}
 use Rattle.cob_move.specs.Deeds.{AreDeeds, ComeFirst, IsTurnRefused}
 use Rattle.cob_move.specs.DeedsLaws.{DeedsBreakNoRule, OneDeeds}
 use Rattle.cob_move.specs.DeedsRead.{DeedsRefused, PassageComesTo, SaysDeeds, open_deeds}
-use Rattle.cob_move.specs.Entries.{AllMayBeNamed, records_of}
 use Rattle.cob_move.specs.Loops.{AreLiteralWords, BodyRefused, SaysBody}
 use Rattle.cob_move.specs.MeaningLaws.{MeantAreMoves}
 use Rattle.cob_move.specs.Paragraphs.{AreDone, BreaksFormat, ComesToFew, IsBodyRefusal, IsLiteral, IsLiteralParagraphOf, IsParagraphOf, IsRefusalOf, PassageRefused}
@@ -174,6 +173,7 @@ text_unbroken rule.Twice line text input output d p broken = absurd broken
 text_unbroken rule.TooLong line text input output d p broken = absurd broken
 text_unbroken rule.Counter line text input output d p broken = absurd broken
 text_unbroken rule.TooMany line text input output d p broken = absurd broken
+text_unbroken rule.NotComparable line text input output d p broken = absurd broken
 
 -- a passage whose loops are bounded lacks no bound
 none_lacks : (p : Passage) (line : ℕ) → AreBounded p → LacksBound p line → ⊥
@@ -183,6 +183,10 @@ none_lacks (Pause more) line are lacks = none_lacks more line are lacks
 none_lacks (ALoop l body more) line are (inl own) = own.1 are.0
 none_lacks (ALoop l body more) line are (inr (inl inner)) = none_lacks body line are.1 inner
 none_lacks (ALoop l body more) line are (inr (inr behind)) = none_lacks more line are.2 behind
+none_lacks (AChoice c branches more) line are (inl inner) = none_lacks branches line are.0 inner
+none_lacks (AChoice c branches more) line are (inr behind) = none_lacks more line are.1 behind
+none_lacks (ABranch t own others) line are (inl inner) = none_lacks own line are.0 inner
+none_lacks (ABranch t own others) line are (inr behind) = none_lacks others line are.1 behind
 
 -- what refuses a passage, where it is a paragraph's
 passage_unrefused : DeedsBreakNoRule → (text : List ℕ) (input output : Forest Resolved) (d : Deeds Test) (f : MoveFault) (p : IsParagraphOf text input output d) (body : List Lexeme) (k : Passage) → k ≡ p.passage

@@ -9,12 +9,12 @@ use Rattle.cob_copybook_clauses.specs.declared.term.WordClass.TheVariants as ter
 use Rattle.cob_copybook_tree.specs.Forests.{Forest}
 use Rattle.cob_copybook_tree.specs.Nodes.{Resolved}
 use Rattle.cob_move_data.specs.Moves.{Move}
-use Rattle.cob_move_loops.specs.declared.words.LoopWord.{LoopWord}
-use Rattle.cob_move_loops.specs.declared.words.LoopWord.TheVariants as loop
+use Rattle.cob_move_loops.specs.declared.words.PassageWord.{PassageWord}
+use Rattle.cob_move_loops.specs.declared.words.PassageWord.TheVariants as mark
 use Rattle.cob_move_loops.specs.Few.{AreLoopsApart, Clashes, IsFew, IsShallow, loops_of}
 use Rattle.cob_move_loops.specs.Laws.{BreaksNone, OnePassage}
-use Rattle.cob_move_loops.specs.Passages.{ALoop, IsPassage, IsRun, Moves, NoMore, Passage, Pause, WrittenLoop}
-use Rattle.cob_move_loops.specs.Words.{IsLoopWord, IsOther}
+use Rattle.cob_move_loops.specs.Passages.{ABranch, AChoice, ALoop, AnEvaluate, AnIf, IsPassage, IsRun, Moves, NoMore, Passage, Pause, WrittenLoop}
+use Rattle.cob_move_loops.specs.Words.{IsPassageWord, IsOther}
 use Rattle.cob_move_loops.proofs.PassageLemmas.{head_first}
 use Rattle.cob_move_statements.specs.declared.fault.MoveFault.{MoveFault}
 use Rattle.cob_move_statements.specs.declared.fault.MoveRule.{MoveRule}
@@ -38,7 +38,7 @@ NoOtherName (w ∷ ws) = IsNameWord w → IsOther w → ⊥
 move_no_name : (w : Lexeme) → word_class w ≡ term.Move → IsNameWord w → ⊥
 move_no_name w is named = let never : term.Move ≡ term.Plain = sym is ∙ name_plain w named in cc
 
-loop_no_other : (l : LoopWord) (w : Lexeme) → IsLoopWord l w → IsOther w → ⊥
+loop_no_other : (l : PassageWord) (w : Lexeme) → IsPassageWord l w → IsOther w → ⊥
 loop_no_other l w is other = let never : Some l ≡ None = sym is ∙ other in cc
 
 run_first : (own rest : List Lexeme) → IsRun own → NoOtherName (own ++ rest)
@@ -48,10 +48,15 @@ run_first (w ∷ own) rest is = λ named other. move_no_name w is.0 named
 passage_first : (p : Passage) (ws : List Lexeme) → IsPassage p ws → NoOtherName ws
 passage_first NoMore ws e = subst NoOtherName (sym e) tt
 passage_first (Moves own more) ws (rest, run, first, e, is) = subst NoOtherName (sym e) (run_first own rest run)
-passage_first (Pause more) ws (pause, stops, rest, word, are, e, is) = subst NoOtherName (sym e) (λ named other. loop_no_other loop.Continue pause word other)
+passage_first (Pause more) ws (pause, stops, rest, word, are, e, is) = subst NoOtherName (sym e) (λ named other. loop_no_other mark.Continue pause word other)
 passage_first (ALoop l body more) ws (head, own, stops, rest, end, h, b, inner, word, are, e, is) =
     let (w, tail, first, f) = head_first l head h in
-    subst NoOtherName (sym (e ∙ ap (λ (t : List Lexeme). t ++ (own ++ end ∷ (stops ++ rest))) f)) (λ named other. loop_no_other loop.Perform w first other)
+    subst NoOtherName (sym (e ∙ ap (λ (t : List Lexeme). t ++ (own ++ end ∷ (stops ++ rest))) f)) (λ named other. loop_no_other mark.Perform w first other)
+passage_first (AChoice (AnIf line) branches more) ws (head, own, stops, rest, end, (begins, word, at, h), b, inner, closes, are, e, is) =
+    subst NoOtherName (sym (e ∙ ap (λ (t : List Lexeme). t ++ (own ++ end ∷ (stops ++ rest))) h)) (λ named other. loop_no_other mark.If begins word other)
+passage_first (AChoice (AnEvaluate line subject) branches more) ws (head, own, stops, rest, end, (begins, word, at, tests, h), b, inner, closes, are, e, is) =
+    subst NoOtherName (sym (e ∙ ap (λ (t : List Lexeme). t ++ (own ++ end ∷ (stops ++ rest))) h)) (λ named other. loop_no_other mark.Evaluate begins word other)
+passage_first (ABranch t own others) ws is = absurd is
 
 -- behind two headings stand the same words, where no other name comes first there
 body_one : (h k a b : List Lexeme) → IsHeading h → IsHeading k → AllByRecursion IsOther h → AllByRecursion IsOther k → NoOtherName a → NoOtherName b → h ++ a ≡ k ++ b → a ≡ b
@@ -120,6 +125,7 @@ run_unbroken one unbroken f rule.Twice line all input output ws own ms same is b
 run_unbroken one unbroken f rule.TooLong line all input output ws own ms same is broken = absurd broken
 run_unbroken one unbroken f rule.Counter line all input output ws own ms same is broken = absurd broken
 run_unbroken one unbroken f rule.TooMany line all input output ws own ms same is broken = absurd broken
+run_unbroken one unbroken f rule.NotComparable line all input output ws own ms same is broken = absurd broken
 run_unbroken one unbroken f rule.Memory line all input output ws own ms same is broken = same
 
 -- runs that spell statements which mean moves are refused for want of memory alone
@@ -145,6 +151,10 @@ no_clash around (Pause more) line apart clash = no_clash around more line apart 
 no_clash around (ALoop l body more) line apart (inl own_clash) = own_clash.1 apart.0
 no_clash around (ALoop l body more) line apart (inr (inl inner)) = no_clash (around ++ l ∷ []) body line apart.1 inner
 no_clash around (ALoop l body more) line apart (inr (inr behind)) = no_clash around more line apart.2 behind
+no_clash around (AChoice c branches more) line apart (inl inner) = no_clash around branches line apart.0 inner
+no_clash around (AChoice c branches more) line apart (inr behind) = no_clash around more line apart.1 behind
+no_clash around (ABranch t own others) line apart (inl inner) = no_clash around own line apart.0 inner
+no_clash around (ABranch t own others) line apart (inr behind) = no_clash around others line apart.1 behind
 
 none_named : (all : List Candidate) (line : ℕ) (ls : List WrittenLoop) → AllByRecursion (λ (l : WrittenLoop). IsNoEntry all l.counter) ls → BreaksCounters all line ls → ⊥
 none_named all line [] none broken = broken
@@ -177,3 +187,4 @@ passage_unbroken one none rule.Literal line all words body p h counters same ref
 passage_unbroken one none rule.Groups line all words body p h counters same refused = absurd refused
 passage_unbroken one none rule.Twice line all words body p h counters same refused = absurd refused
 passage_unbroken one none rule.TooLong line all words body p h counters same refused = absurd refused
+passage_unbroken one none rule.NotComparable line all words body p h counters same refused = absurd refused

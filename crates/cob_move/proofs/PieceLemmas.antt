@@ -18,9 +18,8 @@ use Rattle.cob_move_loops.specs.Words.{IsOther}
 use Rattle.cob_move_names.specs.Candidates.{Candidate}
 use Rattle.cob_move_statements.specs.Statements.{FollowsStatements, IsEndedStatement, IsHeading, IsParagraph, Several}
 use Rattle.cob_move_statements.specs.Written.{WrittenStatement}
-use Rattle.cob_move.specs.declared.entries.Entries.{Entries}
-use Rattle.cob_move.specs.Among.{nameable}
-use Rattle.cob_move.specs.Entries.{AllMayBeNamed, records_of}
+use Rattle.cob_move_tests.specs.declared.entries.Entries.{Entries}
+use Rattle.cob_move_tests.specs.Entries.{AllMayBeNamed, nameable, records_of}
 use Rattle.cob_move.specs.Meaning.{AreMeanings}
 use Rattle.cob_move.specs.Pieces.{AddsMoves, IsParagraphAmong, SaysSoFar}
 use Rattle.cob_move.proofs.MeaningLemmas.{meant_here}

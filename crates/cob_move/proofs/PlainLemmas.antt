@@ -1,15 +1,21 @@
 -- Paragraphs without loops.
-use Rattle.std.proofs.Common.{◌≡◌, ℕ, ◌+◌, ◌<◌, List, [], ◌∷◌, ◌++◌, length, refl, sym, ap, subst, ◌∙◌, append-nil, arith, Option, Some, None}
+use Rattle.std.proofs.Common.{◌≡◌, ℕ, ◌+◌, ◌<◌, List, [], ◌∷◌, ◌++◌, length, refl, sym, ap, subst, ◌∙◌, append-nil, arith, false, Option, Some, None}
 use Rattle.std.specs.List.{AllByRecursion}
 use Rattle.cob_source.specs.Tokens.{Lexeme}
 use Rattle.cob_source.specs.Words.{ParagraphWordsAreOne}
-use Rattle.cob_move_loops.specs.declared.words.LoopWord.{LoopWord}
-use Rattle.cob_move_loops.specs.declared.words.LoopWord.TheVariants as loop
-use Rattle.cob_move_loops.specs.Few.{deepest}
+use Rattle.cob_move_loops.specs.declared.words.PassageWord.{PassageWord}
+use Rattle.cob_move_loops.specs.declared.words.PassageWord.TheVariants as mark
+use Rattle.cob_move_loops.specs.Few.{choices_by, deepest}
 use Rattle.cob_move_loops.specs.Laws.{NoTurn}
-use Rattle.cob_move_loops.specs.Passages.{ALoop, IsPassage, IsRun, Moves, NoMore, Passage, Pause, open_by}
+use Rattle.cob_move_loops.specs.Passages.{ABranch, AChoice, ALoop, AnEvaluate, AnIf, IsPassage, IsRun, Moves, NoMore, Passage, Pause, choice_edge, edge_of, loop_edge, open_by}
 use Rattle.cob_move_loops.specs.Turns.{words_by_turn}
-use Rattle.cob_move_loops.specs.Words.{IsLoopWord, IsOther, LoopWordFirst, loop_word}
+use Rattle.cob_move_loops.specs.Words.{IsPassageWord, IsOther, PassageWordFirst, branch_word}
+use Rattle.cob_move_loops.specs.declared.edges.Pair.TheVariants as pair
+use Rattle.cob_move_loops.specs.declared.parts.ChoiceKind.{ChoiceKind}
+use Rattle.cob_move_loops.specs.declared.parts.ChoiceKind.TheVariants as kind
+use Rattle.cob_move_loops.specs.declared.words.BranchWord.{BranchWord}
+use Rattle.cob_move_loops.specs.declared.words.BranchWord.TheVariants as branch
+use Rattle.cob_move_loops.specs.declared.parts.Place.TheVariants as standing
 use Rattle.cob_move_loops.proofs.PassageLemmas.{head_first, nothing_left, shorter}
 use Rattle.cob_move_statements.specs.Statements.{IsEndedStatement, IsParagraph, Several}
 use Rattle.cob_move_statements.specs.Written.{WrittenStatement}
@@ -35,11 +41,32 @@ others_behind : (a b : List Lexeme) → AllByRecursion IsOther (a ++ b) → AllB
 others_behind [] b all = all
 others_behind (w ∷ a) b all = others_behind a b all.1
 
-none_deep : (ws : List Lexeme) → AllByRecursion IsOther ws → deepest (Some 0) ws ≡ 0
+-- a word of branches opens no choice
+branch_opens_none : (k : ChoiceKind) (o : Option BranchWord) → choices_by (choice_edge k None o) 0 ≡ 0
+branch_opens_none kind.If None = refl
+branch_opens_none kind.If (Some branch.Else) = refl
+branch_opens_none kind.If (Some branch.EndIf) = refl
+branch_opens_none kind.If (Some branch.When) = refl
+branch_opens_none kind.If (Some branch.EndEvaluate) = refl
+branch_opens_none kind.Evaluate None = refl
+branch_opens_none kind.Evaluate (Some branch.Else) = refl
+branch_opens_none kind.Evaluate (Some branch.EndIf) = refl
+branch_opens_none kind.Evaluate (Some branch.When) = refl
+branch_opens_none kind.Evaluate (Some branch.EndEvaluate) = refl
+
+other_opens_none : (k : ChoiceKind) (w : Lexeme) → IsOther w → choices_by (edge_of (pair.Choice k) w) 0 ≡ 0
+other_opens_none k w other = ap (λ (o : Option PassageWord). choices_by (choice_edge k o (branch_word w)) 0) other ∙ branch_opens_none k (branch_word w)
+
+none_deep : (ws : List Lexeme) → AllByRecursion IsOther ws → deepest (Some 0) 0 0 ws ≡ 0
 none_deep [] all = refl
 none_deep (w ∷ ws) all =
-    let step : open_by (loop_word w) (Some 0) ≡ Some 0 = ap (λ (o : Option LoopWord). open_by o (Some 0)) all.0 in
-    let behind : deepest (open_by (loop_word w) (Some 0)) ws ≡ 0 = ap (λ (d : Option ℕ). deepest d ws) step ∙ none_deep ws all.1 in
+    let loops : open_by false (edge_of pair.Loop w) (Some 0) ≡ Some 0 = ap (λ (o : Option PassageWord). open_by false (loop_edge o) (Some 0)) all.0 in
+    let ifs = other_opens_none kind.If w all.0 in
+    let evaluates = other_opens_none kind.Evaluate w all.0 in
+    let behind : deepest (open_by false (edge_of pair.Loop w) (Some 0)) (choices_by (edge_of (pair.Choice kind.If) w) 0) (choices_by (edge_of (pair.Choice kind.Evaluate) w) 0) ws ≡ 0 =
+    ap (λ (d : Option ℕ). deepest d (choices_by (edge_of (pair.Choice kind.If) w) 0) (choices_by (edge_of (pair.Choice kind.Evaluate) w) 0) ws) loops
+    ∙ ap (λ (n : ℕ). deepest (Some 0) n (choices_by (edge_of (pair.Choice kind.Evaluate) w) 0) ws) ifs
+    ∙ ap (λ (n : ℕ). deepest (Some 0) 0 n ws) evaluates ∙ none_deep ws all.1 in
     omega (arith, behind)
 
 is_run : (ss : List WrittenStatement) (body : List Lexeme) → 0 < length ss → Several IsEndedStatement ss body → AllByRecursion IsOther body → IsRun body
@@ -74,15 +101,15 @@ plain_spelled no_turn body ss are = (ss, [], subst (λ (ws : List Lexeme). Sever
 
 -- ---- and back
 
-none_first : (rest : List Lexeme) → AllByRecursion IsOther rest → LoopWordFirst rest → rest ≡ []
+none_first : (rest : List Lexeme) → AllByRecursion IsOther rest → PassageWordFirst rest → rest ≡ []
 none_first [] all first = refl
 none_first (w ∷ rest) all first = absurd (first all.0)
 
-no_loop_word : (l : LoopWord) (w : Lexeme) → IsLoopWord l w → IsOther w → ⊥
-no_loop_word l w is other = let never : Some l ≡ None = sym is ∙ other in cc
+no_passage_word : (l : PassageWord) (w : Lexeme) → IsPassageWord l w → IsOther w → ⊥
+no_passage_word l w is other = let never : Some l ≡ None = sym is ∙ other in cc
 
-no_words : (q : Passage) (rest : List Lexeme) → IsPassage q rest → rest ≡ [] → q ≡ NoMore
-no_words q rest is none = nothing_left q rest is (λ f more stands. omega (arith, shorter f rest more stands, ap length none))
+pub no_words : (q : Passage) (rest : List Lexeme) → IsPassage q rest → rest ≡ [] → q ≡ NoMore
+no_words q rest is none = nothing_left standing.Statements q rest is (λ f more stands. omega (arith, shorter standing.Statements f rest more stands, ap length none))
 
 plain_is : (p : Passage) (ws : List Lexeme) → IsPassage p ws → AllByRecursion IsOther ws → 0 < length ws → p ≡ Moves ws NoMore
 plain_is NoMore ws e all some = absurd (omega (arith, some, ap length e))
@@ -91,11 +118,18 @@ plain_is (Moves own more) ws (rest, run, first, e, is) all some =
     let words : own ≡ ws = sym (append-nil own) ∙ ap (λ (t : List Lexeme). own ++ t) (sym none) ∙ sym e in
     ap (λ (t : List Lexeme). Moves t more) words ∙ ap (λ (d : Passage). Moves ws d) (no_words more rest is none)
 plain_is (Pause more) ws (pause, stops, rest, word, are, e, is) all some =
-    absurd (no_loop_word loop.Continue pause word (subst (λ (t : List Lexeme). AllByRecursion IsOther t) e all).0)
+    absurd (no_passage_word mark.Continue pause word (subst (λ (t : List Lexeme). AllByRecursion IsOther t) e all).0)
 plain_is (ALoop l body more) ws (head, own, stops, rest, end, h, b, inner, word, are, e, is) all some =
     let (w, tail, first, f) = head_first l head h in
     let words : ws ≡ w ∷ (tail ++ (own ++ end ∷ (stops ++ rest))) = e ∙ ap (λ (t : List Lexeme). t ++ (own ++ end ∷ (stops ++ rest))) f in
-    absurd (no_loop_word loop.Perform w first (subst (λ (t : List Lexeme). AllByRecursion IsOther t) words all).0)
+    absurd (no_passage_word mark.Perform w first (subst (λ (t : List Lexeme). AllByRecursion IsOther t) words all).0)
+plain_is (AChoice (AnIf line) branches more) ws (head, own, stops, rest, end, (begins, word, at, h), b, inner, closes, are, e, is) all some =
+    let words : ws ≡ begins ∷ (own ++ end ∷ (stops ++ rest)) = e ∙ ap (λ (t : List Lexeme). t ++ (own ++ end ∷ (stops ++ rest))) h in
+    absurd (no_passage_word mark.If begins word (subst (λ (t : List Lexeme). AllByRecursion IsOther t) words all).0)
+plain_is (AChoice (AnEvaluate line subject) branches more) ws (head, own, stops, rest, end, (begins, word, at, tests, h), b, inner, closes, are, e, is) all some =
+    let words : ws ≡ begins ∷ (subject ++ (own ++ end ∷ (stops ++ rest))) = e ∙ ap (λ (t : List Lexeme). t ++ (own ++ end ∷ (stops ++ rest))) h in
+    absurd (no_passage_word mark.Evaluate begins word (subst (λ (t : List Lexeme). AllByRecursion IsOther t) words all).0)
+plain_is (ABranch t own others) ws is all some = absurd is
 
 some_statements : (ss : List WrittenStatement) (body : List Lexeme) → Several IsEndedStatement ss body → 0 < length body → 0 < length ss
 some_statements [] body e some = absurd (omega (arith, some, ap length e))

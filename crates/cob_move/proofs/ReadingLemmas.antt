@@ -8,18 +8,20 @@ use Rattle.cob_move_deeds.specs.Deeds.{Deeds, IsStraight, Moving, Nothing, both_
 use Rattle.cob_move_deeds.specs.Flows.{FlowSupport}
 use Rattle.cob_move_deeds.specs.Tests.{Test}
 use Rattle.cob_move_loops.specs.Bounded.{AreBounded, BoundedFront}
-use Rattle.cob_move_loops.specs.Passages.{ALoop, APause, ARun, FrontStands, IsPassage, Looped, Moves, NoMore, Passage, PassageFront, Pause, WrittenLoop}
+use Rattle.cob_move_loops.specs.Passages.{ABranch, AChoice, ALoop, APause, ARun, Branched, Chosen, FrontStands, IsPassage, Looped, Moves, NoMore, Passage, PassageFront, Pause, WrittenChoice, WrittenLoop, WrittenTest, kind_of}
 use Rattle.cob_move_loops.specs.Reading.{Within}
 use Rattle.cob_move_loops.specs.Turns.{Counted}
+use Rattle.cob_move_loops.specs.declared.parts.ChoiceKind.{ChoiceKind}
+use Rattle.cob_move_loops.specs.declared.parts.Place.TheVariants as standing
 use Rattle.cob_move_loops.proofs.PassageLemmas.{IsOnlyFront, Parted, joined, nothing_left, parted}
 use Rattle.cob_move_statements.specs.declared.fault.MoveFault.{MoveFault}
 use Rattle.cob_move.specs.declared.made.NotRead.{NotRead}
 use Rattle.cob_move.specs.declared.made.NotRead.TheVariants as why
-use Rattle.cob_move.specs.declared.entries.Entries.{Entries}
+use Rattle.cob_move_tests.specs.declared.entries.Entries.{Entries}
 use Rattle.cob_move.specs.Deeds.{AreDeeds}
-use Rattle.cob_move.specs.DeedsRead.{AddsDeeds, AddsFront, AddsMade, AreParted, FirstIn, FirstInFront, FrontComesTo, FrontHasBounds, FrontIsRefused, FrontRefused, HasBounds, HasGrown, IsFrontOf, IsFrontRead, IsMade, IsRefusedIn, MadeLists, PassageComesTo, RefusedMade, TurnRefused, all_deeds, made_deeds, open_deeds, open_statements}
+use Rattle.cob_move.specs.DeedsRead.{AddsDeeds, AddsFront, AddsMade, AreParted, FirstIn, FirstInFront, FrontComesTo, FrontHasBounds, FrontIsRefused, FrontRefused, HasBounds, HasGrown, HaveBounds, IsFrontOf, IsFrontRead, IsMade, IsRefusedIn, MadeLists, PassageComesTo, RefusedMade, TurnRefused, all_deeds, made_deeds, open_deeds, open_statements}
 use Rattle.cob_move.specs.DeedsLaws.{DeedsBreakNoRule, OneDeeds}
-use Rattle.cob_move.specs.Entries.{AllMayBeNamed, records_of}
+use Rattle.cob_move_tests.specs.Entries.{AllMayBeNamed, records_of}
 use Rattle.cob_move.proofs.FewLemmas.{LeftFew, comes_joined, left_few_end, left_few_first, left_few_more, left_few_refused, refused_joined}
 use Rattle.cob_move.specs.Joined.{joined_deeds}
 use Rattle.cob_move.proofs.FlowLemmas.{joined_assoc, parted_joined}
@@ -57,23 +59,31 @@ pub refused_behind : (g : MoveFault) (e : Entries) (ns : List Counted) (f : Pass
 refused_behind g e ns (ARun ws) body others refused = inr refused
 refused_behind g e ns APause body others refused = refused
 refused_behind g e ns (Looped l ws) body others refused = inr refused
+refused_behind g e ns (Chosen c ws) body others refused = inr refused
+refused_behind g e ns (Branched t ws) body others refused = refused
 
-none_first : (e : Entries) (ns : List Counted) (p : Passage) → FirstIn e ns p 0
+pub none_first : (e : Entries) (ns : List Counted) (p : Passage) → FirstIn e ns p 0
 none_first e ns NoMore = refl
 none_first e ns (Moves own more) = inl refl
 none_first e ns (Pause more) = none_first e ns more
 none_first e ns (ALoop l body more) = inl refl
+none_first e ns (AChoice c branches more) = inl refl
+none_first e ns (ABranch t own others) = refl
 
 first_joined : (e : Entries) (ns : List Counted) (f : PassageFront) (body others : Passage) (m : ℕ) → FirstInFront e ns f body m → FirstIn e ns (joined f body others) m
 first_joined e ns (ARun ws) body others m (ms, meant) = inr (ms, m, 0, meant, none_first e ns others, omega arith)
 first_joined e ns APause body others m first = absurd first
 first_joined e ns (Looped l ws) body others m first = inr (inl first)
+first_joined e ns (Chosen c ws) body others m first = inr (inl first)
+first_joined e ns (Branched t ws) body others m first = absurd first
 
 first_behind : (e : Entries) (ns : List Counted) (f : PassageFront) (body others : Passage) (own : Deeds Test) (count m : ℕ) → FrontComesTo e ns f body own count → FirstIn e ns others m
     → FirstIn e ns (joined f body others) (count + m)
 first_behind e ns (ARun ws) body others own count m (ms, meant, e_is) first = inr (ms, count, m, meant, first, refl)
 first_behind e ns APause body others own count m (e_is, none) first = subst (λ (n : ℕ). FirstIn e ns others n) (omega (arith, none)) first
 first_behind e ns (Looped l ws) body others own count m (f, counted, loop) first = inr (inr (f, counted, own, count, m, loop, first, refl))
+first_behind e ns (Chosen c ws) body others own count m (a, inside, held, branches, count_is) first = inr (inr (a, own, inside, m, held, branches, first, ap (λ (k : ℕ). k + m) count_is))
+first_behind e ns (Branched t ws) body others own count m comes first = absurd comes
 
 -- ---- what is left of a passage
 
@@ -120,18 +130,18 @@ more_left law e ns p q f body others old now after same left grown a = record {
   few = left_few_more law e ns p q f body others old.read now.read after.read a.deeds a.many same a.are a.longer a.fits a.few left.few;
 }
 
-pub deeds_more : OneDeeds → (e : Entries) (ns : List Counted) (words rest more : List Lexeme) (f : PassageFront) (old now after : MadeLists) → LeftOfDeeds e ns words rest old now → 0 < length rest → IsOnlyFront f rest more
+pub deeds_more : OneDeeds → (e : Entries) (ns : List Counted) (words rest more : List Lexeme) (f : PassageFront) (old now after : MadeLists) → LeftOfDeeds e ns words rest old now → 0 < length rest → IsOnlyFront standing.Statements f rest more
     → HasGrown now after → AddsFront e ns f now after → LeftOfDeeds e ns words more old after
 deeds_more law e ns words rest more f old now after left some only grown adds p is =
     let (q, are, so) = left p is in
-    let k : Parted f more q = parted f rest more q are some only in
+    let k : Parted standing.Statements f more q = parted standing.Statements f rest more q are some only in
     (k.others, k.is, more_left law e ns p q f k.body k.others old now after k.same so grown (adds k.body k.within))
 
 pub deeds_end : (e : Entries) (ns : List Counted) (words rest : List Lexeme) (old now : MadeLists) → IsMade (records_of e) now → LeftOfDeeds e ns words rest old now
     → ((f : PassageFront) (more : List Lexeme) → FrontStands f rest more → ⊥) → AddsDeeds e ns words old now
 deeds_end e ns words rest old now made left none p is =
     let (q, are, so) = left p is in
-    let nothing : q ≡ NoMore = nothing_left q rest are none in
+    let nothing : q ≡ NoMore = nothing_left standing.Statements q rest are none in
     let (k, n, comes, makes, size, all, straight) = so.comes Nothing 0 (subst (λ (t : Passage). PassageComesTo e ns t Nothing 0) (sym nothing) (refl, refl)) in
     record {
       deeds = k;
@@ -158,10 +168,10 @@ left_refused law why.TooMany e ns p q f body others old now named same left (m, 
     (n, is, subst (λ (k : ℕ). most_written_out < k) size most)
 
 pub deeds_refused : DeedsBreakNoRule → (n : NotRead) (e : Entries) (ns : List Counted) (words rest more : List Lexeme) (f : PassageFront) (old now : MadeLists) → AllMayBeNamed e → LeftOfDeeds e ns words rest old now → 0 < length rest
-    → IsOnlyFront f rest more → FrontRefused n e ns f now → TurnRefused n e ns words old
+    → IsOnlyFront standing.Statements f rest more → FrontRefused n e ns f now → TurnRefused n e ns words old
 deeds_refused law n e ns words rest more f old now named left some only refused p is =
     let (q, are, so) = left p is in
-    let k : Parted f more q = parted f rest more q are some only in
+    let k : Parted standing.Statements f more q = parted standing.Statements f rest more q are some only in
     left_refused law n e ns p q f k.body k.others old now named k.same so (refused k.body k.within)
 
 -- ---- bounds of loops
@@ -170,11 +180,13 @@ bounded_parts : (f : PassageFront) (body others : Passage) → AreBounded (joine
 bounded_parts (ARun own) body others are = (tt, are)
 bounded_parts APause body others are = (tt, are)
 bounded_parts (Looped l own) body others are = ((are.0, are.1), are.2)
+bounded_parts (Chosen c own) body others are = are
+bounded_parts (Branched t own) body others are = are
 
 -- what stands in front is bounded, and so are the others
-pub bounds_parted : (f : PassageFront) (rest more : List Lexeme) → HasBounds rest → 0 < length rest → IsOnlyFront f rest more → FrontHasBounds f × HasBounds more
+pub bounds_parted : (f : PassageFront) (rest more : List Lexeme) → HasBounds rest → 0 < length rest → IsOnlyFront standing.Statements f rest more → FrontHasBounds f × HasBounds more
 bounds_parted f rest more (q, are, bounded) some only =
-    let k : Parted f more q = parted f rest more q are some only in
+    let k : Parted standing.Statements f more q = parted standing.Statements f rest more q are some only in
     let both = bounded_parts f k.body k.others (subst AreBounded k.same bounded) in
     ((k.body, k.within, both.0), (k.others, k.is, both.1))
 
@@ -182,7 +194,20 @@ pub front_read : (f : PassageFront) (words more : List Lexeme) → FrontStands f
 front_read (ARun own) words more stands = stands.0
 front_read APause words more stands = tt
 front_read (Looped l own) words more stands = tt
+front_read (Chosen c own) words more (head, stops, end, h, branches, closes, are, none, e) = branches.begin
+front_read (Branched t own) words more stands = absurd stands
 
 -- the statements of a loop in front are such a passage
 pub loop_bounds : (l : WrittenLoop) (own : List Lexeme) → FrontHasBounds (Looped l own) → HasBounds own
 loop_bounds l own (p, within, bounded) = (p, within, bounded.1)
+
+-- so are the branches of a choice in front
+pub choice_bounds : (c : WrittenChoice) (own : List Lexeme) → FrontHasBounds (Chosen c own) → HaveBounds (kind_of c) own
+choice_bounds c own bounds = bounds
+
+-- and the statements of a branch in front
+pub branch_bounds : (kind : ChoiceKind) (t : WrittenTest) (own rest more : List Lexeme) → HaveBounds kind rest → 0 < length rest → IsOnlyFront (standing.Branches kind) (Branched t own) rest more → HasBounds own × HaveBounds kind more
+branch_bounds kind t own rest more (q, are, bounded) some only =
+    let k : Parted (standing.Branches kind) (Branched t own) more q = parted (standing.Branches kind) (Branched t own) rest more q are some only in
+    let both : AreBounded k.body × AreBounded k.others = subst AreBounded k.same bounded in
+    ((k.body, k.within, both.0), (k.others, k.is, both.1))

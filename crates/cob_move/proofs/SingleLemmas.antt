@@ -2,6 +2,7 @@
 use Rattle.std.proofs.Common.{◌≡◌, ℕ, ◌+◌, ◌<◌, ◌≤◌, List, [], ◌∷◌, ◌++◌, length, get_or, drop, refl, sym, ap, subst, ◌∙◌, inl, inr, ◌⊎◌, append_assoc, append-nil}
 use Rattle.std.proofs.lemmas.List.{drop_all}
 use Rattle.std.specs.List.{AllByRecursion}
+use Rattle.cob_copybook_clauses.specs.Written.{WrittenValue}
 use Rattle.cob_copybook_tree.specs.Forests.{Forest}
 use Rattle.cob_copybook_tree.specs.Nodes.{Resolved}
 use Rattle.cob_move_data.specs.declared.operands.Side.TheVariants.{Out}
@@ -10,28 +11,32 @@ use Rattle.cob_move_data.specs.Moves.{Sender}
 use Rattle.cob_move_statements.specs.declared.fault.MoveRule.{MoveRule}
 use Rattle.cob_move_statements.specs.declared.fault.MoveRule.TheVariants as rule
 use Rattle.cob_move_statements.specs.declared.parts.Reference.{Reference}
-use Rattle.cob_move_statements.specs.Written.{WrittenReference, WrittenSender, SentReference, MoveTo, written_reference, written_references}
+use Rattle.cob_move_statements.specs.Written.{WrittenReference, WrittenSender, SentReference, SentConstant, MoveTo, written_reference, written_references}
 use Rattle.cob_move_names.specs.Candidates.{Candidate}
 use Rattle.cob_move_names.specs.References.{NamesOperand, BreaksReference, BreaksReceiver}
-use Rattle.cob_move.specs.Meaning.{AreReceiversOf, IsSenderOf}
+use Rattle.cob_move.specs.Meaning.{AreReceiversOf}
+use Rattle.cob_move_names.specs.Senders.{BreaksSender, BreaksSentConstant, IsSenderOf}
 use Rattle.cob_move_apply.specs.Some.{SomeOf}
-use Rattle.cob_move.specs.Refusals.{BreaksReceipt, BreaksReceiving, BreaksSender, BreaksStatement, sent_references}
+use Rattle.cob_move.specs.Refusals.{BreaksReceipt, BreaksReceiving, BreaksStatement, sent_references}
 use Rattle.cob_move.proofs.SomeLemmas.{all_append, left, right, next, none_of, some_behind, some_front, some_map}
 
-pub sender_reference : (r : MoveRule) (all : List Candidate) (w : WrittenReference) → BreaksReference r all w → BreaksSender r all (SentReference w)
-sender_reference rule.Unknown all w h = inl h
-sender_reference rule.Ambiguous all w h = inl h
-sender_reference rule.Subscripts all w h = inl h
-sender_reference r all w h = absurd h
+reference_fault : (r : MoveRule) (all : List Candidate) (w : WrittenReference) (ws : List WrittenReference) (input output : Forest Resolved)
+    → BreaksReference r all w → BreaksStatement r all input output (MoveTo (SentReference w) ws)
+reference_fault rule.Unknown all w ws input output h = inl h
+reference_fault rule.Ambiguous all w ws input output h = inl h
+reference_fault rule.Subscripts all w ws input output h = inl h
+reference_fault r all w ws input output h = absurd h
+
+constant_fault : (r : MoveRule) (all : List Candidate) (c : WrittenValue) (ws : List WrittenReference) (input output : Forest Resolved)
+    → BreaksSentConstant r c → BreaksStatement r all input output (MoveTo (SentConstant c) ws)
+constant_fault rule.Grammar all c ws input output h = h
+constant_fault rule.Literal all c ws input output h = inl h
+constant_fault r all c ws input output h = absurd h
 
 pub sender_fault : (r : MoveRule) (all : List Candidate) (s : WrittenSender) (ws : List WrittenReference) (input output : Forest Resolved)
     → BreaksSender r all s → BreaksStatement r all input output (MoveTo s ws)
-sender_fault rule.Grammar all s ws input output h = h
-sender_fault rule.Literal all s ws input output h = inl h
-sender_fault rule.Unknown all s ws input output h = some_front (BreaksReference rule.Unknown all) (sent_references s) ws h
-sender_fault rule.Ambiguous all s ws input output h = some_front (BreaksReference rule.Ambiguous all) (sent_references s) ws h
-sender_fault rule.Subscripts all s ws input output h = some_front (BreaksReference rule.Subscripts all) (sent_references s) ws h
-sender_fault r all s ws input output h = absurd h
+sender_fault r all (SentReference w) ws input output h = reference_fault r all w ws input output h
+sender_fault r all (SentConstant c) ws input output h = constant_fault r all c ws input output h
 
 -- a rule on references alone
 reference_part : (r : MoveRule) (all : List Candidate) (s : WrittenSender) (m : Sender) (ws : List WrittenReference)
@@ -57,6 +62,7 @@ receipt_fault rule.Groups all s m ws input output is h = absurd (none_of (Breaks
 receipt_fault rule.Twice all s m ws input output is h = absurd (none_of (BreaksReceipt rule.Twice all m) (λ w b. left (λ q. q.2) b) ws h)
 receipt_fault rule.Counter all s m ws input output is h = absurd (none_of (BreaksReceipt rule.Counter all m) (λ w b. left (λ q. q.2) b) ws h)
 receipt_fault rule.TooMany all s m ws input output is h = absurd (none_of (BreaksReceipt rule.TooMany all m) (λ w b. left (λ q. q.2) b) ws h)
+receipt_fault rule.NotComparable all s m ws input output is h = absurd (none_of (BreaksReceipt rule.NotComparable all m) (λ w b. left (λ q. q.2) b) ws h)
 receipt_fault (rule.Source f) all s m ws input output is h = absurd (none_of (BreaksReceipt (rule.Source f) all m) (λ w b. left (λ q. q.2) b) ws h)
 
 pub receivers_fault : (r : MoveRule) (all : List Candidate) (s : WrittenSender) (m : Sender) (ws : List WrittenReference) (input output : Forest Resolved)

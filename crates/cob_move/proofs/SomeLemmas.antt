@@ -41,6 +41,10 @@ pub all_append : {A : Type 0} (P : A → Type 0) (xs ys : List A) → AllByRecur
 all_append P [] ys h k = k
 all_append P (x ∷ xs) ys h k = (h.0, all_append P xs ys h.1 k)
 
+pub all_here : {A : Type 0} (P : A → Type 0) (xs ys : List A) (x : A) → AllByRecursion P (xs ++ x ∷ ys) → P x
+all_here P [] ys x h = h.0
+all_here P (y ∷ xs) ys x h = all_here P xs ys x h.1
+
 pub all_map : {A B : Type 0} (P : A → Type 0) (Q : B → Type 0) (f : A → B) → ((x : A) → P x → Q (f x)) → (xs : List A) → AllByRecursion P xs → AllByRecursion Q (map f xs)
 all_map P Q f g [] h = tt
 all_map P Q f g (x ∷ xs) h = (g x h.0, all_map P Q f g xs h.1)

@@ -14,6 +14,7 @@ use Rattle.cob_move_data.specs.declared.operands.Side.{Side}
 use Rattle.cob_move_data.specs.Moves.{Move, Records, moves, operand_in, record_of}
 use Rattle.cob_move_apply.specs.declared.placed.PlacedEntry.{PlacedEntry}
 use Rattle.cob_move_apply.specs.Entries.{IsPlacedEntry}
+use Rattle.cob_move_condition.specs.declared.condition.Condition.{Condition}
 use Rattle.cob_move_deeds.specs.declared.flow.Bound.{Bound}
 use Rattle.cob_move_deeds.specs.declared.flow.Flow.{Flow}
 use Rattle.cob_move_deeds.specs.Deeds.{Choice, Deeds, Moving, Nothing, both_deeds, moves_of_deeds}
@@ -31,12 +32,11 @@ use Rattle.cob_move_statements.specs.declared.fault.MoveRule.TheVariants as rule
 use Rattle.cob_move.specs.declared.made.NotRead.{NotRead}
 use Rattle.cob_move.specs.declared.made.NotRead.TheVariants as why
 use Rattle.cob_move.specs.declared.made.Sizes.{Sizes}
-use Rattle.cob_move.specs.declared.entries.Entries.{Entries}
-use Rattle.cob_move.specs.declared.entries.NamedEntry.{NamedEntry}
-use Rattle.cob_move.specs.Among.{nameable}
+use Rattle.cob_move_tests.specs.declared.entries.Entries.{Entries}
+use Rattle.cob_move_tests.specs.declared.entries.NamedEntry.{NamedEntry}
+use Rattle.cob_move_tests.specs.Entries.{AllMayBeNamed, nameable, records_of}
 use Rattle.cob_move.specs.Deeds.{AreDeeds, ComeFirstInLoop, IsBoundOf, IsLoopOf, IsLoopRefused, IsTurnRefused, count_of_turns}
 use Rattle.cob_move.specs.DeedsRead.{AddsDeeds, AddsLoop, AddsMade, AreKept, AreParted, AreTurns, BoundNotRead, BreaksInTurn, FewWith, FirstBelow, FirstIn, FirstInLoop, HasBounds, HasGrown, HasNoTurn, IsBoundRead, IsFrontOf, IsMade, IsNotBroken, IsRefusedIn, IsSizeOf, LeavesFront, LoopComesTo, LoopRefused, MadeLists, PassageComesTo, ReadsTurns, TurnRefused, all_deeds, closed, closed_where, flow_lists, in_its_turn, last_marked, linked_turns, made_deeds, open_deeds, open_statements, taken_back, without_flows}
-use Rattle.cob_move.specs.Entries.{AllMayBeNamed, records_of}
 use Rattle.cob_move.specs.DeedsLaws.{DeedsBreakNoRule, OneDeeds}
 use Rattle.cob_move.specs.Joined.{before_deeds, joined_deeds}
 use Rattle.cob_move.proofs.CloseLemmas.{closed_deeds, closed_flows, closed_grown, closed_made, closed_open, closed_read, equal_is, equal_not}
@@ -206,14 +206,14 @@ reads_passed law e ns l p behind next turns old now after kept so a =
     }
 
 -- nothing is made but what has a mark behind it
-nothing_open : (r : Records) (m : MadeLists) (on : FlowSupport) → m.flows ≡ [] → open_statements m ≡ [] → made_deeds r on m ≡ Nothing
+pub nothing_open : (r : Records) (m : MadeLists) (on : FlowSupport) → m.flows ≡ [] → open_statements m ≡ [] → made_deeds r on m ≡ Nothing
 nothing_open r m on none marked =
     ap (λ (fs : List Flow). both_deeds (all_deeds r on fs) (open_deeds r (open_statements m))) none ∙ ap (λ (ss : List StatementMoves). open_deeds r ss) marked
 
-front_closed : (m : MadeLists) (on : FlowSupport) → IsFrontOf (without_flows m) on → IsFrontOf m on
-front_closed m on f = record { reading = f.reading; statements = f.statements; marks = f.marks; bounds = f.bounds }
+pub front_closed : (m : MadeLists) (on : FlowSupport) → IsFrontOf (without_flows m) on → IsFrontOf m on
+front_closed m on f = record { reading = f.reading; statements = f.statements; marks = f.marks; bounds = f.bounds; asked = f.asked; conditions = f.conditions }
 
-closed_list : (m : MadeLists) → (closed m).list ≡ m.list
+pub closed_list : (m : MadeLists) → (closed m).list ≡ m.list
 closed_list m = list_where (nat_eq (length m.list) (last_marked 0 m.ends)) m
   where
     list_where : (b : Bool) (m : MadeLists) → (closed_where b m).list ≡ m.list
@@ -226,6 +226,8 @@ closed_after now mid none g =
       list = (g.list.0 ++ h.list.0, h.list.1 ∙ ap (λ (t : List StatementMoves). t ++ h.list.0) g.list.1 ∙ append_assoc now.list g.list.0 h.list.0);
       ends = (g.ends.0 ++ h.ends.0, h.ends.1 ∙ ap (λ (t : List ℕ). t ++ h.ends.0) g.ends.1 ∙ append_assoc now.ends g.ends.0 h.ends.0);
       bounds = (g.bounds.0 ++ h.bounds.0, h.bounds.1 ∙ ap (λ (t : List Bound). t ++ h.bounds.0) g.bounds.1 ∙ append_assoc now.bounds g.bounds.0 h.bounds.0);
+      asked = (g.asked.0 ++ h.asked.0, h.asked.1 ∙ ap (λ (t : List NamedEntry). t ++ h.asked.0) g.asked.1 ∙ append_assoc now.asked g.asked.0 h.asked.0);
+      conditions = (g.conditions.0 ++ h.conditions.0, h.conditions.1 ∙ ap (λ (t : List Condition). t ++ h.conditions.0) g.conditions.1 ∙ append_assoc now.conditions g.conditions.0 h.conditions.0);
       flows = ([], sym (ap (λ (t : List Flow). t ++ []) none));
     }
 
@@ -342,7 +344,7 @@ closed_refused why.TooMany e ns l body old refused p is =
 
 -- what is made with a loop to an item: its bound, and its flows behind those before
 abbrev pub with_loop : (old now : MadeLists) → Bound → List Flow → MadeLists
-with_loop old now b linked = record { list = now.list; ends = now.ends; bounds = now.bounds ++ b ∷ []; flows = (closed old).flows ++ linked; read = now.read }
+with_loop old now b linked = record { list = now.list; ends = now.ends; bounds = now.bounds ++ b ∷ []; asked = now.asked; conditions = now.conditions; flows = (closed old).flows ++ linked; read = now.read }
 
 slice_at : (bs more : List Bound) (b : Bound) → slice_get ((bs ++ b ∷ []) ++ more) (length bs) ≡ Some b
 slice_at [] more b = refl
@@ -404,6 +406,8 @@ loop_grown old now b linked none = record {
   list = ([], sym (append-nil now.list));
   ends = ([], sym (append-nil now.ends));
   bounds = (b ∷ [], refl);
+  asked = ([], sym (append-nil now.asked));
+  conditions = ([], sym (append-nil now.conditions));
   flows = ((closed old).flows ++ linked, sym (ap (λ (t : List Flow). t ++ ((closed old).flows ++ linked)) none));
 }
 
@@ -417,6 +421,8 @@ all_grown old now b linked g =
         ap (λ (t : List Bound). t ++ b ∷ []) g.bounds.1 ∙ append_assoc (closed old).bounds g.bounds.0 (b ∷ []) ∙ ap (λ (t : List Bound). t ++ (g.bounds.0 ++ b ∷ [])) h.bounds.1
             ∙ append_assoc old.bounds h.bounds.0 (g.bounds.0 ++ b ∷ []),
       );
+      asked = (h.asked.0 ++ g.asked.0, g.asked.1 ∙ ap (λ (t : List NamedEntry). t ++ g.asked.0) h.asked.1 ∙ append_assoc old.asked h.asked.0 g.asked.0);
+      conditions = (h.conditions.0 ++ g.conditions.0, g.conditions.1 ∙ ap (λ (t : List Condition). t ++ g.conditions.0) h.conditions.1 ∙ append_assoc old.conditions h.conditions.0 g.conditions.0);
       flows = (h.flows.0 ++ linked, ap (λ (t : List Flow). t ++ linked) h.flows.1 ∙ append_assoc old.flows h.flows.0 linked);
     }
 
@@ -459,6 +465,8 @@ loop_made e ns l p n behind turns b old now so = record {
   ends = so.after.ends;
   behind = so.after.behind;
   bounds = all_behind (IsBound (records_of e)) now.bounds b so.after.bounds so.bound.placed;
+  asked = so.after.asked;
+  conditions = so.after.conditions;
   flows = λ on f. (loop_stands e ns l p n behind turns b old now so on f).are;
   parted = λ on f.
       let k = loop_stands e ns l p n behind turns b old now so on f in
@@ -557,7 +565,7 @@ pub tested_grown : (old now new : MadeLists) (b : Bound) (linked : List Flow) �
 tested_grown old now new b linked g same = subst (λ (m : MadeLists). HasGrown old m) (sym same) (all_grown old now b linked g)
 
 -- where a turn of it breaks a rule, what was made before it stands in front
-left_closed : (n : NotRead) (old now : MadeLists) → LeavesFront n (without_flows (closed old)) now → LeavesFront n old (record { list = now.list; ends = now.ends; bounds = now.bounds; flows = (closed old).flows; read = now.read })
+left_closed : (n : NotRead) (old now : MadeLists) → LeavesFront n (without_flows (closed old)) now → LeavesFront n old (record { list = now.list; ends = now.ends; bounds = now.bounds; asked = now.asked; conditions = now.conditions; flows = (closed old).flows; read = now.read })
 left_closed why.Memory old now left = tt
 left_closed why.TooMany old now left = tt
 left_closed (why.Broken f) old now g =
@@ -565,22 +573,24 @@ left_closed (why.Broken f) old now g =
       list = (h.list.0 ++ g.list.0, g.list.1 ∙ ap (λ (t : List StatementMoves). t ++ g.list.0) h.list.1 ∙ append_assoc old.list h.list.0 g.list.0);
       ends = (h.ends.0 ++ g.ends.0, g.ends.1 ∙ ap (λ (t : List ℕ). t ++ g.ends.0) h.ends.1 ∙ append_assoc old.ends h.ends.0 g.ends.0);
       bounds = (h.bounds.0 ++ g.bounds.0, g.bounds.1 ∙ ap (λ (t : List Bound). t ++ g.bounds.0) h.bounds.1 ∙ append_assoc old.bounds h.bounds.0 g.bounds.0);
+      asked = (h.asked.0 ++ g.asked.0, g.asked.1 ∙ ap (λ (t : List NamedEntry). t ++ g.asked.0) h.asked.1 ∙ append_assoc old.asked h.asked.0 g.asked.0);
+      conditions = (h.conditions.0 ++ g.conditions.0, g.conditions.1 ∙ ap (λ (t : List Condition). t ++ g.conditions.0) h.conditions.1 ∙ append_assoc old.conditions h.conditions.0 g.conditions.0);
       flows = h.flows;
     }
 
-pub loop_left : (n : NotRead) (old now : MadeLists) (fs : List Flow) → fs ≡ (closed old).flows → LeavesFront n (without_flows (closed old)) now → LeavesFront n old (record { list = now.list; ends = now.ends; bounds = now.bounds; flows = fs; read = now.read })
-loop_left n old now fs same left = subst (λ (t : List Flow). LeavesFront n old (record { list = now.list; ends = now.ends; bounds = now.bounds; flows = t; read = now.read })) (sym same) (left_closed n old now left)
+pub loop_left : (n : NotRead) (old now : MadeLists) (fs : List Flow) → fs ≡ (closed old).flows → LeavesFront n (without_flows (closed old)) now → LeavesFront n old (record { list = now.list; ends = now.ends; bounds = now.bounds; asked = now.asked; conditions = now.conditions; flows = fs; read = now.read })
+loop_left n old now fs same left = subst (λ (t : List Flow). LeavesFront n old (record { list = now.list; ends = now.ends; bounds = now.bounds; asked = now.asked; conditions = now.conditions; flows = t; read = now.read })) (sym same) (left_closed n old now left)
 
 -- with no flows, it is the same without them
-pub emptied : (m : MadeLists) (fs : List Flow) → fs ≡ [] → record { list = m.list; ends = m.ends; bounds = m.bounds; flows = fs; read = m.read } ≡ without_flows m
-emptied m fs none = λ i. record { list = m.list; ends = m.ends; bounds = m.bounds; flows = none i; read = m.read }
+pub emptied : (m : MadeLists) (fs : List Flow) → fs ≡ [] → record { list = m.list; ends = m.ends; bounds = m.bounds; asked = m.asked; conditions = m.conditions; flows = fs; read = m.read } ≡ without_flows m
+emptied m fs none = λ i. record { list = m.list; ends = m.ends; bounds = m.bounds; asked = m.asked; conditions = m.conditions; flows = none i; read = m.read }
 
 -- what is made with a loop, by its parts
 pub loop_same : (old now : MadeLists) (b : Bound) (bounds : List Bound) (flows outside linked : List Flow) → bounds ≡ now.bounds ++ b ∷ [] → flows ≡ outside ++ linked → outside ≡ (closed old).flows
-    → record { list = now.list; ends = now.ends; bounds = bounds; flows = flows; read = now.read } ≡ with_loop old now b linked
+    → record { list = now.list; ends = now.ends; bounds = bounds; asked = now.asked; conditions = now.conditions; flows = flows; read = now.read } ≡ with_loop old now b linked
 loop_same old now b bounds flows outside linked more behind same =
     let all : flows ≡ (closed old).flows ++ linked = behind ∙ ap (λ (t : List Flow). t ++ linked) same in
-    λ i. record { list = now.list; ends = now.ends; bounds = more i; flows = all i; read = now.read }
+    λ i. record { list = now.list; ends = now.ends; bounds = more i; asked = now.asked; conditions = now.conditions; flows = all i; read = now.read }
 
 -- the bound that words name, placed
 pub bound_for : (e : Entries) (ws : List Lexeme) (n : NamedEntry) (most : ℕ) (item : PlacedEntry) → item.side ≡ n.side → item.entry ≡ n.entry → IsPlacedEntry (records_of e) item → IsBoundRead e ws n

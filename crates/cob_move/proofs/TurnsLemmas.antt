@@ -15,17 +15,16 @@ use Rattle.cob_move_deeds.specs.Tests.{Test}
 use Rattle.cob_move_loops.specs.Bounded.{AreBounded, IsBounded, has_subscript, is_subscripted, words_of_bound}
 use Rattle.cob_move_loops.specs.Few.{statements_by, statements_in, statements_of}
 use Rattle.cob_move_loops.specs.Laws.{OnePassage}
-use Rattle.cob_move_loops.specs.Passages.{ALoop, IsPassage, IsRun, Moves, NoMore, Passage, Pause, ToItem, ToNumber, WrittenBound, WrittenLoop}
+use Rattle.cob_move_loops.specs.Passages.{ABranch, AChoice, ALoop, IsPassage, IsRun, Moves, NoMore, Passage, Pause, ToItem, ToNumber, WrittenBound, WrittenLoop}
 use Rattle.cob_move_loops.specs.Turns.{Counted, turns_between, turns_of, turns_up_to}
 use Rattle.cob_move_statements.specs.declared.fault.MoveFault.{MoveFault}
 use Rattle.cob_move.specs.declared.made.NotRead.{NotRead}
 use Rattle.cob_move.specs.declared.made.NotRead.TheVariants as why
-use Rattle.cob_move.specs.declared.entries.Entries.{Entries}
-use Rattle.cob_move.specs.Among.{nameable}
+use Rattle.cob_move_tests.specs.declared.entries.Entries.{Entries}
+use Rattle.cob_move_tests.specs.Entries.{AllMayBeNamed, nameable, records_of}
 use Rattle.cob_move.specs.Deeds.{ComeFirstInLoop, IsLoopOf, IsLoopRefused, count_of_turns, deeds_of_turns}
 use Rattle.cob_move.specs.DeedsRead.{AddsDeeds, AddsLoop, AddsMade, AddsTurns, AreTurnsMeant, FewWith, FirstIn, FirstInLoop, FirstInTurns, HasBounds, HasGrown, IsFrontOf, IsMade, IsRefusedIn, LoopComesTo, LoopIsRefused, LoopRefused, MadeLists, PassageComesTo, RefusedMade, TurnComesTo, TurnRefused, in_its_turn, made_deeds}
 use Rattle.cob_move.specs.DeedsLaws.{DeedsBreakNoRule, OneDeeds}
-use Rattle.cob_move.specs.Entries.{AllMayBeNamed, records_of}
 use Rattle.cob_move.specs.Joined.{joined_deeds}
 use Rattle.cob_move.proofs.DeedsLemmas.{counted_same, turned_same}
 use Rattle.cob_move.proofs.FlowLemmas.{joined_assoc}
@@ -226,6 +225,8 @@ subscript_some name (ALoop l body more) ws (head, own, stops, rest, end, h, b, i
             omega (arith, some_product (turns_of l) (statements_of body) (some_there (turns_of l) k.0) (subscript_some name body own inner bounded.1 k.1))
       ]
     ]
+subscript_some name (AChoice c branches more) ws is bounded e = omega arith
+subscript_some name (ABranch t own others) ws is bounded e = absurd is
 
 none_of_turns : (by n i : ℕ) → deeds_of_turns {T = Test} (λ j. Nothing) by n i ≡ Nothing
 none_of_turns by zero i = refl
@@ -268,6 +269,8 @@ nothing_comes e ns (ALoop l body more) ws (head, own, stops, rest, end, h, b, in
   refl,
   refl,
 )
+nothing_comes e ns (AChoice c branches more) ws is bounded none = absurd (omega (arith, none))
+nothing_comes e ns (ABranch t own others) ws is bounded none = absurd is
 
 -- where a passage comes to no statement, none comes first
 
@@ -295,6 +298,8 @@ pub nothing_first : OneDeeds → (e : Entries) (ns : List Counted) (p : Passage)
 nothing_first law e ns NoMore ws is bounded none m first = first
 nothing_first law e ns (Moves own more) ws (rest, run, front, cut, is) bounded none m first = absurd (omega (arith, run_some own run, none))
 nothing_first law e ns (Pause more) ws (pause, stops, rest, word, are, cut, is) bounded none m first = nothing_first law e ns more rest is bounded none m first
+nothing_first law e ns (AChoice c branches more) ws is bounded none m first = absurd (omega (arith, none))
+nothing_first law e ns (ABranch t own others) ws is bounded none m first = absurd is
 nothing_first law e ns (ALoop l body more) ws (head, own, stops, rest, end, h, b, inner, word, are, cut, is) bounded none m (inl first) = first
 nothing_first law e ns (ALoop l body more) ws (head, own, stops, rest, end, h, b, inner, word, are, cut, is) bounded none m (inr (inl first)) =
     loop_first_none law e ns l body own l.bound refl inner bounded.1 bounded.0 (omega (arith, none)) (λ k no n x. nothing_first law e k body own inner bounded.1 no n x) m first

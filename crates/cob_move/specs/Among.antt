@@ -23,27 +23,16 @@ use Rattle.cob_move_names.specs.Candidates.{Candidate}
 use Rattle.cob_move_names.specs.Directory.{entries_named}
 use Rattle.cob_move_names.specs.References.{NamesOperand}
 use Rattle.cob_move.specs.declared.corresponding.TwoGroups.{TwoGroups}
-use Rattle.cob_move.specs.declared.entries.Entries.{Entries}
+use Rattle.cob_move_tests.specs.declared.entries.Entries.{Entries}
 use Rattle.cob_move.specs.Between.{numbered}
-use Rattle.cob_move.specs.Entries.{records_of}
-use Rattle.cob_move.specs.Meaning.{AreMeanings, AreMeant, AreMovesOf, AreReceiversOf, IsMeaning, IsMoveOf, IsSenderOf, kind_of_sender}
+use Rattle.cob_move_tests.specs.Entries.{nameable, records_of}
+use Rattle.cob_move.specs.Meaning.{AreMeanings, AreMeant, AreMovesOf, AreReceiversOf, IsMeaning, IsMoveOf}
+use Rattle.cob_move_names.specs.Senders.{IsSenderOf, kind_of_sender}
 use Rattle.cob_move.specs.Refusals.{BreaksOn, BreaksReceipt, BreaksStatement, SomeBroken}
-
--- the entries that may be named
-abbrev pub nameable : Entries → List Candidate
-nameable e = entries_named e.names.now
 
 -- the two records of these layouts
 abbrev pub both : Forest Resolved → Forest Resolved → Records
 both input output = record { input = input; output = output }
-
--- the reference names this entry of a side's record
-abbrev pub NamesAmong : Entries → WrittenReference → Side → Ref → Type 0
-NamesAmong e w side entry = NamesOperand (nameable e) w side (operand_in (record_of (records_of e) side) entry)
-
--- the sender means this one
-abbrev pub IsSenderAmong : Entries → WrittenSender → code.Sender → Type 0
-IsSenderAmong e w s = IsSenderOf (nameable e) w (sender (records_of e) s)
 
 -- the receivers mean these entries of the output record
 abbrev pub AreReceiversAmong : Entries → List WrittenReference → List Ref → Type 0

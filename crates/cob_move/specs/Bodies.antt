@@ -5,7 +5,7 @@ use Rattle.cob_source.specs.Tokens.{Lexeme}
 use Rattle.cob_copybook_names.specs.Naming.{named}
 use Rattle.cob_copybook_tree.specs.Forests.{Forest}
 use Rattle.cob_copybook_tree.specs.Nodes.{Resolved}
-use Rattle.cob_move_loops.specs.Few.{AreLoopsApart, Clashes, IsFew, IsShallow, loop_line, loops_of}
+use Rattle.cob_move_loops.specs.Few.{AreLoopsApart, Clashes, IsFew, IsShallow, loops_of, opening_line}
 use Rattle.cob_move_loops.specs.Passages.{Breaks, IsPassage, Passage, ToItem, ToNumber, WrittenBound, WrittenLoop}
 use Rattle.cob_move_loops.specs.Words.{IsOther}
 use Rattle.cob_move_names.specs.Candidates.{Candidate}
@@ -67,7 +67,7 @@ BreaksCounters all line ls = SomeOf (λ l. (line ≡ l.line) × (IsNoEntry all l
 -- loop's counter is that of another one, or an entry's (M11); refused memory has line 0.
 abbrev pub IsPassageRefusal : MoveRule → ℕ → List Candidate → List Lexeme → Type 0
 IsPassageRefusal rule.Grammar line all body = BreaksPassage body line
-IsPassageRefusal rule.TooMany line all body = BreaksFew body × (line ≡ loop_line body)
+IsPassageRefusal rule.TooMany line all body = BreaksFew body × (line ≡ opening_line body)
 IsPassageRefusal rule.Counter line all body = (p : Passage) × IsPassage p body × (Clashes [] p line ⊎ BreaksCounters all line (loops_of p))
 IsPassageRefusal rule.Memory line all body = line ≡ 0
 IsPassageRefusal other line all body = ⊥

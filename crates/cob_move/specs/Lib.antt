@@ -1,5 +1,4 @@
 pub mod Between
-pub mod Entries
 pub mod Meaning
 pub mod Refusals
 pub mod Bodies

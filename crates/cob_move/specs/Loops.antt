@@ -10,8 +10,9 @@ use Rattle.cob_move_statements.specs.declared.fault.MoveFault.{MoveFault}
 use Rattle.cob_move_statements.specs.declared.fault.MoveRule.TheVariants as rule
 use Rattle.cob_move_statements.specs.Statements.{IsEndedStatement, Several}
 use Rattle.cob_move_statements.specs.Written.{WrittenStatement}
-use Rattle.cob_move.specs.declared.entries.Entries.{Entries}
-use Rattle.cob_move.specs.Among.{AreMeaningsAmong, nameable}
+use Rattle.cob_move_tests.specs.declared.entries.Entries.{Entries}
+use Rattle.cob_move.specs.Among.{AreMeaningsAmong}
+use Rattle.cob_move_tests.specs.Entries.{nameable}
 use Rattle.cob_move_apply.specs.Some.{SomeOf}
 use Rattle.cob_move.specs.Bodies.{AreCounters, AreSpelled, IsPassageRefusal, RunIsRefused}
 use Rattle.cob_move.specs.Paragraphs.{IsLiteral}

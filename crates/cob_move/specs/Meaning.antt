@@ -2,33 +2,21 @@
 use Rattle.std.specs.Prelude.{◌≡◌, ◌||◌, false, List, [], ◌∷◌, ◌++◌, map}
 use Rattle.std.specs.List.{AllByRecursion}
 use Rattle.cob_codec.specs.declared.reading.Reading.TheVariants.{Pictured}
-use Rattle.cob_copybook_entry.specs.Described.{PlainValue}
-use Rattle.cob_copybook_entries.specs.Meaning.{IsConstantOf}
 use Rattle.cob_copybook_tree.specs.Forests.{Forest}
 use Rattle.cob_copybook_tree.specs.Nodes.{Resolved}
 use Rattle.cob_move_data.specs.declared.operands.Side.{Side}
 use Rattle.cob_move_data.specs.declared.operands.Side.TheVariants.{Out}
 use Rattle.cob_move_data.specs.declared.operands.Operand.{Operand}
-use Rattle.cob_move_data.specs.Moves.{Sender, Entry, Literal, Move}
-use Rattle.cob_move_receive.specs.Table.{SenderKind, Entry as EntryOf, Literal as LiteralOf}
+use Rattle.cob_move_data.specs.Moves.{Sender, Entry, Move}
 use Rattle.cob_move_receive.specs.Refusals.{IsAllowed}
-use Rattle.cob_move_statements.specs.Written.{WrittenReference, WrittenSender, SentReference, SentConstant, WrittenAction, MoveTo, MoveCorresponding, WrittenStatement}
+use Rattle.cob_move_statements.specs.Written.{WrittenReference, WrittenSender, WrittenAction, MoveTo, MoveCorresponding, WrittenStatement}
 use Rattle.cob_move_names.specs.Candidates.{Candidate, all_entries}
 use Rattle.cob_move_names.specs.References.{NamesOperand}
+use Rattle.cob_move_names.specs.Senders.{IsSenderOf, kind_of_sender}
 use Rattle.cob_move.specs.declared.corresponding.TwoGroups.{TwoGroups}
 use Rattle.cob_move_names.specs.Between.{entries_of, pairs_below}
 use Rattle.cob_move_names.specs.Groups.{operand_below}
 use Rattle.cob_move_names.specs.Pairs.{AreOnce, Pair, is_elementary}
-
--- What the table of categories asks of a sender: what its entry describes, or its constant.
-abbrev pub kind_of_sender : Sender → SenderKind
-kind_of_sender (Entry side reading o) = EntryOf o.kind
-kind_of_sender (Literal c) = LiteralOf c
-
--- A sender means the operand that its reference names, read as its picture says, or the constant that its literal means.
-abbrev pub IsSenderOf : List Candidate → WrittenSender → Sender → Type 0
-IsSenderOf all (SentReference r) s = (side : Side) × (o : Operand) × NamesOperand all r side o × (s ≡ Entry side Pictured o)
-IsSenderOf all (SentConstant w) s = (c : PlainValue) × IsConstantOf w c × (s ≡ Literal c)
 
 -- Receivers mean the operands of the output record that their references name, in the order in which they are written.
 abbrev pub AreReceiversOf : List Candidate → List WrittenReference → List Operand → Type 0

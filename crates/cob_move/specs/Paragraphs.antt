@@ -1,14 +1,13 @@
 -- What the text of a paragraph does between two records, and which rules it breaks.
-use Rattle.std.specs.Prelude.{◌≡◌, ◌⊎◌, ℕ, ◌+◌, ◌<◌, ◌≤◌, List, [], length}
-use Rattle.std.specs.List.{AllByRecursion}
+use Rattle.std.specs.Prelude.{◌≡◌, ◌⊎◌, ℕ, ◌+◌, ◌<◌, ◌≤◌, ◌||◌, Bool, true, false, List, [], length}
 use Rattle.cob_limits.specs.Limits.{most_written_out}
 use Rattle.cob_source.specs.Tokens.{Lexeme}
 use Rattle.cob_source.specs.Words.{AreParagraphWordsOf, BreaksSourceRule as BreaksSource}
 use Rattle.cob_copybook_tree.specs.Forests.{Forest}
 use Rattle.cob_copybook_tree.specs.Nodes.{Resolved}
 use Rattle.cob_move_loops.specs.Bounded.{AreBounded, LacksBound}
-use Rattle.cob_move_loops.specs.Few.{loop_line, loops_of}
-use Rattle.cob_move_loops.specs.Passages.{IsPassage, Passage, ToItem, ToNumber, WrittenBound}
+use Rattle.cob_move_loops.specs.Few.{opening_line}
+use Rattle.cob_move_loops.specs.Passages.{ABranch, AChoice, ALoop, IsPassage, Moves, NoMore, Passage, Pause, ToItem, ToNumber, WrittenBound}
 use Rattle.cob_move_loops.specs.Turns.{words_by_turn}
 use Rattle.cob_move_names.specs.Candidates.{Candidate, all_entries}
 use Rattle.cob_move_statements.specs.declared.fault.MoveFault.{MoveFault}
@@ -32,18 +31,32 @@ abbrev pub EndsByNumber : WrittenBound → Type 0
 EndsByNumber (ToNumber n) = Unit {0}
 EndsByNumber (ToItem ws) = ⊥
 
--- each loop of a passage ends by a number
-abbrev pub IsLiteral : Passage → Type 0
-IsLiteral p = AllByRecursion (λ l. EndsByNumber l.bound) (loops_of p)
+-- a choice stands in a passage
+abbrev pub has_choice : Passage → Bool
+has_choice NoMore = false
+has_choice (Moves own more) = has_choice more
+has_choice (Pause more) = has_choice more
+has_choice (ALoop l body more) = has_choice body || has_choice more
+has_choice (AChoice c branches more) = true
+has_choice (ABranch t own others) = true
 
--- M12: a passage with loops to items comes to few statements, however far it is read
+-- each loop of a passage ends by a number, and there is no choice: so there is no test
+abbrev pub IsLiteral : Passage → Type 0
+IsLiteral NoMore = Unit {0}
+IsLiteral (Moves own more) = IsLiteral more
+IsLiteral (Pause more) = IsLiteral more
+IsLiteral (ALoop l body more) = EndsByNumber l.bound × IsLiteral body × IsLiteral more
+IsLiteral (AChoice c branches more) = ⊥
+IsLiteral (ABranch t own others) = ⊥
+
+-- M12: a passage with loops to items or choices comes to few statements, however far it is read
 abbrev pub ComesToFew : List Candidate → Forest Resolved → Forest Resolved → Passage → Type 0
 ComesToFew all input output p = (IsLiteral p → ⊥) → IsFewRead all input output p
 
 -- ---- what a text does
 
--- The words of the text are a passage, with loops as they may be: each has a counter of its own, and one to an item has a table that bounds it (M11). It comes
--- to these deeds between the two records: moves in their order, and tests of loops to items between them.
+-- The words of the text are a passage, with loops and choices as they may be: each loop has a counter of its own, and one to an item has a table that bounds it
+-- (M11). It comes to these deeds between the two records: moves in their order, and tests of loops to items and of choices between them.
 pub record IsParagraphOf (text : List ℕ) (input output : Forest Resolved) (d : Deeds Test) : Type 0 where
   pub words : List Lexeme
   pub passage : Passage
@@ -55,7 +68,7 @@ pub record IsParagraphOf (text : List ℕ) (input output : Forest Resolved) (d :
   pub comes : AreDeeds (all_entries input output) input output [] passage d many
   pub few : ComesToFew (all_entries input output) input output passage
 
--- What a text says whose loops all end by numbers: written out, its runs spell statements, and these mean the moves between two records, in their order.
+-- What a text says whose loops all end by numbers, without choices: written out, its runs spell statements, and these mean the moves between two records, in their order.
 pub record IsLiteralParagraphOf (text : List ℕ) (input output : Forest Resolved) (ms : List Move) : Type 0 where
   pub words : List Lexeme
   pub passage : Passage
@@ -81,12 +94,13 @@ AreDone ms d = (d ≡ Moving ms Nothing) ⊎ ((d ≡ Nothing) × (ms ≡ []))
 
 -- ---- which rules it breaks
 
--- A passage is refused: a loop to an item has no table that bounds it (M11), on its line; or, where there is such a loop, too many statements come first
--- (M12), on the line of the first loop; or words of MOVE statements or of a bound break a rule in a turn, or nothing bounds a loop to an item.
+-- A passage is refused: a loop to an item has no table that bounds it (M11), on its line; or, where there is such a loop or a choice, too many statements come
+-- first (M12), on the line of the first loop or choice; or words of MOVE statements, of a bound or of a test break a rule in a turn, or nothing bounds a loop to
+-- an item.
 abbrev pub PassageRefused : MoveFault → List Candidate → Forest Resolved → Forest Resolved → List Lexeme → Passage → Type 0
 PassageRefused f all input output body p =
     ((f.rule ≡ rule.Counter) × LacksBound p f.line)
-    ⊎ (((f.rule ≡ rule.TooMany) × (f.line ≡ loop_line body) × (IsLiteral p → ⊥) × ((many : ℕ) × ComeFirst all input output [] p many × (most_written_out < many)))
+    ⊎ (((f.rule ≡ rule.TooMany) × (f.line ≡ opening_line body) × (IsLiteral p → ⊥) × ((many : ℕ) × ComeFirst all input output [] p many × (most_written_out < many)))
     ⊎ IsTurnRefused f all input output [] p)
 
 -- The words behind the heading are refused: they break a rule of passages; or they are one, and it is refused.

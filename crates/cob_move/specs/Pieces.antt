@@ -13,7 +13,7 @@ use Rattle.cob_move_statements.specs.declared.fault.MoveFault.{MoveFault}
 use Rattle.cob_move_statements.specs.declared.fault.MoveRule.TheVariants as rule
 use Rattle.cob_move_statements.specs.Statements.{IsParagraph}
 use Rattle.cob_move_statements.specs.Written.{WrittenStatement}
-use Rattle.cob_move.specs.declared.entries.Entries.{Entries}
+use Rattle.cob_move_tests.specs.declared.entries.Entries.{Entries}
 use Rattle.cob_move_data.specs.Moves.{moves}
 use Rattle.cob_move.specs.Among.{AreMeaningsAmong}
 use Rattle.cob_move.specs.Paragraphs.{IsLiteralParagraphOf}

@@ -22,7 +22,8 @@ use Rattle.cob_move_names.specs.References.{NamesOperand, BreaksReference, Break
 use Rattle.cob_move_names.specs.Between.{PairEnds, ends_of}
 use Rattle.cob_move_names.specs.Pairs.{AreOnce, Pair, is_elementary}
 use Rattle.cob_move.specs.declared.corresponding.TwoGroups.{TwoGroups}
-use Rattle.cob_move.specs.Meaning.{IsSenderOf, AreGroupsOf, kind_of_sender, pairs_of}
+use Rattle.cob_move.specs.Meaning.{AreGroupsOf, pairs_of}
+use Rattle.cob_move_names.specs.Senders.{IsSenderOf, kind_of_sender}
 
 -- the reference that a sender is, if it is one
 abbrev pub sent_references : WrittenSender → List WrittenReference
@@ -64,15 +65,6 @@ BreaksReceiving r all s w = (o : Operand) × NamesOperand all w Out o × BreaksM
 -- A receiver breaks a rule by its reference, or by the sender's move to what it names.
 abbrev pub BreaksReceipt : MoveRule → List Candidate → Sender → WrittenReference → Type 0
 BreaksReceipt r all s w = BreaksReceiver r all w ⊎ BreaksReceiving r all s w
-
--- A sender breaks a rule: its literal M1 or M7, its reference M2, M3 or M4.
-abbrev pub BreaksSender : MoveRule → List Candidate → WrittenSender → Type 0
-BreaksSender rule.Grammar all s = BreaksConstant (constant_sent s)
-BreaksSender rule.Literal all s = BreaksValue (constant_sent s)
-BreaksSender rule.Unknown all s = SomeOf (BreaksReference rule.Unknown all) (sent_references s)
-BreaksSender rule.Ambiguous all s = SomeOf (BreaksReference rule.Ambiguous all) (sent_references s)
-BreaksSender rule.Subscripts all s = SomeOf (BreaksReference rule.Subscripts all) (sent_references s)
-BreaksSender other all s = ⊥
 
 -- The move between two entries breaks the rule.
 abbrev pub BreaksBetween : MoveRule → PairEnds → Type 0
@@ -118,6 +110,7 @@ BreaksStatement rule.Twice all input output a = PairsTwice all input output a
 BreaksStatement rule.TooLong all input output a = SomeBreak rule.TooLong all input output a
 BreaksStatement rule.Counter all input output a = ⊥
 BreaksStatement rule.TooMany all input output a = ⊥
+BreaksStatement rule.NotComparable all input output a = ⊥
 BreaksStatement rule.Memory all input output a = Unit {0}
 BreaksStatement (rule.Source s) all input output a = ⊥
 

@@ -1,32 +1,35 @@
 //! Words behind a heading, read turn by turn.
 
-ghost use Rattle.std.specs.Prelude.{◌≡◌, [], IfErr, IfOk, OnOk};
+ghost use Rattle.std.specs.Prelude.{◌≡◌, [], map, IfErr, IfOk, OnOk};
+ghost use Rattle.std.specs.List.{AllByRecursion};
+ghost use Rattle.cob_move_apply.specs.Entries.{IsPlacedEntry};
+ghost use Rattle.cob_move_tests.specs.Asked.{IsNamed};
 ghost use Rattle.cob_move_data.specs.Moves.{AreMoves, moves};
 ghost use Rattle.cob_move_deeds.specs.Prepared.{deeds_of};
 ghost use Rattle.cob_move_loops.specs.Bounded.{AreBounded, LacksBound};
 ghost use Rattle.cob_move_loops.specs.Passages.{IsPassage, Passage};
 ghost use Rattle.cob_move_statements.specs.declared.fault.MoveRule.TheVariants.{Counter};
 ghost use Rattle.cob_source.specs.Tokens.{lexemes};
-ghost use Rattle.cob_move.specs.Among.{both, nameable};
+ghost use Rattle.cob_move.specs.Among.{both};
+ghost use Rattle.cob_move_tests.specs.Entries.{AllMayBeNamed, nameable, records_of};
 ghost use Rattle.cob_move.specs.Between.{ArePairsOf};
-ghost use Rattle.cob_move.specs.DeedsRead.{AddsDeeds, DeedsRefused, HasBounds, HasItemLoop, IsMade, IsReadied, SaysDeeds, TellsFault, made_lists, nothing_made, open_deeds};
-ghost use Rattle.cob_move.specs.Entries.{AllMayBeNamed, records_of};
+ghost use Rattle.cob_move.specs.DeedsRead.{AddsDeeds, DeedsRefused, HasBounds, HasTests, IsMade, IsReadied, SaysDeeds, TellsFault, made_lists, named_of, nothing_made, open_deeds};
 ghost use Rattle.cob_move.specs.Loops.{AreLiteralWords, HasJudged};
 ghost use Rattle.cob_move.specs.Paragraphs.{AreReady};
 
 use crate::deeds::add_passage;
-use crate::entries::Entries;
 use crate::loops::{fault_of, judge, moves_of_body};
 use crate::made::{Made, NotRead};
 use crate::meaning_laws::meant_are_moves;
 use crate::pieces::refused_memory;
 use cob_layout::Layout;
-use cob_move_apply::MarkedMoves;
+use cob_move_apply::{MarkedMoves, PlacedEntry};
 use cob_move_data::StatementMoves;
 use cob_move_deeds::{Asked, ReadyDeeds};
-use cob_move_loops::{check_bounds, loop_line};
+use cob_move_loops::{check_bounds, opening_line};
 use cob_move_names::Correspondences;
 use cob_move_statements::{MoveFault, MoveRule};
+use cob_move_tests::{Entries, NamedEntry};
 use cob_source::Token;
 use std::alloc::{AllocError, Global};
 
@@ -39,19 +42,21 @@ impl Made {
             list: Vec::new(alloc),
             ends: Vec::new(alloc),
             bounds: Vec::new(alloc),
+            asked: Vec::new(alloc),
+            conditions: Vec::new(alloc),
             flows: Vec::new(alloc),
             read: 0,
         }
     }
 }
 
-/// The fault of words behind a heading that are not read: where they come to too much, on the line of the first loop.
+/// The fault of words behind a heading that are not read: where they come to too much, on the line of the first loop or choice.
 fn fault_told(why: NotRead, body: &[Token]) -> MoveFault
     ensures { TellsFault why result (lexemes body.now) }
 {
     match why {
         NotRead::Memory => refused_memory(),
-        NotRead::TooMany => fault_of(MoveRule::TooMany, loop_line(body)),
+        NotRead::TooMany => fault_of(MoveRule::TooMany, opening_line(body)),
         NotRead::Broken(fault) => fault,
     }
 }
@@ -70,6 +75,30 @@ fn check_bounded(body: &[Token]) -> Result<(), MoveFault>
         Ok(()) => Ok(()),
         Err(line) => Err(fault_of(MoveRule::Counter, line)),
     }
+}
+
+/// The entries that conditions ask for, ready to be read.
+///
+/// # Errors
+///
+/// Where no memory is left.
+fn placed_entries(
+    alloc: Global,
+    asked: Vec<NamedEntry>,
+    input: &Layout,
+    output: &Layout,
+) -> Result<Vec<PlacedEntry>, AllocError>
+    requires operands { AllByRecursion (IsNamed (both input.now output.now)) asked.items }
+    ensures named { IfOk result (λ v. map named_of v.items ≡ asked.items) }
+    ensures placed { IfOk result
+        (λ v. AllByRecursion (IsPlacedEntry (both input.now output.now)) v.items) }
+{
+    let mut placed = Vec::new(alloc);
+    for named in asked {
+        let entry = PlacedEntry::new(named.side, named.entry, input, output);
+        placed.push(entry)?;
+    }
+    Ok(placed)
 }
 
 /// What is made so far, ready to be carried out.
@@ -92,18 +121,19 @@ fn ready_deeds(
         list,
         ends,
         bounds,
+        asked,
+        conditions,
         flows,
         ..
     } = made;
+    let entries = placed_entries(alloc, asked, input, output)?;
     let moves = MarkedMoves::new(alloc, list, ends.as_slice(), input, output)?;
     let loops = Vec::new(alloc);
-    let entries = Vec::new(alloc);
-    let conditions = Vec::new(alloc);
-    let asked = Asked {
+    let tests = Asked {
         entries,
         conditions,
     };
-    let deeds = ReadyDeeds::new(moves, bounds, loops, asked, flows);
+    let deeds = ReadyDeeds::new(moves, bounds, loops, tests, flows);
     let steady = deeds.with_steady_bounds(alloc, output)?;
     Ok(steady)
 }
@@ -131,7 +161,7 @@ pub(crate) fn straight_deeds(
     Ok(deeds)
 }
 
-/// What words behind a heading come to whose loops all end by numbers, ready to be carried out.
+/// What words behind a heading come to that have no choice and whose loops all end by numbers, ready to be carried out.
 ///
 /// # Errors
 ///
@@ -174,7 +204,7 @@ fn made_of_body(
     requires named { AllMayBeNamed entries.now }
     requires pairs { ArePairsOf (records_of entries.now) pairs.old }
     requires bounds { HasBounds (lexemes body.now) }
-    requires item { HasItemLoop (lexemes body.now) }
+    requires item { HasTests (lexemes body.now) }
     ensures made { IfOk result (λ m. IsMade (records_of entries.now) (made_lists m)) }
     ensures added { IfOk result (λ m. AddsDeeds entries.now [] (lexemes body.now) nothing_made
         (made_lists m)) }
@@ -187,7 +217,7 @@ fn made_of_body(
     }
 }
 
-/// What words behind a heading come to that have a loop to an item, ready to be carried out.
+/// What words behind a heading come to that have a loop to an item or a choice, ready to be carried out.
 ///
 /// # Errors
 ///
@@ -201,7 +231,7 @@ fn tested_deeds(
     requires named { AllMayBeNamed entries.now }
     requires pairs { ArePairsOf (records_of entries.now) pairs.old }
     requires judged { HasJudged (nameable entries.now) (lexemes body.now) }
-    requires item { HasItemLoop (lexemes body.now) }
+    requires item { HasTests (lexemes body.now) }
     ensures found { IfOk result (λ d. SaysDeeds entries.now (lexemes body.now)
         (deeds_of (records_of entries.now) d)) }
     ensures ready { IfOk result (AreReady (records_of entries.now)) }
@@ -213,7 +243,7 @@ fn tested_deeds(
     Ok(deeds)
 }
 
-/// What words behind a heading come to, ready to be carried out. Where all loops end by numbers, it is read run by run.
+/// What words behind a heading come to, ready to be carried out. Where no test is among them, it is read run by run.
 ///
 /// # Errors
 ///

@@ -3,7 +3,7 @@
 ghost use Rattle.std.specs.Prelude.{◌≡◌, ◌⊎◌, ◌||◌, map, IfErr, IfOk, OnOk};
 ghost use Rattle.std.specs.List.{AllByRecursion};
 ghost use Rattle.cob_move.specs.Between.{MayMoveBetween, ArePairsOf, numbers_of};
-ghost use Rattle.cob_move.specs.Entries.{AllMayBeNamed, records_of};
+ghost use Rattle.cob_move_tests.specs.Entries.{AllMayBeNamed, records_of};
 ghost use Rattle.cob_move.specs.Meaning.{AreGroupsOf, IsAllowedMove, pair_move};
 ghost use Rattle.cob_move.specs.Among.{AreMovesAmong, BreaksAmong, BreaksBetweenAny, KeepsPairs, pairs_in, written_corresponding};
 ghost use Rattle.cob_move_apply.specs.Some.{SomeOf};
@@ -14,7 +14,6 @@ ghost use Rattle.cob_move_names.specs.Pairs.{AreOnce, is_elementary};
 ghost use Rattle.cob_move_names.specs.Directory.{entries_named};
 ghost use Rattle.cob_move_statements.specs.Written.{written_reference};
 
-use crate::entries::Entries;
 use crate::single::judge;
 use cob_layout::records_are_sound;
 use cob_move_data::{NumberedPair, Operand, PairMoves, Side};
@@ -23,6 +22,7 @@ use cob_move_names::{
     Correspondences, EntryPair, Names, is_no_group, named_are_operands, subordinates_are_operands,
 };
 use cob_move_statements::{MoveRule, Reference};
+use cob_move_tests::Entries;
 use std::alloc::Global;
 
 /// The two groups of a MOVE CORRESPONDING: the sending one, with the side of its record, and the receiving one.

@@ -1,4 +1,4 @@
-//! Paragraphs with loops to items, read turn by turn.
+//! Paragraphs with loops to items and choices, read turn by turn.
 
 ghost use Rattle.std.specs.Prelude.{◌≡◌, ◌≢◌, ◌⊎◌, ◌+◌, ◌<◌, ◌≤◌, ◌∷◌, ◌++◌, List, ℕ, [], false, length, IfErr, IfNone, IfOk, IfSome, IsTrue, OnOk};
 ghost use Rattle.cob_copybook_tree.specs.declared.node.Item.{Item as TreeItem};
@@ -6,38 +6,44 @@ ghost use Rattle.cob_copybook_tree.specs.declared.node.Kind.TheVariants.{Item as
 ghost use Rattle.cob_limits.specs.Limits.{longest_record};
 ghost use Rattle.cob_move_data.specs.Moves.{IsOperand, operand_in, record_of};
 ghost use Rattle.cob_move_deeds.specs.Tests.{IsBoundItem};
-ghost use Rattle.cob_move_loops.specs.Passages.{IsPassage, IsRun, Passage, ToItem, ToNumber};
-ghost use Rattle.cob_move_loops.specs.Reading.{counters, item_front, written_bound, written_loop};
+ghost use Rattle.cob_move_loops.specs.Passages.{BranchesBegin, IsPassage, IsRun, Passage, ToItem, ToNumber, kind_of};
+ghost use Rattle.cob_move_loops.specs.Reading.{counters, item_front, written_bound, written_choice, written_loop};
 ghost use Rattle.cob_move_loops.specs.Turns.{in_turn};
 ghost use Rattle.cob_move_statements.specs.declared.fault.MoveRule.TheVariants.{Memory};
 ghost use Rattle.cob_source.specs.Tokens.{Lexeme, lexemes};
 ghost use Rattle.cob_move_deeds.specs.Tests.{Past};
-ghost use Rattle.cob_move.specs.Among.{nameable};
+ghost use Rattle.cob_move_tests.specs.Entries.{AllMayBeNamed, nameable, records_of};
 ghost use Rattle.cob_move.specs.Deeds.{IsBoundOf};
 ghost use Rattle.cob_move.specs.Between.{ArePairsOf};
-ghost use Rattle.cob_move.specs.DeedsRead.{AddsDeeds, AddsFront, AddsLoop, AddsMoved, AreKept, BoundNotRead, BoundRefused, BreaksInTurn, FrontHasBounds, FrontRefused, HasBounds, HasGrown, HasNoTurn, IsBoundRead, IsFrontRead, IsMade, IsNotBroken, IsSure, LeavesFront, LoopRefused, MovedRefused, ReadsTurns, TurnRefused, closed, flow_lists, in_its_turn, last_marked, linked_size, linked_turns, made_lists, open_statements, taken_back, without_flows};
-ghost use Rattle.cob_move.specs.Entries.{AllMayBeNamed, records_of};
+ghost use Rattle.cob_move_tests.specs.Asked.{sender_named};
+ghost use Rattle.cob_move_choices.specs.Asked.{IsSubjectAsked, against};
+ghost use Rattle.cob_move.specs.DeedsRead.{AddsBranch, AddsBranches, AddsChoice, AddsDeeds, AddsFront, AddsLoop, AddsMoved, AreKept, BoundNotRead, BoundRefused, BranchesRefused, BreaksInTurn, ChoiceRefused, FrontHasBounds, FrontRefused, HasBounds, HasGrown, HasNoTurn, HaveBounds, IsBoundRead, IsFrontRead, IsMade, IsNotBroken, IsSure, LeavesFront, LoopRefused, MovedRefused, ReadsApart, ReadsTurns, TurnRefused, closed, flow_lists, in_its_turn, last_marked, linked_size, linked_turns, made_lists, open_statements, taken_back, taken_branches, without_flows};
 ghost use Rattle.cob_move.specs.Loops.{AddsRun, RunRefused};
 ghost use Rattle.cob_move.specs.declared.made.NotRead.TheVariants as unread;
 
+use crate::choosing::{branch_in_front, count_choice, joined, read_subject, read_test};
 use crate::deeds_laws::{deeds_break_no_rule, one_deeds};
-use crate::entries::{Entries, NamedEntry};
-use crate::linking::{link_turns, next_number};
-use crate::looking::{depth, is_sure, look_at_turn};
+use crate::linking::{link_branches, link_turns, next_number};
+use crate::looking::{is_sure, look_at_turn, plain_depth};
 use crate::loops::{add_words, fault_of};
-use crate::made::{Made, NotRead, keep_turn};
+use crate::made::{BranchFlows, Made, NotRead, keep_turn, taken_flows};
 use crate::meaning_laws::{meant_are_moves, meant_break_no_rule};
 use cob_copybook_tree::{Item, Kind, is_number_item};
 use cob_limits::{MAX_RECORD, MAX_WRITTEN_OUT};
 use cob_move_apply::PlacedEntry;
+use cob_move_choices::{
+    Subject, branch_tests_break_no_rule, one_branch_test, one_subject, subjects_break_no_rule,
+};
+use cob_move_condition::Condition;
 use cob_move_data::StatementMoves;
 use cob_move_deeds::{Bound, Flow};
 use cob_move_loops::{
-    Counter, Loop, LoopBound, PassageItem, in_turn, item_at, no_turn, one_passage, turns_to_write,
-    with_counter,
+    BranchTest, Choice, ChoiceKind, Counter, Loop, LoopBound, PassageItem, in_turn, item_at,
+    kind_of, no_turn, one_passage, turns_to_write, with_counter,
 };
 use cob_move_names::{Correspondences, named_break_no_rule, one_named};
 use cob_move_statements::{MoveFault, MoveRule, one_list_of_ended, one_reference, whole_reference};
+use cob_move_tests::{Entries, NamedEntry};
 use cob_source::Token;
 use std::alloc::Global;
 use std::mem::replace;
@@ -393,7 +399,8 @@ fn try_turns<'a>(
     // For turns that are sure: words are one list of statements, and one reference.
     one_list_of_ended();
     one_reference();
-    let deep = depth(body);
+    // A turn with a choice is never sure: it is read at once.
+    let deep = plain_depth(body);
     let mut next = head.from;
     let mut sure = false;
     for step in 0..MAX_RECORD + 1 {
@@ -468,6 +475,182 @@ fn add_tested<'a>(
     Ok(())
 }
 
+/// Reads words into flows of their own, in a turn, and ends the moves that are carried out together behind them.
+///
+/// # Errors
+///
+/// A rule that they break, with its line; where they come to too much; where no memory is left.
+#[cycle(adding)]
+fn add_apart<'a>(
+    alloc: Global,
+    entries: &Entries<'_, '_>,
+    pairs: &mut Correspondences<'_>,
+    words: &'a [Token],
+    turn: &[Counter<'a>],
+    made: &mut Made,
+) -> Result<Vec<Flow>, NotRead>
+    requires named { AllMayBeNamed entries.now }
+    requires pairs { ArePairsOf (records_of entries.now) pairs.old }
+    requires made { IsMade (records_of entries.now) (made_lists made.old) }
+    requires bounds { HasBounds (lexemes words.now) }
+    ensures apart { IfOk result (λ v. ReadsApart entries.now (counters turn.now)
+        (lexemes words.now) v.items (made_lists made.old) (made_lists made.new)) }
+    ensures fault { IfErr result (λ n. TurnRefused n entries.now (counters turn.now)
+        (lexemes words.now) (made_lists made.old)) }
+    ensures kept { IfErr result (λ n. LeavesFront n (made_lists made.old) (made_lists made.new)) }
+    ensures pairs { ArePairsOf (records_of entries.now) pairs.new }
+{
+    add_passage(alloc, entries, pairs, words, turn, made)?;
+    let own = taken_flows(alloc, made)?;
+    Ok(own)
+}
+
+/// Reads the statements of a branch that has this condition, in a turn, and puts it behind those before.
+///
+/// # Errors
+///
+/// A rule that they break, with its line; where they come to too much; where no memory is left.
+#[cycle(adding)]
+fn add_branch<'a>(
+    alloc: Global,
+    entries: &Entries<'_, '_>,
+    pairs: &mut Correspondences<'_>,
+    test: Condition,
+    words: &'a [Token],
+    turn: &[Counter<'a>],
+    made: &mut Made,
+    taken: &mut Vec<BranchFlows>,
+) -> Result<(), NotRead>
+    requires named { AllMayBeNamed entries.now }
+    requires pairs { ArePairsOf (records_of entries.now) pairs.old }
+    requires made { IsMade (records_of entries.now) (made_lists made.old) }
+    requires bounds { HasBounds (lexemes words.now) }
+    ensures added { OnOk result (AddsBranch entries.now (counters turn.now) test
+        (lexemes words.now) (taken_branches taken.old.items) (taken_branches taken.new.items)
+        (made_lists made.old) (made_lists made.new)) }
+    ensures fault { IfErr result (λ n. TurnRefused n entries.now (counters turn.now)
+        (lexemes words.now) (made_lists made.old)) }
+    ensures kept { IfErr result (λ n. LeavesFront n (made_lists made.old) (made_lists made.new)) }
+    ensures pairs { ArePairsOf (records_of entries.now) pairs.new }
+{
+    let flows = add_apart(alloc, entries, pairs, words, turn, made)?;
+    let condition = made.conditions.len();
+    made.conditions.push(test)?;
+    taken.push(BranchFlows { condition, flows })?;
+    Ok(())
+}
+
+/// Reads the branches of a choice that is held against this, in a turn, and answers what is carried out where none of those that are taken holds. WHENs without
+/// statements wait for those of the next.
+///
+/// # Errors
+///
+/// A rule that they break, with its line; where they come to too much; where no memory is left.
+#[cycle(adding)]
+fn add_branches<'a>(
+    alloc: Global,
+    entries: &Entries<'_, '_>,
+    pairs: &mut Correspondences<'_>,
+    subject: Subject,
+    kind: ChoiceKind,
+    branches: &'a [Token],
+    turn: &[Counter<'a>],
+    made: &mut Made,
+    taken: &mut Vec<BranchFlows>,
+) -> Result<Vec<Flow>, NotRead>
+    requires named { AllMayBeNamed entries.now }
+    requires pairs { ArePairsOf (records_of entries.now) pairs.old }
+    requires made { IsMade (records_of entries.now) (made_lists made.old) }
+    requires bounds { HaveBounds kind (lexemes branches.now) }
+    requires there { IsSubjectAsked made.old.asked.items subject }
+    requires none { (made.old.flows.items ≡ []) × (taken.old.items ≡ []) }
+    requires marked { open_statements (made_lists made.old) ≡ [] }
+    ensures added { IfOk result (λ v. AddsBranches entries.now (counters turn.now)
+        (against (sender_named (records_of entries.now) made.old.asked.items) subject)
+        kind (lexemes branches.now) (taken_branches taken.new.items) v.items
+        (made_lists made.old) (made_lists made.new)) }
+    ensures flows { OnOk result (made.new.flows.items ≡ []) }
+    ensures marked { OnOk result (open_statements (made_lists made.new) ≡ []) }
+    ensures fault { IfErr result (λ n. BranchesRefused n entries.now (counters turn.now)
+        (against (sender_named (records_of entries.now) made.old.asked.items) subject)
+        kind (lexemes branches.now) (made_lists made.old)) }
+    ensures made { OnOk result (IsMade (records_of entries.now) (made_lists made.new)) }
+    ensures grown { OnOk result (HasGrown (made_lists made.old) (made_lists made.new)) }
+    ensures kept { IfErr result (λ n. LeavesFront n (made_lists made.old) (made_lists made.new)) }
+    ensures pairs { ArePairsOf (records_of entries.now) pairs.new }
+{
+    // For what comes first: what comes to something does so once, and breaks no rule; and so it is of tests.
+    one_deeds();
+    deeds_break_no_rule();
+    one_branch_test();
+    branch_tests_break_no_rule();
+    let mut waiting = None;
+    let mut rest = branches;
+    while let Some((test, body, more)) = branch_in_front(kind, rest) {
+        let BranchTest::Tested(words) = test else {
+            return add_apart(alloc, entries, pairs, body, turn, made);
+        };
+        let own = read_test(alloc, entries, subject, words, turn, made)?;
+        let test = joined(alloc, waiting, own)?;
+        rest = more;
+        if body.is_empty() {
+            waiting = Some(test);
+            continue;
+        }
+        add_branch(alloc, entries, pairs, test, body, turn, made, taken)?;
+        waiting = None;
+    }
+    Ok(Vec::new(alloc))
+}
+
+/// Reads a choice in a turn.
+///
+/// # Errors
+///
+/// A rule that it breaks, with its line; where it comes to too much; where no memory is left.
+#[cycle(adding)]
+fn add_choice<'a>(
+    alloc: Global,
+    entries: &Entries<'_, '_>,
+    pairs: &mut Correspondences<'_>,
+    choice: &Choice<'a>,
+    branches: &'a [Token],
+    turn: &[Counter<'a>],
+    made: &mut Made,
+) -> Result<(), NotRead>
+    requires named { AllMayBeNamed entries.now }
+    requires pairs { ArePairsOf (records_of entries.now) pairs.old }
+    requires made { IsMade (records_of entries.now) (made_lists made.old) }
+    requires begins { BranchesBegin (written_choice choice.now) (lexemes branches.now) }
+    requires bounds { HaveBounds (kind_of (written_choice choice.now)) (lexemes branches.now) }
+    ensures added { OnOk result (AddsChoice entries.now (counters turn.now)
+        (written_choice choice.now) (lexemes branches.now) (made_lists made.old)
+        (made_lists made.new)) }
+    ensures fault { IfErr result (λ n. ChoiceRefused n entries.now (counters turn.now)
+        (written_choice choice.now) (lexemes branches.now) (made_lists made.old)) }
+    ensures made { OnOk result (IsMade (records_of entries.now) (made_lists made.new)) }
+    ensures grown { OnOk result (HasGrown (made_lists made.old) (made_lists made.new)) }
+    ensures kept { IfErr result (λ n. LeavesFront n (made_lists made.old) (made_lists made.new)) }
+    ensures pairs { ArePairsOf (records_of entries.now) pairs.new }
+{
+    // A choice is held against one thing, and what it may be held against breaks no rule.
+    one_subject();
+    subjects_break_no_rule();
+    let subject = read_subject(alloc, entries, choice, turn, made)?;
+    count_choice(made)?;
+    made.close()?;
+    let outside = replace(&mut made.flows, Vec::new(alloc));
+    let mut taken = Vec::new(alloc);
+    let kind = kind_of(choice);
+    let read = add_branches(
+        alloc, entries, pairs, subject, kind, branches, turn, made, &mut taken,
+    );
+    made.flows = outside;
+    let other = read?;
+    link_branches(taken.as_slice(), other.as_slice(), &mut made.flows)?;
+    Ok(())
+}
+
 /// Reads what stands in front of a passage, in a turn.
 ///
 /// # Errors
@@ -505,6 +688,10 @@ fn add_item<'a>(
                 alloc, entries, pairs, head, words, body, turn, made,
             ),
         },
+        PassageItem::Choice { choice, branches } => {
+            add_choice(alloc, entries, pairs, choice, branches, turn, made)
+        }
+        PassageItem::Branch { .. } => Ok(()),
     }
 }
 

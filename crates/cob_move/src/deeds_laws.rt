@@ -3,6 +3,9 @@
 ghost use Rattle.cob_move.specs.DeedsLaws.{DeedsBreakNoRule, JoinedIsBoth, OneDeeds};
 
 use crate::meaning_laws::{meant_break_no_rule, one_meant};
+use cob_move_choices::{
+    branch_tests_break_no_rule, one_branch_test, one_subject, subjects_break_no_rule,
+};
 use cob_move_names::{named_break_no_rule, one_named};
 use cob_move_statements::{one_list_of_ended, one_reference};
 
@@ -19,6 +22,8 @@ pub fn one_deeds()
     one_meant();
     one_reference();
     one_named();
+    one_subject();
+    one_branch_test();
 }
 
 /// A law: a passage that comes to something in a turn breaks no rule there.
@@ -30,4 +35,7 @@ pub fn deeds_break_no_rule()
     one_reference();
     one_named();
     named_break_no_rule();
+    one_subject();
+    subjects_break_no_rule();
+    branch_tests_break_no_rule();
 }

@@ -1,16 +1,18 @@
-//! What a paragraph of MOVE statements, with loops round them, does to records (ANSI X3.23-1985, Nucleus: the MOVE statement; IBM Enterprise COBOL for z/OS, Language
+//! What a paragraph of MOVE statements, with loops and choices round them, does to records (ANSI X3.23-1985, Nucleus: the MOVE, IF, EVALUATE and PERFORM statements; IBM Enterprise COBOL for z/OS, Language
 //! Reference, "MOVE statement" and "VALUE clause").
 //!
 //! What is promised:
 //!
 //! - [`Paragraph::read`] reads a text between the records of two layouts. What it answers is what the text does (clause `found`; `IsParagraphOf` of
 //!   specs/Paragraphs.antt): the words of the text, cut apart at brackets and commas, are a passage, and it comes to deeds (`AreDeeds` of specs/Deeds.antt):
-//!   moves in their order, and tests of loops to items between them. They are ready for these records (`ready`). A text that is a paragraph is read,
+//!   moves in their order, and tests of loops to items and of choices between them. They are ready for these records (`ready`). A text that is a paragraph is read,
 //!   memory aside (`only`), and a refusal names a rule that is broken, with its line (`fault`; `IsRefusalOf`): by the text, by its words and loops, or by
 //!   one of its statements in a turn. A text does one thing ([`one_paragraph`]), and then breaks no rule ([`paragraph_breaks_no_rule`]).
-//! - Where all loops end by numbers, it does the moves that its statements mean once its loops are written out turn by turn ([`literal_paragraph`]), which is
+//! - Where all loops end by numbers and there is no choice, it does the moves that its statements mean once its loops are written out turn by turn ([`literal_paragraph`]), which is
 //!   what the moves make of a storage in their order ([`done_is_applied`]). Without words of loops these are the moves of the statements that its words spell
 //!   ([`plain_paragraph`]).
+//! - A choice is held against nothing or against an entry, and comes to the tests of its branches, one within what is done where those before don't hold
+//!   (`AreDeedsAt`; `selection` of cob_move_deeds is IF and EVALUATE in the words of the language).
 //! - A loop to an item comes to its turns up to the greatest number whose turn still has the elements that it names, each behind its test (`IsLoopOf`). In a
 //!   turn a passage comes to one thing at most ([`one_deeds`]), and then breaks no rule there ([`deeds_break_no_rule`]). Moves that meet are together, and
 //!   what is done is the same ([`joined_is_both`]).
@@ -38,10 +40,10 @@
 //! ([`meanings_break_no_rule`], [`meant_break_no_rule`]); and what they mean are moves between the two records ([`meant_are_moves`]).
 //!
 //! A text is read piece by piece, some thousand words at once, and as a whole where a piece of it isn't read alone (src/pieces.rt): then run by run where
-//! all its loops end by numbers (src/loops.rt), and turn by turn else (src/deeds.rt). Contracts say nothing of it.
+//! no test is among it (src/loops.rt), and turn by turn else (src/deeds.rt). Contracts say nothing of it.
 //!
-//! It puts the reading of a paragraph together: it stands on `cob_source` for words, on `cob_move_loops` for loops, on `cob_move_statements` for
-//! statements, on `cob_move_names` and, through `cob_move_initial`, `cob_move_receive` for the moves that they mean, on `cob_move_apply` for what these
+//! It puts the reading of a paragraph together: it stands on `cob_source` for words, on `cob_move_loops` for loops and choices, on `cob_move_choices` for what
+//! choices test, on `cob_move_statements` for statements, on `cob_move_names` and, through `cob_move_initial`, `cob_move_receive` for the moves that they mean, on `cob_move_apply` for what these
 //! do, and on `cob_move_deeds` for tests between them.
 //!
 //! # Where it is proved
@@ -50,10 +52,10 @@
 #![tactic(auto)]
 
 mod body;
+mod choosing;
 mod corresponding;
 mod deeds;
 mod deeds_laws;
-mod entries;
 mod laws;
 mod linking;
 mod looking;
@@ -63,7 +65,6 @@ mod meaning;
 mod meaning_laws;
 mod paragraph;
 mod pieces;
-mod senders;
 mod single;
 
 pub use cob_codec::Reading;

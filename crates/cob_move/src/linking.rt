@@ -1,8 +1,9 @@
-//! The flows of loops to items.
+//! The flows of loops to items and of choices.
 
 ghost use Rattle.std.specs.Prelude.{◌≡◌, ◌+◌, ◌++◌, IfOk, OnOk};
-ghost use Rattle.cob_move.specs.DeedsRead.{flow_lists, linked_size, linked_turns};
+ghost use Rattle.cob_move.specs.DeedsRead.{branches_size, flow_lists, linked_branches, linked_size, linked_turns, taken_branches};
 
+use crate::made::BranchFlows;
 use cob_move_deeds::Flow;
 use std::alloc::AllocError;
 
@@ -83,5 +84,51 @@ pub(crate) fn link_turns(
         number,
         skip: 0,
     })?;
+    Ok(())
+}
+
+/// How many flows the branches of a choice are, with those of the last.
+///
+/// # Errors
+///
+/// Where they are too many.
+fn branches_size(branches: &[BranchFlows], other: &[Flow]) -> Result<usize, AllocError>
+    ensures { IfOk result (λ n. n ≡ branches_size (taken_branches branches.now) other.now) }
+{
+    let mut size = other.len();
+    for branch in branches {
+        let more = sum(size, branch.flows.len())?;
+        size = sum(more, 2)?;
+    }
+    Ok(size)
+}
+
+/// Puts the flows of a choice behind others: each branch behind its condition, within what is done where those before don't hold, and last what is done where
+/// none holds.
+///
+/// # Errors
+///
+/// Where no memory is left.
+pub(crate) fn link_branches(
+    branches: &[BranchFlows],
+    other: &[Flow],
+    flows: &mut Vec<Flow>,
+) -> Result<(), AllocError>
+    ensures { OnOk result (flows.new.items
+        ≡ flows.old.items ++ linked_branches (taken_branches branches.now) other.now) }
+{
+    let mut left = branches_size(branches, other)?;
+    for branch in branches {
+        let holding = branch.flows.len();
+        left -= holding + 2;
+        flows.push(Flow::Where {
+            condition: branch.condition,
+            holding,
+            lacking: left,
+        })?;
+        flows.extend_from_slice(branch.flows.as_slice())?;
+        flows.push(Flow::Skip(left))?;
+    }
+    flows.extend_from_slice(other)?;
     Ok(())
 }

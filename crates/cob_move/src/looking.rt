@@ -1,22 +1,24 @@
 //! Turns of loops to items, looked at before they are read.
 
-ghost use Rattle.std.specs.Prelude.{◌≡◌, ◌+◌, ◌*◌, ◌≤◌, length, IfErr, IfOk, IfSome, IsTrue};
+ghost use Rattle.std.specs.Prelude.{◌≡◌, ◌+◌, ◌*◌, ◌<◌, ◌≤◌, false, length, IfErr, IfOk, IfSome, IsTrue};
 ghost use Rattle.cob_limits.specs.Limits.{most_written_out};
 ghost use Rattle.cob_move_loops.specs.Passages.{IsPassage, Passage};
 ghost use Rattle.cob_move_loops.specs.Reading.{Within, counters, item_front, written_loop};
 ghost use Rattle.cob_source.specs.Tokens.{lexemes};
 ghost use Rattle.cob_move.specs.Between.{ArePairsOf};
 ghost use Rattle.cob_move.specs.DeedsRead.{FrontStops, LoopStops, RunRefusedIn, StopsAt, WordsStop, deep, deep_front, in_its_turn, words_in_front};
-ghost use Rattle.cob_move.specs.Entries.{AllMayBeNamed, records_of};
+ghost use Rattle.cob_move_tests.specs.Entries.{AllMayBeNamed, records_of};
+ghost use Rattle.cob_move.specs.Paragraphs.{has_choice};
 ghost use Rattle.cob_move.specs.declared.made.NotRead.TheVariants as unread;
 
+use crate::choosing::has_choice;
 use crate::deeds::{add_words_in, not_read, read_bound};
-use crate::entries::Entries;
 use crate::made::NotRead;
 use cob_limits::MAX_WRITTEN_OUT;
 use cob_move_loops::{Counter, Loop, LoopBound, PassageItem, item_at, with_counter};
 use cob_move_names::Correspondences;
 use cob_move_statements::MoveFault;
+use cob_move_tests::Entries;
 use cob_source::Token;
 use std::alloc::Global;
 
@@ -131,6 +133,9 @@ fn look_at_item<'a>(
         PassageItem::Run(words) => look_at_run(alloc, entries, pairs, words, turn),
         PassageItem::Pause => Ok(()),
         PassageItem::Loop { head, body } => look_at_loop(alloc, entries, pairs, head, body, turn),
+        // A turn is sure to come to few statements only where it has no choice, so nothing is looked at here.
+        PassageItem::Choice { .. } => Ok(()),
+        PassageItem::Branch { .. } => Ok(()),
     }
 }
 
@@ -206,12 +211,14 @@ fn depth_of_item(item: &PassageItem<'_>) -> u64
         PassageItem::Run(_) => 0,
         PassageItem::Pause => 0,
         PassageItem::Loop { body, .. } => depth(body) + 1,
+        PassageItem::Choice { .. } => 0,
+        PassageItem::Branch { .. } => 0,
     }
 }
 
 /// How many loops of a passage hold one another, at most.
 #[cycle(depth)]
-pub(crate) fn depth(words: &[Token]) -> u64
+fn depth(words: &[Token]) -> u64
     ensures deep { (p : Passage) → IsPassage p (lexemes words.now) → deep p ≤ result }
     ensures small { result ≤ length (lexemes words.now) }
 {
@@ -224,9 +231,20 @@ pub(crate) fn depth(words: &[Token]) -> u64
     most
 }
 
+/// How many loops of a passage without choices hold one another, at most; 0 of one with a choice.
+pub(crate) fn plain_depth(words: &[Token]) -> u64
+    ensures { 0 < result → (p : Passage) → IsPassage p (lexemes words.now)
+        → (has_choice p ≡ false) × (deep p ≤ result) }
+{
+    if has_choice(words) {
+        return 0;
+    }
+    depth(words)
+}
+
 /// Whether a turn that holds loops is sure to come to few statements, behind so many: the turn before it came to so many, and so many loops in it hold one another.
 pub(crate) fn is_sure(read: u64, before: u64, deep: u64) -> bool
-    ensures { IsTrue result → read + before * (deep + 1) ≤ most_written_out }
+    ensures { IsTrue result → (0 < deep) × (read + before * (deep + 1) ≤ most_written_out) }
 {
     if deep == 0 {
         return false;

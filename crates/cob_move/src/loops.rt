@@ -2,28 +2,29 @@
 
 ghost use Rattle.std.specs.Prelude.{◌≡◌, ◌↔◌, IfErr, IfOk, IsTrue, OnOk};
 ghost use Rattle.std.specs.List.{AllByRecursion};
+ghost use Rattle.cob_move_loops.specs.Few.{loops_of};
 ghost use Rattle.cob_move_loops.specs.Passages.{IsPassage, Passage};
 ghost use Rattle.cob_move_loops.specs.Reading.{all_runs, run_words, written_loop, written_loops};
 ghost use Rattle.cob_move_names.specs.Directory.{entries_named};
 ghost use Rattle.cob_move_apply.specs.Some.{SomeOf};
 ghost use Rattle.cob_move.specs.Between.{ArePairsOf};
-ghost use Rattle.cob_move.specs.Entries.{AllMayBeNamed, records_of};
+ghost use Rattle.cob_move_tests.specs.Entries.{AllMayBeNamed, nameable, records_of};
 ghost use Rattle.cob_move.specs.Loops.{AddsRun, AreItsLoops, BodyRefused, BreaksAnywhere, HasChecked, HasJudged, IsClashOf, RunRefused, SayRuns, SaysBody};
-ghost use Rattle.cob_move.specs.Among.{nameable};
 ghost use Rattle.cob_move.specs.Bodies.{BreaksCounters, IsBodyIn, IsNoEntry, IsPassageRefusal};
 ghost use Rattle.cob_move.specs.Paragraphs.{EndsByNumber, IsLiteral};
 ghost use Rattle.cob_source.specs.Tokens.{lexemes};
 
-use crate::entries::Entries;
+use crate::choosing::has_choice;
 use crate::meaning::meanings_of;
 use crate::pieces::{is_other, refused_memory};
 use cob_move_data::StatementMoves;
 use cob_move_loops::{
-    Loop, LoopBound, LoopFault, Run, check, in_turn, is_few, is_shallow, loop_line, loops, no_turn,
-    write_out,
+    Loop, LoopBound, LoopFault, Run, check, in_turn, is_few, is_shallow, loops, no_turn,
+    opening_line, write_out,
 };
 use cob_move_names::{Correspondences, Names};
 use cob_move_statements::{MoveFault, MoveRule, Reference, behind_heading, ended_statements};
+use cob_move_tests::Entries;
 use cob_source::Token;
 use std::alloc::Global;
 
@@ -132,11 +133,11 @@ fn check_passage(body: &[Token]) -> Result<(), MoveFault>
         return Err(fault_of(MoveRule::Grammar, 1));
     }
     if !is_shallow(body) {
-        return Err(fault_of(MoveRule::TooMany, loop_line(body)));
+        return Err(fault_of(MoveRule::TooMany, opening_line(body)));
     }
     check_grammar(body)?;
     if !is_few(body) {
-        return Err(fault_of(MoveRule::TooMany, loop_line(body)));
+        return Err(fault_of(MoveRule::TooMany, opening_line(body)));
     }
     Ok(())
 }
@@ -164,7 +165,19 @@ fn end_by_numbers(heads: &[Loop<'_>]) -> bool
     true
 }
 
-/// Checks that the words behind a heading are a passage, and keep the rules of loops. The answer is whether its loops all end by numbers.
+/// Whether the loops of a passage all end by numbers, and it has no choice.
+fn is_literal(heads: &[Loop<'_>], body: &[Token]) -> bool
+    ensures { (p : Passage) → IsPassage p (lexemes body.now)
+        → written_loops heads.now ≡ loops_of p → (IsTrue result ↔ IsLiteral p) }
+{
+    if has_choice(body) {
+        return false;
+    }
+    end_by_numbers(heads)
+}
+
+/// Checks that the words behind a heading are a passage, and keep the rules of loops. The answer is whether its loops all end by numbers and no choice stands in
+/// it.
 ///
 /// # Errors
 ///
@@ -179,7 +192,7 @@ pub(crate) fn judge(alloc: Global, names: &Names<'_>, body: &[Token]) -> Result<
     check_passage(body)?;
     let heads = apart_loops(alloc, body)?;
     check_names(names, heads.as_slice())?;
-    Ok(end_by_numbers(heads.as_slice()))
+    Ok(is_literal(heads.as_slice(), body))
 }
 
 /// Puts the moves of words behind those so far.
@@ -263,7 +276,7 @@ fn moves_of_runs(
     Ok(list)
 }
 
-/// The moves that words behind a heading say, whose loops all end by numbers.
+/// The moves that words behind a heading say, which have no choice and whose loops all end by numbers.
 ///
 /// # Errors
 ///

@@ -5,9 +5,11 @@ ghost use Rattle.cob_move.specs.DeedsRead.{IsSizeOf, closed, flow_lists, forgott
 ghost use Rattle.cob_move.specs.declared.made.NotRead.TheVariants as unread;
 
 use crate::linking::next_number;
+use cob_move_condition::Condition;
 use cob_move_data::StatementMoves;
 use cob_move_deeds::{Bound, Flow};
 use cob_move_statements::MoveFault;
+use cob_move_tests::NamedEntry;
 use std::alloc::{AllocError, AllocFailed, Global};
 use std::mem::replace;
 
@@ -18,9 +20,19 @@ pub(crate) struct Made {
     /// How many statements stand before each mark but the first.
     pub(crate) ends: Vec<usize>,
     pub(crate) bounds: Vec<Bound>,
+    /// The entries that conditions ask for, which name them by their numbers here.
+    pub(crate) asked: Vec<NamedEntry>,
+    pub(crate) conditions: Vec<Condition>,
     pub(crate) flows: Vec<Flow>,
     /// How many statements were read, those of turns that were taken back among them.
     pub(crate) read: u64,
+}
+
+/// A branch of a choice that was read: the number of its condition, and what is carried out where it holds.
+#[derive(Drop)]
+pub(crate) struct BranchFlows {
+    pub(crate) condition: usize,
+    pub(crate) flows: Vec<Flow>,
 }
 
 /// Why words are not read.
@@ -56,6 +68,8 @@ pub(crate) struct Sizes {
     list: usize,
     ends: usize,
     bounds: usize,
+    asked: usize,
+    conditions: usize,
     flows: usize,
     read: u64,
 }
@@ -97,6 +111,8 @@ impl Made {
             list: self.list.len(),
             ends: self.ends.len(),
             bounds: self.bounds.len(),
+            asked: self.asked.len(),
+            conditions: self.conditions.len(),
             flows: self.flows.len(),
             read: self.read,
         }
@@ -109,6 +125,8 @@ impl Made {
         self.list.truncate(to.list);
         self.ends.truncate(to.ends);
         self.bounds.truncate(to.bounds);
+        self.asked.truncate(to.asked);
+        self.conditions.truncate(to.conditions);
         self.flows.truncate(to.flows);
     }
 
@@ -126,7 +144,7 @@ impl Made {
 /// # Errors
 ///
 /// Where no memory is left.
-fn taken_flows(alloc: Global, made: &mut Made) -> Result<Vec<Flow>, AllocError>
+pub(crate) fn taken_flows(alloc: Global, made: &mut Made) -> Result<Vec<Flow>, AllocError>
     ensures flows { IfOk result (λ v. v.items ≡ (closed (made_lists made.old)).flows) }
     ensures left { OnOk result
         (made_lists made.new ≡ without_flows (closed (made_lists made.old))) }

@@ -2,7 +2,7 @@
 
 ghost use Rattle.std.specs.Prelude.{◌≡◌, List, length, IfErr, IfOk};
 ghost use Rattle.cob_move.specs.Between.{ArePairsOf};
-ghost use Rattle.cob_move.specs.Entries.{AllMayBeNamed, records_of};
+ghost use Rattle.cob_move_tests.specs.Entries.{AllMayBeNamed, records_of};
 ghost use Rattle.cob_move.specs.Among.{
   AreMeaningsAmong,
   BreaksAmong,
@@ -22,13 +22,13 @@ ghost use Rattle.cob_move_statements.specs.Written.{
 };
 
 use crate::corresponding::moves_of;
-use crate::entries::Entries;
 use crate::meaning_laws::{meant_break_no_rule, one_meant};
 use crate::single::move_of;
 use cob_layout::Layout;
 use cob_move_data::StatementMoves;
 use cob_move_names::{Correspondences, Names};
 use cob_move_statements::{Action, MoveFault, MoveRule, Statement};
+use cob_move_tests::Entries;
 use std::alloc::Global;
 
 /// The moves of what stands behind MOVE.

@@ -18,11 +18,10 @@ ghost use Rattle.cob_source.specs.Tokens.{lexemes};
 ghost use Rattle.cob_source.specs.Words.{AreParagraphWordsOf};
 ghost use Rattle.cob_move.specs.Among.{both};
 ghost use Rattle.cob_move.specs.DeedsRead.{DeedsRefused, SaysDeeds};
-ghost use Rattle.cob_move.specs.Entries.{AllMayBeNamed, records_of};
+ghost use Rattle.cob_move_tests.specs.Entries.{AllMayBeNamed, records_of};
 ghost use Rattle.cob_move.specs.Paragraphs.{AreReady, IsParagraphOf, IsReadyFor, IsRefusalOf, deeds_in, steps_told};
 
 use crate::body::{deeds_of_body, straight_deeds};
-use crate::entries::Entries;
 use crate::laws::{one_paragraph, paragraph_breaks_no_rule};
 use crate::loops::body_of;
 use crate::meaning_laws::meant_are_moves;
@@ -33,6 +32,7 @@ use cob_move_apply::{Scratch, Stop};
 use cob_move_deeds::ReadyDeeds;
 use cob_move_names::{Correspondences, Names};
 use cob_move_statements::MoveFault;
+use cob_move_tests::Entries;
 use cob_source::{Token, paragraph_tokens};
 use std::alloc::Global;
 

@@ -5,21 +5,21 @@ ghost use Rattle.std.specs.List.{AllByRecursion};
 ghost use Rattle.cob_move_loops.specs.Words.{IsOther};
 ghost use Rattle.cob_move.specs.Among.{AreMeaningsAmong};
 ghost use Rattle.cob_move.specs.Between.{ArePairsOf};
-ghost use Rattle.cob_move.specs.Entries.{AllMayBeNamed, records_of};
+ghost use Rattle.cob_move_tests.specs.Entries.{AllMayBeNamed, records_of};
 ghost use Rattle.cob_move.specs.Pieces.{AddsMoves, IsParagraphAmong, IsRefusedMemory, ReadsPiece, SaysMoves, SaysNext, SaysSoFar};
 ghost use Rattle.cob_move_statements.specs.Statements.{FollowsStatements, IsParagraph};
 ghost use Rattle.cob_move_statements.specs.Written.{written_statements};
 ghost use Rattle.cob_source.specs.Ahead.{HaveLineNumbers, IsNoted, IsReadTo};
 ghost use Rattle.cob_source.specs.Tokens.{lexeme, lexemes};
 
-use crate::entries::Entries;
 use crate::meaning::meanings_of;
 use cob_copybook_clauses::{WordClass, is_term};
 use cob_layout::Layout;
 use cob_move_data::StatementMoves;
-use cob_move_loops::{loop_word, no_turn};
+use cob_move_loops::{no_turn, passage_word};
 use cob_move_names::{Correspondences, Names};
 use cob_move_statements::{MoveFault, MoveRule, Statement, statements};
+use cob_move_tests::Entries;
 use cob_source::{SourceRule, Token, WordsAhead};
 use std::alloc::Global;
 
@@ -50,14 +50,14 @@ fn statements_follow(words: &[Token]) -> bool
 pub(crate) fn is_other(word: &Token) -> bool
     ensures { IsTrue result ↔ IsOther (lexeme word.now) }
 {
-    match loop_word(word) {
+    match passage_word(word) {
         Some(_) => false,
         None => true,
     }
 }
 
 /// Whether no word of loops is among words.
-fn have_no_loop_word(words: &[Token]) -> bool
+fn have_no_passage_word(words: &[Token]) -> bool
     ensures { IsTrue result ↔ AllByRecursion IsOther (lexemes words.now) }
 {
     let mut rest = words;
@@ -112,7 +112,7 @@ fn statements_alone<'a>(
         (λ v. AllByRecursion IsOther (lexemes words.now))) }
     ensures fault { IfErr result IsRefusedMemory }
 {
-    if !have_no_loop_word(words) {
+    if !have_no_passage_word(words) {
         return Ok(None);
     }
     match statements(alloc, words) {

@@ -8,10 +8,9 @@ ghost use Rattle.cob_move.specs.Among.{
   BreaksReceiptAmong,
   IsMoveAmong,
   MayBeMovedToAll,
-  NamesAmong,
-  nameable,
 };
-ghost use Rattle.cob_move.specs.Meaning.{kind_of_sender};
+ghost use Rattle.cob_move_tests.specs.Entries.{AllMayBeNamed, NamesAmong, nameable, records_of};
+ghost use Rattle.cob_move_names.specs.Senders.{kind_of_sender};
 ghost use Rattle.cob_move_apply.specs.Some.{SomeOf};
 ghost use Rattle.cob_move.specs.Refusals.{BreaksMove};
 ghost use Rattle.cob_move_data.specs.declared.operands.Side.TheVariants.{Out};
@@ -22,7 +21,6 @@ ghost use Rattle.cob_move_data.specs.Moves.{
   operand_in,
   sender,
 };
-ghost use Rattle.cob_move.specs.Entries.{AllMayBeNamed, records_of};
 ghost use Rattle.cob_move_receive.specs.Refusals.{IsAllowed};
 ghost use Rattle.cob_move_receive.specs.Table.{sender_kind};
 ghost use Rattle.cob_move_statements.specs.Written.{
@@ -32,25 +30,13 @@ ghost use Rattle.cob_move_statements.specs.Written.{
   written_sender,
 };
 
-use crate::entries::Entries;
-use crate::senders::sender_of;
 use cob_copybook_tree::Kind;
 use cob_layout_places::Ref;
 use cob_move_data::{Move, Sender, Side};
 use cob_move_initial::{Refusal, SenderKind, refusal_of};
 use cob_move_statements::{MoveRule, Reference, StatementSender};
+use cob_move_tests::{Entries, kind_of_sender, sender_of};
 use std::alloc::Global;
-
-/// What the table of categories asks of a sender.
-fn kind_of_sender<'a>(entries: &'a Entries<'_, '_>, from: &'a Sender) -> SenderKind<'a>
-    requires sender { IsSender (records_of entries.now) (sender (records_of entries.now) from.now) }
-    ensures { sender_kind result ≡ kind_of_sender (sender (records_of entries.now) from.now) }
-{
-    match from {
-        Sender::Entry { side, entry } => SenderKind::Entry(entries.kind(*side, entry)),
-        Sender::Constant(value) => SenderKind::Constant(value),
-    }
-}
 
 /// Judges the move of a sender to one receiver.
 ///

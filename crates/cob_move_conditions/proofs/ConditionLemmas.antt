@@ -49,7 +49,7 @@ no_single w goes (inl begins) = false_is_true (sym (ap goes_on_by_word begins.fr
 no_single w goes (inr opens) = let never : term.Plain ≡ term.OpenBracket = sym (plain_goes w goes) ∙ opens in cc
 
 -- a relation without its subject is no condition in brackets, and none behind NOT
-related_no_bracket : (r : Relation) (s : WrittenSender) (words ws more rest : List Lexeme) (w : Lexeme) → IsRelated r s ws → words ≡ ws ++ more → word_class w ≡ term.OpenBracket → words ≡ w ∷ rest → ⊥
+pub related_no_bracket : (r : Relation) (s : WrittenSender) (words ws more rest : List Lexeme) (w : Lexeme) → IsRelated r s ws → words ≡ ws ++ more → word_class w ≡ term.OpenBracket → words ≡ w ∷ rest → ⊥
 related_no_bracket r s words ws more rest w is cut opens cut_again =
     let (v, xs, e, begins) = related_first r s ws is in
     let same = same_front v w (xs ++ more) rest (ap (λ (t : List Lexeme). t ++ more) (sym e) ∙ sym cut ∙ cut_again) in
@@ -77,7 +77,7 @@ related_no_not_by (u ∷ []) relation t own rest n v b o noise related is f begi
     let never : term.Plain ≡ term.Is = sym (plain_word n word.Not is) ∙ ap word_class (sym (same_front u n (relation ++ t) own cut)) ∙ noise in cc
 related_no_not_by (u ∷ w ∷ is) relation t own rest n v b o noise related is_not f begins cut = absurd noise
 
-related_no_not : (r : Relation) (s : WrittenSender) (d : WrittenCondition) (words ws more own rest : List Lexeme) (n : Lexeme) → IsRelated r s ws → words ≡ ws ++ more → IsConditionWord word.Not n
+pub related_no_not : (r : Relation) (s : WrittenSender) (d : WrittenCondition) (words ws more own rest : List Lexeme) (n : Lexeme) → IsRelated r s ws → words ≡ ws ++ more → IsConditionWord word.Not n
     → IsConditionBy Alone d own → words ≡ n ∷ (own ++ rest) → ⊥
 related_no_not r s d words ws more own rest n is cut is_not single cut_again =
     let (v, xs, e, begins) = single_first d own single in
@@ -125,7 +125,7 @@ pub record Negates (c : WrittenCondition) (left more : List Lexeme) : Type 0 whe
 plain_no_bracket : term.Plain ≡ term.OpenBracket → ⊥
 plain_no_bracket e = cc
 
-not_begins : (n : Lexeme) (t : WrittenTest) (words left ws more : List Lexeme) → IsConditionWord word.Not n → words ≡ n ∷ left → BeginsWithOperand t ws → words ≡ ws ++ more → ⊥
+pub not_begins : (n : Lexeme) (t : WrittenTest) (words left ws more : List Lexeme) → IsConditionWord word.Not n → words ≡ n ∷ left → BeginsWithOperand t ws → words ≡ ws ++ more → ⊥
 not_begins n t words left ws more is_not e begins cut =
     let (w, rest, f, operand) = begin_first t ws begins in
     let same = same_front n w left (rest ++ more) (sym e ∙ cut ∙ ap (λ (x : List Lexeme). x ++ more) f) in
@@ -159,7 +159,7 @@ pub record Encloses (c : WrittenCondition) (inside more : List Lexeme) : Type 0 
   pub same : c ≡ InBrackets inner
   pub words : inside ≡ own ++ after ∷ more
 
-bracket_begins : (b : Lexeme) (t : WrittenTest) (words inside ws more : List Lexeme) → word_class b ≡ term.OpenBracket → words ≡ b ∷ inside → BeginsWithOperand t ws → words ≡ ws ++ more → ⊥
+pub bracket_begins : (b : Lexeme) (t : WrittenTest) (words inside ws more : List Lexeme) → word_class b ≡ term.OpenBracket → words ≡ b ∷ inside → BeginsWithOperand t ws → words ≡ ws ++ more → ⊥
 bracket_begins b t words inside ws more opens e begins cut =
     let (w, rest, f, operand) = begin_first t ws begins in
     let same = same_front b w inside (rest ++ more) (sym e ∙ cut ∙ ap (λ (x : List Lexeme). x ++ more) f) in

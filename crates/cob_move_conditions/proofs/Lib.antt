@@ -1,5 +1,5 @@
 pub mod WordLemmas
 pub mod RelationLemmas
-pub mod OperandLemmas
 pub mod TestLemmas
 pub mod ConditionLemmas
+mod OneLemmas

@@ -26,13 +26,13 @@ not_order w order is e = nothing_is_some order (ap order_of_word (sym is) ∙ e)
 pub not_opposite : (w : Lexeme) (order : Ordering) → IsConditionWord word.Not w → opposite_of_word (condition_word w) ≡ Some order → ⊥
 not_opposite w order is e = nothing_is_some order (ap opposite_of_word (sym is) ∙ e)
 
-behind_not_no_order : (order other : Ordering) (words ws more vs rest : List Lexeme) → IsNotOrder order ws → words ≡ ws ++ more → IsOrderWritten other vs → words ≡ vs ++ rest → ⊥
+pub behind_not_no_order : (order other : Ordering) (words ws more vs rest : List Lexeme) → IsNotOrder order ws → words ≡ ws ++ more → IsOrderWritten other vs → words ≡ vs ++ rest → ⊥
 behind_not_no_order order other words ws more vs rest (w, own, is, ordered, e) cut (v, behind, named, goes, f) cut_again =
     let both : w ∷ (own ++ more) ≡ v ∷ (behind ++ rest) = ap (λ (t : List Lexeme). t ++ more) (sym e) ∙ sym cut ∙ cut_again ∙ ap (λ (t : List Lexeme). t ++ rest) f in
     let same : w ≡ v = cc in
     not_order v other (subst (IsConditionWord word.Not) same is) named
 
-behind_not_no_opposite : (order other : Ordering) (words ws more vs rest : List Lexeme) → IsNotOrder order ws → words ≡ ws ++ more → IsOppositeWritten other vs → words ≡ vs ++ rest → ⊥
+pub behind_not_no_opposite : (order other : Ordering) (words ws more vs rest : List Lexeme) → IsNotOrder order ws → words ≡ ws ++ more → IsOppositeWritten other vs → words ≡ vs ++ rest → ⊥
 behind_not_no_opposite order other words ws more vs rest (w, own, is, ordered, e) cut (v, behind, named, goes, f) cut_again =
     let both : w ∷ (own ++ more) ≡ v ∷ (behind ++ rest) = ap (λ (t : List Lexeme). t ++ more) (sym e) ∙ sym cut ∙ cut_again ∙ ap (λ (t : List Lexeme). t ++ rest) f in
     let same : w ≡ v = cc in
@@ -76,7 +76,7 @@ behind_apart (Some word.AlphabeticUpper) order other behind more own rest a is b
 behind_apart (Some word.Positive) order other behind more own rest a is b goes fit cut = nothing_is_some order a
 behind_apart (Some word.Negative) order other behind more own rest a is b goes fit cut = nothing_is_some order a
 
-opposite_no_order : (order other : Ordering) (words ws more vs rest : List Lexeme) → IsOppositeWritten order ws → words ≡ ws ++ more → IsOrderWritten other vs → OperandFirst rest → words ≡ vs ++ rest → ⊥
+pub opposite_no_order : (order other : Ordering) (words ws more vs rest : List Lexeme) → IsOppositeWritten order ws → words ≡ ws ++ more → IsOrderWritten other vs → OperandFirst rest → words ≡ vs ++ rest → ⊥
 opposite_no_order order other words ws more vs rest (w, behind, named, goes, e) cut (v, own, ordered, is, f) fit cut_again =
     let both : v ∷ (own ++ rest) ≡ w ∷ (behind ++ more) = ap (λ (t : List Lexeme). t ++ rest) (sym f) ∙ sym cut_again ∙ cut ∙ ap (λ (t : List Lexeme). t ++ more) e in
     let same : v ≡ w = cc in

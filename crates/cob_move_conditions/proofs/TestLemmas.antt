@@ -178,12 +178,12 @@ related_no_quality_by (u ∷ w ∷ is) other relation t negation rest named b op
 related_no_quality_by [] (v ∷ w ∷ other) relation t negation rest named b opposite o q x y related negates names cut = absurd y
 related_no_quality_by (u ∷ []) (v ∷ w ∷ other) relation t negation rest named b opposite o q x y related negates names cut = absurd y
 
-related_no_quality : (r : Relation) (s : WrittenSender) (opposite : Bool) (q : Quality) (words ws more vs rest : List Lexeme) → IsRelated r s ws → words ≡ ws ++ more → IsQualified opposite q vs → words ≡ vs ++ rest → ⊥
+pub related_no_quality : (r : Relation) (s : WrittenSender) (opposite : Bool) (q : Quality) (words ws more vs rest : List Lexeme) → IsRelated r s ws → words ≡ ws ++ more → IsQualified opposite q vs → words ≡ vs ++ rest → ⊥
 related_no_quality r s opposite q words ws more vs rest is cut named cut_again =
     related_no_quality_by is.is named.is is.relation (is.operand ++ more) named.negation rest named.named r.opposite opposite r.order q is.noise named.noise is.related named.negates named.names
     (sym (three_split words ws is.is is.relation is.operand more cut is.words) ∙ three_split words vs named.is named.negation (named.named ∷ []) rest cut_again named.words)
 
-related_no_end : (r : Relation) (s : WrittenSender) (words ws more : List Lexeme) → IsRelated r s ws → words ≡ ws ++ more → EndsTest words → ⊥
+pub related_no_end : (r : Relation) (s : WrittenSender) (words ws more : List Lexeme) → IsRelated r s ws → words ≡ ws ++ more → EndsTest words → ⊥
 related_no_end r s words ws more is cut ends =
     let (w, rest, e, begins) = related_first r s ws is in
     begins_no_end w (rest ++ more) (inl begins) (subst EndsTest (cut ∙ ap (λ (t : List Lexeme). t ++ more) e) ends)
@@ -193,7 +193,7 @@ qualified_no_end opposite q words ws more is cut ends =
     let (w, rest, e, begins) = qualified_first opposite q ws is in
     begins_no_end w (rest ++ more) begins (subst EndsTest (cut ∙ ap (λ (t : List Lexeme). t ++ more) e) ends)
 
-quality_no_end : (a : WrittenSender) (t : WrittenTest) (words ws more : List Lexeme) → QualifiedBehind a t ws → words ≡ ws ++ more → EndsTest words → ⊥
+pub quality_no_end : (a : WrittenSender) (t : WrittenTest) (words ws more : List Lexeme) → QualifiedBehind a t ws → words ≡ ws ++ more → EndsTest words → ⊥
 quality_no_end a (Has r opposite q) words ws more (e, is) cut ends = qualified_no_end opposite q words ws more is cut ends
 quality_no_end a (Relates b r c) words ws more is cut ends = is
 quality_no_end a (RelatesTo r c) words ws more is cut ends = is

@@ -4,4 +4,5 @@ pub mod Operands
 pub mod Relations
 pub mod Written
 pub mod Conditions
+pub mod Laws
 pub mod Reading

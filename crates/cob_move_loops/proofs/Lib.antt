@@ -1,3 +1,4 @@
+pub mod ChoiceLemmas
 pub mod CutLemmas
 pub mod FrontLemmas
 pub mod Fronts

@@ -1,9 +1,11 @@
 -- Passages written out.
 use Rattle.std.proofs.Common.{◌≡◌, ◌⊎◌, inl, inr, ℕ, zero, suc, ◌+◌, ◌-◌, ◌<◌, List, [], ◌∷◌, ◌++◌, length, refl, sym, ap, ◌∙◌, append_assoc, append-nil, arith}
 use Rattle.cob_source.specs.Tokens.{Lexeme}
+use Rattle.cob_move_loops.specs.declared.parts.Place.{Place}
+use Rattle.cob_move_loops.specs.declared.parts.Place.TheVariants as place
 use Rattle.cob_move_loops.specs.declared.turn.Counter.{Counter}
 use Rattle.cob_move_loops.specs.declared.writing.Run.{Run}
-use Rattle.cob_move_loops.specs.Passages.{PassageFront, FrontStands, IsPassage, Passage, WrittenLoop}
+use Rattle.cob_move_loops.specs.Passages.{FrontAt, IsPassage, IsPassageAt, Passage, PassageFront, WrittenLoop}
 use Rattle.cob_move_loops.specs.Few.{statements_of}
 use Rattle.cob_move_loops.specs.Reading.{Within, all_runs, counters, written_front}
 use Rattle.cob_move_loops.specs.Turns.{Counted, counter_at, turns, turns_of, words_by_turn}
@@ -11,18 +13,18 @@ use Rattle.cob_move_loops.proofs.CountLemmas.{none_turn, nothing_written}
 use Rattle.cob_move_loops.proofs.PassageLemmas.{IsOnlyFront, Parted, nothing_left, parted, written_joined}
 
 -- what is left of words comes to, behind what is written, what all come to
-abbrev pub LeftOfWords : List Counted → (words rest : List Lexeme) → (start now : List Run) → Type 0
-LeftOfWords ns words rest start now =
-    (p : Passage) → IsPassage p words → (q : Passage) × IsPassage q rest × (all_runs now ++ words_by_turn ns q ≡ all_runs start ++ words_by_turn ns p)
+abbrev pub LeftOfWords : Place → List Counted → (words rest : List Lexeme) → (start now : List Run) → Type 0
+LeftOfWords at ns words rest start now =
+    (p : Passage) → IsPassageAt at p words → (q : Passage) × IsPassageAt at q rest × (all_runs now ++ words_by_turn ns q ≡ all_runs start ++ words_by_turn ns p)
 
-pub left_first : (ns : List Counted) (words : List Lexeme) (out : List Run) → LeftOfWords ns words words out out
-left_first ns words out p is = (p, is, refl)
+pub left_first : (at : Place) (ns : List Counted) (words : List Lexeme) (out : List Run) → LeftOfWords at ns words words out out
+left_first at ns words out p is = (p, is, refl)
 
-pub left_more : (ns : List Counted) (words rest more : List Lexeme) (f : PassageFront) (start now after : List Run) → LeftOfWords ns words rest start now → 0 < length rest → IsOnlyFront f rest more
-    → ((body : Passage) → Within f body → all_runs after ≡ all_runs now ++ written_front ns f body) → LeftOfWords ns words more start after
-left_more ns words rest more f start now after left some only made p is =
+pub left_more : (at : Place) (ns : List Counted) (words rest more : List Lexeme) (f : PassageFront) (start now after : List Run) → LeftOfWords at ns words rest start now → 0 < length rest → IsOnlyFront at f rest more
+    → ((body : Passage) → Within f body → all_runs after ≡ all_runs now ++ written_front ns f body) → LeftOfWords at ns words more start after
+left_more at ns words rest more f start now after left some only made p is =
     let (q, are, so) = left p is in
-    let k : Parted f more q = parted f rest more q are some only in (
+    let k : Parted at f more q = parted at f rest more q are some only in (
       k.others,
       k.is,
       ap (λ (xs : List (List Lexeme)). xs ++ words_by_turn ns k.others) (made k.body k.within)
@@ -31,11 +33,11 @@ left_more ns words rest more f start now after left some only made p is =
           ∙ ap (λ (d : Passage). all_runs now ++ words_by_turn ns d) (sym k.same) ∙ so,
     )
 
-pub left_end : (ns : List Counted) (words rest : List Lexeme) (start now : List Run) → LeftOfWords ns words rest start now → ((f : PassageFront) (more : List Lexeme) → FrontStands f rest more → ⊥)
-    → (p : Passage) → IsPassage p words → all_runs now ≡ all_runs start ++ words_by_turn ns p
-left_end ns words rest start now left none p is =
+pub left_end : (at : Place) (ns : List Counted) (words rest : List Lexeme) (start now : List Run) → LeftOfWords at ns words rest start now → ((f : PassageFront) (more : List Lexeme) → FrontAt at f rest more → ⊥)
+    → (p : Passage) → IsPassageAt at p words → all_runs now ≡ all_runs start ++ words_by_turn ns p
+left_end at ns words rest start now left none p is =
     let (q, are, so) = left p is in
-    let nothing : words_by_turn ns q ≡ [] = ap (λ (d : Passage). words_by_turn ns d) (nothing_left q rest are none) in
+    let nothing : words_by_turn ns q ≡ [] = ap (λ (d : Passage). words_by_turn ns d) (nothing_left at q rest are none) in
     sym (append-nil (all_runs now)) ∙ ap (λ (xs : List (List Lexeme)). all_runs now ++ xs) (sym nothing) ∙ so
 
 -- ---- turns
@@ -83,7 +85,7 @@ turns_first ns body l left number start (inl all) from p is =
 turns_first ns body l left number start (inr (none, nothing)) from p is =
     let f : ℕ → List (List Lexeme) = λ i. words_by_turn (ns ++ counter_at l i ∷ []) p in
     ap (λ (n : ℕ). all_runs start ++ turns f l.by n number) none
-    ∙ ap (λ (xs : List (List Lexeme)). all_runs start ++ xs) (sym (none_turn f l.by (turns_of l) l.from (λ i. nothing_written (ns ++ counter_at l i ∷ []) p body is (nothing p is))))
+    ∙ ap (λ (xs : List (List Lexeme)). all_runs start ++ xs) (sym (none_turn f l.by (turns_of l) l.from (λ i. nothing_written place.Statements (ns ++ counter_at l i ∷ []) p body is (nothing p is))))
 
 pub counters_more : (cs : List Counter) (c : Counter) → counters (cs ++ c ∷ []) ≡ counters cs ++ record { name = c.name.now; number = c.number } ∷ []
 counters_more [] c = refl

@@ -10,7 +10,7 @@ use Rattle.cob_copybook_clauses.specs.Terms.{word_class}
 use Rattle.cob_copybook_clauses.specs.declared.term.WordClass.{WordClass}
 use Rattle.cob_copybook_clauses.specs.declared.term.WordClass.TheVariants as term
 use Rattle.cob_limits.specs.Limits.{most_counter_digits}
-use Rattle.cob_move_loops.specs.Passages.{ALoop, Moves, NoMore, Passage, Pause, ToItem, ToNumber, WrittenBound, WrittenLoop}
+use Rattle.cob_move_loops.specs.Passages.{ABranch, AChoice, ALoop, Moves, NoMore, Passage, Pause, ToItem, ToNumber, WrittenBound, WrittenLoop}
 
 -- a counter and its number in a turn
 pub record Counted : Type 0 where
@@ -131,9 +131,11 @@ abbrev pub turns_of : WrittenLoop → ℕ
 turns_of l = turns_up_to l.from l.by l.bound
 
 -- A passage written out, where the counters round it have these numbers: the words of MOVE statements, each turn's behind those of the turn before, each
--- as they are in their turn.
+-- as they are in their turn. Those of a choice are the words of all its branches, whichever is taken.
 abbrev pub words_by_turn : List Counted → Passage → List (List Lexeme)
 words_by_turn ns NoMore = []
 words_by_turn ns (Moves own more) = in_turn ns false 0 own ∷ words_by_turn ns more
 words_by_turn ns (Pause more) = words_by_turn ns more
 words_by_turn ns (ALoop l body more) = turns (λ i. words_by_turn (ns ++ counter_at l i ∷ []) body) l.by (turns_of l) l.from ++ words_by_turn ns more
+words_by_turn ns (AChoice c branches more) = words_by_turn ns branches ++ words_by_turn ns more
+words_by_turn ns (ABranch t own more) = words_by_turn ns own ++ words_by_turn ns more

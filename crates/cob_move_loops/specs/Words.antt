@@ -1,4 +1,4 @@
--- The words of loops.
+-- The words of loops and choices.
 use Rattle.std.specs.Prelude.{◌≡◌, ◌≢◌, ℕ, ◌<◌, if◌then◌else◌, bytes_eq, codes, List, [], ◌∷◌, Option, Some, None}
 use Rattle.cob_limits.specs.Limits.{most_counter_digits}
 use Rattle.cob_source.specs.Tokens.{Lexeme}
@@ -9,39 +9,66 @@ use Rattle.cob_copybook_clauses.specs.Clauses.{IsNameWord, IsWord}
 use Rattle.cob_copybook_clauses.specs.Terms.{word_class}
 use Rattle.cob_copybook_clauses.specs.declared.term.WordClass.TheVariants as term
 use Rattle.cob_copybook_entries.specs.Meaning.{IsIntegerText}
-use Rattle.cob_move_loops.specs.declared.words.LoopWord.{LoopWord}
-use Rattle.cob_move_loops.specs.declared.words.LoopWord.TheVariants as loop
+use Rattle.cob_move_loops.specs.declared.words.BranchWord.{BranchWord}
+use Rattle.cob_move_loops.specs.declared.words.BranchWord.TheVariants as branch
+use Rattle.cob_move_loops.specs.declared.words.PassageWord.{PassageWord}
+use Rattle.cob_move_loops.specs.declared.words.PassageWord.TheVariants as mark
 
--- the word of loops that a text is, if it is one
-abbrev pub loop_word_in : List ℕ → Option LoopWord
-loop_word_in text =
-    if bytes_eq text (codes "PERFORM") then Some loop.Perform
-    else if bytes_eq text (codes "END-PERFORM") then Some loop.EndPerform
-    else if bytes_eq text (codes "CONTINUE") then Some loop.Continue
+-- the word round statements that a text is, if it is one
+abbrev pub passage_word_in : List ℕ → Option PassageWord
+passage_word_in text =
+    if bytes_eq text (codes "PERFORM") then Some mark.Perform
+    else if bytes_eq text (codes "END-PERFORM") then Some mark.EndPerform
+    else if bytes_eq text (codes "CONTINUE") then Some mark.Continue
+    else if bytes_eq text (codes "IF") then Some mark.If
+    else if bytes_eq text (codes "EVALUATE") then Some mark.Evaluate
     else None
 
 -- a literal and a period are no words
-abbrev pub loop_word_of_kind : TokenKind → List ℕ → Option LoopWord
-loop_word_of_kind kind.Word text = loop_word_in text
-loop_word_of_kind kind.Literal text = None
-loop_word_of_kind kind.Stop text = None
+abbrev pub passage_word_of_kind : TokenKind → List ℕ → Option PassageWord
+passage_word_of_kind kind.Word text = passage_word_in text
+passage_word_of_kind kind.Literal text = None
+passage_word_of_kind kind.Stop text = None
 
--- the word of loops that a word is, if it is one: none of these is a name in a paragraph
-abbrev pub loop_word : Lexeme → Option LoopWord
-loop_word w = loop_word_of_kind w.kind w.text
+-- the word round statements that a word is, if it is one: none of these is a name in a paragraph
+abbrev pub passage_word : Lexeme → Option PassageWord
+passage_word w = passage_word_of_kind w.kind w.text
 
--- this word of loops
-abbrev pub IsLoopWord : LoopWord → Lexeme → Type 0
-IsLoopWord l w = loop_word w ≡ Some l
+-- this word round statements
+abbrev pub IsPassageWord : PassageWord → Lexeme → Type 0
+IsPassageWord l w = passage_word w ≡ Some l
 
--- no word of loops
+-- no word round statements
 abbrev pub IsOther : Lexeme → Type 0
-IsOther w = loop_word w ≡ None
+IsOther w = passage_word w ≡ None
 
--- nothing comes first, or a word of loops
-abbrev pub LoopWordFirst : List Lexeme → Type 0
-LoopWordFirst [] = Unit {0}
-LoopWordFirst (w ∷ ws) = IsOther w → ⊥
+-- nothing comes first, or a word round statements
+abbrev pub PassageWordFirst : List Lexeme → Type 0
+PassageWordFirst [] = Unit {0}
+PassageWordFirst (w ∷ ws) = IsOther w → ⊥
+
+-- the word of branches that a text is, if it is one
+abbrev pub branch_word_in : List ℕ → Option BranchWord
+branch_word_in text =
+    if bytes_eq text (codes "ELSE") then Some branch.Else
+    else if bytes_eq text (codes "END-IF") then Some branch.EndIf
+    else if bytes_eq text (codes "WHEN") then Some branch.When
+    else if bytes_eq text (codes "END-EVALUATE") then Some branch.EndEvaluate
+    else None
+
+-- a literal and a period are no words
+abbrev pub branch_word_of_kind : TokenKind → List ℕ → Option BranchWord
+branch_word_of_kind kind.Word text = branch_word_in text
+branch_word_of_kind kind.Literal text = None
+branch_word_of_kind kind.Stop text = None
+
+-- the word of branches that a word is, if it is one: it is so within an IF or an EVALUATE, and elsewhere a word as others are
+abbrev pub branch_word : Lexeme → Option BranchWord
+branch_word w = branch_word_of_kind w.kind w.text
+
+-- this word of branches
+abbrev pub IsBranchWord : BranchWord → Lexeme → Type 0
+IsBranchWord b w = branch_word w ≡ Some b
 
 -- a period, before a space or the end of a line
 abbrev pub IsPeriod : Lexeme → Type 0
@@ -56,7 +83,7 @@ NoPeriod (w ∷ ws) = IsPeriod w → ⊥
 abbrev pub IsNoPeriod : Lexeme → Type 0
 IsNoPeriod w = w.kind ≢ kind.Stop
 
--- a name that a counter may have: no word of loops
+-- a name that a counter may have: no word round statements
 pub record IsCounter (name : List ℕ) (w : Lexeme) : Type 0 where
   pub named : IsNameWord w
   pub other : IsOther w
@@ -73,7 +100,7 @@ abbrev pub first_line : List Lexeme → ℕ
 first_line [] = 1
 first_line (w ∷ ws) = w.line
 
--- a word of a reference: no word of loops, not MOVE, and no period
+-- a word of a reference: no word round statements, not MOVE, and no period
 pub record IsItemWord (w : Lexeme) : Type 0 where
   pub other : IsOther w
   pub no_move : (word_class w ≡ term.Move) → ⊥
@@ -88,3 +115,35 @@ NoItemWord (w ∷ ws) = IsItemWord w → ⊥
 abbrev pub AreItemWords : List Lexeme → Type 0
 AreItemWords [] = ⊥
 AreItemWords (w ∷ ws) = IsNameWord w × (IsWord (codes "THAN") w → ⊥) × AllByRecursion IsItemWord (w ∷ ws)
+
+-- a word of a test, or of what is tested: one that a reference may have, no word of branches, and not THEN
+pub record IsTestWord (w : Lexeme) : Type 0 where
+  pub item : IsItemWord w
+  pub no_branch : branch_word w ≡ None
+  pub no_then : IsWord (codes "THEN") w → ⊥
+
+-- no word of a test comes first
+abbrev pub NoTestWord : List Lexeme → Type 0
+NoTestWord [] = Unit {0}
+NoTestWord (w ∷ ws) = IsTestWord w → ⊥
+
+-- neither a word of a test nor THEN comes first
+abbrev pub NoHeadWord : List Lexeme → Type 0
+NoHeadWord [] = Unit {0}
+NoHeadWord (w ∷ ws) = (IsTestWord w → ⊥) × (IsWord (codes "THEN") w → ⊥)
+
+-- words of a test, one at least
+abbrev pub AreTestWords : List Lexeme → Type 0
+AreTestWords [] = ⊥
+AreTestWords (w ∷ ws) = AllByRecursion IsTestWord (w ∷ ws)
+
+-- THEN, or nothing
+abbrev pub IsThen : List Lexeme → Type 0
+IsThen [] = Unit {0}
+IsThen (w ∷ []) = IsWord (codes "THEN") w
+IsThen (w ∷ v ∷ ws) = ⊥
+
+-- OTHER doesn't come first
+abbrev pub NotOtherFirst : List Lexeme → Type 0
+NotOtherFirst [] = Unit {0}
+NotOtherFirst (w ∷ ws) = IsWord (codes "OTHER") w → ⊥

@@ -2,13 +2,14 @@
 
 ghost use Rattle.std.specs.Prelude.{◌≡◌, ◌↔◌, false, true, IfErr, IsTrue, OnOk};
 ghost use Rattle.cob_source.specs.Tokens.{lexeme, lexemes};
-ghost use Rattle.cob_move_loops.specs.Bounded.{AreBounded, BoundedFront, IsBounded, LacksBound, LacksBoundFront, has_subscript, is_subscripted, subscript_front, words_of_bound};
-ghost use Rattle.cob_move_loops.specs.Passages.{IsPassage, Passage};
-ghost use Rattle.cob_move_loops.specs.Reading.{Within, item_front, loop_in_front, written_bound, written_loop};
+ghost use Rattle.cob_move_loops.specs.Bounded.{AreBounded, BoundedFront, IsBounded, LacksBound, LacksBoundFront, has_subscript, is_subscripted, subscript_front, words_of_bound, words_of_choice, words_of_test};
+ghost use Rattle.cob_move_loops.specs.Passages.{Branched, Chosen, IsPassage, IsPassageAt, Passage, kind_of};
+ghost use Rattle.cob_move_loops.specs.Reading.{Within, item_front, loop_in_front, written_bound, written_choice, written_loop, written_test};
 
+use crate::choice::kind_of;
 use crate::counting::turns_of;
-use crate::front::{PassageItem, item_at};
-use crate::parts::{Loop, LoopBound};
+use crate::front::{PassageItem, item_in};
+use crate::parts::{BranchTest, Choice, Loop, LoopBound, Place};
 use crate::turn::opens;
 use cob_source::Token;
 
@@ -38,6 +39,26 @@ fn is_in_bound(name: &[u8], bound: &LoopBound<'_>) -> bool
     }
 }
 
+/// Whether a counter is a subscript in what an EVALUATE tests.
+fn is_in_subject(name: &[u8], choice: &Choice<'_>) -> bool
+    ensures { result ≡ is_subscripted name.now false (words_of_choice (written_choice choice.now)) }
+{
+    match choice {
+        Choice::If { .. } => false,
+        Choice::Evaluate { subject, .. } => is_subscripted(name, subject),
+    }
+}
+
+/// Whether a counter is a subscript in a test.
+fn is_in_test(name: &[u8], test: &BranchTest<'_>) -> bool
+    ensures { result ≡ is_subscripted name.now false (words_of_test (written_test test.now)) }
+{
+    match test {
+        BranchTest::Tested(words) => is_subscripted(name, words),
+        BranchTest::Otherwise => false,
+    }
+}
+
 /// Whether a counter is a subscript in what stands in front.
 #[cycle(searching)]
 fn is_in_item(name: &[u8], item: &PassageItem<'_>) -> bool
@@ -48,6 +69,8 @@ fn is_in_item(name: &[u8], item: &PassageItem<'_>) -> bool
         PassageItem::Run(words) => is_subscripted(name, words),
         PassageItem::Pause => false,
         PassageItem::Loop { head, body } => is_in_loop(name, head, body),
+        PassageItem::Choice { choice, branches } => is_in_choice(name, choice, branches),
+        PassageItem::Branch { test, body } => is_in_branch(name, test, body),
     }
 }
 
@@ -57,17 +80,37 @@ fn is_in_loop(name: &[u8], head: &Loop<'_>, body: &[Token]) -> bool
     ensures { (p : Passage) → IsPassage p (lexemes body.now) → result
         ≡ subscript_front name.now (loop_in_front head.now (lexemes body.now)) p }
 {
-    is_in_bound(name, &head.bound) || (turns_of(head) > 0 && has_subscript(name, body))
+    is_in_bound(name, &head.bound)
+        || (turns_of(head) > 0 && has_subscript(name, Place::Statements, body))
+}
+
+/// Whether a counter is a subscript in a choice: in what it tests, or in a branch.
+#[cycle(searching)]
+fn is_in_choice(name: &[u8], choice: &Choice<'_>, branches: &[Token]) -> bool
+    ensures { (p : Passage)
+        → IsPassageAt (Place.Branches (kind_of (written_choice choice.now))) p (lexemes branches.now)
+        → result ≡ subscript_front name.now (Chosen (written_choice choice.now) (lexemes branches.now)) p }
+{
+    is_in_subject(name, choice) || has_subscript(name, Place::Branches(kind_of(choice)), branches)
+}
+
+/// Whether a counter is a subscript in a branch: in its test, or in a statement.
+#[cycle(searching)]
+fn is_in_branch(name: &[u8], test: &BranchTest<'_>, body: &[Token]) -> bool
+    ensures { (p : Passage) → IsPassage p (lexemes body.now) → result
+        ≡ subscript_front name.now (Branched (written_test test.now) (lexemes body.now)) p }
+{
+    is_in_test(name, test) || has_subscript(name, Place::Statements, body)
 }
 
 /// Whether a counter is a subscript in a passage.
 #[cycle(searching)]
-fn has_subscript(name: &[u8], words: &[Token]) -> bool
-    ensures { (p : Passage) → IsPassage p (lexemes words.now)
+fn has_subscript(name: &[u8], place: Place, words: &[Token]) -> bool
+    ensures { (p : Passage) → IsPassageAt place p (lexemes words.now)
         → result ≡ has_subscript name.now p }
 {
     let mut rest = words;
-    while let Some((item, more)) = item_at(rest) {
+    while let Some((item, more)) = item_in(place, rest) {
         if is_in_item(name, &item) {
             return true;
         }
@@ -83,7 +126,7 @@ fn is_bounded(head: &Loop<'_>, body: &[Token]) -> bool
 {
     match head.bound {
         LoopBound::Number(_) => true,
-        LoopBound::Item(_) => has_subscript(head.counter, body),
+        LoopBound::Item(_) => has_subscript(head.counter, Place::Statements, body),
     }
 }
 
@@ -105,9 +148,34 @@ fn check_item(item: &PassageItem<'_>) -> Result<(), u32>
             if !is_bounded(head, body) {
                 return Err(head.line);
             }
-            check_bounds(body)
+            check_all(Place::Statements, body)
         }
+        PassageItem::Choice { choice, branches } => check_all(
+            Place::Branches(kind_of(choice)),
+            branches,
+        ),
+        PassageItem::Branch { body, .. } => check_all(Place::Statements, body),
     }
+}
+
+/// Checks that the loops of a passage are bounded.
+///
+/// # Errors
+///
+/// The line of one that isn't.
+#[cycle(bounding)]
+fn check_all(place: Place, words: &[Token]) -> Result<(), u32>
+    ensures bounded { OnOk result ((p : Passage) → IsPassageAt place p (lexemes words.now)
+        → AreBounded p) }
+    ensures line { IfErr result (λ line. (p : Passage) → IsPassageAt place p (lexemes words.now)
+        → LacksBound p line) }
+{
+    let mut rest = words;
+    while let Some((item, more)) = item_in(place, rest) {
+        check_item(&item)?;
+        rest = more;
+    }
+    Ok(())
 }
 
 /// Checks that the loops of a passage are bounded: the counter of one to an item is a subscript in it.
@@ -115,17 +183,11 @@ fn check_item(item: &PassageItem<'_>) -> Result<(), u32>
 /// # Errors
 ///
 /// The line of one that isn't.
-#[cycle(bounding)]
 pub fn check_bounds(words: &[Token]) -> Result<(), u32>
     ensures bounded { OnOk result ((p : Passage) → IsPassage p (lexemes words.now)
         → AreBounded p) }
     ensures line { IfErr result (λ line. (p : Passage) → IsPassage p (lexemes words.now)
         → LacksBound p line) }
 {
-    let mut rest = words;
-    while let Some((item, more)) = item_at(rest) {
-        check_item(&item)?;
-        rest = more;
-    }
-    Ok(())
+    check_all(Place::Statements, words)
 }

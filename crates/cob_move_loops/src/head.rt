@@ -12,7 +12,9 @@ ghost use Rattle.cob_move_loops.specs.Reading.{AfterIs, AnswersBound, AnswersNam
 use crate::number::number_at;
 use crate::parts::{Loop, LoopBound};
 use crate::stops::is_stop;
-use crate::words::{LoopWord, behind_loop_word, behind_text, first_line, is_that_word, loop_word};
+use crate::words::{
+    PassageWord, behind_passage_word, behind_text, first_line, is_that_word, passage_word,
+};
 use cob_copybook_clauses::{WordClass, front, is_name_word, is_term};
 use cob_source::Token;
 
@@ -20,7 +22,7 @@ use cob_source::Token;
 fn is_counter(token: &Token) -> bool
     ensures { IsTrue result ↔ (IsNameWord (lexeme token.now) × IsOther (lexeme token.now)) }
 {
-    is_name_word(token) && loop_word(token).is_none()
+    is_name_word(token) && passage_word(token).is_none()
 }
 
 /// The counter in front, and what is behind it.
@@ -44,7 +46,7 @@ fn varying_at(words: &[Token]) -> Option<(u32, &[u8], &[Token])>
     ensures only { (line : ℕ) (name : List ℕ) (ws more : List Lexeme) → IsVarying line name ws
         → lexemes words.now ≡ ws ++ more → AnswersNamed result line name more }
 {
-    let performed = behind_loop_word(words, LoopWord::Perform)?;
+    let performed = behind_passage_word(words, PassageWord::Perform)?;
     let varied = behind_text(performed, b"VARYING")?;
     let (name, more) = counter_at(varied)?;
     Some((first_line(words), name, more))
@@ -99,10 +101,10 @@ fn behind_past(words: &[Token]) -> Option<&[Token]>
 }
 
 /// Whether a word may be one of a reference.
-fn is_item_word(token: &Token) -> bool
+pub(crate) fn is_item_word(token: &Token) -> bool
     ensures { IsTrue result ↔ IsItemWord (lexeme token.now) }
 {
-    loop_word(token).is_none() && !is_term(token, WordClass::Move) && !is_stop(token)
+    passage_word(token).is_none() && !is_term(token, WordClass::Move) && !is_stop(token)
 }
 
 /// The words behind the one in front, if that may be one of a reference.

@@ -8,8 +8,9 @@ ghost use Rattle.cob_move_loops.specs.Few.{AreLoopsApart, IsApart, loops_of};
 ghost use Rattle.cob_move_loops.specs.Passages.{IsPassage, Passage};
 ghost use Rattle.cob_move_loops.specs.Reading.{AddsLoops, AddsLoopsFront, ClashesIn, ClashesInFront, IsClash, item_front, loop_in_front, written_loop, written_loops};
 
-use crate::front::{PassageItem, item_at};
-use crate::parts::Loop;
+use crate::choice::kind_of;
+use crate::front::{PassageItem, item_in};
+use crate::parts::{Loop, Place};
 use cob_source::Token;
 use std::alloc::{AllocError, AllocFailed, Global};
 
@@ -100,7 +101,7 @@ fn add_loop<'a>(
     }
     out.push(*head)?;
     let inner = with_loop(alloc, around, *head)?;
-    add_loops(alloc, body, inner.as_slice(), out)
+    add_loops(alloc, Place::Statements, body, inner.as_slice(), out)
 }
 
 /// Puts the loops of what stands in front behind those so far.
@@ -123,6 +124,16 @@ fn add_item<'a>(
     match item {
         PassageItem::Run(_) | PassageItem::Pause => Ok(()),
         PassageItem::Loop { head, body } => add_loop(alloc, head, body, around, out),
+        PassageItem::Choice { choice, branches } => {
+            add_loops(
+                alloc,
+                Place::Branches(kind_of(choice)),
+                branches,
+                around,
+                out,
+            )
+        }
+        PassageItem::Branch { body, .. } => add_loops(alloc, Place::Statements, body, around, out),
     }
 }
 
@@ -134,17 +145,18 @@ fn add_item<'a>(
 #[cycle(naming)]
 fn add_loops<'a>(
     alloc: Global,
+    place: Place,
     words: &'a [Token],
     around: &[Loop<'a>],
     out: &mut Vec<Loop<'a>>,
 ) -> Result<(), LoopFault>
-    ensures named { OnOk result (AddsLoops (written_loops around.now) (lexemes words.now)
+    ensures named { OnOk result (AddsLoops place (written_loops around.now) (lexemes words.now)
         out.old.items out.new.items) }
     ensures clash { IfErr result
-        (IsClash (ClashesIn (written_loops around.now) (lexemes words.now))) }
+        (IsClash (ClashesIn place (written_loops around.now) (lexemes words.now))) }
 {
     let mut rest = words;
-    while let Some((item, more)) = item_at(rest) {
+    while let Some((item, more)) = item_in(place, rest) {
         add_item(alloc, &item, around, out)?;
         rest = more;
     }
@@ -159,9 +171,9 @@ fn add_loops<'a>(
 pub fn loops(alloc: Global, words: &[Token]) -> Result<Vec<Loop<'_>>, LoopFault>
     ensures found { IfOk result (λ v. (p : Passage) → IsPassage p (lexemes words.now)
         → AreLoopsApart [] p × (written_loops v.items ≡ loops_of p)) }
-    ensures clash { IfErr result (IsClash (ClashesIn [] (lexemes words.now))) }
+    ensures clash { IfErr result (IsClash (ClashesIn Place.Statements [] (lexemes words.now))) }
 {
     let mut out = Vec::new(alloc);
-    add_loops(alloc, words, &[], &mut out)?;
+    add_loops(alloc, Place::Statements, words, &[], &mut out)?;
     Ok(out)
 }

@@ -1,4 +1,4 @@
-//! The parts of loops.
+//! The parts of loops and choices.
 
 ghost use Rattle.std.specs.Prelude.{◌<◌};
 
@@ -25,4 +25,40 @@ pub struct Loop<'a> {
     pub bound: LoopBound<'a>,
 
     pub ghost steps: { 0 < by },
+}
+
+/// A kind of choice.
+#[derive(Clone, Copy, PartialEq, Eq)]
+pub enum ChoiceKind {
+    /// IF, whose branches are parted by ELSE.
+    If,
+    /// EVALUATE, whose branches begin with WHEN.
+    Evaluate,
+}
+
+/// Where words of a passage stand.
+#[derive(Clone, Copy)]
+pub enum Place {
+    /// In a paragraph, a loop or a branch: they are statements.
+    Statements,
+    /// In a choice: they are its branches.
+    Branches(ChoiceKind),
+}
+
+/// What stands before the branches of a choice.
+#[derive(Clone, Copy)]
+pub enum Choice<'a> {
+    /// IF on this line.
+    If { line: u32 },
+    /// EVALUATE on this line, with the words of what it tests.
+    Evaluate { line: u32, subject: &'a [Token] },
+}
+
+/// What a branch of a choice is taken by.
+#[derive(Clone, Copy)]
+pub enum BranchTest<'a> {
+    /// The words of a condition, or of a WHEN, hold.
+    Tested(&'a [Token]),
+    /// No branch before it was taken.
+    Otherwise,
 }

@@ -1,45 +1,97 @@
-//! The words of loops.
+//! The words of loops and choices.
 
 ghost use Rattle.std.specs.Prelude.{◌≡◌, ◌↔◌, ◌∷◌, IfSome, IsSomeAnd, IsTrue, List, Some};
 ghost use Rattle.cob_copybook_clauses.specs.Clauses.{IsWord};
 ghost use Rattle.cob_source.specs.Tokens.{Lexeme, lexeme, lexemes};
-ghost use Rattle.cob_move_loops.specs.Words.{first_line, loop_word, loop_word_in};
+ghost use Rattle.cob_move_loops.specs.Words.{branch_word, branch_word_in, first_line, passage_word, passage_word_in};
 
 use cob_source::{Token, TokenKind};
 
-/// A word of loops, which is no name in a paragraph.
+/// A word round statements, which is no name in a paragraph.
 #[derive(Clone, Copy, PartialEq, Eq)]
-pub enum LoopWord {
+pub enum PassageWord {
     /// PERFORM.
     Perform,
     /// END-PERFORM.
     EndPerform,
     /// CONTINUE.
     Continue,
+    /// IF.
+    If,
+    /// EVALUATE.
+    Evaluate,
 }
 
-/// The word of loops that a text is, if it is one.
-fn loop_word_in(text: &[u8]) -> Option<LoopWord>
-    ensures { result ≡ loop_word_in text.now }
+/// A word of the branches of a choice. Within an IF or an EVALUATE it is one, elsewhere a word as others are.
+#[derive(Clone, Copy, PartialEq, Eq)]
+pub enum BranchWord {
+    /// ELSE.
+    Else,
+    /// END-IF.
+    EndIf,
+    /// WHEN.
+    When,
+    /// END-EVALUATE.
+    EndEvaluate,
+}
+
+/// The word round statements that a text is, if it is one.
+fn passage_word_in(text: &[u8]) -> Option<PassageWord>
+    ensures { result ≡ passage_word_in text.now }
 {
     if text == b"PERFORM".as_slice() {
-        return Some(LoopWord::Perform);
+        return Some(PassageWord::Perform);
     }
     if text == b"END-PERFORM".as_slice() {
-        return Some(LoopWord::EndPerform);
+        return Some(PassageWord::EndPerform);
     }
     if text == b"CONTINUE".as_slice() {
-        return Some(LoopWord::Continue);
+        return Some(PassageWord::Continue);
+    }
+    if text == b"IF".as_slice() {
+        return Some(PassageWord::If);
+    }
+    if text == b"EVALUATE".as_slice() {
+        return Some(PassageWord::Evaluate);
     }
     None
 }
 
-/// The word of loops that a token is, if it is one.
-pub fn loop_word(token: &Token) -> Option<LoopWord>
-    ensures { result ≡ loop_word (lexeme token.now) }
+/// The word round statements that a token is, if it is one.
+pub fn passage_word(token: &Token) -> Option<PassageWord>
+    ensures { result ≡ passage_word (lexeme token.now) }
 {
     match token.kind {
-        TokenKind::Word => loop_word_in(token.text.as_slice()),
+        TokenKind::Word => passage_word_in(token.text.as_slice()),
+        TokenKind::Literal | TokenKind::Stop => None,
+    }
+}
+
+/// The word of branches that a text is, if it is one.
+fn branch_word_in(text: &[u8]) -> Option<BranchWord>
+    ensures { result ≡ branch_word_in text.now }
+{
+    if text == b"ELSE".as_slice() {
+        return Some(BranchWord::Else);
+    }
+    if text == b"END-IF".as_slice() {
+        return Some(BranchWord::EndIf);
+    }
+    if text == b"WHEN".as_slice() {
+        return Some(BranchWord::When);
+    }
+    if text == b"END-EVALUATE".as_slice() {
+        return Some(BranchWord::EndEvaluate);
+    }
+    None
+}
+
+/// The word of branches that a token is, if it is one.
+pub(crate) fn branch_word(token: &Token) -> Option<BranchWord>
+    ensures { result ≡ branch_word (lexeme token.now) }
+{
+    match token.kind {
+        TokenKind::Word => branch_word_in(token.text.as_slice()),
         TokenKind::Literal | TokenKind::Stop => None,
     }
 }
@@ -52,7 +104,7 @@ fn is_text(text: &[u8], other: &[u8]) -> bool
 }
 
 /// Whether a token is a word with this text.
-pub(crate) fn is_that_word(token: &Token, text: &[u8]) -> bool
+pub fn is_that_word(token: &Token, text: &[u8]) -> bool
     ensures { IsTrue result ↔ IsWord text.now (lexeme token.now) }
 {
     token.kind == TokenKind::Word && is_text(token.text.as_slice(), text)
@@ -72,25 +124,49 @@ pub(crate) fn behind_text<'a>(words: &'a [Token], text: &[u8]) -> Option<&'a [To
     Some(more)
 }
 
-/// Whether a token is this word of loops.
-fn is_loop_word(token: &Token, word: LoopWord) -> bool
-    ensures { IsTrue result ↔ loop_word (lexeme token.now) ≡ Some word }
+/// Whether a token is this word round statements.
+fn is_passage_word(token: &Token, word: PassageWord) -> bool
+    ensures { IsTrue result ↔ passage_word (lexeme token.now) ≡ Some word }
 {
-    match loop_word(token) {
+    match passage_word(token) {
         Some(found) => found == word,
         None => false,
     }
 }
 
-/// The words behind this word of loops, if it comes first.
-pub(crate) fn behind_loop_word(words: &[Token], word: LoopWord) -> Option<&[Token]>
-    ensures found { IfSome result (λ r. (w : Lexeme) × (loop_word w ≡ Some word)
+/// The words behind this word round statements, if it comes first.
+pub(crate) fn behind_passage_word(words: &[Token], word: PassageWord) -> Option<&[Token]>
+    ensures found { IfSome result (λ r. (w : Lexeme) × (passage_word w ≡ Some word)
         × (lexemes words.now ≡ w ∷ lexemes r.now)) }
-    ensures only { (w : Lexeme) (more : List Lexeme) → loop_word w ≡ Some word
+    ensures only { (w : Lexeme) (more : List Lexeme) → passage_word w ≡ Some word
         → lexemes words.now ≡ w ∷ more → IsSomeAnd result (λ r. lexemes r.now ≡ more) }
 {
     let (first, more) = words.split_first()?;
-    if !is_loop_word(first, word) {
+    if !is_passage_word(first, word) {
+        return None;
+    }
+    Some(more)
+}
+
+/// Whether a token is this word of branches.
+pub(crate) fn is_branch_word(token: &Token, word: BranchWord) -> bool
+    ensures { IsTrue result ↔ branch_word (lexeme token.now) ≡ Some word }
+{
+    match branch_word(token) {
+        Some(found) => found == word,
+        None => false,
+    }
+}
+
+/// The words behind this word of branches, if it comes first.
+pub(crate) fn behind_branch_word(words: &[Token], word: BranchWord) -> Option<&[Token]>
+    ensures found { IfSome result (λ r. (w : Lexeme) × (branch_word w ≡ Some word)
+        × (lexemes words.now ≡ w ∷ lexemes r.now)) }
+    ensures only { (w : Lexeme) (more : List Lexeme) → branch_word w ≡ Some word
+        → lexemes words.now ≡ w ∷ more → IsSomeAnd result (λ r. lexemes r.now ≡ more) }
+{
+    let (first, more) = words.split_first()?;
+    if !is_branch_word(first, word) {
         return None;
     }
     Some(more)

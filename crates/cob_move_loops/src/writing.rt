@@ -7,9 +7,10 @@ ghost use Rattle.cob_move_loops.specs.Passages.{IsPassage, Passage};
 ghost use Rattle.cob_move_loops.specs.Reading.{AddsRuns, AddsRunsFront, all_runs, counters, item_front, loop_in_front, written_loop};
 ghost use Rattle.cob_move_loops.specs.Turns.{in_turn, turns_of, words_by_turn};
 
+use crate::choice::kind_of;
 use crate::counting::{count_all, turns_of};
-use crate::front::{PassageItem, item_at};
-use crate::parts::Loop;
+use crate::front::{PassageItem, item_in};
+use crate::parts::{Loop, Place};
 use crate::turn::Counter;
 use cob_source::Token;
 use std::alloc::{AllocError, Global};
@@ -64,7 +65,7 @@ fn holds_none(words: &[Token]) -> bool
     ensures { IsTrue result → (p : Passage) → IsPassage p (lexemes words.now)
         → statements_of p ≡ 0 }
 {
-    match count_all(words) {
+    match count_all(Place::Statements, words) {
         Some(count) => count == 0,
         None => false,
     }
@@ -123,7 +124,7 @@ fn write_turns<'a>(
             number,
         };
         let inner = with_counter(alloc, turn, counter)?;
-        write_all(alloc, body, inner.as_slice(), out)?;
+        write_all(alloc, Place::Statements, body, inner.as_slice(), out)?;
         left -= 1;
         let next = next_number(number, head.by, left)?;
         number = next;
@@ -150,6 +151,10 @@ fn write_item<'a>(
         PassageItem::Run(words) => push_run(alloc, words, turn, out),
         PassageItem::Pause => Ok(()),
         PassageItem::Loop { head, body } => write_turns(alloc, head, body, turn, out),
+        PassageItem::Choice { choice, branches } => {
+            write_all(alloc, Place::Branches(kind_of(choice)), branches, turn, out)
+        }
+        PassageItem::Branch { body, .. } => write_all(alloc, Place::Statements, body, turn, out),
     }
 }
 
@@ -161,15 +166,16 @@ fn write_item<'a>(
 #[cycle(writing_out)]
 fn write_all<'a>(
     alloc: Global,
+    place: Place,
     words: &'a [Token],
     turn: &[Counter<'a>],
     out: &mut Vec<Run<'a>>,
 ) -> Result<(), AllocError>
-    ensures { OnOk result (AddsRuns (counters turn.now) (lexemes words.now) out.old.items
+    ensures { OnOk result (AddsRuns place (counters turn.now) (lexemes words.now) out.old.items
         out.new.items) }
 {
     let mut rest = words;
-    while let Some((item, more)) = item_at(rest) {
+    while let Some((item, more)) = item_in(place, rest) {
         write_item(alloc, &item, turn, out)?;
         rest = more;
     }
@@ -186,6 +192,6 @@ pub fn write_out(alloc: Global, words: &[Token]) -> Result<Vec<Run<'_>>, AllocEr
         → all_runs runs.items ≡ words_by_turn [] p) }
 {
     let mut out = Vec::new(alloc);
-    write_all(alloc, words, &[], &mut out)?;
+    write_all(alloc, Place::Statements, words, &[], &mut out)?;
     Ok(out)
 }

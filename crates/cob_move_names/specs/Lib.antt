@@ -12,3 +12,4 @@ pub mod Between
 pub mod Keys
 pub mod Found
 pub mod Numbers
+pub mod Senders

@@ -95,7 +95,7 @@ no_both r c n m a b p is none e =
     let same : p.named ≡ w = cc in
     never (subst IsNameWord same p.is)
 
-sender_one : (x y : WrittenSender) (n m a b : List Lexeme) → IsWrittenSender x n → IsWrittenSender y m → FitsReference a → FitsReference b → n ++ a ≡ m ++ b → (x ≡ y) × (a ≡ b)
+pub sender_one : (x y : WrittenSender) (n m a b : List Lexeme) → IsWrittenSender x n → IsWrittenSender y m → FitsReference a → FitsReference b → n ++ a ≡ m ++ b → (x ≡ y) × (a ≡ b)
 sender_one (SentReference r) (SentReference s) n m a b p q f g e = let h = reference_one r s n m a b p q f g e in (ap SentReference h.0, h.1)
 sender_one (SentReference r) (SentConstant c) n m a b p (is, form, none) f g e = absurd (no_both r c n m a b p is none e)
 sender_one (SentConstant c) (SentReference r) n m a b (is, form, none) q f g e = absurd (no_both r c m n b a q is none (sym e))

@@ -39,6 +39,8 @@ pub enum MoveRule {
     Counter,
     /// M12: loops that come to too many statements, or too many that hold one another.
     TooMany,
+    /// M13: operands that cannot be compared or tested.
+    NotComparable,
     /// M19: memory was refused.
     Memory,
 }
@@ -59,6 +61,7 @@ impl fmt::Display for MoveRule {
             MoveRule::TooLong => write!(f, "M10"),
             MoveRule::Counter => write!(f, "M11"),
             MoveRule::TooMany => write!(f, "M12"),
+            MoveRule::NotComparable => write!(f, "M13"),
             MoveRule::Memory => write!(f, "M19"),
         }
     }

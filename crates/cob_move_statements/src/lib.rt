@@ -9,9 +9,9 @@
 //! specs/Statements.antt); the words of a paragraph are read, memory aside, and say nothing else (`only`); a refusal is for want of
 //! memory, or the words are no paragraph (`fault`), and it names the line of the first word where no statement stands (`line`). Words are the
 //! statements of a paragraph in one way ([`one_list_of_statements`]). [`whole_reference`] answers the reference that words are, which is one at most
-//! ([`one_reference`]).
+//! ([`one_reference`]). [`reference_at`] and [`sender_at`] answer what stands in front of words, and what is behind it.
 //!
-//! [`MoveRule`] names every rule that a paragraph may break, for all crates that read one, and prints as `M1` to `M12` and `M19`, or as the rule of
+//! [`MoveRule`] names every rule that a paragraph may break, for all crates that read one, and prints as `M1` to `M13` and `M19`, or as the rule of
 //! the text; [`MoveFault`] adds the line.
 //!
 //! # Where it is proved
@@ -32,4 +32,5 @@ pub use fault::{MoveFault, MoveRule};
 pub use laws::{one_list_of_ended, one_list_of_statements, one_reference};
 pub use paragraph::{behind_heading, ended_statements, statements};
 pub use parts::{Action, Reference, Statement, StatementSender};
-pub use references::whole_reference;
+pub use references::{reference_at, whole_reference};
+pub use senders::sender_at;

@@ -4,6 +4,7 @@ use Rattle.cob_records.specs.Device.{Told}
 use Rattle.cob_convert_stream.specs.declared.fault.RunFault.{RunFault}
 use Rattle.cob_records_parts.specs.Comings.{chosen_coming}
 use Rattle.cob_records_parts.specs.Rests.{rest_coming, rest_inside}
+use Rattle.cob_records_parts.specs.StillGiven.{IsLeftAt}
 use Rattle.cob_records_parts.specs.declared.choice.Stopped.{Stopped}
 use Rattle.cob_records_parts.specs.declared.chosen.Chosen.{Chosen}
 use Rattle.cob_records_parts.specs.declared.incoming.Incoming.{Incoming}
@@ -29,11 +30,13 @@ with_stop cause stop (Ok done) = Ok done
 with_stop cause stop (Err fault) = Err (cause stop fault)
 
 -- A run answers this over chosen records that are given apart: over these, each by itself, and behind them the mark of a frame that can't be read. Where
--- a read failed, since a frame can't be read, the answer has the fault at which their source stopped.
+-- a read failed, since a frame can't be read, the answer has the fault at which their source stopped. That is the fault of the mark, which is all that is
+-- left then.
 abbrev pub AnswersOverApart : {S D F : Type 0} → (coming : S → Option (List ℕ)) → (cause : Option Stopped → F → F)
     → (means : Result D F → List ℕ → List ℕ → Type 0) → Result D F → Chosen S → Type 0
 AnswersOverApart {S} {D} {F} coming cause means answer chosen =
-    (told : Result D F) × (stop : Option Stopped) × (answer ≡ with_stop cause stop told) × AnswersFrom means told (chosen_coming coming chosen)
+    (told : Result D F) × (stop : Option Stopped) × (left : Option (List ℕ)) × (answer ≡ with_stop cause stop told) × IsLeftAt stop left
+    × Told (chosen_coming coming chosen) left (means told)
 
 -- A run answers this over what is left of a source, or over its first bytes; or over chosen records that are given apart.
 abbrev pub AnswersOverChosen : {S D F : Type 0} → (coming : S → Option (List ℕ)) → (cause : Option Stopped → F → F)

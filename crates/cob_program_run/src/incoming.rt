@@ -1,8 +1,9 @@
 //! A run over the records that come of a source: over all, or over those that are chosen.
 
+ghost use Rattle.cob_records.specs.Device.{Told};
 ghost use Rattle.cob_records.specs.Forms.{HasBlockSize};
 ghost use Rattle.cob_records_parts.specs.Rests.{rest_inside};
-ghost use Rattle.cob_program_run.specs.Ran.{AnswersFrom, AnswersOver, AnswersOverApart, AnswersOverChosen};
+ghost use Rattle.cob_program_run.specs.Ran.{AnswersOver, AnswersOverApart, AnswersOverChosen};
 
 use crate::run::CommandRun;
 use cob_records::{Form, Progress, Source, Telling};
@@ -10,26 +11,29 @@ use cob_records_parts::{Chosen, Incoming};
 use std::io::Eprint;
 use std::rt::Clock;
 
-/// The answer of a run over a source, which is let go behind it. It tells on standard error how far it is where that is asked for.
+/// The answer of a run over a source, and the source behind it. It tells on standard error how far it is where that is asked for.
 fn run_over_source<T: Eprint + Clock, S: Source + Drop, R: CommandRun>(
     rt: &T,
     form: Form,
     telling: Option<Telling>,
     mut source: S,
     run: &mut R,
-) -> Result<R::Done, R::Fault>
+) -> (Result<R::Done, R::Fault>, S)
     requires { HasBlockSize form }
-    ensures ran { AnswersFrom (R.means run.old run.new) result (S.coming source) }
-    ensures counts { R.counts run.old run.new result }
+    ensures ran { Told (S.coming source) (S.coming result.1) (R.means run.old run.new result.0) }
+    ensures counts { R.counts run.old run.new result.0 }
 {
     match telling {
-        None => run.run(&mut source),
+        None => {
+            let answer = run.run(&mut source);
+            (answer, source)
+        }
         Some(telling) => {
             let length = run.in_length();
             let mut told = Progress::new(source, rt, form, length, telling);
             let answer = run.run(&mut told);
             told.finish();
-            answer
+            (answer, told.into_inner())
         }
     }
 }
@@ -39,13 +43,14 @@ fn run_over_apart<T: Eprint + Clock, S: Source + Drop, R: CommandRun>(
     rt: &T,
     form: Form,
     telling: Option<Telling>,
-    mut chosen: Chosen<S>,
+    chosen: Chosen<S>,
     run: &mut R,
 ) -> Result<R::Done, R::Fault>
     requires { HasBlockSize form }
     ensures ran { AnswersOverApart S.coming R.cause (R.means run.old run.new) result chosen }
 {
-    match run_over_source(rt, form, telling, &mut chosen, run) {
+    let (answer, chosen) = run_over_source(rt, form, telling, chosen, run);
+    match answer {
         Ok(done) => Ok(done),
         Err(fault) => Err(R::with_cause(chosen.stopped(), fault)),
     }
@@ -64,7 +69,7 @@ fn run_over_chosen<T: Eprint + Clock, S: Source + Drop, R: CommandRun>(
         (rest_inside chosen) }
 {
     match chosen.into_rest() {
-        Ok(rest) => run_over_source(rt, form, telling, rest, run),
+        Ok(rest) => run_over_source(rt, form, telling, rest, run).0,
         Err(chosen) => run_over_apart(rt, form, telling, chosen, run),
     }
 }
@@ -81,7 +86,7 @@ pub(crate) fn run_over_incoming<T: Eprint + Clock, S: Source + Drop, R: CommandR
     ensures ran { AnswersOver S.coming R.cause (R.means run.old run.new) result incoming }
 {
     match incoming {
-        Incoming::All(source) => run_over_source(rt, form, telling, source, run),
+        Incoming::All(source) => run_over_source(rt, form, telling, source, run).0,
         Incoming::Some(chosen) => run_over_chosen(rt, form, telling, chosen, run),
     }
 }

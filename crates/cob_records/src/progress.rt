@@ -85,6 +85,13 @@ impl<'a, R, T> Progress<'a, R, T> {
             has_told: false,
         }
     }
+
+    /// The source inside.
+    pub fn into_inner(self) -> R
+        ensures { result ≡ progress_inner self.entry }
+    {
+        self.inner
+    }
 }
 
 impl<R, T: Clock + Eprint> Progress<'_, R, T> {

@@ -10,7 +10,7 @@ use cob_report_faults::{
     Asker, AskingLoop, AskingMove, CountTable, Occurrence, Qualifying, SentText, StopCase,
     StopText, counted_at,
 };
-use cob_report_lossless::{DeedLines, line_at};
+use cob_report_lossless::{DeedLines, choice_word, line_at};
 use std::alloc::{AllocError, Global};
 
 /// A conversion and what is known of one record.
@@ -308,10 +308,13 @@ pub fn condition_words(
     scene: &Scene<'_>,
     at: &ConditionStop,
 ) -> Result<String, AllocError> {
-    let Some(line) = scene.lines.conditions.get(at.condition) else {
+    let Some(one) = scene.lines.conditions.get(at.condition) else {
         return Ok(String::new(alloc));
     };
-    let asked = Asker::Condition { line: *line };
+    let asked = Asker::Condition {
+        line: one.line,
+        word: choice_word(one.kind),
+    };
     match at.stop.cause {
         StopCause::NoValue => written(alloc, condition_value(scene, at, asked)),
         StopCause::Subscript => written(alloc, condition_subscript(scene, at, asked)),

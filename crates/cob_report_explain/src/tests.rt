@@ -2,7 +2,7 @@
 
 use cob_move_apply::PlacedEntry;
 use cob_report_faults::{Occurrence, Qualifying};
-use cob_report_lossless::DeedLines;
+use cob_report_lossless::{ConditionLine, DeedLines, choice_word};
 use std::fmt;
 
 /// A test of a loop that was taken: whether the number of its counter is past what its bound gives.
@@ -48,9 +48,9 @@ pub enum TestText<'a> {
         records: Qualifying<'a>,
         one: &'a TakenBound<'a>,
     },
-    /// Of a condition: the line where it stands, and whether it holds.
+    /// Of a condition: where it stands, and whether it holds.
     Holds {
-        line: u32,
+        at: ConditionLine,
         holds: bool,
     },
 }
@@ -72,9 +72,9 @@ pub(crate) fn test_text<'a>(
             })
         }
         TakenTest::Holds(one) => {
-            let line = *lines.conditions.get(one.condition)?;
+            let at = *lines.conditions.get(one.condition)?;
             Some(TestText::Holds {
-                line,
+                at,
                 holds: one.holds,
             })
         }
@@ -109,9 +109,10 @@ impl fmt::Display for TestText<'_> {
                 let verdict = verdict(one);
                 writeln!(f, "{} > {}, {verdict}", one.number, one.gave)
             }
-            TestText::Holds { line, holds } => {
+            TestText::Holds { at, holds } => {
+                let word = choice_word(at.kind);
                 let said = said(holds);
-                writeln!(f, "line {line}: IF: {said}")
+                writeln!(f, "line {}: {word}: {said}", at.line)
             }
         }
     }

@@ -2,6 +2,7 @@
 
 use cob_copybook_tree::Item;
 use cob_move_data::Side;
+use cob_picture::Category;
 
 /// What bytes look like that give no value.
 #[derive(Clone, Copy)]
@@ -106,6 +107,42 @@ fn advice_for(look: ByteLook) -> &'static str {
     }
 }
 
+/// Whether a paragraph may test an item for NUMERIC.
+fn may_be_tested(item: &Item) -> bool {
+    match item.picture.category() {
+        Category::Numeric => !item.storage_kind().is_read_whole(),
+        Category::Alphanumeric => true,
+        Category::Alphabetic | Category::AlphanumericEdited | Category::NumericEdited => false,
+    }
+}
+
+/// What to do where an item that may be tested has bytes that look so, if a test is of use.
+fn test_advice(look: ByteLook) -> Option<&'static str> {
+    match look {
+        ByteLook::Spaces => Some(
+            "spaces were left there: fill the item before, test it by IF .. NUMERIC, or describe it as X and move it to an item of characters",
+        ),
+        ByteLook::LowValues => Some(
+            "low-values were left there: fill the item before, test it by IF .. NUMERIC, or move the group that holds it",
+        ),
+        ByteLook::AsciiDigits
+        | ByteLook::LineEnd
+        | ByteLook::HighValues
+        | ByteLook::Letters
+        | ByteLook::Other => None,
+    }
+}
+
+/// What to do where an item of the input record has bytes that look so.
+fn item_advice(item: &Item, look: ByteLook) -> &'static str {
+    if may_be_tested(item) {
+        if let Some(advice) = test_advice(look) {
+            return advice;
+        }
+    }
+    advice_for(look)
+}
+
 /// What to do where an item of this side has no value, whose bytes these are, of the record that came.
 pub(crate) fn value_advice(side: Side, item: &Item, record: &[u8], bytes: &[u8]) -> &'static str {
     match side {
@@ -113,6 +150,6 @@ pub(crate) fn value_advice(side: Side, item: &Item, record: &[u8], bytes: &[u8])
         Side::In if item.storage_kind().is_read_whole() && !are_all(bytes, 0x40) => {
             "correct it, or read binary items as the numbers of all their bytes, by --binary whole"
         }
-        Side::In => advice_for(look_of(item, record, bytes)),
+        Side::In => item_advice(item, look_of(item, record, bytes)),
     }
 }

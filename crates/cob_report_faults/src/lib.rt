@@ -6,7 +6,7 @@
 //! ```text
 //! BALANCE OF CUST-REC, PIC S9(7)V99 COMP-3, at offset 20: the bytes 40 40 40 40 40 are no packed number: the last half byte is 0, no sign
 //! asked by moves line 3: BALANCE OF CUST-REC to BALANCE OF NEW-REC
-//! spaces were left there: fill the item before, or describe it as X and move it to an item of characters
+//! spaces were left there: fill the item before, test it by IF .. NUMERIC, or describe it as X and move it to an item of characters
 //! ```
 //!
 //! [`FrameText`] tells a frame that can't be read, and [`listed_count_words`] the count that stops a list of records, which has no statements. What advice

@@ -68,8 +68,8 @@ pub enum Asker<'a> {
     Move(AskingMove<'a>),
     /// The test of a loop.
     Loop(AskingLoop<'a>),
-    /// A condition, which stands on this line.
-    Condition { line: u32 },
+    /// A condition, which stands on this line behind this word.
+    Condition { line: u32, word: &'static str },
     /// The record that came, whose length its counts say, where this one reads it.
     Came(Reader),
     /// The record that is to be written, behind all moves.
@@ -213,6 +213,17 @@ fn bound_advice(side: Side) -> &'static str {
     }
 }
 
+/// What to do where an element is not there that is asked for.
+fn subscript_advice(asked: &Asker<'_>) -> &'static str {
+    match asked {
+        Asker::Condition { .. } =>
+            "ask for the table's count first, and for its element behind AND",
+        Asker::Move(_) | Asker::Loop(_) | Asker::Came(_) | Asker::Written => {
+            "put the table under a group of its own and move the group, which has as many elements as its count says"
+        }
+    }
+}
+
 impl StopText<'_> {
     /// Writes what is wrong.
     fn write_case<W: fmt::Write>(&self, f: &mut fmt::Formatter<W>) -> fmt::Result {
@@ -267,14 +278,15 @@ impl StopText<'_> {
                 "asked by moves line {}: UNTIL {} > {}",
                 asked.line, asked.counter, asked.bound
             ),
-            Asker::Condition { line } => write!(f, "asked by moves line {}: IF", *line),
+            Asker::Condition { line, word } => {
+                write!(f, "asked by moves line {}: {}", *line, *word)
+            }
             Asker::Came(Reader::Conversion) => {
                 write!(f, "asked before all moves, by the record that came")
             }
-            Asker::Came(Reader::List) => write!(
-                f,
-                "asked by the record, whose length its counts say"
-            ),
+            Asker::Came(Reader::List) => {
+                write!(f, "asked by the record, whose length its counts say")
+            }
             Asker::Written => {
                 write!(
                     f,
@@ -295,9 +307,7 @@ impl StopText<'_> {
             } => value_advice(self.subject.side, item, record, bytes),
             StopCase::Count { .. } => count_advice(self.subject.side, &self.asked),
             StopCase::Bound { .. } => bound_advice(self.subject.side),
-            StopCase::Subscript => {
-                "put the table under a group of its own and move the group, which has as many elements as its count says"
-            }
+            StopCase::Subscript => subscript_advice(&self.asked),
         }
     }
 }

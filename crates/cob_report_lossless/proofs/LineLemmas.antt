@@ -12,11 +12,11 @@ use Rattle.cob_source.specs.Words.{AreParagraphWordsOf}
 use Rattle.cob_source.specs.declared.token.TokenKind.TheVariants as kind
 use Rattle.cob_move_loops.specs.Laws.{BreaksNone, NoTurn, OnePassage}
 use Rattle.cob_move_loops.specs.Reading.{all_runs, counters, run_words}
-use Rattle.cob_move_loops.specs.Passages.{ALoop, Breaks, IsPassage, Moves, NoMore, Passage, Pause}
+use Rattle.cob_move_loops.specs.Passages.{ABranch, AChoice, ALoop, AnEvaluate, AnIf, Breaks, IsPassage, Moves, NoMore, Passage, Pause, TestFirst}
 use Rattle.cob_move_loops.specs.Turns.{in_turn, words_by_turn}
 use Rattle.cob_move_loops.specs.declared.turn.Counter.{Counter}
-use Rattle.cob_move_loops.specs.Words.{IsLoopWord, IsPeriod}
-use Rattle.cob_move_loops.specs.declared.words.LoopWord.TheVariants as loop
+use Rattle.cob_move_loops.specs.Words.{AreTestWords, IsPassageWord, IsPeriod, IsTestWord}
+use Rattle.cob_move_loops.specs.declared.words.PassageWord.TheVariants as mark
 use Rattle.cob_move_loops.specs.declared.writing.Run.{Run}
 use Rattle.cob_move_statements.specs.Statements.{IsBody, IsEndedStatement, IsHeading, Several}
 use Rattle.cob_move_statements.specs.Written.{WrittenStatement}
@@ -107,6 +107,18 @@ none_behind runs i done lines past (rest, are, e) =
 move_no_name : (w : Lexeme) → word_class w ≡ term.Move → IsNameWord w → ⊥
 move_no_name w is named = let never : term.Move ≡ term.Plain = sym is ∙ name_plain w named in cc
 
+tests_first : (ws : List Lexeme) → AreTestWords ws → TestFirst ws
+tests_first [] are = absurd are
+tests_first (w ∷ ws) are = are.0
+
+-- a period stands where a word of a test comes first
+stop_no_test : (w stop begins : Lexeme) (body own more : List Lexeme) → IsPeriod stop → TestFirst own → w ∷ stop ∷ body ≡ begins ∷ (own ++ more) → ⊥
+stop_no_test w stop begins body [] more is first e = first
+stop_no_test w stop begins body (v ∷ own) more is first e =
+    let same : v ≡ stop = cc in
+    let test : IsTestWord stop = subst IsTestWord same first in
+    test.item.no_period is
+
 -- a name and a period before a passage are one that comes to the same only where the name is CONTINUE
 named_passage : OnePassage → (w stop : Lexeme) (body : List Lexeme) (q p : Passage) → IsNameWord w → IsPeriod stop → IsPassage q (w ∷ stop ∷ body) → IsPassage p body → words_by_turn [] q ≡ words_by_turn [] p
 named_passage one w stop body NoMore p named is says behind = absurd (cc (says))
@@ -116,7 +128,7 @@ named_passage one w stop body (Moves (v ∷ own) more) p named is (rest, run, fi
     absurd (move_no_name w (subst (λ (u : Lexeme). word_class u ≡ term.Move) same run.0) named)
 named_passage one w stop body (Pause more) p named is (pause, stops, rest, word, are, e, others) behind =
     let same : pause ≡ w = cc in
-    let also : IsPassage (Pause p) (w ∷ stop ∷ body) = (w, stop ∷ [], body, subst (IsLoopWord loop.Continue) same word, (is, tt), refl, behind) in
+    let also : IsPassage (Pause p) (w ∷ stop ∷ body) = (w, stop ∷ [], body, subst (IsPassageWord mark.Continue) same word, (is, tt), refl, behind) in
     ap (words_by_turn []) (one (Pause more) (Pause p) (w ∷ stop ∷ body) (pause, stops, rest, word, are, e, others) also)
 named_passage one w stop body (ALoop l inner more) p named is (head, own, stops, rest, end, (varying, stepping, until, (perform, second, counter, word, line, is_word, counts, v), step, tests, h), b, within, ends, are, e, others) behind =
     let whole : w ∷ stop ∷ body ≡ ((perform ∷ second ∷ counter ∷ []) ++ (stepping ++ until)) ++ (own ++ end ∷ (stops ++ rest)) =
@@ -124,6 +136,11 @@ named_passage one w stop body (ALoop l inner more) p named is (head, own, stops,
     let same : second ≡ stop = cc in
     let never : kind.Word ≡ kind.Stop = sym is_word.word ∙ ap (λ (u : Lexeme). u.kind) same ∙ is in
     absurd (cc (never))
+named_passage one w stop body (AChoice (AnIf line) inner more) p named is (head, own, stops, rest, end, (begins, word, at, h), b, within, closes, ends, e, others) behind =
+    absurd (stop_no_test w stop begins body own (end ∷ (stops ++ rest)) is b.begin (e ∙ ap (λ (t : List Lexeme). t ++ (own ++ end ∷ (stops ++ rest))) h))
+named_passage one w stop body (AChoice (AnEvaluate line subject) inner more) p named is (head, own, stops, rest, end, (begins, word, at, tests, h), b, within, closes, ends, e, others) behind =
+    absurd (stop_no_test w stop begins body subject (own ++ end ∷ (stops ++ rest)) is (tests_first subject tests) (e ∙ ap (λ (t : List Lexeme). t ++ (own ++ end ∷ (stops ++ rest))) h))
+named_passage one w stop body (ABranch t inner more) p named is says behind = absurd says
 
 -- words that are a passage come to the same whether a heading stands before them or not
 pub plain_body : OnePassage → (words body : List Lexeme) (q : Passage) (h : HasBody words body) → IsPassage q words → words_by_turn [] q ≡ words_by_turn [] h.passage

@@ -11,8 +11,9 @@
 //! What is promised: of two items, what the second one lacks ([`lack_of`]; `Lacks` of specs/Lacks.antt), nothing exactly where it loses nothing of the
 //! first (`LosesNothing` of `cob_back_moves`); and the lines of the statements that a paragraph comes to, those of a loop once for each of its turns
 //! ([`lines_of`]; `AreLinesOf` of specs/Lines.antt), which are answered, memory aside, of each text that has such lines. Of a paragraph with loops to items
-//! the lines are told beside the flows that it comes to: as many turns of such a loop as have a test that passes over them, and its own line and counter
-//! ([`lines_of_deeds`]; `AreDeedLinesOf` of specs/Turned.antt). Which words tell a loss is shown by `cob_test_jobs`.
+//! or choices the lines are told beside the flows that it comes to: as many turns of such a loop as have a test that passes over them, its own line and
+//! counter, and for each branch with a condition the line of that ([`lines_of_deeds`]; `AreDeedLinesOf` of specs/Turned.antt). Which words tell a loss is
+//! shown by `cob_test_jobs`.
 //!
 //! # Where it is proved
 //!
@@ -33,4 +34,5 @@ pub use lacks::{Lack, lack_of};
 pub use lines::{line_at, lines_of};
 pub use reasons::{LinedMoves, LossPosition, LossReason, ToldLoss, named_in, told_loss, told_test};
 pub use singles::{LinedSingle, singles_of};
-pub use turned::{DeedLines, LoopLine, lines_of_deeds};
+pub use turned::{ConditionLine, DeedLines, LoopLine, lines_of_deeds};
+pub use words::choice_word;

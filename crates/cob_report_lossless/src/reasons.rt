@@ -10,6 +10,7 @@ use cob_copybook_tree::{Item, Kind, Name, Node, Value};
 use cob_layout::Layout;
 use cob_move_data::{Element, Sent, Side};
 use cob_move_deeds::{Flow, ReadyDeeds};
+use cob_move_loops::ChoiceKind;
 use cob_report_words::{NamedOccurrence, entry_of};
 use std::alloc::{AllocError, Global};
 
@@ -25,6 +26,8 @@ pub struct LinedMoves<'a> {
 pub enum LossReason<'a> {
     /// There is a loop to the number that this item holds.
     LoopTo(NamedOccurrence<'a>),
+    /// There is a choice of this kind.
+    Choice(ChoiceKind),
     /// The records of the conversion back aren't those of the one there.
     Records,
     /// The entry redefines this one.
@@ -382,26 +385,38 @@ pub fn told_loss<'a>(
     Ok(told)
 }
 
-/// The number of the bound of the first test.
-fn first_bound(deeds: &ReadyDeeds) -> Option<usize> {
+/// A test, by its number.
+#[derive(Clone, Copy)]
+enum FirstTest {
+    /// Of the bound of a loop.
+    Bound(usize),
+    /// Of a condition.
+    Condition(usize),
+}
+
+/// The first test of what a conversion does.
+fn first_test(deeds: &ReadyDeeds) -> Option<FirstTest> {
     for flow in deeds.flows() {
         match *flow {
-            Flow::Moves(_) | Flow::Where { .. } | Flow::Skip(_) => {}
-            Flow::Turns(number) => return Some(deeds.loops().get(number)?.bound),
-            Flow::Until { bound, .. } => return Some(bound),
+            Flow::Moves(_) | Flow::Skip(_) => {}
+            Flow::Turns(number) => {
+                return Some(FirstTest::Bound(deeds.loops().get(number)?.bound));
+            }
+            Flow::Until { bound, .. } => return Some(FirstTest::Bound(bound)),
+            Flow::Where { condition, .. } => return Some(FirstTest::Condition(condition)),
         }
     }
     None
 }
 
-/// What is to be told of the first test of what a conversion does between these layouts; its loops stand on these lines.
-pub fn told_test<'a>(
+/// What is to be told of the loop that ends by the bound with this number.
+fn told_bound<'a>(
     layouts: BothLayouts<'a>,
     deeds: &'a ReadyDeeds,
     lines: &DeedLines,
     way: Direction,
+    number: usize,
 ) -> Option<ToldLoss<'a>> {
-    let number = first_bound(deeds)?;
     let item = &deeds.bounds().get(number)?.item;
     let layout = match item.side() {
         Side::In => layouts.input,
@@ -411,4 +426,20 @@ pub fn told_test<'a>(
     let named = NamedOccurrence::new(layout.root(), entry.node, entry.subscripts.as_slice());
     let line = lines.loops.get(number)?.line;
     Some(told_on(LossReason::LoopTo(named), way, line))
+}
+
+/// What is to be told of the first test of what a conversion does between these layouts; its loops and its conditions stand on these lines.
+pub fn told_test<'a>(
+    layouts: BothLayouts<'a>,
+    deeds: &'a ReadyDeeds,
+    lines: &DeedLines,
+    way: Direction,
+) -> Option<ToldLoss<'a>> {
+    match first_test(deeds)? {
+        FirstTest::Bound(number) => told_bound(layouts, deeds, lines, way, number),
+        FirstTest::Condition(number) => {
+            let one = lines.conditions.get(number)?;
+            Some(told_on(LossReason::Choice(one.kind), way, one.line))
+        }
+    }
 }

@@ -1,20 +1,22 @@
-//! The lines of what a paragraph comes to: of the statements, those of a loop once for each of its turns, and of what loops end by.
+//! The lines of what a paragraph comes to: of the statements, those of a loop once for each of its turns, of what loops end by, and of what choices test.
 
 ghost use Rattle.std.specs.Prelude.{◌≡◌, ◌<◌, ◌≤◌, ◌+◌, ◌∷◌, ◌++◌, ℕ, List, [], encode_utf8_all, false, length, map, replicate, slice_set, string_bytes, IfNone, IfOk, IfSome, None, OnOk, Some};
 ghost use Rattle.cob_move_data.specs.Moves.{Records};
 ghost use Rattle.cob_move_deeds.specs.Deeds.{IsStraight};
 ghost use Rattle.cob_move_deeds.specs.Prepared.{AreDeedsPrepared, deeds_of};
-ghost use Rattle.cob_move_loops.specs.Passages.{IsPassage, Passage};
-ghost use Rattle.cob_move_loops.specs.Reading.{counters, item_front, written_loop, Within};
+ghost use Rattle.cob_move_loops.specs.Passages.{IsPassage, IsPassageAt, Passage};
+ghost use Rattle.cob_move_loops.specs.Reading.{counters, item_front, written_loop, written_test, Within};
 ghost use Rattle.cob_move_loops.specs.Turns.{counter_at, in_turn};
+ghost use Rattle.cob_move_loops.specs.declared.parts.Place.TheVariants as standing;
 ghost use Rattle.cob_report_lossless.specs.Lines.{AreLinesOf, AreStatementLines};
-ghost use Rattle.cob_report_lossless.specs.Turned.{first_test, found_test, told_lines, told_loop, told_of, unknown_loop, with_loop, with_statements, AreDeedLinesOf, TellFront, TellPassage, TellTested, TellTurned};
+ghost use Rattle.cob_report_lossless.specs.Turned.{first_condition, first_test, found_condition, found_test, kind_in, plain_condition, told_condition, told_lines, told_loop, told_of, unknown_condition, unknown_loop, with_condition, with_loop, with_statements, AreDeedLinesOf, TellBranch, TellCondition, TellFront, TellPassage, TellTest, TellTested, TellTurned};
 ghost use Rattle.cob_source.specs.Tokens.{lexemes};
 
 use crate::lines::{body_of, lines_of, statement_lines};
 use cob_move_deeds::{Flow, ReadyDeeds};
 use cob_move_loops::{
-    Counter, Loop, LoopBound, PassageItem, in_turn, item_at, turns_to_write, with_counter,
+    BranchTest, ChoiceKind, Counter, Loop, LoopBound, PassageItem, Place, first_line, in_turn,
+    item_in, kind_of, turns_to_write, with_counter,
 };
 use cob_move_statements::MoveFault;
 use cob_source::{Token, paragraph_tokens};
@@ -27,6 +29,13 @@ pub struct LoopLine {
     pub counter: String,
 }
 
+/// A condition: the kind of choice that tests it, and the line of its first word.
+#[derive(Clone, Copy)]
+pub struct ConditionLine {
+    pub kind: ChoiceKind,
+    pub line: u32,
+}
+
 /// The lines of what a paragraph comes to.
 #[derive(Drop)]
 pub struct DeedLines {
@@ -34,8 +43,8 @@ pub struct DeedLines {
     pub statements: Vec<u32>,
     /// For each bound, the loop that ends by it.
     pub loops: Vec<LoopLine>,
-    /// For each condition the line where it stands. No words of a paragraph are one yet, so that there is none.
-    pub conditions: Vec<u32>,
+    /// For each condition where it stands.
+    pub conditions: Vec<ConditionLine>,
 }
 
 /// A test among flows.
@@ -78,6 +87,50 @@ fn next_test(flows: &[Flow]) -> Option<NextTest<'_>>
     while let Some((flow, more)) = rest.split_first() {
         if let Some(test) = test_at(flow, more) {
             return Some(test);
+        }
+        rest = more;
+    }
+    None
+}
+
+/// A condition among flows.
+#[derive(Clone, Copy)]
+struct NextCondition<'a> {
+    /// Its number.
+    condition: usize,
+    /// The flows behind it.
+    behind: &'a [Flow],
+}
+
+/// The condition that a flow tests, if it tests one.
+fn condition_at<'a>(flow: &Flow, more: &'a [Flow]) -> Option<NextCondition<'a>>
+    ensures found { IfSome result
+        (λ one. first_condition (flow.now ∷ more.now) ≡ Some (found_condition one)) }
+    ensures none { IfNone result
+        (first_condition (flow.now ∷ more.now) ≡ first_condition more.now) }
+    ensures fewer { IfSome result (λ one. length one.behind.now ≤ length more.now) }
+{
+    match *flow {
+        Flow::Moves(_) => None,
+        Flow::Turns(_) => None,
+        Flow::Until { .. } | Flow::Skip(_) => None,
+        Flow::Where { condition, .. } => Some(NextCondition {
+            condition,
+            behind: more,
+        }),
+    }
+}
+
+/// The first condition of flows.
+fn next_condition(flows: &[Flow]) -> Option<NextCondition<'_>>
+    ensures found { IfSome result (λ one. first_condition flows.now ≡ Some (found_condition one)) }
+    ensures none { IfNone result (first_condition flows.now ≡ None) }
+    ensures fewer { IfSome result (λ one. length one.behind.now < length flows.now) }
+{
+    let mut rest = flows;
+    while let Some((flow, more)) = rest.split_first() {
+        if let Some(one) = condition_at(flow, more) {
+            return Some(one);
         }
         rest = more;
     }
@@ -129,6 +182,72 @@ fn note(
     Ok(())
 }
 
+/// Puts where a condition stands in the place of what was known of it, where there is one.
+fn put_condition(condition: usize, one: ConditionLine, conditions: &mut [ConditionLine])
+    ensures { conditions.new ≡ slice_set conditions.old condition one }
+{
+    if condition < conditions.len() {
+        conditions[condition] = one;
+    }
+}
+
+/// Notes of the condition with this number that these words of a choice of this kind are it.
+fn note_condition(condition: usize, kind: ChoiceKind, words: &[Token], lines: &mut DeedLines)
+    ensures { told_lines lines.new ≡ with_condition condition
+        (told_condition kind (lexemes words.now)) (told_lines lines.old) }
+{
+    let one = ConditionLine {
+        kind,
+        line: first_line(words),
+    };
+    put_condition(condition, one, lines.conditions.as_mut_slice());
+}
+
+/// The flows behind the condition that these words of a choice of this kind are, of which it is noted where they stand; all, where none is there.
+fn behind_condition<'a>(
+    kind: ChoiceKind,
+    words: &[Token],
+    flows: &'a [Flow],
+    lines: &mut DeedLines,
+) -> &'a [Flow]
+    ensures fewer { length result.now ≤ length flows.now }
+    ensures told { TellCondition (told_condition kind (lexemes words.now)) flows.now
+        (told_lines lines.old) result.now (told_lines lines.new) }
+{
+    let Some(one) = next_condition(flows) else {
+        return flows;
+    };
+    note_condition(one.condition, kind, words, lines);
+    one.behind
+}
+
+/// The kind of choice whose branches stand in a place. Statements are no choice's branches: what is told of them is the same whatever the kind.
+fn kind_in(place: Place) -> ChoiceKind
+    ensures { result ≡ kind_in place }
+{
+    match place {
+        Place::Statements => ChoiceKind::If,
+        Place::Branches(kind) => kind,
+    }
+}
+
+/// The flows behind the condition of a branch, which is noted; all, where it has none of its own.
+fn behind_test<'a>(
+    kind: ChoiceKind,
+    test: BranchTest<'_>,
+    flows: &'a [Flow],
+    lines: &mut DeedLines,
+) -> &'a [Flow]
+    ensures fewer { length result.now ≤ length flows.now }
+    ensures told { TellTest kind (written_test test.entry) flows.now (told_lines lines.old) result.now
+        (told_lines lines.new) }
+{
+    match test {
+        BranchTest::Tested(words) => behind_condition(kind, words, flows, lines),
+        BranchTest::Otherwise => flows,
+    }
+}
+
 /// Adds the lines of the statements that words are in a turn.
 fn add_statements(
     alloc: Global,
@@ -169,15 +288,22 @@ fn read_turn<'a>(
 ) -> Result<&'a [Flow], MoveFault>
     ensures fewer { IfOk result (λ left. length left.now ≤ length flows.now) }
     ensures told { IfOk result (λ left. (p : Passage) → IsPassage p (lexemes body.now)
-        → TellPassage (counters turn.now ++ counter_at (written_loop head.now) number ∷ []) p
-        flows.now (told_lines lines.old) left.now (told_lines lines.new)) }
+        → TellPassage (counters turn.now ++ counter_at (written_loop head.now) number ∷ [])
+        standing.Statements p flows.now (told_lines lines.old) left.now (told_lines lines.new)) }
 {
     let counter = Counter {
         name: head.counter,
         number,
     };
     let inner = with_counter(alloc, turn, counter)?;
-    read_passage(alloc, body, inner.as_slice(), flows, lines)
+    read_passage(
+        alloc,
+        Place::Statements,
+        body,
+        inner.as_slice(),
+        flows,
+        lines,
+    )
 }
 
 /// Reads the turns of a loop to a number.
@@ -193,7 +319,8 @@ fn read_turns<'a>(
     ensures fewer { IfOk result (λ left. length left.now ≤ length flows.now) }
     ensures told { IfOk result (λ left. (p : Passage) → IsPassage p (lexemes body.now)
         → TellTurned
-        (λ i. TellPassage (counters turn.now ++ counter_at (written_loop head.now) i ∷ []) p)
+        (λ i. TellPassage (counters turn.now ++ counter_at (written_loop head.now) i ∷ [])
+        standing.Statements p)
         (written_loop head.now) p flows.now (told_lines lines.old) left.now
         (told_lines lines.new)) }
 {
@@ -222,7 +349,8 @@ fn read_tested<'a>(
     ensures fewer { IfOk result (λ left. length left.now ≤ length flows.now) }
     ensures told { IfOk result (λ left. (p : Passage) → IsPassage p (lexemes body.now)
         → TellTested
-        (λ i. TellPassage (counters turn.now ++ counter_at (written_loop head.now) i ∷ []) p)
+        (λ i. TellPassage (counters turn.now ++ counter_at (written_loop head.now) i ∷ [])
+        standing.Statements p)
         (written_loop head.now) flows.now (told_lines lines.old) left.now
         (told_lines lines.new)) }
 {
@@ -239,10 +367,35 @@ fn read_tested<'a>(
     Ok(rest)
 }
 
-/// Reads what stands in front of a passage, in a turn.
+/// Reads a branch of a choice of this kind, in a turn. One without statements has those of the next, and no condition of its own.
+#[cycle(turning)]
+fn read_branch<'a>(
+    alloc: Global,
+    kind: ChoiceKind,
+    test: BranchTest<'a>,
+    body: &'a [Token],
+    turn: &[Counter<'a>],
+    flows: &'a [Flow],
+    lines: &mut DeedLines,
+) -> Result<&'a [Flow], MoveFault>
+    ensures fewer { IfOk result (λ left. length left.now ≤ length flows.now) }
+    ensures told { IfOk result (λ left. (p : Passage) → IsPassage p (lexemes body.now)
+        → TellBranch (TellPassage (counters turn.now) standing.Statements p) kind (written_test test.entry) p
+        flows.now (told_lines lines.old) left.now (told_lines lines.new)) }
+{
+    if body.is_empty() {
+        return Ok(flows);
+    }
+    let rest = behind_test(kind, test, flows, lines);
+    let left = read_passage(alloc, Place::Statements, body, turn, rest, lines)?;
+    Ok(left)
+}
+
+/// Reads what stands in front of statements or branches, in a turn.
 #[cycle(turning)]
 fn read_item<'a>(
     alloc: Global,
+    place: Place,
     item: &PassageItem<'a>,
     turn: &[Counter<'a>],
     flows: &'a [Flow],
@@ -250,8 +403,8 @@ fn read_item<'a>(
 ) -> Result<&'a [Flow], MoveFault>
     ensures fewer { IfOk result (λ left. length left.now ≤ length flows.now) }
     ensures told { IfOk result (λ left. (p : Passage) → Within (item_front item.now) p
-        → TellFront (counters turn.now) (item_front item.now) p flows.now (told_lines lines.old)
-        left.now (told_lines lines.new)) }
+        → TellFront (counters turn.now) place (item_front item.now) p flows.now
+        (told_lines lines.old) left.now (told_lines lines.new)) }
 {
     match item {
         PassageItem::Run(words) => {
@@ -263,27 +416,35 @@ fn read_item<'a>(
             LoopBound::Number(_) => read_turns(alloc, head, body, turn, flows, lines),
             LoopBound::Item(_) => read_tested(alloc, head, body, turn, flows, lines),
         },
+        PassageItem::Choice { choice, branches } => {
+            let inside = Place::Branches(kind_of(choice));
+            read_passage(alloc, inside, branches, turn, flows, lines)
+        }
+        PassageItem::Branch { test, body } => {
+            read_branch(alloc, kind_in(place), *test, body, turn, flows, lines)
+        }
     }
 }
 
-/// Reads a passage in a turn, and answers the flows behind those that it comes to.
+/// Reads statements, or the branches of a choice, in a turn, and answers the flows behind those that they come to.
 #[cycle(turning)]
 fn read_passage<'a>(
     alloc: Global,
+    place: Place,
     words: &'a [Token],
     turn: &[Counter<'a>],
     flows: &'a [Flow],
     lines: &mut DeedLines,
 ) -> Result<&'a [Flow], MoveFault>
     ensures fewer { IfOk result (λ left. length left.now ≤ length flows.now) }
-    ensures told { IfOk result (λ left. (p : Passage) → IsPassage p (lexemes words.now)
-        → TellPassage (counters turn.now) p flows.now (told_lines lines.old) left.now
+    ensures told { IfOk result (λ left. (p : Passage) → IsPassageAt place p (lexemes words.now)
+        → TellPassage (counters turn.now) place p flows.now (told_lines lines.old) left.now
         (told_lines lines.new)) }
 {
     let mut rest = flows;
     let mut left = words;
-    while let Some((item, more)) = item_at(left) {
-        rest = read_item(alloc, &item, turn, rest, lines)?;
+    while let Some((item, more)) = item_in(place, left) {
+        rest = read_item(alloc, place, &item, turn, rest, lines)?;
         left = more;
     }
     Ok(rest)
@@ -303,23 +464,45 @@ fn unknown_loops(alloc: Global, count: usize) -> Result<Vec<LoopLine>, AllocErro
     Ok(loops)
 }
 
+/// Where each condition stands, not yet known.
+fn unknown_conditions(alloc: Global, count: usize) -> Result<Vec<ConditionLine>, AllocError>
+    ensures { IfOk result (λ conditions.
+        map plain_condition conditions.items ≡ replicate count unknown_condition) }
+{
+    let mut conditions = Vec::with_capacity(alloc, count)?;
+    for i in 0..count {
+        conditions.push(ConditionLine {
+            kind: ChoiceKind::If,
+            line: 0,
+        })?;
+    }
+    Ok(conditions)
+}
+
 /// The lines of a paragraph that comes to these deeds and has a test among them.
 fn tested_lines(alloc: Global, text: &[u8], deeds: &ReadyDeeds) -> Result<DeedLines, MoveFault>
     ensures { IfOk result (λ lines. AreDeedLinesOf text.now (length deeds.now.bounds.items)
-        deeds.now.flows.items (told_lines lines)) }
+        (length deeds.now.asked.conditions.items) deeds.now.flows.items (told_lines lines)) }
 {
     let words = paragraph_tokens(alloc, text)?;
     let body = body_of(words.as_slice())?;
     let mut lines = DeedLines {
         statements: Vec::new(alloc),
         loops: unknown_loops(alloc, deeds.bounds().len())?,
-        conditions: Vec::new(alloc),
+        conditions: unknown_conditions(alloc, deeds.asked().conditions.len())?,
     };
-    read_passage(alloc, body, &[], deeds.flows(), &mut lines)?;
+    read_passage(
+        alloc,
+        Place::Statements,
+        body,
+        &[],
+        deeds.flows(),
+        &mut lines,
+    )?;
     Ok(lines)
 }
 
-/// The lines of a paragraph that was read before and comes to these deeds: of the first word of each statement, and of its loops to items.
+/// The lines of a paragraph that was read before and comes to these deeds: of the first word of each statement, of its loops to items, and of its conditions.
 ///
 /// # Errors
 ///
@@ -336,7 +519,7 @@ pub fn lines_of_deeds(
     // Where there is one, what is told of the text's passage beside what it comes to.
     ensures tested { (r : Records) → (IsStraight (deeds_of r deeds.now) → ⊥)
         → IfOk result (λ lines. AreDeedLinesOf text.now (length deeds.now.bounds.items)
-        deeds.now.flows.items (told_lines lines)) }
+        (length deeds.now.asked.conditions.items) deeds.now.flows.items (told_lines lines)) }
 {
     if deeds.is_straight() {
         let statements = lines_of(alloc, text)?;

@@ -5,6 +5,7 @@ use crate::reasons::{LossPosition, LossReason, ToldLoss};
 use cob_back_moves::Direction;
 use cob_copybook_tree::Item;
 use cob_move_data::Side;
+use cob_move_loops::ChoiceKind;
 use cob_picture::Category;
 use cob_report_words::{NamedOccurrence, PictureText};
 use std::fmt;
@@ -30,6 +31,14 @@ fn way_word(way: Direction) -> &'static str {
     match way {
         Direction::There => "there",
         Direction::Back => "back",
+    }
+}
+
+/// The word before what a choice of this kind tests.
+pub fn choice_word(kind: ChoiceKind) -> &'static str {
+    match kind {
+        ChoiceKind::If => "IF",
+        ChoiceKind::Evaluate => "WHEN",
     }
 }
 
@@ -204,6 +213,7 @@ impl fmt::Display for LossReason<'_> {
     fn fmt<W: fmt::Write>(&self, f: &mut fmt::Formatter<W>) -> fmt::Result {
         match self {
             LossReason::LoopTo(item) => write!(f, "a loop to {item}"),
+            LossReason::Choice(kind) => write!(f, "{}", choice_word(*kind)),
             LossReason::Records => write!(f, "the records of back are not those of there"),
             LossReason::Redefines(entry, area) => write!(f, "{entry} redefines {area}"),
             LossReason::Varies(entry) => write!(f, "{entry} is a table that varies"),

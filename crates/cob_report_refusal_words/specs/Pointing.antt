@@ -21,7 +21,7 @@ IsUnderEntry r c words = (own : List Lexeme) × IsEntryOf r own words × IsUnder
 abbrev pub IsUnder : Caret → Lexeme → Type 0
 IsUnder c w = (c.line ≡ w.line) × (c.column ≡ w.column)
 
--- a word with which a statement goes on as it is written: neither MOVE nor a period, nor a word of loops
+-- a word with which a statement goes on as it is written: neither MOVE nor a period, nor a word round statements
 abbrev pub GoesOn : Lexeme → Type 0
 GoesOn w = (EndsStatement (w ∷ []) → ⊥) × IsOther w
 

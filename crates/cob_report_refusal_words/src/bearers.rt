@@ -7,7 +7,7 @@ use crate::search::{Looked, MOST_LEVELS, found_between, found_in, holder_at};
 use crate::terms::behind;
 use crate::words::write_word;
 use cob_copybook_clauses::WordClass;
-use cob_source::Token;
+use cob_source::{Token, TokenKind};
 use std::fmt;
 
 /// More entries than both records may have.
@@ -245,6 +245,9 @@ pub(crate) fn write_operand<W: fmt::Write>(
         return f.write_str("nothing");
     };
     write_word(f, word)?;
+    if word.kind == TokenKind::Literal {
+        return Ok(());
+    }
     let Some(bearer) = meant(operand.both, operand.words) else {
         return Ok(());
     };

@@ -24,9 +24,11 @@
 mod bearers;
 mod blocks;
 mod books;
+mod choices;
 mod clashes;
 mod clauses;
 mod columns;
+mod comparisons;
 mod entry;
 mod grammar;
 mod left_out;

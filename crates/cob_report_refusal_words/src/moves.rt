@@ -7,13 +7,17 @@ ghost use Rattle.cob_report_refusal_words.specs.Pointing.{IsUnderStatement};
 use crate::bearers::{BookWords, BothWords};
 use crate::blocks::push_block;
 use crate::books::{Blocks, words_of};
+use crate::comparisons::{is_test, told_comparison};
+use crate::entry::behind_many;
 use crate::operands::{
     told_ambiguous, told_category, told_groups, told_pair, told_receiver, told_unknown,
 };
 use crate::phrases::{Part, Phrase};
 use crate::pointing::in_statement;
 use crate::source::{SourceText, told_source};
-use crate::statements::{broken_on, is_constant, moved_on, statement_in_front, words_at};
+use crate::statements::{
+    broken_on, is_constant, statement_in_front, tested_on, with_head, words_at,
+};
 use crate::subscripts::told_subscripts;
 use crate::told::{Caret, Told, advised, said};
 use crate::verbs::told_statement_words;
@@ -43,6 +47,41 @@ fn literal_of(statement: &[Token]) -> Option<&Token> {
         }
     }
     None
+}
+
+/// Whether a literal is empty, or longer than any may be.
+fn is_no_length(word: &Token) -> bool {
+    let count = word.text.len();
+    match word.kind {
+        TokenKind::Literal => count == 0 || count > 160,
+        TokenKind::Word => is_constant(word) && count > 31,
+        TokenKind::Stop => false,
+    }
+}
+
+/// The first literal of a test that may not be compared, or else the first.
+fn literal_compared(statement: &[Token]) -> Option<&Token> {
+    for word in statement {
+        if is_no_length(word) {
+            return Some(word);
+        }
+    }
+    literal_of(statement)
+}
+
+/// What is told of a literal of a test.
+fn told_compared(statement: &[Token]) -> Told<'_> {
+    match literal_compared(statement) {
+        Some(word) => advised(
+            Some(Caret::under(word)),
+            Phrase::of("{} may not be compared", Part::Word(word)),
+            Phrase::plain("a literal has 1 to 160 characters, and a number at most 31 digits"),
+        ),
+        None => said(
+            Caret::under_first(statement),
+            Phrase::plain("a literal may not be compared"),
+        ),
+    }
 }
 
 /// What is told of a literal that its receiver can't take.
@@ -86,10 +125,21 @@ fn told_other(statement: &[Token], rule: MoveRule) -> Told<'_> {
         ),
         MoveRule::TooMany => told_whole(
             statement,
-            "the loops come to more than 100,000 statements, or more than 16 hold one another",
+            "the paragraph comes to more than 100,000 statements, or more than 16 loops and choices hold one another",
             "move groups, or cut the paragraph in two conversions",
         ),
-        _ => told_whole(
+        MoveRule::Source(_)
+        | MoveRule::Grammar
+        | MoveRule::Unknown
+        | MoveRule::Ambiguous
+        | MoveRule::Subscripts
+        | MoveRule::Receiver
+        | MoveRule::NotAllowed
+        | MoveRule::Literal
+        | MoveRule::Groups
+        | MoveRule::TooLong
+        | MoveRule::NotComparable
+        | MoveRule::Memory => told_whole(
             statement,
             "the statement breaks this rule",
             "FAULTS.md, A paragraph",
@@ -104,7 +154,7 @@ fn words_told<'a>(words: &'a [Token], refusal: &MoveRefusal) -> &'a [Token] {
         Some(place) => words_at(words, place),
         None => match refusal.fault.rule {
             MoveRule::Grammar => broken_on(words, line),
-            _ => moved_on(words, line),
+            _ => tested_on(words, line),
         },
     }
 }
@@ -114,7 +164,7 @@ fn told_statement<'a>(both: BothWords<'a>, words: &'a [Token], rule: MoveRule) -
     let statement = statement_in_front(words);
     match rule {
         MoveRule::Grammar => told_statement_words(words),
-        MoveRule::Unknown => told_unknown(both, statement),
+        MoveRule::Unknown => told_unknown(both, statement, behind_many(words, statement.len())),
         MoveRule::Ambiguous => told_ambiguous(both, statement),
         MoveRule::Subscripts => told_subscripts(both, statement),
         MoveRule::Receiver => told_receiver(both, statement),
@@ -125,9 +175,15 @@ fn told_statement<'a>(both: BothWords<'a>, words: &'a [Token], rule: MoveRule) -
             "{}, to {}: to a number 31 characters are the most",
             Phrase::plain("move a part of it, by a group with smaller items"),
         ),
+        MoveRule::Literal if is_test(statement) => told_compared(statement),
         MoveRule::Literal => told_literal(statement),
         MoveRule::Groups => told_groups(both, statement),
-        rule => told_other(statement, rule),
+        MoveRule::NotComparable => told_comparison(both, statement),
+        MoveRule::Source(_)
+        | MoveRule::Twice
+        | MoveRule::Counter
+        | MoveRule::TooMany
+        | MoveRule::Memory => told_other(statement, rule),
     }
 }
 
@@ -141,7 +197,7 @@ pub fn told_of_statement<'a>(
     ensures { IfSome result.at (λ c. IsUnderStatement refusal.now c (lexemes words.now)) }
 {
     let rest = words_told(words, refusal);
-    let Told { at, what, hint } = told_statement(both, rest, refusal.fault.rule);
+    let Told { at, what, hint } = told_statement(both, with_head(words, rest), refusal.fault.rule);
     Told {
         at: in_statement(words, rest, refusal, at),
         what,

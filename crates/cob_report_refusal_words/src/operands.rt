@@ -1,6 +1,8 @@
 //! Names of a statement, and what they mean.
 
 use crate::bearers::{Bearer, BothWords, MOST_BEARERS, NamedBearers, Operand, meant};
+use crate::choices::is_branch_word;
+use crate::comparisons::{is_test, is_test_word};
 use crate::entry::{WrittenEntry, behind_many, front_of, picture_word};
 use crate::phrases::{Part, Phrase};
 use crate::search::Looked;
@@ -21,14 +23,15 @@ fn end_in_brackets(words: &[Token]) -> bool {
     inside
 }
 
-/// Whether a word of a statement, which so many stand before, names an entry of its own: it is no qualifier and no subscript.
+/// Whether a word of a statement, which so many stand before, names an entry of its own: it is no qualifier and no subscript, and no word of a condition in one.
 fn is_reference(statement: &[Token], at: usize, word: &Token) -> bool {
     let front = front_of(statement, at);
     let qualifies = match front.last() {
         Some(last) => is_term(last, WordClass::Of),
         None => false,
     };
-    is_name_word(word) && !qualifies && !end_in_brackets(front)
+    let tests = is_test(statement) && is_test_word(word);
+    is_name_word(word) && !tests && !qualifies && !end_in_brackets(front)
 }
 
 /// The first name of a statement that no entry has.
@@ -52,18 +55,35 @@ fn near_hint<'a>(both: BothWords<'a>, word: &Token) -> Option<Phrase<'a>> {
     ))
 }
 
-/// What is told of a name that no entry has.
-pub(crate) fn told_unknown<'a>(both: BothWords<'a>, statement: &'a [Token]) -> Told<'a> {
+/// What is told of a statement, every name of which some entry has, where one is not found: of the word of a choice behind it, which is a name outside of one; or
+/// else of the qualifiers.
+fn told_not_found<'a>(statement: &'a [Token], behind: &'a [Token]) -> Told<'a> {
+    match behind.first() {
+        Some(word) if is_branch_word(word) => advised(
+            Some(Caret::under(word)),
+            Phrase::of("{} stands in no IF and in no EVALUATE", Part::Word(word)),
+            Phrase::plain("an IF ends with END-IF, an EVALUATE with END-EVALUATE"),
+        ),
+        _ => said(
+            Caret::under_first(statement),
+            Phrase::plain("no entry of the two records has a name of it with these qualifiers"),
+        ),
+    }
+}
+
+/// What is told of a name of a statement, before these words, that no entry has.
+pub(crate) fn told_unknown<'a>(
+    both: BothWords<'a>,
+    statement: &'a [Token],
+    behind: &'a [Token],
+) -> Told<'a> {
     match unknown_name(both, statement) {
         Some(word) => Told {
             at: Some(Caret::under(word)),
             what: Phrase::of("no entry of the two records is named {}", Part::Word(word)),
             hint: near_hint(both, word),
         },
-        None => said(
-            Caret::under_first(statement),
-            Phrase::plain("no entry of the two records has a name of it with these qualifiers"),
-        ),
+        None => told_not_found(statement, behind),
     }
 }
 

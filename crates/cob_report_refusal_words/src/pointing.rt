@@ -7,15 +7,15 @@ ghost use Rattle.cob_report_refusal_words.specs.Pointing.{BeginAt, GoesOn, IsUnd
 
 use crate::told::Caret;
 use cob_copybook_clauses::{WordClass, is_term};
-use cob_move_loops::{is_stop, loop_word};
+use cob_move_loops::{is_stop, passage_word};
 use cob_report_refusals::MoveRefusal;
 use cob_source::Token;
 
-/// Whether a word is no word of loops.
+/// Whether a word is no word round statements.
 fn is_other(word: &Token) -> bool
     ensures { IsTrue result → IsOther (lexeme word.now) }
 {
-    match loop_word(word) {
+    match passage_word(word) {
         Some(_) => false,
         None => true,
     }

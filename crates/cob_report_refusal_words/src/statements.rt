@@ -1,9 +1,12 @@
 //! The words of a statement, as far as they go on.
 
+use crate::choices::{is_branch_word, is_word};
 use crate::clauses::{Read, behind_term, is_characters, lacks};
-use crate::entry::{behind_many, front_of};
+use crate::comparisons::is_test;
+use crate::entry::{behind_many, front_of, last_words, words_before};
 use crate::terms::{behind, is_name_word, is_term};
 use cob_copybook_clauses::WordClass;
+use cob_move_loops::passage_word;
 use cob_report_refusals::Spot;
 use cob_source::{Token, TokenKind};
 
@@ -88,7 +91,12 @@ fn behind_sender(words: &[Token]) -> Read<'_> {
 /// Whether a statement ends before these words.
 fn ends(words: &[Token]) -> bool {
     match words.first() {
-        Some(first) => first.kind == TokenKind::Stop || is_term(first, WordClass::Move),
+        Some(first) => {
+            first.kind == TokenKind::Stop
+                || is_term(first, WordClass::Move)
+                || passage_word(first).is_some()
+                || is_branch_word(first)
+        }
         None => true,
     }
 }
@@ -115,7 +123,7 @@ pub(crate) fn behind_statement(words: &[Token]) -> Read<'_> {
     behind_receivers(behind_term(sent, WordClass::To, "TO")?)
 }
 
-/// The words of the statement in front, up to the next period or MOVE.
+/// The words of the statement in front, up to the next one, a word of a choice's branches, or a period.
 pub(crate) fn statement_in_front(words: &[Token]) -> &[Token] {
     for at in 1..words.len() {
         if ends(behind_many(words, at)) {
@@ -177,14 +185,39 @@ pub(crate) fn broken_on(words: &[Token], line: u32) -> &[Token] {
     from
 }
 
-/// The words from the first MOVE on a line on, or from the first word there where none is.
-pub(crate) fn moved_on(words: &[Token], line: u32) -> &[Token] {
+/// These last words of all, with the IF, EVALUATE or WHEN before them, where one stands there: a test may begin on a line of its own.
+pub(crate) fn with_head<'a>(words: &'a [Token], rest: &'a [Token]) -> &'a [Token] {
+    let before = words_before(words, rest);
+    let head = last_words(before, 1);
+    if is_test(head) {
+        return behind_many(words, before.len().saturating_sub(1));
+    }
+    rest
+}
+
+/// Whether a test comes first: that of a choice, or of a loop.
+fn begins_test(words: &[Token]) -> bool {
+    match words.first() {
+        Some(first) => is_word(first, "PERFORM") || is_test(words),
+        None => false,
+    }
+}
+
+/// The words from the first test on a line on, or from the first MOVE there where none is, or from the first word. What a statement breaks by itself is told at its
+/// place: so where none is told a test breaks it.
+pub(crate) fn tested_on(words: &[Token], line: u32) -> &[Token] {
     let from = words_on(words, line);
+    let mut moved = from;
+    let mut is_moved = false;
     for at in 0..line_len(from, line) {
         let rest = behind_many(from, at);
-        if behind(rest, WordClass::Move).is_some() {
+        if begins_test(rest) {
             return rest;
         }
+        if !is_moved && behind(rest, WordClass::Move).is_some() {
+            moved = rest;
+            is_moved = true;
+        }
     }
-    from
+    moved
 }

@@ -1,5 +1,6 @@
 //! Words of a paragraph that are no statements.
 
+use crate::choices::{is_word, told_block};
 use crate::clauses::Lack;
 use crate::entry::{last_words, words_before};
 use crate::phrases::{Part, Phrase};
@@ -8,83 +9,32 @@ use crate::statements::behind_statement;
 use crate::terms::{is_name_word, is_term};
 use crate::told::{Caret, Told, advised, said};
 use cob_copybook_clauses::WordClass;
-use cob_source::{Token, TokenKind};
+use cob_source::Token;
 
-/// What to do with a condition.
-const CONDITION: &str =
-    "choose the records before (RECIPES.md), or leave the condition to a program before or behind";
+/// How a verb is told that begins no statement of a paragraph.
+const OTHER_VERB: &str =
+    "MOVE is expected, and {} stands there: a paragraph is MOVE statements, loops, IF and EVALUATE";
 
 /// What to do with a loop.
 const LOOP: &str =
     "PERFORM VARYING I FROM 1 BY 1 UNTIL I > 3, statements without a period, END-PERFORM";
 
-/// How a verb is told that begins no statement of a paragraph.
-const OTHER_VERB: &str =
-    "MOVE is expected, and {} stands there: a paragraph is MOVE statements and loops round them";
-
-/// What to do with the statements of other verbs.
-static VERBS: [(&str, &str); 4] = [
-    ("IF", CONDITION),
-    ("EVALUATE", CONDITION),
-    ("PERFORM", LOOP),
-    ("END-PERFORM", LOOP),
-];
-
 /// What to do with a statement of another verb.
 fn verb_hint(word: &Token) -> &'static str {
-    for (verb, hint) in &VERBS {
-        if verb.as_bytes() == word.text.as_slice() {
-            return *hint;
-        }
+    if is_word(word, "PERFORM") || is_word(word, "END-PERFORM") {
+        return LOOP;
     }
     "leave it to a program before or behind the conversion"
 }
 
-/// Whether a word is this one.
-fn is_word(word: &Token, text: &str) -> bool {
-    word.kind == TokenKind::Word && word.text.as_slice() == text.as_bytes()
-}
-
-/// How it is told that a loop lacks its end, where it does: a period stands before it, or it is not there.
-fn loop_lack(words: &[Token]) -> Option<&'static str> {
-    let mut open: usize = 0;
-    let mut is_stopped = false;
-    for word in words {
-        if word.kind == TokenKind::Stop {
-            is_stopped = true;
-        }
-        if is_word(word, "PERFORM") {
-            open = open.saturating_add(1);
-        }
-        if is_word(word, "END-PERFORM") {
-            open = open.saturating_sub(1);
-        }
-        if open == 0 && is_stopped {
-            return Some("a period stands before the END-PERFORM of this {}");
-        }
-        if open == 0 {
-            return None;
-        }
-    }
-    Some("this {} has no END-PERFORM")
-}
-
-/// What is wrong with a word where no statement begins, and with those behind it.
-fn verb_form(word: &Token, words: &[Token]) -> &'static str {
-    if !is_word(word, "PERFORM") {
-        return OTHER_VERB;
-    }
-    match loop_lack(words) {
-        Some(form) => form,
-        None => OTHER_VERB,
-    }
-}
-
-/// What is told of a word where no statement begins: of the first of these.
+/// What is told of a word where no statement begins, and which words it begins.
 fn told_verb<'a>(word: &'a Token, words: &'a [Token]) -> Told<'a> {
+    if let Some(told) = told_block(words) {
+        return told;
+    }
     advised(
         Some(Caret::under(word)),
-        Phrase::of(verb_form(word, words), Part::Word(word)),
+        Phrase::of(OTHER_VERB, Part::Word(word)),
         Phrase::plain(verb_hint(word)),
     )
 }

@@ -37,7 +37,8 @@ pub data IsOneWritten : List Lexeme → List Lexeme → Type 0 where
   written_here : (own more words : List Lexeme) → IsWrittenBefore own more → words ≡ own ++ more → IsOneWritten own words
   written_behind : (own other more words : List Lexeme) → IsWrittenBefore other more → words ≡ other ++ more → IsOneWritten own more → IsOneWritten own words
 
--- Words in which statements stand: those of MOVE statements in a turn of the loops round them; or all, where no word of loops is among them.
+-- Words in which statements stand: those of MOVE statements in a turn of the loops round them, in whatever branch; or all, where no word round statements is
+-- among them.
 abbrev pub IsRunOf : List Lexeme → List Lexeme → Type 0
 IsRunOf run body =
     ((p : Passage) × IsPassage p body × SomeOf (λ ws. ws ≡ run) (words_by_turn [] p))

@@ -19,7 +19,7 @@ ghost use Rattle.cob_report_refused_moves.specs.Statements.{AddsOfBody, AddsOfRu
 use crate::statements::{add_run, add_statements, spot_of};
 use cob_layout::Layout;
 use cob_move::Paragraph;
-use cob_move_loops::{Run, check, is_few, is_shallow, loop_word, write_out};
+use cob_move_loops::{Run, check, is_few, is_shallow, passage_word, write_out};
 use cob_move_statements::{MoveFault, MoveRule, behind_heading};
 use cob_report_refusals::{MoveRefusal, Spot};
 use cob_source::{SourceRule, Token, paragraph_tokens};
@@ -54,18 +54,18 @@ fn words_of(alloc: Global, text: &[u8]) -> Result<Option<Vec<Token>>, AllocError
     }
 }
 
-/// Whether a word is no word of loops.
+/// Whether a word is no word round statements.
 fn is_other(word: &Token) -> bool
     ensures { IsTrue result ↔ IsOther (lexeme word.now) }
 {
-    match loop_word(word) {
+    match passage_word(word) {
         Some(_) => false,
         None => true,
     }
 }
 
-/// Whether no word of loops is among words.
-fn have_no_loop(words: &[Token]) -> bool
+/// Whether no word round statements is among words.
+fn are_others(words: &[Token]) -> bool
     ensures { IsTrue result → AllByRecursion IsOther (lexemes words.now) }
 {
     let mut rest = words;
@@ -78,7 +78,7 @@ fn have_no_loop(words: &[Token]) -> bool
     true
 }
 
-/// The words behind the heading, if one comes first: the name of a paragraph is no word of loops.
+/// The words behind the heading, if one comes first: the name of a paragraph is no word round statements.
 fn body_of(words: &[Token]) -> &[Token]
     ensures { IsBodyIn (lexemes words.now) (lexemes result.now) }
 {
@@ -182,7 +182,7 @@ fn add_runs(
     Ok(())
 }
 
-/// Puts what is refused of the statements of a passage, as they are in the turns of its loops, behind other refusals.
+/// Puts what is refused of the statements of a passage, those of all branches, as they are in the turns of its loops, behind other refusals.
 ///
 /// # Errors
 ///
@@ -202,8 +202,8 @@ fn add_looped(
     add_runs(alloc, input, output, runs.as_slice(), out)
 }
 
-/// Puts what is refused of the statements of words behind a heading, each by itself, behind other refusals: nothing where loops are among them that can't be
-/// written out.
+/// Puts what is refused of the statements of words behind a heading, each by itself, behind other refusals: nothing where loops or choices are among them
+/// that can't be written out.
 ///
 /// # Errors
 ///
@@ -218,7 +218,7 @@ fn add_body(
     ensures { OnOk result (AddsOfBody input.now output.now (lexemes body.now) out.old.items
         out.new.items) }
 {
-    if have_no_loop(body) {
+    if are_others(body) {
         return add_statements(alloc, input, output, body, out);
     }
     if can_be_written_out(body) {

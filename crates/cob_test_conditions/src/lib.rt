@@ -5,6 +5,7 @@
 #![tactic(auto)]
 
 mod compared;
+mod meant;
 mod operands;
 mod written;
 
@@ -18,6 +19,7 @@ impl Family for ConditionRows {
     fn answer(alloc: Global, table: &str, row: &Row, out: &mut String) -> Result<(), RowFault> {
         match table {
             "compared" => compared::answer(alloc, row, out),
+            "meant" => meant::answer(alloc, row, out),
             "written" => written::answer(alloc, row, out),
             _ => Err(RowFault::BadRow),
         }

@@ -1,7 +1,8 @@
 //! How operands are printed.
 
+use arrayvec::ArrayVec;
 use cob_copybook_clauses::ValueClause;
-use cob_copybook_entry::Figurative;
+use cob_copybook_entry::{Figurative, Value};
 use cob_move_statements::{Reference, StatementSender};
 use cob_source::Token;
 use cob_test_rows::push_text;
@@ -70,5 +71,22 @@ pub(crate) fn push_operand(
     match operand {
         StatementSender::Reference(reference) => push_reference(reference, out),
         StatementSender::Constant(constant) => push_constant(constant, out),
+    }
+}
+
+/// Writes a constant that was read.
+pub(crate) fn push_value(value: &Value, out: &mut String) -> Result<(), AllocError> {
+    match value {
+        Value::Number { number, .. } => {
+            let mut text: ArrayVec<u8, 64> = ArrayVec::new();
+            number.write_text(&mut text);
+            push_text(out, text.as_slice())
+        }
+        Value::Literal(text) => push_quoted(text.as_bytes(), out),
+        Value::Figurative(figurative) => out.push_str(figurative_name(*figurative)),
+        Value::All(text) => {
+            out.push_str("ALL ")?;
+            push_quoted(text.as_bytes(), out)
+        }
     }
 }

@@ -138,21 +138,31 @@ fn push_number(out: &mut String, number: &Number) -> Result<(), AllocError> {
     push_word(out, text.as_slice())
 }
 
+/// Writes a constant.
+pub(crate) fn push_constant(out: &mut String, value: &Value) -> Result<(), AllocError> {
+    match value {
+        Value::Number { signed, number } => {
+            out.push_str(if *signed { "signed " } else { "" })?;
+            push_number(out, number)
+        }
+        Value::Literal(text) => {
+            out.push('=')?;
+            push_word(out, text.as_bytes())
+        }
+        Value::Figurative(figurative) => write!(out, "{figurative:?}"),
+        Value::All(text) => {
+            out.push_str("all =")?;
+            push_word(out, text.as_bytes())
+        }
+    }
+}
+
 /// Writes a VALUE clause, if there is one.
 fn push_value(out: &mut String, value: &Option<Value>) -> Result<(), AllocError> {
     match value {
-        Some(Value::Number { signed, number }) => {
-            out.push_str(if *signed { " value signed " } else { " value " })?;
-            push_number(out, number)
-        }
-        Some(Value::Literal(text)) => {
-            out.push_str(" value =")?;
-            push_word(out, text.as_bytes())
-        }
-        Some(Value::Figurative(figurative)) => write!(out, " value {figurative:?}"),
-        Some(Value::All(text)) => {
-            out.push_str(" value all =")?;
-            push_word(out, text.as_bytes())
+        Some(value) => {
+            out.push_str(" value ")?;
+            push_constant(out, value)
         }
         None => Ok(()),
     }

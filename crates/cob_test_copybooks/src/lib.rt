@@ -1,5 +1,5 @@
 //! Answers tables of rows about texts and copybooks, each asked of the crate whose subject it is: the words of texts, clauses as they are
-//! written, entries, trees, the rules that clauses keep, counts, lengths, and whole copybooks.
+//! written, entries, condition-names, trees, the rules that clauses keep, counts, lengths, and whole copybooks.
 //!
 //! But for words, the first field of a row is the question, and the second is mostly a text of entries, parted by bars, one a line. The
 //! answer is what was asked for, or the rule that the text breaks with its line. [`CopybookRows`] answers them. The tables stand in `data/copybooks` of
@@ -11,6 +11,7 @@ mod clauses;
 mod counts;
 mod entries;
 mod lengths;
+mod names;
 mod nodes;
 mod refusal;
 mod rules;
@@ -47,6 +48,7 @@ fn answer(alloc: Global, table: &str, row: &Row, out: &mut String) -> Result<(),
         "rules" => rules::answer(alloc, row, out),
         "counts" => counts::answer(alloc, row, out),
         "lengths" => lengths::answer(alloc, row, out),
+        "names" => names::answer(alloc, row, out),
         "accepted" | "refused" | "books" => books::answer(alloc, row, out),
         _ => Err(Refusal::Row(RowFault::BadRow)),
     }

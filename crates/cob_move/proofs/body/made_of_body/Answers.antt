@@ -1,7 +1,7 @@
 use Rattle.std.proofs.Common.{[], subst, sym}
 use Rattle.cob_source.specs.Tokens.{lexemes}
 use Rattle.cob_move.specs.DeedsRead.{AddsDeeds, IsMade, MadeLists, TurnRefused, made_lists}
-use Rattle.cob_move.specs.Entries.{records_of}
+use Rattle.cob_move_tests.specs.Entries.{records_of}
 use Rattle.cob_move.proofs.BodyLemmas.{body_refused, empty_made}
 use Rattle.cob_move.proofs.body.made_of_body.Goals as goal
 

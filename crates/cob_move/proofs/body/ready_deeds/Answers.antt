@@ -2,7 +2,7 @@ use Rattle.std.proofs.Common.{refl}
 use Rattle.cob_move_data.specs.Moves.{Records}
 use Rattle.cob_move_deeds.specs.declared.flow.Asked.{Asked}
 use Rattle.cob_move.specs.DeedsRead.{made_lists}
-use Rattle.cob_move.proofs.BodyLemmas.{nothing_asked, now_ends, now_moves, readied, still_readied}
+use Rattle.cob_move.proofs.BodyLemmas.{now_asked, now_ends, now_moves, readied, still_readied}
 use Rattle.cob_move.proofs.body.ready_deeds.Goals as goal
 
 pub new-requires : goal.new-requires
@@ -12,11 +12,16 @@ new-requires c =
       ends = rw c.as_slice.ensures.value (now_ends r (made_lists c.args.made) (made_lists c.close.new.self) c.requires.made c.in_ok-close.ensures.closed);
     }
 
+pub placed_entries-requires : goal.placed_entries-requires
+placed_entries-requires c =
+    let r : Records = record { input = c.args.input.now; output = c.args.output.now } in
+    record { operands = now_asked r (made_lists c.args.made) (made_lists c.close.new.self) c.requires.made c.in_ok-close.ensures.closed }
+
 pub with_steady_bounds-requires : goal.with_steady_bounds-requires
 with_steady_bounds-requires c =
     let r : Records = record { input = c.args.input.now; output = c.args.output.now } in
-    let asked : Asked = record { entries = c.new-entries.result; conditions = c.new-conditions.result } in
-    let made = readied r (made_lists c.args.made) (made_lists c.close.new.self) c.in_ok-moves.moves c.new-loops.result.items asked c.new-deeds.result c.requires.made c.in_ok-close.ensures.closed (record {
+    let tests : Asked = record { entries = c.in_ok-entries.entries; conditions = c.close.new.self.conditions } in
+    let made = readied r (made_lists c.args.made) (made_lists c.close.new.self) c.in_ok-moves.moves c.new-loops.result.items tests c.new-deeds.result c.requires.made c.in_ok-close.ensures.closed (record {
       reading = c.in_ok-moves.ensures.reading;
       statements = c.in_ok-moves.ensures.statements;
       ends = rw c.as_slice.ensures.value at c.in_ok-moves.ensures.ends;
@@ -24,15 +29,17 @@ with_steady_bounds-requires c =
       marked = c.in_ok-moves.ensures.prepared;
       same = c.new-deeds.ensures.moves;
       deeds = c.new-deeds.ensures.deeds r;
-      none_asked = nothing_asked r c.in_ok-moves.moves (made_lists c.close.new.self).bounds c.new-loops.result.items asked c.new-entries.ensures.items c.new-conditions.ensures.items;
+      entries = c.in_ok-entries.ensures.named;
+      conditions = refl;
+      placed = c.in_ok-entries.ensures.placed;
       prepared = c.new-deeds.ensures.prepared r;
     }) in record { prepared = (r, made.prepared) }
 
 pub returns : goal.returns
 returns c =
     let r : Records = record { input = c.args.input.now; output = c.args.output.now } in
-    let asked : Asked = record { entries = c.new-entries.result; conditions = c.new-conditions.result } in
-    let made = readied r (made_lists c.args.made) (made_lists c.close.new.self) c.in_ok-moves.moves c.new-loops.result.items asked c.new-deeds.result c.requires.made c.in_ok-close.ensures.closed (record {
+    let tests : Asked = record { entries = c.in_ok-entries.entries; conditions = c.close.new.self.conditions } in
+    let made = readied r (made_lists c.args.made) (made_lists c.close.new.self) c.in_ok-moves.moves c.new-loops.result.items tests c.new-deeds.result c.requires.made c.in_ok-close.ensures.closed (record {
       reading = c.in_ok-moves.ensures.reading;
       statements = c.in_ok-moves.ensures.statements;
       ends = rw c.as_slice.ensures.value at c.in_ok-moves.ensures.ends;
@@ -40,7 +47,9 @@ returns c =
       marked = c.in_ok-moves.ensures.prepared;
       same = c.new-deeds.ensures.moves;
       deeds = c.new-deeds.ensures.deeds r;
-      none_asked = nothing_asked r c.in_ok-moves.moves (made_lists c.close.new.self).bounds c.new-loops.result.items asked c.new-entries.ensures.items c.new-conditions.ensures.items;
+      entries = c.in_ok-entries.ensures.named;
+      conditions = refl;
+      placed = c.in_ok-entries.ensures.placed;
       prepared = c.new-deeds.ensures.prepared r;
     }) in
     still_readied r (made_lists c.args.made) c.new-deeds.result c.in_ok-steady.steady made c.in_ok-steady.ensures.moves (c.in_ok-steady.ensures.deeds r) (c.in_ok-steady.ensures.prepared r refl)

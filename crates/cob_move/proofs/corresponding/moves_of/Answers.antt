@@ -5,7 +5,7 @@ use Rattle.cob_copybook_tree.specs.Nodes.{tree_of}
 use Rattle.cob_move_names.specs.Candidates.{Candidate}
 use Rattle.cob_move_names.specs.Directory.{entries_named}
 use Rattle.cob_move_statements.specs.Written.{WrittenReference, written_reference}
-use Rattle.cob_move.specs.Entries.{records_of}
+use Rattle.cob_move_tests.specs.Entries.{records_of}
 use Rattle.cob_move.specs.Meaning.{AreGroupsOf}
 use Rattle.cob_move.proofs.CorrespondingLemmas.{meant, meant_fault}
 use Rattle.cob_move.proofs.MoveLemmas.{AreGiven, group_moves}

@@ -1,11 +1,13 @@
-use Rattle.std.proofs.Common.{◌≡◌, ℕ, ◌≤◌, ◌+◌, ◌-◌, ◌*◌, length}
+use Rattle.std.proofs.Common.{◌≡◌, ℕ, ◌≤◌, ◌+◌, ◌-◌, ◌*◌, [], length}
 use Rattle.std.specs.Prelude.{IsTrue}
 use Rattle.cob_source.specs.Tokens.{lexemes}
 use Rattle.cob_move_loops.specs.Reading.{counters, item_front, written_loop}
 use Rattle.cob_move_loops.proofs.FrontLemmas.{front_size}
 use Rattle.cob_move.specs.Between.{ArePairsOf}
-use Rattle.cob_move.specs.DeedsRead.{AddsTurns, HasBounds, HasGrown, IsMade, IsSure, flow_lists, in_its_turn, made_lists}
-use Rattle.cob_move.specs.Entries.{records_of}
+use Rattle.cob_move_choices.specs.Asked.{against}
+use Rattle.cob_move_tests.specs.Asked.{IsAsked, kind_named, sender_named}
+use Rattle.cob_move.specs.DeedsRead.{AddsTurns, HasBounds, HasGrown, HaveBounds, IsMade, IsSure, LeftOfBranches, MayBeTestedOr, flow_lists, in_its_turn, made_lists, open_statements, taken_branches}
+use Rattle.cob_move_tests.specs.Entries.{records_of}
 use Rattle.cob_move.proofs.ReadingLemmas.{LeftOfDeeds}
 use Rattle.cob_move.proofs.TestedLemmas.{HasTried}
 use Rattle.cob_move.proofs.deeds.+adding.Given as goal
@@ -63,3 +65,32 @@ invariant-try_turns-loop-step l = record {
   sure : IsTrue l.sure → IsSure l.entries (in_its_turn (counters l.turn) (written_loop l.head) (l.head.from + l.step)) (lexemes l.body) (made_lists l.made).read;
   pairs : ArePairsOf (records_of l.entries) l.pairs;
 }
+
+abbrev pub decreases-add_choice : goal.decreases-add_choice
+decreases-add_choice l = 6 * length (lexemes l.branches.now) + 4
+
+abbrev pub decreases-add_branches : goal.decreases-add_branches
+decreases-add_branches l = 6 * length (lexemes l.branches.now) + 3
+
+abbrev pub decreases-add_branch : goal.decreases-add_branch
+decreases-add_branch l = 6 * length (lexemes l.words.now) + 2
+
+abbrev pub decreases-add_apart : goal.decreases-add_apart
+decreases-add_apart l = 6 * length (lexemes l.words.now) + 1
+
+abbrev pub invariant-add_branches-loop-test : goal.invariant-add_branches-loop-test
+invariant-add_branches-loop-test l = record {
+  left : LeftOfBranches l.entries (counters l.turn) (against (sender_named (records_of l.entries) l.fn.made.asked.items) l.subject) l.kind (lexemes l.branches) (lexemes l.rest) l.waiting (taken_branches l.taken.items) (made_lists l.fn.made)
+      (made_lists l.made);
+  fewer : length (lexemes l.rest) ≤ length (lexemes l.branches);
+  bounds : HaveBounds l.kind (lexemes l.rest);
+  waits : MayBeTestedOr (IsAsked l.made.asked.items) (kind_named (records_of l.entries) l.made.asked.items) l.waiting;
+  made : IsMade (records_of l.entries) (made_lists l.made);
+  grown : HasGrown (made_lists l.fn.made) (made_lists l.made);
+  none : l.made.flows.items ≡ [];
+  marked : open_statements (made_lists l.made) ≡ [];
+  pairs : ArePairsOf (records_of l.entries) l.pairs;
+}
+
+abbrev pub decreases-add_branches-loop-test : goal.decreases-add_branches-loop-test
+decreases-add_branches-loop-test l = length (lexemes l.rest)

@@ -4,6 +4,7 @@ use Rattle.cob_source.specs.Tokens.{lexemes}
 use Rattle.cob_move_loops.specs.declared.front.PassageItem.{PassageItem}
 use Rattle.cob_move_loops.specs.Passages.{Passage, PassageFront}
 use Rattle.cob_move_loops.specs.Reading.{Within, item_front}
+use Rattle.cob_move_loops.specs.declared.parts.Place.TheVariants as standing
 use Rattle.cob_move_loops.proofs.PassageLemmas.{shorter}
 use Rattle.cob_move.specs.DeedsRead.{deep_front, words_in_front}
 use Rattle.cob_move.proofs.LookLemmas.{deep_end, deep_first, deep_more, words_smaller}
@@ -17,7 +18,7 @@ depth-loop-item-preserved t c =
     let f = item_front c.in-Some.item in
     let rest = lexemes c.loop-item.rest.now in
     let more = lexemes c.in-Some.more.now in
-    let less = shorter f rest more c.in-Some.ensures.found in
+    let less = shorter standing.Statements f rest more c.in-Some.ensures.found in
     let size = words_smaller f rest more c.in-Some.ensures.found in
     let both : max c.loop-item.most c.depth_of_item.result ≤ length (lexemes c.args.words.now) =
     max-le c.loop-item.invariant.small (omega (arith, c.depth_of_item.ensures.small, size, c.loop-item.invariant.fewer)) in record {
@@ -28,7 +29,7 @@ depth-loop-item-preserved t c =
     }
 
 pub depth-loop-item-smaller : goal.depth-loop-item-smaller
-depth-loop-item-smaller t c = shorter (item_front c.in-Some.item) (lexemes c.loop-item.rest.now) (lexemes c.in-Some.more.now) c.in-Some.ensures.found
+depth-loop-item-smaller t c = shorter standing.Statements (item_front c.in-Some.item) (lexemes c.loop-item.rest.now) (lexemes c.in-Some.more.now) c.in-Some.ensures.found
 
 pub depth-returns-clause-deep : goal.depth-returns-clause-deep
 depth-returns-clause-deep t c = deep_end c.loop-item.most (lexemes c.args.words.now) (lexemes c.loop-item.rest.now) c.loop-item.invariant.left c.in_default.ensures.only
@@ -59,3 +60,11 @@ pub depth_of_item-depth-requires : goal.depth_of_item-depth-requires
 depth_of_item-depth-requires t c =
     let size : words_in_front (item_front c.args.item.now) ≡ length (lexemes c.in-Loop.body.now) = ap (λ (i : PassageItem). words_in_front (item_front i)) c.in-Loop.is in
     omega (arith, c.decreases, size)
+
+pub depth_of_item-returns-in-Choice-clause-deep : goal.depth_of_item-returns-in-Choice-clause-deep
+depth_of_item-returns-in-Choice-clause-deep t c =
+    subst (λ (f : PassageFront). (p : Passage) → Within f p → deep_front f p ≤ 0) (sym (ap item_front c.in-Choice.is)) (λ p within. omega arith)
+
+pub depth_of_item-returns-in-Branch-clause-deep : goal.depth_of_item-returns-in-Branch-clause-deep
+depth_of_item-returns-in-Branch-clause-deep t c =
+    subst (λ (f : PassageFront). (p : Passage) → Within f p → deep_front f p ≤ 0) (sym (ap item_front c.in-Branch.is)) (λ p within. omega arith)

@@ -6,6 +6,7 @@ use Rattle.cob_move_loops.specs.declared.front.PassageItem.{PassageItem}
 use Rattle.cob_move_loops.specs.Reading.{counters, item_front, written_bound, written_loop}
 use Rattle.cob_move_loops.specs.Passages.{ARun, PassageFront}
 use Rattle.cob_move_loops.specs.Turns.{Counted, counter_at}
+use Rattle.cob_move_loops.specs.declared.parts.Place.TheVariants as standing
 use Rattle.cob_move_loops.proofs.FrontLemmas.{front_size, front_smaller}
 use Rattle.cob_move_loops.proofs.PassageLemmas.{shorter}
 use Rattle.cob_move_loops.proofs.WritingLemmas.{counters_more}
@@ -25,27 +26,27 @@ look_at_passage-loop-item-preserved t c =
     let f = item_front c.in-Some.item in
     let rest = lexemes c.loop-item.rest.now in
     let more = lexemes c.in-Some.more.now in
-    let less = shorter f rest more c.in-Some.ensures.found in record {
+    let less = shorter standing.Statements f rest more c.in-Some.ensures.found in record {
       left = look_more c.args.entries.now (counters c.args.turn.now) (lexemes c.args.words.now) rest more f c.loop-item.invariant.left (omega (arith, less)) c.in-Some.ensures.only;
       fewer = omega (arith, c.loop-item.invariant.fewer, less);
       pairs = c.in_ok-look_at_item.ensures.pairs;
     }
 
 pub look_at_passage-loop-item-smaller : goal.look_at_passage-loop-item-smaller
-look_at_passage-loop-item-smaller t c = shorter (item_front c.in-Some.item) (lexemes c.loop-item.rest.now) (lexemes c.in-Some.more.now) c.in-Some.ensures.found
+look_at_passage-loop-item-smaller t c = shorter standing.Statements (item_front c.in-Some.item) (lexemes c.loop-item.rest.now) (lexemes c.in-Some.more.now) c.in-Some.ensures.found
 
 pub look_at_passage-returns-in_err-look_at_item-clause-stops : goal.look_at_passage-returns-in_err-look_at_item-clause-stops
 look_at_passage-returns-in_err-look_at_item-clause-stops t c =
     let f = item_front c.in-Some.item in
     let rest = lexemes c.loop-item.rest.now in
     let more = lexemes c.in-Some.more.now in
-    let less = shorter f rest more c.in-Some.ensures.found in
+    let less = shorter standing.Statements f rest more c.in-Some.ensures.found in
     let p = err_from_is_err_and c.from_residual.result c.from_residual.ensures.1 in
     rw (p.1, p.2) (look_stops c.in_err-look_at_item.field-0.0 c.args.entries.now (counters c.args.turn.now) (lexemes c.args.words.now) rest more f c.loop-item.invariant.left (omega (arith, less)) c.in-Some.ensures.only c.in_err-look_at_item.ensures.stops)
 
 pub look_at_passage-look_at_item-requires : goal.look_at_passage-look_at_item-requires
 look_at_passage-look_at_item-requires t c =
-    let less = front_smaller (item_front c.in-Some.item) (lexemes c.loop-item.rest.now) (lexemes c.in-Some.more.now) c.in-Some.ensures.found in
+    let less = front_smaller standing.Statements (item_front c.in-Some.item) (lexemes c.loop-item.rest.now) (lexemes c.in-Some.more.now) c.in-Some.ensures.found in
     (omega (arith, c.decreases, less, c.loop-item.invariant.fewer), (c.requires.named, c.loop-item.invariant.pairs))
 
 pub look_at_first-returns-clause-stops : goal.look_at_first-returns-clause-stops

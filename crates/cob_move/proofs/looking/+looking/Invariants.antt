@@ -3,7 +3,7 @@ use Rattle.cob_source.specs.Tokens.{lexemes}
 use Rattle.cob_move_loops.specs.Reading.{counters, item_front}
 use Rattle.cob_move_loops.proofs.FrontLemmas.{front_size}
 use Rattle.cob_move.specs.Between.{ArePairsOf}
-use Rattle.cob_move.specs.Entries.{records_of}
+use Rattle.cob_move_tests.specs.Entries.{records_of}
 use Rattle.cob_move.proofs.LookLemmas.{LeftOfLook}
 use Rattle.cob_move.proofs.looking.+looking.Given as goal
 

@@ -11,7 +11,7 @@ returns-then-is_empty-clause-fault c =
 
 pub returns-then-not-is_shallow-clause-fault : goal.returns-then-not-is_shallow-clause-fault
 returns-then-not-is_shallow-clause-fault c =
-    deep_refused c.fault_of-then-not-is_shallow.result c.loop_line.result (lexemes c.args.body.now) c.is_shallow.result c.fault_of-then-not-is_shallow.ensures.0 c.fault_of-then-not-is_shallow.ensures.1 c.loop_line.ensures c.if-not-is_shallow.true c.is_shallow.ensures.1
+    deep_refused c.fault_of-then-not-is_shallow.result c.opening_line.result (lexemes c.args.body.now) c.is_shallow.result c.fault_of-then-not-is_shallow.ensures.0 c.fault_of-then-not-is_shallow.ensures.1 c.opening_line.ensures c.if-not-is_shallow.true c.is_shallow.ensures.1
 
 pub returns-in_err-check_grammar-clause-fault : goal.returns-in_err-check_grammar-clause-fault
 returns-in_err-check_grammar-clause-fault c =
@@ -21,7 +21,7 @@ returns-in_err-check_grammar-clause-fault c =
 pub returns-then-not-is_few-clause-fault : goal.returns-then-not-is_few-clause-fault
 returns-then-not-is_few-clause-fault c =
     let (p, is) = c.in_ok-check_grammar.ensures.found in
-    long_refused c.fault_of-then-not-is_few.result c.loop_line-then-not-is_few.result (lexemes c.args.body.now) c.is_few.result p is c.fault_of-then-not-is_few.ensures.0 c.fault_of-then-not-is_few.ensures.1 c.loop_line-then-not-is_few.ensures c.if-not-is_few.true (c.is_few.ensures p is).1
+    long_refused c.fault_of-then-not-is_few.result c.opening_line-then-not-is_few.result (lexemes c.args.body.now) c.is_few.result p is c.fault_of-then-not-is_few.ensures.0 c.fault_of-then-not-is_few.ensures.1 c.opening_line-then-not-is_few.ensures c.if-not-is_few.true (c.is_few.ensures p is).1
 
 pub returns-clause-found : goal.returns-clause-found
 returns-clause-found c =

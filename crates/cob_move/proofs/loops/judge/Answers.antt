@@ -3,7 +3,7 @@ use Rattle.cob_source.specs.Tokens.{lexemes}
 use Rattle.cob_move_loops.specs.Reading.{written_loops}
 use Rattle.cob_move_names.specs.Directory.{entries_named}
 use Rattle.cob_move.specs.Loops.{AreItsLoops}
-use Rattle.cob_move.proofs.LoopLemmas.{clash_refused, judged, literal_so, names_refused}
+use Rattle.cob_move.proofs.LoopLemmas.{clash_refused, judged, names_refused}
 use Rattle.cob_move.proofs.loops.judge.Goals as goal
 
 pub returns-in_err-check_passage-clause-fault : goal.returns-in_err-check_passage-clause-fault
@@ -31,4 +31,4 @@ returns-clause-found c =
 pub returns-clause-literal : goal.returns-clause-literal
 returns-clause-literal c = λ p is.
     let are : AreItsLoops (lexemes c.args.body.now) (written_loops c.as_slice-2.result.now) = rw c.as_slice-2.ensures.value c.in_ok-heads.ensures.found in
-    literal_so c.end_by_numbers.result p (written_loops c.as_slice-2.result.now) (are p is).1 c.end_by_numbers.ensures
+    c.is_literal.ensures p is (are p is).1

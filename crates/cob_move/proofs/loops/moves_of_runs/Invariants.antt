@@ -1,6 +1,6 @@
 use Rattle.std.proofs.Common.{drop, take}
 use Rattle.cob_move.specs.Between.{ArePairsOf}
-use Rattle.cob_move.specs.Entries.{records_of}
+use Rattle.cob_move_tests.specs.Entries.{records_of}
 use Rattle.cob_move.specs.Loops.{RunRefused, SayRuns}
 use Rattle.cob_move_apply.specs.Some.{SomeOf}
 use Rattle.cob_move_loops.specs.Reading.{all_runs}

@@ -1,7 +1,7 @@
 use Rattle.std.proofs.Common.{inr, ap, arith, length, [], ◌∷◌}
 use Rattle.std.proofs.lemmas.List.{length-append}
 use Rattle.std.proofs.lemmas.Result.{err_from_is_err_and}
-use Rattle.cob_move.specs.Entries.{records_of}
+use Rattle.cob_move_tests.specs.Entries.{records_of}
 use Rattle.cob_move.specs.Refusals.{BreaksOn}
 use Rattle.cob_move_names.specs.Directory.{entries_named}
 use Rattle.cob_move_statements.specs.Written.{written_statement}

@@ -1,5 +1,5 @@
 use Rattle.cob_move.specs.Between.{ArePairsOf}
-use Rattle.cob_move.specs.Entries.{records_of}
+use Rattle.cob_move_tests.specs.Entries.{records_of}
 use Rattle.cob_move.specs.Pieces.{SaysSoFar}
 use Rattle.cob_source.specs.Ahead.{HaveLineNumbers, IsNoted}
 use Rattle.cob_move.proofs.pieces.all_pieces.Given as goal

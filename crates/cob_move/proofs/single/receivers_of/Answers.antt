@@ -1,10 +1,10 @@
 use Rattle.std.proofs.Common.{inr, map}
 use Rattle.std.proofs.lemmas.Result.{err_from_is_err_and}
-use Rattle.cob_move.specs.Meaning.{kind_of_sender}
+use Rattle.cob_move_names.specs.Senders.{kind_of_sender}
 use Rattle.cob_move.specs.Refusals.{BreaksReceipt}
 use Rattle.cob_move_data.specs.declared.operands.Operand.{Operand}
 use Rattle.cob_move_data.specs.Moves.{operand_in, sender}
-use Rattle.cob_move.specs.Entries.{records_of}
+use Rattle.cob_move_tests.specs.Entries.{records_of}
 use Rattle.cob_move.proofs.OwnLemmas.{pushed}
 use Rattle.cob_move_receive.specs.Refusals.{IsAllowed}
 use Rattle.cob_move_names.specs.Directory.{entries_named}

@@ -1,11 +1,12 @@
 use Rattle.std.proofs.Common.{◌++◌, drop, List, map}
 use Rattle.std.specs.List.{AllByRecursion}
-use Rattle.cob_move.specs.Meaning.{AreReceiversOf, kind_of_sender}
+use Rattle.cob_move.specs.Meaning.{AreReceiversOf}
+use Rattle.cob_move_names.specs.Senders.{kind_of_sender}
 use Rattle.cob_move_apply.specs.Some.{SomeOf}
 use Rattle.cob_move.specs.Refusals.{BreaksReceipt}
 use Rattle.cob_move_data.specs.declared.operands.Operand.{Operand}
 use Rattle.cob_move_data.specs.Moves.{operand_in, sender}
-use Rattle.cob_move.specs.Entries.{records_of}
+use Rattle.cob_move_tests.specs.Entries.{records_of}
 use Rattle.cob_move_receive.specs.Refusals.{IsAllowed}
 use Rattle.cob_move_names.specs.Directory.{entries_named}
 use Rattle.cob_move_statements.specs.declared.fault.MoveRule.{MoveRule}

@@ -14,9 +14,15 @@ decreases-is_in_item l = 3 * front_size (item_front l.item.now) + 2
 abbrev pub decreases-is_in_loop : goal.decreases-is_in_loop
 decreases-is_in_loop l = 3 * length (lexemes l.body.now) + 1
 
+abbrev pub decreases-is_in_choice : goal.decreases-is_in_choice
+decreases-is_in_choice l = 3 * length (lexemes l.branches.now) + 1
+
+abbrev pub decreases-is_in_branch : goal.decreases-is_in_branch
+decreases-is_in_branch l = 3 * length (lexemes l.body.now) + 1
+
 abbrev pub invariant-has_subscript-loop-item : goal.invariant-has_subscript-loop-item
 invariant-has_subscript-loop-item l = record {
-  left : LeftToSearch l.name (lexemes l.words) (lexemes l.rest);
+  left : LeftToSearch l.place l.name (lexemes l.words) (lexemes l.rest);
   fewer : length (lexemes l.rest) ≤ length (lexemes l.words);
 }
 

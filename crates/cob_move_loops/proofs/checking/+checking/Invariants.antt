@@ -5,17 +5,17 @@ use Rattle.cob_move_loops.proofs.FrontLemmas.{front_size}
 use Rattle.cob_move_loops.proofs.PassageLemmas.{Checked}
 use Rattle.cob_move_loops.proofs.checking.+checking.Given as goal
 
-abbrev pub decreases-check : goal.decreases-check
-decreases-check l = 2 * length (lexemes l.words.now)
+abbrev pub decreases-check_at : goal.decreases-check_at
+decreases-check_at l = 2 * length (lexemes l.words.now)
 
 abbrev pub decreases-check_item : goal.decreases-check_item
 decreases-check_item l = 2 * front_size (item_front l.item.now) + 1
 
-abbrev pub invariant-check-loop-rest : goal.invariant-check-loop-rest
-invariant-check-loop-rest l = record {
-  checked : Checked (lexemes l.words) (lexemes l.rest);
+abbrev pub invariant-check_at-loop-rest : goal.invariant-check_at-loop-rest
+invariant-check_at-loop-rest l = record {
+  checked : Checked l.place (lexemes l.words) (lexemes l.rest);
   fewer : length (lexemes l.rest) ≤ length (lexemes l.words);
 }
 
-abbrev pub decreases-check-loop-rest : goal.decreases-check-loop-rest
-decreases-check-loop-rest l = length (lexemes l.rest)
+abbrev pub decreases-check_at-loop-rest : goal.decreases-check_at-loop-rest
+decreases-check_at-loop-rest l = length (lexemes l.rest)

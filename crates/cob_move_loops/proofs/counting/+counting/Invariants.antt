@@ -16,9 +16,12 @@ decreases-count_item l = 3 * front_size (item_front l.item.now) + 2
 abbrev pub decreases-count_turns : goal.decreases-count_turns
 decreases-count_turns l = 3 * length (lexemes l.body.now) + 1
 
+abbrev pub decreases-count_choice : goal.decreases-count_choice
+decreases-count_choice l = 3 * length (lexemes l.branches.now) + 1
+
 abbrev pub invariant-count_all-loop-item : goal.invariant-count_all-loop-item
 invariant-count_all-loop-item l = record {
-  left : LeftToCount statements_of (lexemes l.words) (lexemes l.rest) l.count;
+  left : LeftToCount l.place statements_of (lexemes l.words) (lexemes l.rest) l.count;
   most : l.count ≤ most_written_out;
   fewer : length (lexemes l.rest) ≤ length (lexemes l.words);
 }

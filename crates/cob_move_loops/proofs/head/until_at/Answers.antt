@@ -3,6 +3,13 @@ use Rattle.cob_source.specs.Tokens.{Lexeme, lexemes}
 use Rattle.cob_move_loops.proofs.HeadLemmas.{bound_no_than, until_split, until_words}
 use Rattle.cob_move_loops.proofs.head.until_at.Goals as goal
 
+pub returns-in_err-past-clause-only : goal.returns-in_err-past-clause-only
+returns-in_err-past-clause-only c = λ name bound ws more (u, k, past, own, iu, ik, ip, io, cut) ends e.
+    let all = until_words (lexemes c.args.words.now) ws more past own u k cut e in
+    let tested = c.in_ok-tested.ensures.only u (k ∷ (past ++ (own ++ more))) iu all in
+    let counter = c.in_ok-name.ensures.only name k (past ++ (own ++ more)) ik tested in
+    absurd (c.in_err-past.ensures.only past (own ++ more) ip (bound_no_than bound own more io) counter.1)
+
 pub returns-in_err-bound-clause-only : goal.returns-in_err-bound-clause-only
 returns-in_err-bound-clause-only c = λ name bound ws more (u, k, past, own, iu, ik, ip, io, cut) ends e.
     let all = until_words (lexemes c.args.words.now) ws more past own u k cut e in

@@ -16,7 +16,7 @@ decreases-add_loop l = 3 * length (lexemes l.body.now) + 1
 
 abbrev pub invariant-add_loops-loop-item : goal.invariant-add_loops-loop-item
 invariant-add_loops-loop-item l = record {
-  left : LeftOfLoops (written_loops l.around) (lexemes l.words) (lexemes l.rest) l.fn.out.items l.out.items;
+  left : LeftOfLoops l.place (written_loops l.around) (lexemes l.words) (lexemes l.rest) l.fn.out.items l.out.items;
   fewer : length (lexemes l.rest) ≤ length (lexemes l.words);
 }
 

@@ -8,25 +8,25 @@ use Rattle.cob_move_loops.proofs.writing.+writing_out.Goals as goal
 
 pub write_all-loop-item-init : goal.write_all-loop-item-init
 write_all-loop-item-init t c = record {
-  left = left_first (counters c.args.turn.now) (lexemes c.args.words.now) c.args.out.now.items;
+  left = left_first c.args.place (counters c.args.turn.now) (lexemes c.args.words.now) c.args.out.now.items;
   fewer = omega arith;
 }
 
 pub write_all-loop-item-preserved : goal.write_all-loop-item-preserved
 write_all-loop-item-preserved t c =
     let f = item_front c.in-Some.item in
-    let less = shorter f (lexemes c.loop-item.rest.now) (lexemes c.in-Some.more.now) c.in-Some.ensures.found in record {
-      left = left_more (counters c.args.turn.now) (lexemes c.args.words.now) (lexemes c.loop-item.rest.now) (lexemes c.in-Some.more.now) f c.args.out.now.items c.loop-item.out.items c.write_item.new.out.items
+    let less = shorter c.args.place f (lexemes c.loop-item.rest.now) (lexemes c.in-Some.more.now) c.in-Some.ensures.found in record {
+      left = left_more c.args.place (counters c.args.turn.now) (lexemes c.args.words.now) (lexemes c.loop-item.rest.now) (lexemes c.in-Some.more.now) f c.args.out.now.items c.loop-item.out.items c.write_item.new.out.items
           c.loop-item.invariant.left (omega (arith, less)) c.in-Some.ensures.only c.in_ok-write_item.ensures;
       fewer = omega (arith, c.loop-item.invariant.fewer, less);
     }
 
 pub write_all-loop-item-smaller : goal.write_all-loop-item-smaller
-write_all-loop-item-smaller t c = shorter (item_front c.in-Some.item) (lexemes c.loop-item.rest.now) (lexemes c.in-Some.more.now) c.in-Some.ensures.found
+write_all-loop-item-smaller t c = shorter c.args.place (item_front c.in-Some.item) (lexemes c.loop-item.rest.now) (lexemes c.in-Some.more.now) c.in-Some.ensures.found
 
 pub write_all-returns : goal.write_all-returns
 write_all-returns t c =
-    left_end (counters c.args.turn.now) (lexemes c.args.words.now) (lexemes c.loop-item.rest.now) c.args.out.now.items c.loop-item.out.items c.loop-item.invariant.left c.in_default.ensures.only
+    left_end c.args.place (counters c.args.turn.now) (lexemes c.args.words.now) (lexemes c.loop-item.rest.now) c.args.out.now.items c.loop-item.out.items c.loop-item.invariant.left c.in_default.ensures.only
 
 pub write_turns-loop-left-init : goal.write_turns-loop-left-init
 write_turns-loop-left-init t c = record {

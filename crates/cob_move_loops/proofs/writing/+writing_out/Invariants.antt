@@ -16,7 +16,7 @@ decreases-write_turns l = 3 * length (lexemes l.body.now) + 1
 
 abbrev pub invariant-write_all-loop-item : goal.invariant-write_all-loop-item
 invariant-write_all-loop-item l = record {
-  left : LeftOfWords (counters l.turn) (lexemes l.words) (lexemes l.rest) l.fn.out.items l.out.items;
+  left : LeftOfWords l.place (counters l.turn) (lexemes l.words) (lexemes l.rest) l.fn.out.items l.out.items;
   fewer : length (lexemes l.rest) ≤ length (lexemes l.words);
 }
 

@@ -1,5 +1,6 @@
 use Rattle.std.proofs.Common.{◌≤◌, ◌+◌, ◌*◌, ◌∷◌, ◌++◌, [], length}
 use Rattle.cob_source.specs.Tokens.{lexemes}
+use Rattle.cob_move_loops.specs.declared.parts.Place.TheVariants as standing
 use Rattle.cob_move_loops.specs.Passages.{IsPassage, Passage}
 use Rattle.cob_move_loops.specs.Reading.{counters, item_front, written_loop}
 use Rattle.cob_move_loops.specs.Turns.{counter_at}
@@ -14,6 +15,9 @@ decreases-read_passage l = 4 * length (lexemes l.words.now)
 abbrev pub decreases-read_item : goal.decreases-read_item
 decreases-read_item l = 4 * front_size (item_front l.item.now) + 3
 
+abbrev pub decreases-read_branch : goal.decreases-read_branch
+decreases-read_branch l = 4 * length (lexemes l.body.now) + 1
+
 abbrev pub decreases-read_tested : goal.decreases-read_tested
 decreases-read_tested l = 4 * length (lexemes l.body.now) + 2
 
@@ -27,7 +31,7 @@ abbrev pub invariant-read_passage-loop-item : goal.invariant-read_passage-loop-i
 invariant-read_passage-loop-item l = record {
   fewer : length (lexemes l.left) ≤ length (lexemes l.words);
   flows : length l.rest ≤ length l.flows;
-  told : LeftToTell (counters l.turn) (lexemes l.words) (lexemes l.left) l.flows l.rest (told_lines l.fn.lines) (told_lines l.lines);
+  told : LeftToTell (counters l.turn) l.place (lexemes l.words) (lexemes l.left) l.flows l.rest (told_lines l.fn.lines) (told_lines l.lines);
 }
 
 abbrev pub decreases-read_passage-loop-item : goal.decreases-read_passage-loop-item
@@ -36,7 +40,7 @@ decreases-read_passage-loop-item l = length (lexemes l.left)
 abbrev pub invariant-read_turns-loop-left : goal.invariant-read_turns-loop-left
 invariant-read_turns-loop-left l = record {
   flows : length l.rest ≤ length l.flows;
-  told : (p : Passage) → IsPassage p (lexemes l.body) → TurnsToTell (λ i. TellPassage (counters l.turn ++ counter_at (written_loop l.head) i ∷ []) p) l.head.by l.turns l.head.from l.left l.number
+  told : (p : Passage) → IsPassage p (lexemes l.body) → TurnsToTell (λ i. TellPassage (counters l.turn ++ counter_at (written_loop l.head) i ∷ []) standing.Statements p) l.head.by l.turns l.head.from l.left l.number
       l.flows l.rest (told_lines l.fn.lines) (told_lines l.lines);
 }
 
@@ -46,7 +50,7 @@ decreases-read_turns-loop-left l = l.left
 abbrev pub invariant-read_tested-loop-test : goal.invariant-read_tested-loop-test
 invariant-read_tested-loop-test l = record {
   flows : length l.rest ≤ length l.flows;
-  told : (p : Passage) → IsPassage p (lexemes l.body) → TestsToTell (λ i. TellPassage (counters l.turn ++ counter_at (written_loop l.head) i ∷ []) p) (written_loop l.head) l.number
+  told : (p : Passage) → IsPassage p (lexemes l.body) → TestsToTell (λ i. TellPassage (counters l.turn ++ counter_at (written_loop l.head) i ∷ []) standing.Statements p) (written_loop l.head) l.number
       l.flows l.rest (told_lines l.fn.lines) (told_lines l.lines);
 }
 

@@ -1,0 +1,6 @@
+pub mod Values
+pub mod SpanLemmas
+pub mod Ones
+pub mod Loops
+pub mod NameLemmas
+pub mod Texts

@@ -1,0 +1,5 @@
+mod SpanLemmas
+mod OneLemmas
+mod NoRuleLemmas
+mod ListedLemmas
+mod ReadLemmas

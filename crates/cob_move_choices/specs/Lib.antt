@@ -1,0 +1,4 @@
+pub mod Values
+pub mod Choices
+pub mod Asked
+pub mod Laws

@@ -1,0 +1,106 @@
+//! The entries of two records, as statements name them.
+
+ghost use Rattle.std.specs.Prelude.{◌≡◌, IfErr, IfOk};
+ghost use Rattle.cob_move_data.specs.Moves.{IsOperand, operand_in, record_of};
+ghost use Rattle.cob_move_data.specs.declared.operands.Side.TheVariants.{Out};
+ghost use Rattle.cob_move_names.specs.Directory.{entries_named};
+ghost use Rattle.cob_move_names.specs.References.{BreaksReceiver, BreaksReference};
+ghost use Rattle.cob_move_statements.specs.Written.{written_reference};
+ghost use Rattle.cob_move_tests.specs.Entries.{AllMayBeNamed, NamesAmong, records_of};
+
+use cob_copybook_tree::Kind;
+use cob_layout::{Layout, records_are_sound};
+use cob_layout_places::Ref;
+use cob_move_data::Side;
+use cob_move_names::{Names, named_are_operands};
+use cob_move_statements::{MoveRule, Reference};
+
+/// The entries of the input record and of the output record: by their names, and by their numbers.
+#[derive(Clone, Copy)]
+pub struct Entries<'n, 'a> {
+    pub names: &'n Names<'a>,
+    pub input: &'a Layout,
+    pub output: &'a Layout,
+}
+
+/// An entry of one of the two records, with its subscripts.
+#[derive(Drop)]
+pub struct NamedEntry {
+    pub side: Side,
+    pub entry: Ref,
+}
+
+impl Entries<'_, '_> {
+    /// The layout of a side's record.
+    pub fn layout(&self, side: Side) -> &Layout
+        ensures { result.now ≡ record_of (records_of self.now) side }
+    {
+        match side {
+            Side::In => self.input,
+            Side::Out => self.output,
+        }
+    }
+
+    /// What an entry of a side's record describes.
+    pub fn kind(&self, side: Side, entry: &Ref) -> &Kind
+        requires operand { IsOperand (record_of (records_of self.now) side)
+            (operand_in (record_of (records_of self.now) side) entry.now) }
+        ensures { result.now ≡ (operand_in (record_of (records_of self.now) side) entry.now).kind }
+    {
+        // For what `kind` of a layout asks: a record description is sound, and has an entry for each operand.
+        records_are_sound();
+        let layout = self.layout(side);
+        // The layout is that of a record description.
+        let _ = layout.greatest();
+        layout.kind(entry.node)
+    }
+
+    /// What a written reference names.
+    ///
+    /// # Errors
+    ///
+    /// `Unknown`, `Ambiguous`, `Subscripts`.
+    pub fn named(&self, reference: &Reference<'_>) -> Result<NamedEntry, MoveRule>
+        requires named { AllMayBeNamed self.now }
+        ensures found { IfOk result (λ n. NamesAmong self.now
+            (written_reference reference.now) n.side n.entry) }
+        ensures operand { IfOk result (λ n. IsOperand (record_of (records_of self.now) n.side)
+            (operand_in (record_of (records_of self.now) n.side) n.entry)) }
+        ensures fault { IfErr result (λ r. BreaksReference r (entries_named self.now.names.now)
+            (written_reference reference.now)) }
+    {
+        // For `operand`: what a reference names is an operand of its record,
+        named_are_operands();
+        // and both layouts are those of record descriptions.
+        let _ = self.input.greatest();
+        let _ = self.output.greatest();
+        let named = self.names.find(reference)?;
+        Ok(NamedEntry {
+            side: named.side,
+            entry: named.operand.entry,
+        })
+    }
+
+    /// What a receiver's written reference names in the output record.
+    ///
+    /// # Errors
+    ///
+    /// `Unknown`, `Ambiguous`, `Subscripts`, `Receiver`.
+    pub fn named_receiver(&self, reference: &Reference<'_>) -> Result<Ref, MoveRule>
+        requires named { AllMayBeNamed self.now }
+        ensures found { IfOk result (λ entry. NamesAmong self.now
+            (written_reference reference.now) Out entry) }
+        ensures operand { IfOk result
+            (λ entry. IsOperand self.now.output.now (operand_in self.now.output.now entry)) }
+        ensures fault { IfErr result (λ r. BreaksReceiver r (entries_named self.now.names.now)
+            (written_reference reference.now)) }
+    {
+        // For `operand`: what a reference names is an operand of its record,
+        named_are_operands();
+        // and both layouts are those of record descriptions.
+        let _ = self.input.greatest();
+        let _ = self.output.greatest();
+        let named = self.names.find_receiver(reference)?;
+        Ok(named.entry)
+    }
+}
