@@ -3,7 +3,7 @@
 use crate::entry::{behind_many, front_of};
 use crate::phrases::{Part, Phrase};
 use crate::terms::is_term;
-use crate::told::{Caret, Told, advised, said};
+use crate::told::{Told, advised_at, advised_first, said_at};
 use cob_copybook_clauses::WordClass;
 use cob_move_loops::{PassageWord, passage_word};
 use cob_source::{Token, TokenKind};
@@ -169,20 +169,12 @@ fn lack_of_end(block: Block, words: &[Token]) -> Option<&'static str> {
 
 /// What is told of a word, by a form with a place for it, and what to do.
 fn told_at<'a>(word: &'a Token, form: &'static str, hint: &'static str) -> Told<'a> {
-    advised(
-        Some(Caret::under(word)),
-        Phrase::of(form, Part::Word(word)),
-        Phrase::plain(hint),
-    )
+    advised_at(word, Phrase::of(form, Part::Word(word)), hint)
 }
 
 /// What is told of words of a test that are none.
 fn told_test<'a>(test: &'a [Token], form: &'static str, hint: &'static str) -> Told<'a> {
-    advised(
-        Caret::under_first(test),
-        Phrase::of(form, Part::Words(test)),
-        Phrase::plain(hint),
-    )
+    advised_first(test, Phrase::of(form, Part::Words(test)), hint)
 }
 
 /// What is told of an IF that has its END-IF.
@@ -274,8 +266,8 @@ fn told_branch<'a>(first: &'a Token, more: &'a [Token]) -> Told<'a> {
     if is_word(first, "ELSE") {
         return told_else(first, more);
     }
-    said(
-        Some(Caret::under(first)),
+    said_at(
+        first,
         Phrase::of("{} ends nothing that is open there", Part::Word(first)),
     )
 }

@@ -1,12 +1,12 @@
 //! Operands that can't be compared or tested.
 
-use crate::bearers::{Bearer, BothWords, Operand, meant};
+use crate::bearers::{Bearer, BothWords, described_part, meant, operand_part};
 use crate::choices::{is_word, test_len};
 use crate::entry::{behind_many, front_of, picture_word, word_of};
 use crate::phrases::{Part, Phrase};
 use crate::statements::is_constant;
 use crate::terms::{is_name_word, is_term};
-use crate::told::{Caret, Told, advised};
+use crate::told::{Told, advised_at, advised_first};
 use cob_copybook_clauses::WordClass;
 use cob_picture::{Category, Picture};
 use cob_source::{Token, TokenKind};
@@ -179,7 +179,7 @@ fn form_of_picture(word: &Token, is_display: bool) -> Form {
 
 /// Whether an entry is written as DISPLAY, or without a usage.
 fn is_display(bearer: Bearer<'_>) -> bool {
-    match word_of(bearer.entry().words, WordClass::UsageName) {
+    match word_of(bearer.entry(), WordClass::UsageName) {
         Some(usage) => is_word(usage, "DISPLAY"),
         None => true,
     }
@@ -237,55 +237,46 @@ fn quality_of(simple: Simple<'_>) -> Option<&Token> {
 
 /// What is told of the class or the sign that an operand is tested for.
 fn told_quality<'a>(both: BothWords<'a>, simple: Simple<'a>, quality: &'a Token) -> Told<'a> {
-    let operand = Operand {
-        both,
-        words: simple.first,
-    };
-    let is_class = is_one_of(quality, &CLASSES);
-    let hint = if is_class {
+    let hint = if is_one_of(quality, &CLASSES) {
         CLASS
     } else {
         "a sign is for numbers alone"
     };
-    advised(
-        Some(Caret::under(quality)),
-        Phrase::of_two(
-            "{}: it can't be tested for {}",
-            Part::Operand(operand),
+    advised_at(
+        quality,
+        Phrase::of_three(
+            "{}{}: it can't be tested for {}",
+            operand_part(simple.first),
+            described_part(both, simple.first),
             Part::Word(quality),
         ),
-        Phrase::plain(hint),
+        hint,
     )
 }
 
 /// What is told of a comparison.
 fn told_relation<'a>(both: BothWords<'a>, simple: Simple<'a>) -> Told<'a> {
-    let first = Operand {
-        both,
-        words: simple.first,
-    };
-    let second = Operand {
-        both,
-        words: second_of(simple),
-    };
-    advised(
-        Caret::under_first(simple.rest),
-        Phrase::of_two(
-            "{}, beside {}: they can't be compared",
-            Part::Operand(first),
-            Part::Operand(second),
+    let second = second_of(simple);
+    advised_first(
+        simple.rest,
+        Phrase::of_four(
+            "{}{}, beside {}{}: they can't be compared",
+            operand_part(simple.first),
+            described_part(both, simple.first),
+            operand_part(second),
+            described_part(both, second),
         ),
-        Phrase::plain(COMPARED),
+        COMPARED,
     )
 }
 
 /// What is told of a simple condition that can't be tested.
 fn told_simple<'a>(both: BothWords<'a>, simple: Simple<'a>) -> Told<'a> {
     if simple.rest.is_empty() {
-        return advised(
-            Caret::under_first(simple.first),
+        return advised_first(
+            simple.first,
             Phrase::of("{} alone is no condition", Part::Words(simple.first)),
-            Phrase::plain(ALONE),
+            ALONE,
         );
     }
     match quality_of(simple) {
@@ -342,14 +333,14 @@ fn told_of<'a>(both: BothWords<'_>, words: &'a [Token]) -> Simple<'a> {
 
 /// What is told of the values of a WHEN, which can't be compared with what its EVALUATE tests.
 fn told_values<'a>(first: &'a Token, values: &'a [Token]) -> Told<'a> {
-    advised(
-        Caret::under_first(values),
+    advised_first(
+        values,
         Phrase::of_two(
             "{} {} can't be compared with what EVALUATE tests",
             Part::Word(first),
             Part::Words(values),
         ),
-        Phrase::plain(COMPARED),
+        COMPARED,
     )
 }
 

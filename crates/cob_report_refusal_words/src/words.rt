@@ -32,6 +32,16 @@ pub(crate) fn write_bytes<W: fmt::Write>(f: &mut fmt::Formatter<W>, bytes: &[u8]
     Ok(())
 }
 
+/// Whether a text has digits alone.
+pub(crate) fn has_digits_alone(text: &[u8]) -> bool {
+    for character in text {
+        if !character.is_ascii_digit() {
+            return false;
+        }
+    }
+    true
+}
+
 /// Writes a literal with its quotes.
 fn write_literal<W: fmt::Write>(f: &mut fmt::Formatter<W>, text: &[u8]) -> fmt::Result {
     f.write_char('"')?;
@@ -53,13 +63,11 @@ pub(crate) fn write_words<W: fmt::Write>(
     f: &mut fmt::Formatter<W>,
     words: &[Token],
 ) -> fmt::Result {
-    let Some((first, others)) = words.split_first() else {
-        return Ok(());
-    };
-    write_word(f, first)?;
-    for word in others {
-        f.write_char(' ')?;
+    let mut between = "";
+    for word in words {
+        f.write_str(between)?;
         write_word(f, word)?;
+        between = " ";
     }
     Ok(())
 }
