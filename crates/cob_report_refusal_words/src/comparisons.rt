@@ -2,6 +2,7 @@
 
 use crate::bearers::{Bearer, BothWords, described_part, meant, operand_part};
 use crate::choices::{is_word, test_len};
+use crate::clauses::is_characters;
 use crate::entry::{behind_many, front_of, picture_word, word_of};
 use crate::phrases::{Part, Phrase};
 use crate::statements::is_constant;
@@ -153,15 +154,13 @@ fn simple_at(words: &[Token]) -> (Simple<'_>, &[Token]) {
 /// What an operand is beside another one, as far as its own words say.
 #[derive(Clone, Copy, PartialEq, Eq)]
 enum Form {
-    /// A literal or a figurative constant.
-    Constant,
-    /// A number that may stand beside characters.
+    /// A number that may stand beside characters: DISPLAY and whole, or written without a sign and a point.
     Whole,
     /// A number that may not.
     Number,
     /// Characters.
     Characters,
-    /// A group, or what is not known.
+    /// A group, ZERO, or what is not known.
     Any,
 }
 
@@ -185,13 +184,46 @@ fn is_display(bearer: Bearer<'_>) -> bool {
     }
 }
 
+/// Whether a constant is in front: a literal, a figurative constant, or ALL.
+fn has_constant(words: &[Token]) -> bool {
+    match words.first() {
+        Some(first) => is_constant(first) || is_term(first, WordClass::All),
+        None => false,
+    }
+}
+
+/// Whether a number is written without a sign and a point.
+fn is_whole(word: &Token) -> bool {
+    for character in &word.text {
+        if !character.is_ascii_digit() {
+            return false;
+        }
+    }
+    true
+}
+
+/// What a constant is.
+fn form_of_constant(word: &Token) -> Form {
+    if is_term(word, WordClass::Zero) {
+        return Form::Any;
+    }
+    if is_characters(word) || is_term(word, WordClass::All) {
+        return Form::Characters;
+    }
+    if is_whole(word) {
+        Form::Whole
+    } else {
+        Form::Number
+    }
+}
+
 /// What the operand in front is.
 fn form_of(both: BothWords<'_>, words: &[Token]) -> Form {
     let Some(first) = words.first() else {
         return Form::Any;
     };
-    if is_constant(first) || is_term(first, WordClass::All) {
-        return Form::Constant;
+    if has_constant(words) {
+        return form_of_constant(first);
     }
     let Some(bearer) = meant(both, words) else {
         return Form::Any;
@@ -202,10 +234,9 @@ fn form_of(both: BothWords<'_>, words: &[Token]) -> Form {
     }
 }
 
-/// Whether two operands can't be compared, as far as their own words say.
+/// Whether a number that may not stand beside characters stands beside some.
 fn are_apart(first: Form, second: Form) -> bool {
-    (first == Form::Constant && second == Form::Constant)
-        || (first == Form::Number && second == Form::Characters)
+    (first == Form::Number && second == Form::Characters)
         || (first == Form::Characters && second == Form::Number)
 }
 
@@ -219,10 +250,9 @@ fn is_apart(both: BothWords<'_>, simple: Simple<'_>) -> bool {
     if simple.rest.is_empty() {
         return true;
     }
-    are_apart(
-        form_of(both, simple.first),
-        form_of(both, second_of(simple)),
-    )
+    let second = second_of(simple);
+    (has_constant(simple.first) && has_constant(second))
+        || are_apart(form_of(both, simple.first), form_of(both, second))
 }
 
 /// The class or the sign that a simple condition tests, if it tests one.
