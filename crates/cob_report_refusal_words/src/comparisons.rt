@@ -8,6 +8,7 @@ use crate::phrases::{Part, Phrase};
 use crate::statements::is_constant;
 use crate::terms::{is_name_word, is_term};
 use crate::told::{Told, advised_at, advised_first};
+use crate::words::has_digits_alone;
 use cob_copybook_clauses::WordClass;
 use cob_picture::{Category, Picture};
 use cob_source::{Token, TokenKind};
@@ -192,16 +193,6 @@ fn has_constant(words: &[Token]) -> bool {
     }
 }
 
-/// Whether a number is written without a sign and a point.
-fn is_whole(word: &Token) -> bool {
-    for character in &word.text {
-        if !character.is_ascii_digit() {
-            return false;
-        }
-    }
-    true
-}
-
 /// What a constant is.
 fn form_of_constant(word: &Token) -> Form {
     if is_term(word, WordClass::Zero) {
@@ -210,7 +201,7 @@ fn form_of_constant(word: &Token) -> Form {
     if is_characters(word) || is_term(word, WordClass::All) {
         return Form::Characters;
     }
-    if is_whole(word) {
+    if has_digits_alone(word.text.as_slice()) {
         Form::Whole
     } else {
         Form::Number

@@ -58,16 +58,23 @@ pub(crate) fn write_word<W: fmt::Write>(f: &mut fmt::Formatter<W>, word: &Token)
     }
 }
 
+/// Writes a word behind a space.
+fn write_next<W: fmt::Write>(f: &mut fmt::Formatter<W>, word: &Token) -> fmt::Result {
+    f.write_char(' ')?;
+    write_word(f, word)
+}
+
 /// Writes words with spaces between them.
 pub(crate) fn write_words<W: fmt::Write>(
     f: &mut fmt::Formatter<W>,
     words: &[Token],
 ) -> fmt::Result {
-    let mut between = "";
-    for word in words {
-        f.write_str(between)?;
-        write_word(f, word)?;
-        between = " ";
+    let Some((first, others)) = words.split_first() else {
+        return Ok(());
+    };
+    write_word(f, first)?;
+    for word in others {
+        write_next(f, word)?;
     }
     Ok(())
 }
