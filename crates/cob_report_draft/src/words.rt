@@ -132,17 +132,37 @@ impl WrittenSubscripts<'_> {
         }
     }
 
+    /// Writes one behind a comma.
+    fn write_next<W: fmt::Write>(
+        &self,
+        f: &mut fmt::Formatter<W>,
+        subscript: Subscript,
+    ) -> fmt::Result {
+        f.write_str(", ")?;
+        self.write_subscript(f, subscript)
+    }
+
+    /// Writes the first and the others behind it, without brackets.
+    fn write_list<W: fmt::Write>(
+        &self,
+        f: &mut fmt::Formatter<W>,
+        first: Subscript,
+        others: &[Subscript],
+    ) -> fmt::Result {
+        self.write_subscript(f, first)?;
+        for subscript in others {
+            self.write_next(f, *subscript)?;
+        }
+        Ok(())
+    }
+
     /// Writes all of them in brackets, and nothing where there are none.
     fn write<W: fmt::Write>(&self, f: &mut fmt::Formatter<W>) -> fmt::Result {
-        let mut before = " (";
-        for subscript in self.subscripts {
-            f.write_str(before)?;
-            self.write_subscript(f, *subscript)?;
-            before = ", ";
-        }
-        if self.subscripts.is_empty() {
+        let Some((first, others)) = self.subscripts.split_first() else {
             return Ok(());
-        }
+        };
+        f.write_str(" (")?;
+        self.write_list(f, *first, others)?;
         f.write_char(')')
     }
 }

@@ -1,7 +1,7 @@
 //! Operands that can't be compared or tested.
 
 use crate::bearers::{Bearer, BothWords, described_part, meant, operand_part};
-use crate::choices::{is_word, test_len};
+use crate::choices::{is_one_of, is_word, test_len};
 use crate::clauses::is_characters;
 use crate::entry::{behind_many, front_of, picture_word, word_of};
 use crate::phrases::{Part, Phrase};
@@ -48,11 +48,6 @@ const CLASS: &str =
 
 /// What to do with a condition that is a name alone.
 const ALONE: &str = "compare it with something, or test it for a class or a sign";
-
-/// Whether a word is one of these.
-fn is_one_of(word: &Token, texts: &[&str]) -> bool {
-    texts.iter().any(|text| is_word(word, text))
-}
 
 /// Whether a statement is a test of a choice.
 pub(crate) fn is_test(statement: &[Token]) -> bool {
