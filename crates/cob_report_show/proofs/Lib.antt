@@ -6,4 +6,6 @@ pub mod TurnLemmas
 pub mod ItemLemmas
 pub mod RunLemmas
 pub mod TextLemmas
+pub mod ConditionLemmas
+pub mod ConstantLemmas
 pub mod EntryLemmas
