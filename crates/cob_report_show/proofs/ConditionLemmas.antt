@@ -1,6 +1,6 @@
 -- The line of a condition-name, behind its entry alone.
-use Rattle.std.proofs.Common.{◌≡◌, ℕ, ◌==◌, if◌then◌else◌, Bool, true, false, List, [], ap, ⊥, arith}
-use Rattle.std.proofs.lemmas.Grind.{nat_tests}
+use Rattle.std.proofs.Common.{◌≡◌, ℕ, ◌==◌, if◌then◌else◌, Bool, true, false, List, [], ap, arith}
+use Rattle.std.proofs.lemmas.Bool.Decides.{nat_tests}
 use Rattle.cob_copybook_conditions.specs.Names.{PlainConditionName}
 use Rattle.cob_report_show.specs.Conditions.{name_line, name_line_of}
 

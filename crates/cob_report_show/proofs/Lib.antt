@@ -7,5 +7,4 @@ pub mod ItemLemmas
 pub mod RunLemmas
 pub mod TextLemmas
 pub mod ConditionLemmas
-pub mod ConstantLemmas
 pub mod EntryLemmas

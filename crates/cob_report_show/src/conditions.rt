@@ -24,7 +24,6 @@ fn constant_behind(word: &[u8], value: &Value) -> ConstantText
     requires short { length word.now ≤ 6 }
     ensures text { result.items ≡ word.now ++ constant_text (plain_value value.now) }
     ensures some { 0 < length result.items }
-    ensures long { length result.items ≤ 512 }
 {
     let mut text = ArrayVec::new();
     push_part(&mut text, word);
