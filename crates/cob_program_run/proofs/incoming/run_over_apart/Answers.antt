@@ -7,6 +7,12 @@ returns-in-Ok g c = record { ran = (Ok c.in-Ok.done, None, chosen_coming g.S.Sou
 
 pub returns : goal.returns
 returns g c = record {
-  ran = (Err c.in-Err.fault, c.stopped.result, chosen_coming g.S.Source.coming c.run_over_source-answer.result.1, ap Err c.with_cause.ensures,
-      c.stopped.ensures.left (g.S.Source.coming c.run_over_source-answer.result.1.inner), rw c.in-Err.is at c.run_over_source-answer.ensures.ran);
+  ran = (
+    Err c.in-Err.fault,
+    c.stopped.result,
+    chosen_coming g.S.Source.coming c.run_over_source-answer.result.1,
+    ap Err c.with_cause.ensures,
+    c.stopped.ensures.left (g.S.Source.coming c.run_over_source-answer.result.1.inner),
+    rw c.in-Err.is at c.run_over_source-answer.ensures.ran,
+  );
 }
