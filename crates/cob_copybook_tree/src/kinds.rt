@@ -7,7 +7,7 @@ ghost use Rattle.cob_codec.specs.Naturals.{IsNaturalOf};
 ghost use Rattle.cob_codec.specs.Sign.{IsHeld};
 ghost use Rattle.cob_codec.specs.declared.flaw.NumberFlaw.TheVariants.{Part};
 ghost use Rattle.cob_codec.specs.declared.reading.Reading.{Reading};
-ghost use Rattle.cob_codec.specs.declared.reading.Reading.TheVariants.{Whole};
+ghost use Rattle.cob_codec.specs.declared.reading.Reading.TheVariants.{AnyZones, Whole, WholeAnyZones};
 ghost use Rattle.cob_decimal.specs.Answers.{AnswersNumber};
 ghost use Rattle.cob_picture.specs.Counts.{digits, scale, signed};
 ghost use Rattle.cob_copybook_tree.specs.Items.{storage_kind, IsFlawOf, IsNumberItem, IsSentBy, Represents, stored_form};
@@ -203,6 +203,44 @@ pub(crate) fn read_whole(item: &Item, bytes: &[u8]) -> Option<Number>
         StorageKind::Zoned => read_number(item, bytes),
         StorageKind::Separate => read_number(item, bytes),
         StorageKind::Packed => read_number(item, bytes),
+        StorageKind::Binary => Some(Binary::read_whole(&item.shape(), bytes)),
+    }
+}
+
+/// The number of an item's bytes by any zones, of a binary item the number that its bytes represent.
+pub(crate) fn read_any_zones(item: &Item, bytes: &[u8]) -> Option<Number>
+    requires number { IsNumberItem item.now }
+    requires long { length bytes.now ≡ item_size item.now }
+    ensures found { IfSome result (λ v. IsSentBy AnyZones item.now bytes.now v.negative v.digits) }
+    ensures scale { IfSome result (λ v. v.scale ≡ scale item.now.picture.positions) }
+    ensures only { (negative : Bool) (digits : List ℕ)
+        → IsSentBy AnyZones item.now bytes.now negative digits
+        → AnswersNumber result negative digits }
+{
+    let shape = item.shape();
+    match item.storage_kind() {
+        StorageKind::Zoned => Zoned::read_any_zones(&shape, bytes),
+        StorageKind::Separate => Separate::read_any_zones(&shape, bytes),
+        StorageKind::Packed => Packed::read_any_zones(&shape, bytes),
+        StorageKind::Binary => Binary::read(&shape, bytes),
+    }
+}
+
+/// The number of all bytes of a binary item, and of another item the number of its bytes by any zones.
+pub(crate) fn read_whole_any_zones(item: &Item, bytes: &[u8]) -> Option<Number>
+    requires number { IsNumberItem item.now }
+    requires long { length bytes.now ≡ item_size item.now }
+    ensures found { IfSome result
+        (λ v. IsSentBy WholeAnyZones item.now bytes.now v.negative v.digits) }
+    ensures scale { IfSome result (λ v. v.scale ≡ scale item.now.picture.positions) }
+    ensures only { (negative : Bool) (digits : List ℕ)
+        → IsSentBy WholeAnyZones item.now bytes.now negative digits
+        → AnswersNumber result negative digits }
+{
+    match item.storage_kind() {
+        StorageKind::Zoned => read_any_zones(item, bytes),
+        StorageKind::Separate => read_any_zones(item, bytes),
+        StorageKind::Packed => read_any_zones(item, bytes),
         StorageKind::Binary => Some(Binary::read_whole(&item.shape(), bytes)),
     }
 }
