@@ -17,7 +17,9 @@ pub enum Reading {
 impl Reading {
     /// The reading by whether binary items are read whole, and others by any zones.
     pub fn of(whole: bool, any_zones: bool) -> Reading
-        ensures { result ≡ reading_of whole any_zones }
+        ensures is { result ≡ reading_of whole any_zones }
+        ensures whole { reads_whole result ≡ whole }
+        ensures zones { takes_any_zones result ≡ any_zones }
     {
         match (whole, any_zones) {
             (false, false) => Reading::Pictured,

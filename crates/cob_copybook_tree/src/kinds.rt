@@ -1,6 +1,6 @@
 //! The kinds of storage of a number, and all that depends on the kind.
 
-ghost use Rattle.std.specs.Prelude.{◌≡◌, ◌<◌, ◌≤◌, ℕ, Bool, List, length, option_map, IfNone, IfSome, IsTrue};
+ghost use Rattle.std.specs.Prelude.{◌≡◌, ◌<◌, ◌≤◌, ℕ, Bool, false, List, length, option_map, IfNone, IfSome, IsTrue};
 ghost use Rattle.std.specs.Bool.{OnTrue};
 ghost use Rattle.cob_codec.specs.Binary.{binary_length};
 ghost use Rattle.cob_codec.specs.Naturals.{IsNaturalOf};
@@ -315,6 +315,24 @@ fn part(flaw: Option<Flaw>) -> Option<NumberFlaw>
     }
 }
 
+/// What is wrong with the bytes of an item: nothing, but of binary ones, only where they represent a number as its picture says.
+fn strict_flaw(item: &Item, bytes: &[u8]) -> Option<NumberFlaw>
+    requires number { IsNumberItem item.now }
+    requires long { length bytes.now ≡ item_size item.now }
+    ensures found { IfSome result (IsFlawOf item.now bytes.now) }
+    ensures steady { IfNone result (is_read_whole (storage_kind item.now) ≡ false) }
+    ensures none { IfNone result ((negative : Bool) × (digits : List ℕ)
+        × Represents item.now bytes.now negative digits) }
+{
+    let shape = item.shape();
+    match item.storage_kind() {
+        StorageKind::Zoned => part(zoned_flaw(&shape, bytes)),
+        StorageKind::Separate => part(separate_flaw(&shape, bytes)),
+        StorageKind::Packed => part(packed_flaw(&shape, bytes)),
+        StorageKind::Binary => Some(NumberFlaw::Range),
+    }
+}
+
 impl Item {
     /// Its kind of storage.
     #[inline(always)]
@@ -354,12 +372,6 @@ impl Item {
         ensures none { IfNone result ((reading : Reading) → (negative : Bool) × (digits : List ℕ)
             × IsSentBy reading self.now bytes.now negative digits) }
     {
-        let shape = self.shape();
-        match self.storage_kind() {
-            StorageKind::Zoned => part(zoned_flaw(&shape, bytes)),
-            StorageKind::Separate => part(separate_flaw(&shape, bytes)),
-            StorageKind::Packed => part(packed_flaw(&shape, bytes)),
-            StorageKind::Binary => Some(NumberFlaw::Range),
-        }
+        strict_flaw(self, bytes)
     }
 }
