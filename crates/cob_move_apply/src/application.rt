@@ -550,36 +550,3 @@ pub(crate) fn apply_some(
         _ => parts_again(apply_steps(given, plan, rest, layouts, input, output, space)),
     }
 }
-
-/// Carries out the steps of the plan of moves, in order. What is kept of the input's counts is that of this input.
-///
-/// # Errors
-///
-/// The first thing missing. The storage is as the moves and receivers before left it then.
-#[inline(always)]
-pub(crate) fn apply_in(
-    given: &[StatementMoves],
-    plan: &Plan,
-    layouts: &Layouts<'_>,
-    input: &[u8],
-    output: &mut [u8],
-    space: &mut Workspace,
-) -> Result<(), Stop>
-    requires keeps { KeepsZones layouts.now.reading }
-    requires in_sound { IsSound layouts.now.input.now }
-    requires out_sound { IsSound layouts.now.output.now }
-    requires steps { IsPlanOf given.now plan.now layouts.now }
-    requires input { IsStorage layouts.now.input.now input.now }
-    requires output { length output.old ≡ greatest_length layouts.now.output.now }
-    requires space { HasSpace (records layouts.now) space.old }
-    requires kept { KeepsOf layouts.now.input.now input.now space.old.input.counts }
-    ensures applied { Applied (records layouts.now) (all_moves layouts.now given.now) input.now
-        output.old (ending result output.new) }
-    ensures space { IsWorkspace (records layouts.now) input.now output.new space.new }
-    ensures reads { IsBounded (records layouts.now) (all_moves layouts.now given.now) input.now
-        output.old space.new.output }
-{
-    space.forget_output();
-    let steps = plan.steps.as_slice();
-    apply_some(given, plan, steps, layouts, input, output, space)
-}

@@ -3,19 +3,24 @@
 ghost use Rattle.std.specs.Prelude.{◌≡◌, ◌<◌, ◌≤◌, length, IfOk};
 ghost use Rattle.std.specs.List.{AllByRecursion};
 ghost use Rattle.cob_layout.specs.Sound.{IsSound};
+ghost use Rattle.cob_layout.specs.Standing.{KeepsOf};
 ghost use Rattle.cob_layout.specs.Storage.{greatest_length, IsStorage};
 ghost use Rattle.cob_move_data.specs.Moves.{AreMoves, IsMove, move_by, moves_by, statement_moves_by};
 ghost use Rattle.cob_move_data.specs.declared.operands.StatementMoves.TheVariants.{Pairs};
 ghost use Rattle.cob_move_apply.specs.Applied.{Applied, IsMoved, ending};
 ghost use Rattle.cob_move_apply.specs.ByRule.{AreUnnoted, NothingIsNoted, most_receivers};
-ghost use Rattle.cob_move_apply.specs.Promised.{MoveSpends};
+ghost use Rattle.cob_move_apply.specs.Going.{IsBounded};
+ghost use Rattle.cob_move_apply.specs.Promised.{IsPlanOf, MoveSpends, all_moves};
+ghost use Rattle.cob_move_apply.specs.Steps.{StandFor, support_of};
 ghost use Rattle.cob_move_apply.specs.Spent.{MovesSpend};
-ghost use Rattle.cob_move_apply.specs.Surveyed.{IsWorkspace, records};
+ghost use Rattle.cob_move_apply.specs.Surveyed.{HasSpace, IsWorkspace, records};
 
+use crate::application::apply_some;
 use crate::basis::{Basis, PlacedReceivers};
 use crate::layouts::Layouts;
 use crate::pairs::make_pair_move;
 use crate::senders::make_move;
+use crate::step::{Plan, Step};
 use crate::stop::Stop;
 use crate::workspace::Workspace;
 use cob_move_data::{Move, PairMoves, StatementMoves};
@@ -222,4 +227,100 @@ pub(crate) fn apply_by_rule(
         left = behind;
     }
     Ok(())
+}
+
+/// Some of the statements that a plan was made for: with the steps that stand for their moves, and with bases of which nothing is noted.
+#[derive(Clone, Copy)]
+pub(crate) struct Chosen<'a> {
+    pub(crate) statements: &'a [StatementMoves],
+    pub(crate) steps: &'a [Step],
+    pub(crate) unnoted: &'a [Basis],
+}
+
+/// Carries out the moves of some statements, in order: by the steps of the plan, or by the rule of MOVE alone where senders are read by any zones. What is kept of
+/// the counts of either record is that of its storage.
+///
+/// # Errors
+///
+/// The first thing missing. The storage is as the moves and receivers before left it then.
+#[inline(always)]
+pub(crate) fn apply_chosen(
+    given: &[StatementMoves],
+    plan: &Plan,
+    some: &Chosen<'_>,
+    layouts: &Layouts<'_>,
+    input: &[u8],
+    output: &mut [u8],
+    space: &mut Workspace,
+) -> Result<(), Stop>
+    requires in_sound { IsSound layouts.now.input.now }
+    requires out_sound { IsSound layouts.now.output.now }
+    requires steps { StandFor layouts.now.reading (records layouts.now) given.now
+        some.now.steps.now (support_of plan.now)
+        (moves_by layouts.now.reading (records layouts.now) some.now.statements.now) }
+    requires moves { AreMoves (records layouts.now)
+        (moves_by layouts.now.reading (records layouts.now) some.now.statements.now) }
+    requires unnoted { AreUnnoted some.now.statements.now some.now.unnoted.now }
+    requires input { IsStorage layouts.now.input.now input.now }
+    requires output { length output.old ≡ greatest_length layouts.now.output.now }
+    requires space { IsWorkspace (records layouts.now) input.now output.old space.old }
+    ensures applied { Applied (records layouts.now)
+        (moves_by layouts.now.reading (records layouts.now) some.now.statements.now) input.now
+        output.old (ending result output.new) }
+    ensures space { IsWorkspace (records layouts.now) input.now output.new space.new }
+    ensures spends { MovesSpend (records layouts.now)
+        (moves_by layouts.now.reading (records layouts.now) some.now.statements.now) input.now
+        output.old result output.new space.old.output space.new.output }
+{
+    if layouts.reading.takes_any_zones() {
+        apply_by_rule(
+            some.statements,
+            some.unnoted,
+            layouts,
+            input,
+            output,
+            space,
+        )
+    } else {
+        apply_some(given, plan, some.steps, layouts, input, output, space)
+    }
+}
+
+/// Carries out all moves of a plan, in order, as [`apply_chosen`] does. What is kept of the input's counts is that of this input.
+///
+/// # Errors
+///
+/// The first thing missing. The storage is as the moves and receivers before left it then.
+#[inline(always)]
+pub(crate) fn apply_in(
+    given: &[StatementMoves],
+    plan: &Plan,
+    unnoted: &[Basis],
+    layouts: &Layouts<'_>,
+    input: &[u8],
+    output: &mut [u8],
+    space: &mut Workspace,
+) -> Result<(), Stop>
+    requires in_sound { IsSound layouts.now.input.now }
+    requires out_sound { IsSound layouts.now.output.now }
+    requires steps { IsPlanOf given.now plan.now layouts.now }
+    requires moves { AreMoves (records layouts.now) (all_moves layouts.now given.now) }
+    requires unnoted { AreUnnoted given.now unnoted.now }
+    requires input { IsStorage layouts.now.input.now input.now }
+    requires output { length output.old ≡ greatest_length layouts.now.output.now }
+    requires space { HasSpace (records layouts.now) space.old }
+    requires kept { KeepsOf layouts.now.input.now input.now space.old.input.counts }
+    ensures applied { Applied (records layouts.now) (all_moves layouts.now given.now) input.now
+        output.old (ending result output.new) }
+    ensures space { IsWorkspace (records layouts.now) input.now output.new space.new }
+    ensures reads { IsBounded (records layouts.now) (all_moves layouts.now given.now) input.now
+        output.old space.new.output }
+{
+    space.forget_output();
+    let all = Chosen {
+        statements: given,
+        steps: plan.steps.as_slice(),
+        unnoted,
+    };
+    apply_chosen(given, plan, &all, layouts, input, output, space)
 }
