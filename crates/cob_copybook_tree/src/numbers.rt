@@ -9,9 +9,7 @@ ghost use Rattle.cob_copybook_tree.specs.Resolving.{is_numeric};
 ghost use Rattle.cob_copybook_tree.specs.Storage.{is_leading, size_as};
 
 use crate::Item;
-use crate::kinds::{
-    is_leading, read_any_zones, read_number, read_whole, read_whole_any_zones,
-};
+use crate::kinds::{is_leading, read_any_zones, read_number, read_whole, read_whole_any_zones};
 use crate::resolving::is_numeric;
 use cob_codec::{Reading, Shape};
 use cob_decimal::Number;

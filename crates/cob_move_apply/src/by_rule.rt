@@ -273,14 +273,7 @@ pub(crate) fn apply_chosen(
         output.old result output.new space.old.output space.new.output }
 {
     if layouts.reading.takes_any_zones() {
-        apply_by_rule(
-            some.statements,
-            some.unnoted,
-            layouts,
-            input,
-            output,
-            space,
-        )
+        apply_by_rule(some.statements, some.unnoted, layouts, input, output, space)
     } else {
         apply_some(given, plan, some.steps, layouts, input, output, space)
     }

@@ -42,11 +42,7 @@ fn steps_between(steps: &[Step], begin: usize, end: usize) -> &[Step]
 
 /// The statements from one number up to another.
 #[inline(always)]
-fn statements_between(
-    statements: &[StatementMoves],
-    begin: usize,
-    end: usize,
-) -> &[StatementMoves]
+fn statements_between(statements: &[StatementMoves], begin: usize, end: usize) -> &[StatementMoves]
     requires rises { begin ≤ end }
     requires within { end ≤ length statements.now }
     ensures { result.now ≡ items_between begin end statements.now }

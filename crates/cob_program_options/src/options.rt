@@ -4,8 +4,7 @@ use crate::definition::{OptionDefinition, Standing};
 use crate::help::{
     ATOMIC_HELP, BINARY_HELP, COPY_DIR_HELP, EXPLAINED_HELP, EXPLAINED_LIST_HELP,
     EXPLAINED_RUN_HELP, FORM_HELP, FREE_HELP, IGNORE_HELP, KEY_HELP, LISTING_HELP, LRECL_HELP,
-    MEASURE_HELP, PROGRESS_HELP, REPLACE_HELP, REPORT_HELP, STRICT_HELP, TABS_HELP,
-    ZONES_HELP,
+    MEASURE_HELP, PROGRESS_HELP, REPLACE_HELP, REPORT_HELP, STRICT_HELP, TABS_HELP, ZONES_HELP,
 };
 
 // How an option stands for a form, which is f where it is not there, and for the greatest size of blocks.

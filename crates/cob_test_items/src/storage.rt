@@ -186,11 +186,7 @@ pub(crate) fn push_whole(alloc: Global, row: &Row, out: &mut String) -> Result<(
 }
 
 /// The number of an item's bytes by any zones.
-fn any_zones_number(
-    kind: &str,
-    shape: &Shape,
-    bytes: &[u8],
-) -> Result<Option<Number>, RowFault> {
+fn any_zones_number(kind: &str, shape: &Shape, bytes: &[u8]) -> Result<Option<Number>, RowFault> {
     let count = usize::from(shape.digits);
     match kind {
         "zoned" if bytes.len() == count => Ok(Zoned::read_any_zones(shape, bytes)),
