@@ -82,9 +82,25 @@ stop_spends r all own rest left input before now after stop old mid new same gon
   spent_stop r.output gone.met met old mid new gone.spent spent,
 )
 
-pub gone_all : (r : Records) (all : List Move) (input before now : List ℕ) (old new : Survey) → AreGone r all [] input before now old new → Applied r all input before (done now)
-gone_all r all input before now old new gone = gone.so (done now) refl
+pub gone_all : (r : Records) (all left : List Move) (input before now : List ℕ) (old new : Survey) → left ≡ [] → AreGone r all left input before now old new
+    → Applied r all input before (done now)
+gone_all r all left input before now old new none gone = gone.so (done now) (subst (λ (ms : List Move). Applied r ms input now (done now)) (sym none) refl)
 
-pub all_spends : {A : Type 0} (r : Records) (all : List Move) (input before now : List ℕ) (old new : Survey) (a : A) → AreGone r all [] input before now old new
-    → MovesSpend {A = A} r all input before (Ok a) now old new
-all_spends r all input before now old new a gone = (gone.met, λ ms rest h. gone.meets ms rest h, gone.spent)
+pub all_spends : {A : Type 0} (r : Records) (all left : List Move) (input before now : List ℕ) (old new : Survey) (a : A) → left ≡ []
+    → AreGone r all left input before now old new → MovesSpend {A = A} r all input before (Ok a) now old new
+all_spends r all left input before now old new a none gone =
+    (gone.met, λ ms rest h. gone.meets ms rest (subst (λ (ls : List Move). HaveMet r (ls ++ ms) input now rest) (sym none) h), gone.spent)
+
+-- ---- lists
+
+pub all_front : {X : Type 0} (P : X → Type 0) (xs ys : List X) → AllByRecursion P (xs ++ ys) → AllByRecursion P xs
+all_front P [] ys h = tt
+all_front P (x ∷ xs) ys h = (h.0, all_front P xs ys h.1)
+
+pub all_behind : {X : Type 0} (P : X → Type 0) (xs ys : List X) → AllByRecursion P (xs ++ ys) → AllByRecursion P ys
+all_behind P [] ys h = h
+all_behind P (x ∷ xs) ys h = all_behind P xs ys h.1
+
+pub empty_of : {X : Type 0} (xs : List X) → length xs ≡ 0 → xs ≡ []
+empty_of [] none = refl
+empty_of (x ∷ xs) none = absurd (omega arith)
