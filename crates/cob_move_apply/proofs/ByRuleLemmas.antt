@@ -1,14 +1,17 @@
 -- Moves that are carried out by the rule of MOVE alone.
 use Rattle.std.proofs.Common.{◌≡◌, ℕ, zero, suc, ◌+◌, ◌<◌, Bool, true, false, Result, Ok, Err, List, [], ◌∷◌, ◌++◌, length, take, drop, None, refl, sym, ap, subst, ◌∙◌, arith, append_assoc}
 use Rattle.std.specs.List.{AllByRecursion}
+use Rattle.cob_codec.specs.declared.reading.Reading.{Reading}
 use Rattle.cob_copybook_tree.specs.Forests.{Forest}
 use Rattle.cob_copybook_tree.specs.Nodes.{Resolved}
 use Rattle.cob_move_data.specs.declared.operands.Operand.{Operand}
-use Rattle.cob_move_data.specs.Moves.{Entry, IsOperand, IsSender, Literal, Move, Records, Sender, record_of}
+use Rattle.cob_move_data.specs.declared.operands.NumberedPair.{NumberedPair}
+use Rattle.cob_move_data.specs.declared.operands.PairMoves.{PairMoves}
+use Rattle.cob_move_data.specs.Moves.{Entry, IsMove, IsOperand, IsSender, Literal, Move, Records, Sender, numbered_move, numbered_move_by, record_of}
 use Rattle.cob_move_apply.specs.Applied.{Applied, Ending, done, stopped}
 use Rattle.cob_move_apply.specs.ByRule.{AreGone, NothingIsNoted}
 use Rattle.cob_move_apply.specs.Met.{HaveMet}
-use Rattle.cob_move_apply.specs.Placed.{ArePlacedReceivers, IsBasis, IsPlaced, IsPlacedSender}
+use Rattle.cob_move_apply.specs.Placed.{ArePlacedReceivers, IsBasis, IsPlaced, IsPlacedMove, IsPlacedSender}
 use Rattle.cob_move_apply.specs.Spent.{MovesSpend}
 use Rattle.cob_move_apply.specs.declared.basis.Basis.{Basis}
 use Rattle.cob_move_apply.specs.declared.basis.Basis.TheVariants as basis
@@ -104,3 +107,12 @@ all_behind P (x ∷ xs) ys h = all_behind P xs ys h.1
 pub empty_of : {X : Type 0} (xs : List X) → length xs ≡ 0 → xs ≡ []
 empty_of [] none = refl
 empty_of (x ∷ xs) none = absurd (omega arith)
+
+-- ---- the move of a pair
+
+pub placed_pair : (x : Reading) (r : Records) (g : PairMoves) (p : NumberedPair) (bases : List Basis) → IsMove r (numbered_move_by x r g p) → NothingIsNoted bases → 1 < length bases
+    → IsPlacedMove r (numbered_move r g p) (take 2 bases)
+placed_pair x r g p [] is none room = absurd (omega arith)
+placed_pair x r g p (b ∷ []) is none room = absurd (omega arith)
+placed_pair x r g p (b ∷ c ∷ bs) is none room =
+    (placed_one (record_of r g.side) false _ b is.sender none.0, placed_one r.output true _ c is.receivers.0 none.1.0, tt)
