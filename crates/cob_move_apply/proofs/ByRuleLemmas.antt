@@ -1,5 +1,5 @@
 -- Moves that are carried out by the rule of MOVE alone.
-use Rattle.std.proofs.Common.{◌≡◌, ℕ, zero, suc, ◌+◌, ◌<◌, Bool, true, false, Result, Ok, Err, List, [], ◌∷◌, ◌++◌, length, take, drop, None, refl, sym, ap, subst, ◌∙◌, arith, append_assoc}
+use Rattle.std.proofs.Common.{◌≡◌, ℕ, zero, suc, ◌+◌, ◌<◌, ◌≤◌, Bool, true, false, Result, Ok, Err, List, [], ◌∷◌, ◌++◌, length, get_or, take, drop, None, refl, sym, ap, subst, ◌∙◌, arith, append_assoc}
 use Rattle.std.specs.List.{AllByRecursion}
 use Rattle.cob_codec.specs.declared.reading.Reading.{Reading}
 use Rattle.cob_copybook_tree.specs.Forests.{Forest}
@@ -7,9 +7,10 @@ use Rattle.cob_copybook_tree.specs.Nodes.{Resolved}
 use Rattle.cob_move_data.specs.declared.operands.Operand.{Operand}
 use Rattle.cob_move_data.specs.declared.operands.NumberedPair.{NumberedPair}
 use Rattle.cob_move_data.specs.declared.operands.PairMoves.{PairMoves}
+use Rattle.cob_move_data.specs.declared.operands.StatementMoves.{StatementMoves}
 use Rattle.cob_move_data.specs.Moves.{Entry, IsMove, IsOperand, IsSender, Literal, Move, Records, Sender, numbered_move, numbered_move_by, record_of}
 use Rattle.cob_move_apply.specs.Applied.{Applied, Ending, done, stopped}
-use Rattle.cob_move_apply.specs.ByRule.{AreGone, NothingIsNoted}
+use Rattle.cob_move_apply.specs.ByRule.{AreGone, NothingIsNoted, most_receivers}
 use Rattle.cob_move_apply.specs.Met.{HaveMet}
 use Rattle.cob_move_apply.specs.Placed.{ArePlacedReceivers, IsBasis, IsPlaced, IsPlacedMove, IsPlacedSender}
 use Rattle.cob_move_apply.specs.Spent.{MovesSpend}
@@ -116,3 +117,15 @@ placed_pair x r g p [] is none room = absurd (omega arith)
 placed_pair x r g p (b ∷ []) is none room = absurd (omega arith)
 placed_pair x r g p (b ∷ c ∷ bs) is none room =
     (placed_one (record_of r g.side) false _ b is.sender none.0, placed_one r.output true _ c is.receivers.0 none.1.0, tt)
+
+-- ---- bases of which nothing is noted
+
+pub below_more : (ss : List StatementMoves) (m n : ℕ) → m < n → AllByRecursion (λ s. most_receivers s ≤ m) ss → AllByRecursion (λ s. most_receivers s < n) ss
+below_more [] m n lt h = tt
+below_more (s ∷ ss) m n lt h = let here : most_receivers s ≤ m = h.0 in (omega (arith, here, lt), below_more ss m n lt h.1)
+
+-- the one with a number
+pub none_at : (bases : List Basis) (i : ℕ) (b : Basis) → NothingIsNoted bases → i < length bases → b ≡ get_or bases i b → b ≡ basis.Counted None
+none_at [] i b none lt at = absurd (omega arith)
+none_at (c ∷ cs) zero b none lt at = at ∙ none.0
+none_at (c ∷ cs) (suc i) b none lt at = none_at cs i b none.1 (omega arith) at
