@@ -117,7 +117,7 @@ fn make_pictured(
 {
     match layouts.reading {
         Reading::Pictured => run_pictured(&plan.pictured, one, layouts, input, output, space),
-        Reading::Whole | Reading::AnyZones | Reading::WholeAnyZones => {
+        _ => {
             let bases = plan.bases.as_slice();
             make_part(given, bases, *part, layouts, input, output, space)
         }

@@ -43,7 +43,7 @@ pub(crate) fn serves(step: LocatedStep, reading: Reading) -> bool
         LocatedStep::Always(_) => true,
         LocatedStep::Pictured(_) => match reading {
             Reading::Pictured => true,
-            Reading::Whole | Reading::AnyZones | Reading::WholeAnyZones => false,
+            _ => false,
         },
         LocatedStep::Rule => true,
     }
@@ -322,7 +322,7 @@ fn run_between<const VARIES: bool>(
                         Err(_) => false,
                     }
                 }
-                Reading::Whole | Reading::AnyZones | Reading::WholeAnyZones => false,
+                _ => false,
             },
             _ => run_rarer(plan, one, *places, layouts, input, output, space),
         },

@@ -114,7 +114,7 @@ fn run_part(
                 Err(_) => false,
             }
         }
-        Reading::Whole | Reading::AnyZones | Reading::WholeAnyZones => false,
+        _ => false,
     }
 }
 
