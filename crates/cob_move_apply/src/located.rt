@@ -41,10 +41,7 @@ pub(crate) fn serves(step: LocatedStep, reading: Reading) -> bool
     match step {
         LocatedStep::Characters(_) => true,
         LocatedStep::Always(_) => true,
-        LocatedStep::Pictured(_) => match reading {
-            Reading::Pictured => true,
-            _ => false,
-        },
+        LocatedStep::Pictured(_) => matches!(reading, Reading::Pictured),
         LocatedStep::Rule => true,
     }
 }
