@@ -131,9 +131,9 @@ fn reading(options: &ArgMatches<'_>) -> Result<Reading, LineFault>
     match binary(options) {
         Ok(whole) => match zones(options) {
             Ok(any) => Ok(Reading::of(whole, any)),
-            Err(fault) => Err(fault),
+            Err(told) => Err(told),
         },
-        Err(fault) => Err(fault),
+        Err(told) => Err(told),
     }
 }
 
