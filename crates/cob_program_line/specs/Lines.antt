@@ -6,7 +6,7 @@ use Rattle.cob_limits.specs.Limits.{longest_block}
 use Rattle.cob_program_options.specs.Options.{AreOptions, Given, Options, found_at, taken}
 use Rattle.cob_program_options.specs.Commands.{commands}
 use Rattle.cob_program_options.specs.Looks.{Look, is_flagged}
-use Rattle.cob_program_line.specs.Named.{NamesBlock, NamesBound, NamesLrecl, NamesNumber, NamesRightForm, letter_of, sized_by, word_of, word_of_listing, word_of_measure}
+use Rattle.cob_program_line.specs.Named.{NamesBlock, NamesBound, NamesLrecl, NamesNumber, NamesReading, NamesRightForm, letter_of, sized_by, word_of_listing, word_of_measure}
 pub use Rattle.cob_program_line.specs.Faults.{IsFaultOf, is_answer_kind}
 use Rattle.cob_program_line.specs.declared.line.CommandLine.{CommandLine}
 use Rattle.cob_program_line.specs.declared.line.Handing.{Handing}
@@ -31,7 +31,7 @@ pub record NameTexts (look : Look) (texts : TextFiles) : Type 0 where
   pub out_book : look (codes "out-book") ≡ Some texts.out_book.now
   pub moves : look (codes "moves") ≡ Some texts.moves.now
 
--- Options name the forms of both files with the sizes of their blocks, and the reading of binary items.
+-- Options name the forms of both files with the sizes of their blocks, and the reading of senders.
 pub record NameForms (look : Look) (forms : Forms) : Type 0 where
   pub in_letter : look (codes "in-form") ≡ Some (letter_of forms.input)
   pub out_letter : look (codes "out-form") ≡ Some (letter_of forms.output)
@@ -39,7 +39,7 @@ pub record NameForms (look : Look) (forms : Forms) : Type 0 where
   pub out_size : NamesBlock look (codes "out-block") forms.output forms.out_block
   pub in_sized : forms.input ≡ sized_by forms.in_block forms.input
   pub out_sized : forms.output ≡ sized_by forms.out_block forms.output
-  pub word : look (codes "binary") ≡ Some (word_of forms.reading)
+  pub reads : NamesReading look forms.reading
 
 -- options name no forms
 abbrev pub NameNoForms : Look → Type 0

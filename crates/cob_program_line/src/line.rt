@@ -197,7 +197,7 @@ impl<'a> TextFiles<'a> {
     }
 }
 
-/// How the records of both files of a conversion stand, and how binary items are read.
+/// How the records of both files of a conversion stand, and how senders are read.
 #[derive(Clone, Copy)]
 pub struct Forms {
     /// How the records of the input stand.
@@ -208,7 +208,7 @@ pub struct Forms {
     pub in_block: u16,
     /// The greatest size of the output's blocks, where it has blocks.
     pub out_block: u16,
-    /// How binary items are read that are sent.
+    /// How items are read that are sent.
     pub reading: Reading,
 }
 
@@ -223,7 +223,7 @@ pub struct ConvertLine<'a> {
     pub input: &'a str,
     /// The file that the records go to; `-` is standard output.
     pub output: &'a str,
-    /// How the records of both files stand, and how binary items are read.
+    /// How the records of both files stand, and how senders are read.
     pub forms: Forms,
     /// The record length that the input is said to have, where one is: in form f that of each record, else the greatest, the record descriptor word in it.
     pub lrecl: Option<u64>,
@@ -391,7 +391,7 @@ pub struct ExplainLine<'a> {
     pub texts: TextFiles<'a>,
     /// The file that the records come from; `-` is standard input.
     pub input: &'a str,
-    /// How the records of both files stand, and how binary items are read.
+    /// How the records of both files stand, and how senders are read.
     pub forms: Forms,
     /// The record length that the input is said to have, where one is: in form f that of each record, else the greatest, the record descriptor word in it.
     pub lrecl: Option<u64>,
@@ -425,7 +425,7 @@ pub struct MapLine<'a> {
     pub told: TextFiles<'a>,
     /// The file that a record comes from, where one is shown; `-` is standard input.
     pub input: Option<&'a str>,
-    /// How the records of both files stand, and how binary items are read.
+    /// How the records of both files stand, and how senders are read.
     pub forms: Forms,
     /// The record length that the input is said to have, where one is: in form f that of each record, else the greatest, the record descriptor word in it.
     pub lrecl: Option<u64>,

@@ -24,10 +24,11 @@ lrecl_options = (codes "lrecl", Optional) ∷ []
 abbrev pub records_options : Options
 records_options = (codes "book", Required) ∷ (codes "in", Required) ∷ (codes "form", Default (codes "f")) ∷ lrecl_options
 
--- the options for the forms of both files, the greatest sizes of their blocks, and the reading of binary items
+-- the options for the forms of both files, the greatest sizes of their blocks, and the reading of senders
 abbrev pub forms_options : Options
 forms_options = (codes "in-form", Default (codes "f")) ∷ (codes "out-form", Default (codes "f"))
-    ∷ (codes "in-block", Default (codes "32760")) ∷ (codes "out-block", Default (codes "32760")) ∷ (codes "binary", Default (codes "pictured")) ∷ []
+    ∷ (codes "in-block", Default (codes "32760")) ∷ (codes "out-block", Default (codes "32760")) ∷ (codes "binary", Default (codes "pictured"))
+    ∷ (codes "zones", Default (codes "strict")) ∷ []
 
 -- the options for a piece of the input
 abbrev pub piece_options : Options

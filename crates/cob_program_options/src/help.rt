@@ -8,6 +8,10 @@ pub(crate) const FORM_HELP: &str =
 pub(crate) const BINARY_HELP: &str =
     "How binary senders are read: pictured, as far as the\ndigits of their picture hold them, or whole, as the\nnumber of all their bytes";
 
+// What `--zones` names.
+pub(crate) const ZONES_HELP: &str =
+    "How zones of senders are read: strict, as their places\nask, or any: a digit is the low half of its byte, and\npacked items full of spaces or zeros are zero";
+
 // What `--as` names.
 pub(crate) const LISTING_HELP: &str =
     "How values are listed: text, a line for each;\njson or csv, a line for each record";

@@ -185,6 +185,27 @@ pub(crate) fn push_whole(alloc: Global, row: &Row, out: &mut String) -> Result<(
     Ok(push_number(out, &number)?)
 }
 
+/// The number of an item's bytes by any zones.
+fn any_zones_number(kind: &str, shape: &Shape, bytes: &[u8]) -> Result<Option<Number>, RowFault> {
+    let count = usize::from(shape.digits);
+    match kind {
+        "zoned" if bytes.len() == count => Ok(Zoned::read_any_zones(shape, bytes)),
+        "separate" if shape.signed && bytes.len() == count + 1 => {
+            Ok(Separate::read_any_zones(shape, bytes))
+        }
+        "packed" if bytes.len() == count / 2 + 1 => Ok(Packed::read_any_zones(shape, bytes)),
+        _ => Err(RowFault::BadRow),
+    }
+}
+
+/// The number of the bytes of a row's item by any zones.
+pub(crate) fn push_any_zones(alloc: Global, row: &Row, out: &mut String) -> Result<(), RowFault> {
+    let shape = shape_of(row)?;
+    let bytes = row.bytes(alloc, 4)?;
+    let number = any_zones_number(row.field(0)?, &shape, bytes.as_slice())?;
+    Ok(push_found(out, &number)?)
+}
+
 /// Writes digits between quotes.
 fn push_quoted(out: &mut String, digits: &Digits) -> Result<(), AllocError> {
     out.push('"')?;

@@ -4,7 +4,7 @@ use Rattle.cob_move_apply.specs.Steps.{StandFor, Support, support_of}
 use Rattle.cob_move_apply.specs.declared.step.Step.{Step}
 use Rattle.cob_move_apply.specs.Surveyed.{records}
 use Rattle.cob_move_apply.proofs.SpendingLemmas.{bounded_reads}
-use Rattle.cob_move_apply.proofs.application.apply_in.Goals as goal
+use Rattle.cob_move_apply.proofs.by_rule.apply_in.Goals as goal
 
 pub apply_some-requires-clause-steps : goal.apply_some-requires-clause-steps
 apply_some-requires-clause-steps c =
