@@ -1,5 +1,6 @@
 //! A paragraph to begin with.
 
+use crate::compared::fits;
 use crate::counts::counts_among;
 use crate::instead::{SEVERAL, UNNAMED};
 use crate::pairs::{Records, is_own_group, is_own_item, paired};
@@ -8,7 +9,7 @@ use crate::words::CounterNames;
 use crate::writing::DraftText;
 use cob_layout::Layout;
 use cob_limits::MAX_SUBSCRIPTS;
-use cob_report_partners::{DraftBearer, Partner, counter_name, partner_of};
+use cob_report_partners::{DraftBearer, Partner, Prefixes, counter_name};
 use std::alloc::{AllocError, Global};
 use std::fmt;
 
@@ -21,6 +22,12 @@ pub enum Lacking {
     Lines,
     /// Statements for which its loops have no room.
     Turns,
+    /// A statement, where both records have one name, so that none tells two of their entries apart.
+    TwoNames,
+    /// A name of the input record that begins with its prefix.
+    InputPrefix,
+    /// A name of the output record that begins with its prefix.
+    OutputPrefix,
 }
 
 impl fmt::Display for Lacking {
@@ -35,6 +42,16 @@ impl fmt::Display for Lacking {
                 f,
                 "the paragraph lacks the statements that its loops have no room for"
             ),
+            Lacking::TwoNames => write!(
+                f,
+                "the paragraph lacks a statement: both records have one name, say --records-as in-out"
+            ),
+            Lacking::InputPrefix => {
+                write!(f, "no name of the input record begins with its prefix")
+            }
+            Lacking::OutputPrefix => {
+                write!(f, "no name of the output record begins with its prefix")
+            }
         }
     }
 }
@@ -53,7 +70,7 @@ impl<'s, 'a> DraftProgress<'s, 'a> {
         records: &'s Records<'a>,
         to: &'s DraftBearer<'a>,
     ) -> Result<(), AllocError> {
-        match partner_of(self.alloc, &records.both, to)? {
+        match records.partner_of(self.alloc, to)? {
             Partner::Missing => Ok(()),
             Partner::Several => self.push_piece(to, Saying::Noted(SEVERAL)),
             Partner::One(from) => match paired(&records.both, from, to) {
@@ -164,18 +181,61 @@ fn written(
     Ok(draft_in(progress, text))
 }
 
-/// A draft between two records.
-fn draft_between(alloc: Global, records: &Records<'_>) -> Result<Draft, AllocError> {
-    let progress = progress_of(alloc, records)?;
-    written(alloc, records, &progress)
+/// Whether both records have a name, and it is one.
+fn have_one_name(records: &Records<'_>) -> bool {
+    match (
+        records.both.inputs().first(),
+        records.both.outputs().first(),
+    ) {
+        (Some(input), Some(output)) => input.name.is_some() && input.name == output.name,
+        _ => false,
+    }
 }
 
-/// A paragraph to begin with, between the records of two layouts.
+/// What a draft is told to lack: first the names that a prefix asks for.
+fn lacking_told(
+    records: &Records<'_>,
+    prefixes: Prefixes<'_>,
+    lacking: Option<Lacking>,
+) -> Option<Lacking> {
+    if !fits(prefixes.input, records.both.inputs()) {
+        return Some(Lacking::InputPrefix);
+    }
+    if !fits(prefixes.output, records.both.outputs()) {
+        return Some(Lacking::OutputPrefix);
+    }
+    match lacking {
+        Some(Lacking::Statement) if have_one_name(records) => Some(Lacking::TwoNames),
+        lacking => lacking,
+    }
+}
+
+/// A draft between two records.
+fn draft_between(
+    alloc: Global,
+    records: &Records<'_>,
+    prefixes: Prefixes<'_>,
+) -> Result<Draft, AllocError> {
+    let progress = progress_of(alloc, records)?;
+    let Draft { text, lacking } = written(alloc, records, &progress)?;
+    Ok(Draft {
+        text,
+        lacking: lacking_told(records, prefixes, lacking),
+    })
+}
+
+/// A paragraph to begin with, between the records of two layouts. Names are compared without these prefixes, and written as they are.
 ///
 /// # Errors
 ///
 /// Where no memory is left.
-pub fn draft_of(alloc: Global, input: &Layout, output: &Layout) -> Result<Draft, AllocError> {
-    let records = Records::of(alloc, input, output)?;
-    draft_between(alloc, &records)
+pub fn draft_of(
+    alloc: Global,
+    input: &Layout,
+    output: &Layout,
+    prefixes: Prefixes<'_>,
+) -> Result<Draft, AllocError> {
+    let mut records = Records::of(alloc, input, output)?;
+    records.compare_behind(alloc, prefixes)?;
+    draft_between(alloc, &records, prefixes)
 }

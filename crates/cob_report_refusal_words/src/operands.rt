@@ -100,8 +100,14 @@ fn ambiguous_name<'a>(both: BothWords<'_>, statement: &'a [Token]) -> Option<&'a
     None
 }
 
-/// How the first of several entries with a name is meant.
+/// How the first of several entries with a name is meant; where both records have one name, how they are told apart.
 fn first_hint<'a>(both: BothWords<'a>, name: &[u8]) -> Option<Phrase<'a>> {
+    if let Some(word) = both.shared_name() {
+        return Some(Phrase::of(
+            "both records are named {}: --records-as in-out tells them apart",
+            Part::Word(word),
+        ));
+    }
     let first = both.first(Looked::Named(name))?;
     Some(Phrase::of("write {}", Part::Qualified(first)))
 }
