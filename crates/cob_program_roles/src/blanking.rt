@@ -1,7 +1,22 @@
 //! The words of a record's own entry left out of a text, where nothing but a name stands in it.
 
-use cob_source::{Token, TokenKind, tokens};
+use cob_source::{SourceRule, Token, TokenKind, tokens};
 use std::alloc::{AllocError, Global};
+
+/// The words of a text, if it breaks no rule of the reference format.
+///
+/// # Errors
+///
+/// Where no memory is left.
+pub(crate) fn words_of(alloc: Global, text: &[u8]) -> Result<Option<Vec<Token>>, AllocError> {
+    match tokens(alloc, text) {
+        Ok(words) => Ok(Some(words)),
+        Err(fault) => match fault.rule {
+            SourceRule::Memory => Err(AllocError),
+            _ => Ok(None),
+        },
+    }
+}
 
 /// A text whose words are left out.
 #[derive(Drop)]
@@ -29,8 +44,9 @@ fn are_characters(bytes: &[u8], characters: &[u8]) -> bool {
         return false;
     }
     for (place, byte) in bytes.iter().enumerate() {
-        if byte.to_ascii_uppercase() != characters[place] {
-            return false;
+        match characters.get(place) {
+            Some(character) if byte.to_ascii_uppercase() == *character => {}
+            _ => return false,
         }
     }
     true
@@ -39,7 +55,7 @@ fn are_characters(bytes: &[u8], characters: &[u8]) -> bool {
 impl Blanking {
     /// Puts a space in the place of a byte.
     fn put_space(&mut self, place: usize) {
-        if let Some(byte) = self.text.as_mut_slice().get_mut(place) {
+        if let Some(byte) = self.text.get_mut(place) {
             *byte = b' ';
         }
     }
@@ -100,16 +116,36 @@ fn own_words(words: &[Token]) -> Option<usize> {
     }
 }
 
+/// The OF or IN before the word at a place, where no further one stands behind the word.
+fn last_of(words: &[Token], place: usize) -> Option<&Token> {
+    let before = place.checked_sub(1)?;
+    if is_of_at(words, before) && !is_of_at(words, place.saturating_add(1)) {
+        words.get(before)
+    } else {
+        None
+    }
+}
+
 /// Leaves out the last qualifiers that are the name of the record; answers whether they stand whole on their lines.
 fn leave_qualifiers_out(blanking: &mut Blanking, words: &[Token], name: &[u8]) -> bool {
     for (place, word) in words.iter().enumerate() {
-        let before = place.saturating_sub(1);
-        let is_last = is_of_at(words, before) && !is_of_at(words, place.saturating_add(1));
-        if is_last && is_word_of(word, name) {
-            let stood = blanking.leave_out(word) && blanking.leave_out(&words[before]);
-            if !stood {
+        if !is_word_of(word, name) {
+            continue;
+        }
+        if let Some(of) = last_of(words, place) {
+            if !blanking.leave_out(word) || !blanking.leave_out(of) {
                 return false;
             }
+        }
+    }
+    true
+}
+
+/// Leaves out these words; answers whether they stand whole on their lines.
+fn leave_words_out(blanking: &mut Blanking, words: &[Token]) -> bool {
+    for word in words {
+        if !blanking.leave_out(word) {
+            return false;
         }
     }
     true
@@ -122,27 +158,23 @@ fn leave_qualifiers_out(blanking: &mut Blanking, words: &[Token], name: &[u8]) -
 ///
 /// Where no memory is left.
 pub(crate) fn blanked(alloc: Global, text: &[u8]) -> Result<Option<Vec<u8>>, AllocError> {
-    let Ok(words) = tokens(alloc, text) else {
+    let Some(words) = words_of(alloc, text)? else {
         return Ok(None);
     };
-    let Some(count) = own_words(words.as_slice()) else {
+    let count = own_words(words.as_slice()).unwrap_or(0);
+    let Some((own, others)) = words.as_slice().split_at_checked(count) else {
+        return Ok(None);
+    };
+    let Some(named) = own.get(1) else {
         return Ok(None);
     };
     let mut blanking = Blanking {
         text: Vec::from_slice(alloc, text)?,
         starts: starts_of(alloc, text)?,
     };
-    let Some((own, others)) = words.as_slice().split_at_checked(count) else {
-        return Ok(None);
-    };
-    for word in own {
-        if !blanking.leave_out(word) {
-            return Ok(None);
-        }
+    let name = named.text.as_slice();
+    if leave_words_out(&mut blanking, own) && leave_qualifiers_out(&mut blanking, others, name) {
+        return Ok(Some(blanking.text));
     }
-    let name = own[1].text.as_slice();
-    if !leave_qualifiers_out(&mut blanking, others, name) {
-        return Ok(None);
-    }
-    Ok(Some(blanking.text))
+    Ok(None)
 }

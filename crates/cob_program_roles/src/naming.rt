@@ -4,12 +4,11 @@ ghost use Rattle.std.specs.Prelude.{IfOk, IfSome, IsTrue};
 ghost use Rattle.cob_copybook.specs.Books.{record_name};
 ghost use Rattle.cob_program_roles.specs.Named.{DescribesBack, DescribesNamed, IsNamedByRole, other_role};
 
-use crate::blanking::blanked;
+use crate::blanking::{blanked, words_of};
 use crate::reading::{describes_nameable, describes_named, role_name};
 use cob_copybook::Role;
 use cob_copybook_record::with_record_name;
 use cob_copybook_text::text_saying;
-use cob_source::tokens;
 use std::alloc::{AllocError, Global};
 
 /// Which ways are gone between the records of two copybooks.
@@ -71,7 +70,7 @@ fn describes_in_ways(
 ///
 /// Where no memory is left.
 fn written_named(alloc: Global, role: Role, text: &[u8]) -> Result<Option<Vec<u8>>, AllocError> {
-    let Ok(words) = tokens(alloc, text) else {
+    let Some(words) = words_of(alloc, text)? else {
         return Ok(None);
     };
     let named = with_record_name(alloc, words.as_slice(), role_name(role))?;
