@@ -1,4 +1,4 @@
-//! What the tests of IF and EVALUATE mean between two records (ANSI X3.23-1985, Nucleus: the IF statement, the EVALUATE statement).
+//! What the tests of IF and EVALUATE mean between two records, and which rules they break (ANSI X3.23-1985, Nucleus: the IF statement, the EVALUATE statement).
 //!
 //! A choice is held against nothing, and then each of its tests is a condition, as behind IF and EVALUATE TRUE; or against an entry, whose values its tests list.
 //! [`subject_of`] answers which (clause `found`; `IsSubjectOf` of specs/Choices.antt), and [`branch_test`] the condition that the words of a test mean in a turn of
@@ -13,7 +13,7 @@
 //!
 //! # Where it is proved
 //!
-//! The clauses `found`, `fault`, `tested`, `asks` of `subject_of` and `branch_test`; its laws.
+//! The clauses of `subject_of` and `branch_test`; the laws `one_subject`, `one_branch_test`, `subjects_break_no_rule`, `branch_tests_break_no_rule`.
 #![tactic(auto)]
 
 mod laws;

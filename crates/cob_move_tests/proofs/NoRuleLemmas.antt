@@ -19,7 +19,7 @@ use Rattle.cob_move_names.specs.Senders.{BreaksSender, BreaksSentConstant, IsSen
 use Rattle.cob_move_statements.specs.declared.fault.MoveRule.{MoveRule}
 use Rattle.cob_move_statements.specs.declared.fault.MoveRule.TheVariants as rule
 use Rattle.cob_move_statements.specs.Written.{SentConstant, SentReference, WrittenReference, WrittenSender}
-use Rattle.cob_move_tests.specs.Broken.{BreaksCondition, BreaksOperand, BreaksQuality, BreaksRelation, BreaksTest}
+use Rattle.cob_move_tests.specs.Broken.{BreaksWrittenCondition, BreaksOperand, BreaksQuality, BreaksRelation, BreaksTest}
 use Rattle.cob_move_tests.specs.Laws.{ConditionsBreakNoRule}
 use Rattle.cob_move_tests.specs.Meant.{HasQuality, IsMeantBy, IsOperandOf, IsRelationOf, IsTestOf, NoneStated, Stated, StatedAs}
 use Rattle.cob_move_tests.specs.Qualities.{may_have}
@@ -66,20 +66,20 @@ no_test one law rule all r (StandsAlone v) (StatedAs a last) c next (relates, e)
 no_test one law rule all r (Has w opposite q) s c next (has, e) broken = no_quality one law rule all r w opposite q c has broken
 
 no_condition : OneNamed → NamedBreakNoRule → (rule : MoveRule) (all : List Candidate) (r : Records) (w : WrittenCondition) (s : Stated) (c : Condition) (next : Stated)
-    → IsMeantBy all r w s c next → BreaksCondition rule all r w s → ⊥
+    → IsMeantBy all r w s c next → BreaksWrittenCondition rule all r w s → ⊥
 no_condition one law rule all r (Simple t) s c next is broken = no_test one law rule all r t s c next is broken
 no_condition one law rule all r (InBrackets w) s c next (last, is, e) broken = no_condition one law rule all r w NoneStated c last is broken
 no_condition one law rule all r (BehindNot w) s c next (x, is, e) broken = no_condition one law rule all r w s x next is broken
 no_condition one law rule all r (WithAnd v w) s c next (x, y, mid, h, k, e) (inl broken) = no_condition one law rule all r v s x mid h broken
 no_condition one law rule all r (WithAnd v w) s c next (x, y, mid, h, k, e) (inr (z, other, i, broken)) =
-    no_condition one law rule all r w mid y next k (subst (λ (t : Stated). BreaksCondition rule all r w t) ((one_meant one all r v s z x other mid i h).1) broken)
+    no_condition one law rule all r w mid y next k (subst (λ (t : Stated). BreaksWrittenCondition rule all r w t) ((one_meant one all r v s z x other mid i h).1) broken)
 no_condition one law rule all r (WithOr v w) s c next (x, y, mid, h, k, e) (inl broken) = no_condition one law rule all r v s x mid h broken
 no_condition one law rule all r (WithOr v w) s c next (x, y, mid, h, k, e) (inr (z, other, i, broken)) =
-    no_condition one law rule all r w mid y next k (subst (λ (t : Stated). BreaksCondition rule all r w t) ((one_meant one all r v s z x other mid i h).1) broken)
+    no_condition one law rule all r w mid y next k (subst (λ (t : Stated). BreaksWrittenCondition rule all r w t) ((one_meant one all r v s z x other mid i h).1) broken)
 
 pub no_rule : OneWrittenCondition → OneNamed → NamedBreakNoRule → ConditionsBreakNoRule
 no_rule spelled one law rule r ws c h (inl (same, none)) = none h.written h.spelled
 no_rule spelled one law rule r ws c h (inr (w, is, broken)) =
     let all : List Candidate = all_entries r.input r.output in
     no_condition one law rule all r h.written NoneStated c h.last h.meant
-    (subst (λ (x : WrittenCondition). BreaksCondition rule all r x NoneStated) (spelled ws w h.written is h.spelled) broken)
+    (subst (λ (x : WrittenCondition). BreaksWrittenCondition rule all r x NoneStated) (spelled ws w h.written is h.spelled) broken)

@@ -16,11 +16,11 @@ use Rattle.cob_move_statements.specs.declared.fault.MoveRule.TheVariants as rule
 use Rattle.cob_move_statements.specs.Written.{SentConstant, SentReference, WrittenReference, WrittenSender}
 use Rattle.cob_source.specs.Tokens.{Lexeme}
 use Rattle.cob_move_tests.specs.Qualities.{may_have}
-use Rattle.cob_move_tests.specs.Meant.{HasCharacters, IsMeantBy, IsOperandOf, NoneStated, Stated, StatedAs}
+use Rattle.cob_move_tests.specs.Meant.{IsNoEmptyLiteral, IsMeantBy, IsOperandOf, NoneStated, Stated, StatedAs}
 
 -- What is compared breaks a rule as any sender does, and M7 where it is a quoted literal without a character.
 abbrev pub BreaksOperand : MoveRule → List Candidate → WrittenSender → Type 0
-BreaksOperand r all w = BreaksSender r all w ⊎ ((r ≡ rule.Literal) × (HasCharacters w → ⊥))
+BreaksOperand r all w = BreaksSender r all w ⊎ ((r ≡ rule.Literal) × (IsNoEmptyLiteral w → ⊥))
 
 -- What stands behind a relation breaks a rule, or the two may not be compared (M13).
 abbrev pub BreaksRelation : MoveRule → List Candidate → Sender → WrittenSender → Type 0
@@ -39,9 +39,9 @@ BreaksLone r all (SentConstant w) = r ≡ rule.Grammar
 BreaksLone r all (SentReference w) = BreaksReference r all w ⊎ ((r ≡ rule.NotComparable) × ((side : Side) × (o : Operand) × NamesOperand all w side o))
 
 -- An operand alone breaks a rule: where a relation was stated, as what stands behind it.
-abbrev pub BreaksAlone : MoveRule → List Candidate → WrittenSender → Stated → Type 0
-BreaksAlone r all w NoneStated = BreaksLone r all w
-BreaksAlone r all w (StatedAs a last) = BreaksRelation r all a w
+abbrev pub BreaksOperandAlone : MoveRule → List Candidate → WrittenSender → Stated → Type 0
+BreaksOperandAlone r all w NoneStated = BreaksLone r all w
+BreaksOperandAlone r all w (StatedAs a last) = BreaksRelation r all a w
 
 -- A class or a sign of what a reference names breaks a rule: the reference does, or it may not be asked of that (M13).
 abbrev pub BreaksQuality : MoveRule → List Candidate → Records → WrittenReference → Quality → Type 0
@@ -53,21 +53,21 @@ BreaksQuality r all records w q =
 abbrev pub BreaksTest : MoveRule → List Candidate → Records → WrittenTest → Stated → Type 0
 BreaksTest r all records (Relates w q v) s = BreaksOperand r all w ⊎ ((a : Sender) × IsOperandOf all w a × BreaksRelation r all a v)
 BreaksTest r all records (RelatesTo q v) s = BreaksBehind r all v s
-BreaksTest r all records (StandsAlone v) s = BreaksAlone r all v s
+BreaksTest r all records (StandsAlone v) s = BreaksOperandAlone r all v s
 BreaksTest r all records (Has w opposite q) s = BreaksQuality r all records w q
 
 -- A written condition breaks a rule behind what was stated: one of its parts does.
-abbrev pub BreaksCondition : MoveRule → List Candidate → Records → WrittenCondition → Stated → Type 0
-BreaksCondition r all records (Simple t) s = BreaksTest r all records t s
-BreaksCondition r all records (InBrackets d) s = BreaksCondition r all records d NoneStated
-BreaksCondition r all records (BehindNot d) s = BreaksCondition r all records d s
-BreaksCondition r all records (WithAnd d e) s =
-    BreaksCondition r all records d s ⊎ ((x : Condition) × (mid : Stated) × IsMeantBy all records d s x mid × BreaksCondition r all records e mid)
-BreaksCondition r all records (WithOr d e) s =
-    BreaksCondition r all records d s ⊎ ((x : Condition) × (mid : Stated) × IsMeantBy all records d s x mid × BreaksCondition r all records e mid)
+abbrev pub BreaksWrittenCondition : MoveRule → List Candidate → Records → WrittenCondition → Stated → Type 0
+BreaksWrittenCondition r all records (Simple t) s = BreaksTest r all records t s
+BreaksWrittenCondition r all records (InBrackets d) s = BreaksWrittenCondition r all records d NoneStated
+BreaksWrittenCondition r all records (BehindNot d) s = BreaksWrittenCondition r all records d s
+BreaksWrittenCondition r all records (WithAnd d e) s =
+    BreaksWrittenCondition r all records d s ⊎ ((x : Condition) × (mid : Stated) × IsMeantBy all records d s x mid × BreaksWrittenCondition r all records e mid)
+BreaksWrittenCondition r all records (WithOr d e) s =
+    BreaksWrittenCondition r all records d s ⊎ ((x : Condition) × (mid : Stated) × IsMeantBy all records d s x mid × BreaksWrittenCondition r all records e mid)
 
 -- Words break a rule between two records: they are no condition (M1), or the one that they are breaks it.
-abbrev pub BreaksWords : MoveRule → Records → List Lexeme → Type 0
-BreaksWords r records ws =
+abbrev pub BreaksConditionWords : MoveRule → Records → List Lexeme → Type 0
+BreaksConditionWords r records ws =
     ((r ≡ rule.Grammar) × ((c : WrittenCondition) → IsWholeCondition c ws → ⊥))
-    ⊎ ((c : WrittenCondition) × IsWholeCondition c ws × BreaksCondition r (all_entries records.input records.output) records c NoneStated)
+    ⊎ ((c : WrittenCondition) × IsWholeCondition c ws × BreaksWrittenCondition r (all_entries records.input records.output) records c NoneStated)

@@ -4,7 +4,7 @@ use Rattle.cob_move_condition.specs.Conditions.{Condition}
 use Rattle.cob_move_data.specs.Moves.{Records}
 use Rattle.cob_move_statements.specs.declared.fault.MoveRule.{MoveRule}
 use Rattle.cob_source.specs.Tokens.{Lexeme}
-use Rattle.cob_move_tests.specs.Broken.{BreaksWords}
+use Rattle.cob_move_tests.specs.Broken.{BreaksConditionWords}
 use Rattle.cob_move_tests.specs.Meant.{IsConditionOf}
 
 -- Law: words mean one condition.
@@ -13,4 +13,4 @@ OneConditionOf = (r : Records) (ws : List Lexeme) (c d : Condition) → IsCondit
 
 -- Law: words that mean a condition break no rule.
 abbrev pub ConditionsBreakNoRule : Type 0
-ConditionsBreakNoRule = (rule : MoveRule) (r : Records) (ws : List Lexeme) (c : Condition) → IsConditionOf r ws c → BreaksWords rule r ws → ⊥
+ConditionsBreakNoRule = (rule : MoveRule) (r : Records) (ws : List Lexeme) (c : Condition) → IsConditionOf r ws c → BreaksConditionWords rule r ws → ⊥

@@ -1,4 +1,4 @@
-//! Answers tables of rows about conditions: what two operands compare to, whether entries are of a class, and how conditions are written.
+//! Answers tables of rows about conditions: what two operands compare to, whether entries are of a class, how conditions are written, and what they mean between two records.
 //!
 //! [`ConditionRows`] answers them; each table belongs to one module, which says how its rows are read. The tables stand in `data/conditions` of
 //! `cob_test_jobs`, and what must be printed in its `stdout`, worked out by hand from the rules of COBOL.
