@@ -196,21 +196,31 @@ fn have_one_name(records: &Records<'_>) -> bool {
     }
 }
 
+/// Whose names do not begin with its prefix, if there is such a record. Of one prefix for both records, one of them has to have it.
+fn unfit(records: &Records<'_>, prefixes: Prefixes<'_>) -> Option<Lacking> {
+    let input = fits(prefixes.input, records.both.inputs());
+    let output = fits(prefixes.output, records.both.outputs());
+    let one_fits = prefixes.input == prefixes.output && (input || output);
+    if one_fits || (input && output) {
+        return None;
+    }
+    if input {
+        Some(Lacking::OutputPrefix)
+    } else {
+        Some(Lacking::InputPrefix)
+    }
+}
+
 /// What a draft is told to lack: first the names that a prefix asks for.
 fn lacking_told(
     records: &Records<'_>,
     prefixes: Prefixes<'_>,
     lacking: Option<Lacking>,
 ) -> Option<Lacking> {
-    if !fits(prefixes.input, records.both.inputs()) {
-        return Some(Lacking::InputPrefix);
-    }
-    if !fits(prefixes.output, records.both.outputs()) {
-        return Some(Lacking::OutputPrefix);
-    }
-    match lacking {
-        Some(Lacking::Statement) if have_one_name(records) => Some(Lacking::TwoNames),
-        lacking => lacking,
+    match (unfit(records, prefixes), lacking) {
+        (Some(unfit), _) => Some(unfit),
+        (None, Some(Lacking::Statement)) if have_one_name(records) => Some(Lacking::TwoNames),
+        (None, lacking) => lacking,
     }
 }
 
