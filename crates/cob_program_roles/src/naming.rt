@@ -1,8 +1,7 @@
 //! Copybooks whose records are named by their roles.
 
 ghost use Rattle.std.specs.Prelude.{IfOk, IfSome, IsTrue};
-ghost use Rattle.cob_copybook.specs.Books.{record_name};
-ghost use Rattle.cob_program_roles.specs.Named.{DescribesBack, DescribesNamed, IsNamedByRole, other_role};
+ghost use Rattle.cob_program_roles.specs.Named.{DescribesBack, IsNamedByRole, other_role};
 
 use crate::blanking::{blanked, words_of};
 use crate::reading::{describes_nameable, describes_named, role_name};
@@ -46,22 +45,21 @@ fn describes_back(
     }
 }
 
-/// Whether a text describes the record of another one with the name of its role in each way.
-fn describes_in_ways(
+/// Whether a text stands for another one whose record is to be named by its role: it describes that record under that name in each way.
+fn stands_for(
     alloc: Global,
     ways: Ways,
     role: Role,
     text: &[u8],
     named: &[u8],
 ) -> Result<bool, AllocError>
-    ensures { IfOk result (λ yes. IsTrue yes
-        → DescribesNamed role (record_name role) text.now named.now
-        × DescribesBack ways role text.now named.now) }
+    ensures { IfOk result (λ yes. IsTrue yes → IsNamedByRole ways role text.now named.now) }
 {
-    if describes_named(alloc, role, text, named)? {
-        return describes_back(alloc, ways, role, text, named);
+    if !describes_named(alloc, role, text, named)? {
+        return Ok(false);
     }
-    Ok(false)
+    let back = describes_back(alloc, ways, role, text, named)?;
+    Ok(back)
 }
 
 /// A text that says the words of a copybook with the name of its role, if they have room in one.
@@ -80,7 +78,7 @@ fn written_named(alloc: Global, role: Role, text: &[u8]) -> Result<Option<Vec<u8
     }
 }
 
-/// This text, where it describes the record of another one with the name of its role in each way.
+/// This text, where it stands for another one.
 ///
 /// # Errors
 ///
@@ -99,13 +97,13 @@ fn if_named(
     let Some(named) = made else {
         return Ok(None);
     };
-    if describes_in_ways(alloc, ways, role, text, named.as_slice())? {
+    if stands_for(alloc, ways, role, text, named.as_slice())? {
         return Ok(Some(named));
     }
     Ok(None)
 }
 
-/// A text that describes the record of another one with the name of its role in each way, if one is made: first of all that text itself.
+/// A text that stands for another one, if one is made: first of all that text itself.
 ///
 /// # Errors
 ///
@@ -146,8 +144,8 @@ pub fn named_by_role(
     ensures { IfOk result (λ o. IfSome o (λ named.
         IsNamedByRole ways role text.items named.items)) }
 {
-    if describes_nameable(alloc, role, text.as_slice())? {
-        return made_named(alloc, ways, role, text.as_slice());
+    if !describes_nameable(alloc, role, text.as_slice())? {
+        return Ok(Some(text));
     }
-    Ok(Some(text))
+    made_named(alloc, ways, role, text.as_slice())
 }
