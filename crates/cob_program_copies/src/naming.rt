@@ -32,10 +32,13 @@ impl RecordNames {
     ///
     /// It says neither `own` nor `in-out`.
     pub(crate) fn of(options: &Handing<'_>, line: &Line<'_>) -> Result<RecordNames, BookRefusal> {
-        match options.records_as {
-            None | Some("own") => Ok(RecordNames::Own),
-            Some("in-out") => Ok(RecordNames::ByRole(ways_of(line))),
-            Some(_) => Err(BookRefusal::BadRecordsAs),
+        let Some(said) = options.records_as else {
+            return Ok(RecordNames::Own);
+        };
+        match said {
+            "own" => Ok(RecordNames::Own),
+            "in-out" => Ok(RecordNames::ByRole(ways_of(line))),
+            _ => Err(BookRefusal::BadRecordsAs),
         }
     }
 

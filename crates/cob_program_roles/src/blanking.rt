@@ -63,19 +63,19 @@ impl Blanking {
     /// Puts spaces in the place of a word, and of a comma directly behind it; answers whether it stands whole on its line.
     fn leave_out(&mut self, word: &Token) -> bool {
         let line = word.line.saturating_sub(1) as usize;
-        let Some(start) = self.starts.get(line) else {
+        let Some(start) = self.starts.as_slice().get(line) else {
             return false;
         };
-        let from = start.saturating_add(usize::from(word.column).saturating_sub(1));
+        let from = (*start).saturating_add(usize::from(word.column).saturating_sub(1));
         let to = from.saturating_add(word.text.len());
-        match self.text.get(from..to) {
+        match self.text.as_slice().get(from..to) {
             Some(bytes) if are_characters(bytes, word.text.as_slice()) => {}
             _ => return false,
         }
         for place in from..to {
             self.put_space(place);
         }
-        if self.text.get(to) == Some(&b',') {
+        if let Some(b',') = self.text.as_slice().get(to) {
             self.put_space(to);
         }
         true

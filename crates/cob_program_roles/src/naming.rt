@@ -7,7 +7,7 @@ use crate::blanking::{blanked, words_of};
 use crate::reading::{describes_nameable, describes_named, role_name};
 use cob_copybook::Role;
 use cob_copybook_record::with_record_name;
-use cob_copybook_text::text_saying;
+use cob_copybook_text::{RecordText, text_saying};
 use std::alloc::{AllocError, Global};
 
 /// Which ways are gone between the records of two copybooks.
@@ -73,7 +73,13 @@ fn written_named(alloc: Global, role: Role, text: &[u8]) -> Result<Option<Vec<u8
     };
     let named = with_record_name(alloc, words.as_slice(), role_name(role))?;
     match text_saying(alloc, named.as_slice())? {
-        Some(made) => Ok(Some(made.text)),
+        Some(made) => {
+            let RecordText {
+                text,
+                lines: _lines,
+            } = made;
+            Ok(Some(text))
+        }
         None => Ok(None),
     }
 }

@@ -3,7 +3,7 @@
 use crate::compared::fits;
 use crate::counts::counts_among;
 use crate::instead::{SEVERAL, UNNAMED};
-use crate::pairs::{Records, is_own_group, is_own_item, paired};
+use crate::pairs::{Records, has_namesake, is_own_group, is_own_item, paired};
 use crate::progress::{DraftProgress, Saying};
 use crate::words::CounterNames;
 use crate::writing::DraftText;
@@ -187,11 +187,9 @@ fn written(
 
 /// Whether both records have a name, and it is one.
 fn have_one_name(records: &Records<'_>) -> bool {
-    match (
-        records.both.inputs().first(),
-        records.both.outputs().first(),
-    ) {
-        (Some(input), Some(output)) => input.name.is_some() && input.name == output.name,
+    let input = records.both.inputs().get(..1);
+    match (input, records.both.outputs().first()) {
+        (Some(input), Some(output)) => has_namesake(input, output),
         _ => false,
     }
 }

@@ -62,7 +62,7 @@ fn names_behind<'a>(
 {
     let mut behind = Vec::new(alloc);
     for name in names {
-        behind.push(behind_prefix(prefix, name))?;
+        behind.push(behind_prefix(prefix, *name))?;
     }
     Ok(behind)
 }
