@@ -7,7 +7,7 @@ use Rattle.cob_copybook.specs.declared.role.Role.TheVariants.{In, Out}
 use Rattle.cob_copybook_tree.specs.Forests.{Forest, NoEntries, AnEntry}
 use Rattle.cob_copybook_tree.specs.Nodes.{Resolved, is_group_kind}
 use Rattle.cob_program_roles.specs.declared.naming.Ways.{Ways}
-use Rattle.cob_program_roles.specs.declared.naming.Ways.TheVariants as ways
+use Rattle.cob_program_roles.specs.declared.naming.Ways.TheVariants as way
 
 -- the name of a record
 abbrev pub name_of_record : Forest Resolved → Option (List ℕ)
@@ -43,8 +43,8 @@ other_role Out = In
 
 -- and so it is in the other role too, where the way back is gone
 abbrev pub DescribesBack : Ways → Role → (text named : List ℕ) → Type 0
-DescribesBack ways.There role text named = ⊤
-DescribesBack ways.ThereAndBack role text named = DescribesNamed (other_role role) (record_name (other_role role)) text named
+DescribesBack way.There role text named = ⊤
+DescribesBack way.ThereAndBack role text named = DescribesNamed (other_role role) (record_name (other_role role)) text named
 
 -- What stands for a text whose record is to be named by its role, in each way that is gone: a text that describes the same record under that name; or itself, where
 -- it describes none that may have another name.
