@@ -134,10 +134,11 @@ pub record IsExplain (look : Look) (line : ExplainLine) : Type 0 where
   pub lrecl : NamesLrecl look line.lrecl
   pub number : NamesNumber look (codes "record") 1 line.record
 
--- The options of `draft` name the line's files.
+-- The options of `draft` name the line's files, and the prefixes that are left out.
 pub record IsDraft (look : Look) (line : DraftLine) : Type 0 where
   pub in_book : look (codes "in-book") ≡ Some line.in_book.now
   pub out_book : look (codes "out-book") ≡ Some line.out_book.now
+  pub prefixes : look (codes "strip-prefix") ≡ option_map (λ prefixes. prefixes.now) line.strip_prefix
 
 -- The options of `map` name the line's files, and these are told, its forms, its reading, the record length of its input, and the number of the record.
 pub record IsMap (look : Look) (line : MapLine) : Type 0 where
@@ -165,7 +166,7 @@ IsCommand name look line.Completion = name ≡ codes "completion"
 IsCommand name look line.Manual = name ≡ codes "manual"
 
 -- Options say how copybooks are handed over: where the texts are that they copy, what is replaced in them, where their tab stops are, whether they are in free
--- format, and which of their records are meant. Each of these may be left out.
+-- format, which of their records are meant, and how these are named. Each of these may be left out.
 pub record NameHanding (look : Look) (handing : Handing) : Type 0 where
   pub copy_dirs : look (codes "copy-dir") ≡ option_map (λ dirs. dirs.now) handing.copy_dirs
   pub replace : look (codes "replace") ≡ option_map (λ exchanges. exchanges.now) handing.replace
@@ -174,6 +175,7 @@ pub record NameHanding (look : Look) (handing : Handing) : Type 0 where
   pub in_record : look (codes "in-record") ≡ option_map (λ name. name.now) handing.in_record
   pub out_record : look (codes "out-record") ≡ option_map (λ name. name.now) handing.out_record
   pub one_record : look (codes "record-name") ≡ option_map (λ name. name.now) handing.record
+  pub names : look (codes "records-as") ≡ option_map (λ names. names.now) handing.records_as
 
 -- no option hands anything over
 abbrev pub HandsNothing : Handing → Type 0

@@ -121,8 +121,8 @@ pub struct CommandLine<'a> {
     pub handing: Handing<'a>,
 }
 
-/// How copybooks are handed over: where the texts are that they copy, what is replaced in them, how they stand on their lines, and which of their records are
-/// meant.
+/// How copybooks are handed over: where the texts are that they copy, what is replaced in them, how they stand on their lines, which of their records are
+/// meant, and how these are named.
 #[derive(Clone, Copy)]
 pub struct Handing<'a> {
     /// The folders with the texts that COPY names, parted by colons.
@@ -139,6 +139,8 @@ pub struct Handing<'a> {
     pub out_record: Option<&'a str>,
     /// The record of a listing's copybook that is meant.
     pub record: Option<&'a str>,
+    /// How the records of both copybooks are named.
+    pub records_as: Option<&'a str>,
 }
 
 impl Handing<'_> {
@@ -154,6 +156,7 @@ impl Handing<'_> {
             in_record: None,
             out_record: None,
             record: None,
+            records_as: None,
         }
     }
 }
@@ -414,6 +417,8 @@ pub struct DraftLine<'a> {
     pub in_book: &'a str,
     /// The file with the copybook of the output record.
     pub out_book: &'a str,
+    /// The prefixes that are left out where names are compared, with a comma between that of the input record and that of the output record.
+    pub strip_prefix: Option<&'a str>,
 }
 
 /// The options of `map`.

@@ -391,5 +391,6 @@ pub(crate) fn handing_of<'a>(options: &ArgMatches<'a>) -> Handing<'a>
         in_record: named_if_there(options, "in-record"),
         out_record: named_if_there(options, "out-record"),
         record: named_if_there(options, "record-name"),
+        records_as: named_if_there(options, "records-as"),
     }
 }

@@ -27,6 +27,7 @@ fn values_for<'a>(value: &str, default: Option<&'a str>) -> Values<'a> {
         "<READING>" => Values::Words("pictured whole"),
         "<LISTING>" => Values::Words("text json csv"),
         "<MEASURE>" => Values::Words("value bytes"),
+        "<HOW>" => Values::Words("own in-out"),
         _ => Values::Words(default.unwrap_or("")),
     }
 }

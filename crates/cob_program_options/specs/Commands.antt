@@ -54,9 +54,9 @@ report_options = (codes "report", Optional) ∷ []
 abbrev pub copies_options : Options
 copies_options = (codes "copy-dir", Optional) ∷ (codes "replace", Optional) ∷ (codes "tabs", Optional) ∷ (codes "free", Alone) ∷ []
 
--- the options for how both copybooks are handed over: these, and the records of theirs that are meant
+-- the options for how both copybooks are handed over: these, the records of theirs that are meant, and how they are named
 abbrev pub books_handing : Options
-books_handing = copies_options ++ (codes "in-record", Optional) ∷ (codes "out-record", Optional) ∷ []
+books_handing = copies_options ++ (codes "in-record", Optional) ∷ (codes "out-record", Optional) ∷ (codes "records-as", Optional) ∷ []
 
 -- the options for how the copybook of a listing is handed over
 abbrev pub book_handing : Options
@@ -107,7 +107,7 @@ explain_options = texts_options ++ (codes "in", Required) ∷ forms_options ++ l
 
 -- the options of `draft`
 abbrev pub draft_options : Options
-draft_options = books_options ++ books_handing ++ shared_options
+draft_options = books_options ++ (codes "strip-prefix", Optional) ∷ books_handing ++ shared_options
 
 -- the options of `map`
 abbrev pub map_options : Options

@@ -46,6 +46,13 @@ pub(crate) const COPY_DIR_HELP: &str =
 pub(crate) const REPLACE_HELP: &str =
     "Put Y for each X in the copybooks; several of these\nare parted by semicolons";
 
+// What `--records-as` and `--strip-prefix` name.
+pub(crate) const RECORDS_AS_HELP: &str =
+    "How both records are named: own, as the copybooks say;\nor in-out, IN-RECORD and OUT-RECORD";
+
+pub(crate) const STRIP_PREFIX_HELP: &str =
+    "Pair names without these prefixes, as in IN-,OUT-;\none alone is that of both records";
+
 // What `--tabs` names, and what `--free` does.
 pub(crate) const TABS_HELP: &str =
     "Put spaces for tabs in the copybooks; a tab stop is\nbehind each N columns";

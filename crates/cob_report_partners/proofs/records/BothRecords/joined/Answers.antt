@@ -6,12 +6,12 @@ use Rattle.cob_report_partners.specs.Entries.{DraftEntry, listed_bearer}
 use Rattle.cob_report_partners.specs.Groups.{AreGroups, below_record, has_group, names_group}
 use Rattle.cob_report_partners.specs.declared.entries.DraftEntry.{DraftEntry as ListedEntry}
 use Rattle.cob_report_partners.proofs.RecordLemmas.{as_many, sharing}
-use Rattle.cob_report_partners.proofs.records.BothRecords.of.Goals as goal
+use Rattle.cob_report_partners.proofs.records.BothRecords.joined.Goals as goal
 
 pub invariant_of-result : goal.invariant_of-result
 invariant_of-result c =
-    let inputs = c.in_ok-inputs.inputs.items in
-    let outputs = c.in_ok-outputs.outputs.items in
+    let inputs = c.args.inputs.items in
+    let outputs = c.args.outputs.items in
     let groups = c.in_ok-output_groups.output_groups in
     let found = (λ (b : Bearer DraftEntry). filter (has_group groups) (below_record b.above)) in
     let shared = c.in_ok-shared.ensures ∙ ap (λ (bs : List (Listed ListedEntry)). map found (map listed_bearer bs)) c.as_slice-3.ensures.value in
