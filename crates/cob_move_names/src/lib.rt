@@ -69,13 +69,18 @@ mod qualifiers;
 mod sending;
 mod subordinate;
 mod subscripts;
+mod valued;
 
 pub use correspondences::Correspondences;
 pub use directory::Names;
-pub use find::Named;
+pub use find::{Named, NamedValues};
 pub use groups::entries_below;
-pub use laws::{named_are_operands, named_break_no_rule, one_named};
+pub use laws::{
+    items_are_operands, named_are_operands, named_break_no_rule, one_named, one_valued,
+    valued_break_no_rule,
+};
 pub use pair::EntryPair;
 pub use pair_laws::subordinates_are_operands;
 pub use pairing::pairs;
 pub use subordinate::is_no_group;
+pub use valued::ConditionNames;

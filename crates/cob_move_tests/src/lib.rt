@@ -26,6 +26,7 @@
 //! `sender_of`.
 #![tactic(auto)]
 
+mod alone;
 mod compared;
 mod conditions;
 mod counters;
@@ -33,10 +34,12 @@ mod entries;
 mod laws;
 mod qualities;
 mod senders;
+mod spans;
 
 pub use compared::constant_compared;
 pub use conditions::{both, condition_of, either, opposite_if};
 pub use counters::has_no_counter;
-pub use entries::{Entries, NamedEntry};
+pub use entries::{Entries, NamedEntry, ValuedItem};
 pub use laws::{conditions_break_no_rule, one_condition_of};
 pub use senders::{kind_of_sender, sender_of};
+pub use spans::{between, compares};
