@@ -1,10 +1,13 @@
 -- Condition-names and the entries that they belong to.
-use Rattle.std.proofs.Common.{◌≡◌, ℕ, zero, suc, ◌+◌, ◌<◌, ◌==◌, Bool, true, false, List, [], ◌∷◌, ◌++◌, length, refl, sym, ap, subst, ◌∙◌, inl, inr, arith, Option, Some, None, append-nil}
-use Rattle.std.specs.Prelude.{filter}
+use Rattle.std.proofs.Common.{◌≡◌, ℕ, zero, suc, ◌+◌, ◌<◌, ◌≤◌, ◌==◌, Bool, true, false, List, [], ◌∷◌, ◌++◌, length, map, drop, get_or, refl, sym, ap, subst, ◌∙◌, inl, inr, arith, Option, Some, None, append-nil, append_assoc}
+use Rattle.std.specs.Prelude.{filter, option_map}
 use Rattle.std.specs.List.{AllByRecursion, flat_map, slice_get}
 use Rattle.std.proofs.lemmas.Bool.Decides.{nat_tests}
-use Rattle.std.proofs.lemmas.List.{length-append}
-use Rattle.cob_copybook_conditions.specs.Names.{PlainConditionName, PlainSpan}
+use Rattle.std.proofs.lemmas.List.{at_drop_more, length-append}
+use Rattle.std.proofs.lemmas.Option.{slice_get-map, slice_get_past, slice_get_read}
+use Rattle.cob_copybook_conditions.specs.Names.{PlainConditionName, PlainSpan, plain_condition_name, plain_condition_names}
+use Rattle.cob_copybook_conditions.specs.declared.names.ConditionName.{ConditionName}
+use Rattle.cob_copybook_names.specs.declared.bearer.Bearer.{Bearer as Listed}
 use Rattle.cob_copybook_names.specs.Naming.{Bearer, is_named, with_name}
 use Rattle.cob_copybook_tree.specs.Forests.{Forest, NoEntries, AnEntry, entries_in}
 use Rattle.cob_copybook_tree.specs.Lengths.{greatest_number}
@@ -19,7 +22,9 @@ use Rattle.cob_move_data.specs.declared.operands.Side.TheVariants.{In, Out}
 use Rattle.cob_move_data.specs.Moves.{IsOperand, Records, record_of}
 use Rattle.cob_move_names.specs.Candidates.{Candidate, RecordEntry, all_entries, candidates, with_table}
 use Rattle.cob_move_names.specs.Laws.{ItemsAreOperands}
-use Rattle.cob_move_names.specs.Listed.{AreInOrder}
+use Rattle.cob_move_names.specs.Listed.{AreInOrder, ListsValues, candidate_of, valued_of}
+use Rattle.cob_move_names.specs.declared.valued.ValuedEntry.{ValuedEntry as ListedValued}
+use Rattle.cob_move_names.specs.declared.candidate.RecordEntry.{RecordEntry as ListedEntry}
 use Rattle.cob_move_names.specs.References.{AreSubscriptsOf, entry_operand, subscript_numbers}
 use Rattle.cob_move_names.specs.Valued.{AreOfEntries, IsItemOf, PlainConditionNames, ValuedEntry, all_values, named_value, named_values, valued, valued_by}
 use Rattle.cob_move_names.specs.Values.{ValuedOperand}
@@ -70,6 +75,32 @@ value_at n cs c h e =
 pub no_value_at : (n : PlainConditionName) (cs : List Candidate) → AreInOrder 0 cs → slice_get cs n.entry ≡ None → named_value cs n ≡ []
 no_value_at n cs h e =
     ap (λ (xs : List Candidate). flat_map (valued n) xs) (numbered_at 0 n.entry n.entry cs (omega arith) h) ∙ value_by n (slice_get cs n.entry) None e
+
+-- the same of listed entries
+pub listed_at : (bs : List (Listed ListedEntry)) (n : PlainConditionName) (b : Listed ListedEntry) → AreInOrder 0 (map candidate_of bs) → n.entry < length bs → b ≡ get_or bs n.entry b
+    → named_value (map candidate_of bs) n ≡ valued n (candidate_of b)
+listed_at bs n b order lt is =
+    value_at n (map candidate_of bs) (candidate_of b) order
+    (slice_get-map candidate_of bs n.entry ∙ ap (λ (o : Option (Listed ListedEntry)). option_map candidate_of o) (slice_get_read bs (length bs) n.entry b refl lt is))
+
+pub none_at : (bs : List (Listed ListedEntry)) (n : PlainConditionName) → AreInOrder 0 (map candidate_of bs) → length bs ≤ n.entry → named_value (map candidate_of bs) n ≡ []
+none_at bs n order past =
+    no_value_at n (map candidate_of bs) order
+    (slice_get-map candidate_of bs n.entry ∙ ap (λ (o : Option (Listed ListedEntry)). option_map candidate_of o) (slice_get_past bs n.entry past))
+
+-- nothing is listed
+pub lists_none : (before : List (Listed ListedValued)) (more : List (Bearer ValuedEntry)) → more ≡ [] → ListsValues before before more
+lists_none before more none = sym (append-nil (map valued_of before)) ∙ ap (λ (t : List (Bearer ValuedEntry)). map valued_of before ++ t) (sym none)
+
+-- the condition-names from a place on, and from the next one
+pub values_next : (cs : List Candidate) (names : List ConditionName) (i : ℕ) (name : ConditionName) (before after whole : List (Bearer ValuedEntry)) → i < length names → name ≡ get_or names i name
+    → after ≡ before ++ named_value cs (plain_condition_name name) → before ++ named_values cs (plain_condition_names (drop i names)) ≡ whole
+    → after ++ named_values cs (plain_condition_names (drop (i + 1) names)) ≡ whole
+values_next cs names i name before after whole lt is adds so =
+    let rest = named_values cs (plain_condition_names (drop (i + 1) names)) in
+    ap (λ (t : List (Bearer ValuedEntry)). t ++ rest) adds ∙ append_assoc before (named_value cs (plain_condition_name name)) rest
+    ∙ ap (λ (t : List (Bearer ValuedEntry)). before ++ t) (sym (at_drop_more (λ (xs : List ConditionName). named_values cs (plain_condition_names xs)) names i name lt
+    ∙ ap (λ (x : ConditionName). named_value cs (plain_condition_name x) ++ rest) (sym is))) ∙ so
 
 -- ---- entries in order
 

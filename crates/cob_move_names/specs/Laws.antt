@@ -8,9 +8,8 @@ use Rattle.cob_move_data.specs.Moves.{IsOperand, Records, record_of}
 use Rattle.cob_move_statements.specs.declared.fault.MoveRule.{MoveRule}
 use Rattle.cob_move_statements.specs.Written.{WrittenReference}
 use Rattle.cob_move_names.specs.Candidates.{Candidate, all_entries}
-use Rattle.cob_move_names.specs.Listed.{AreOfEntries}
 use Rattle.cob_move_names.specs.References.{NamesOperand, BreaksReference}
-use Rattle.cob_move_names.specs.Valued.{ValuedEntry}
+use Rattle.cob_move_names.specs.Valued.{AreOfEntries, ValuedEntry}
 use Rattle.cob_move_names.specs.Values.{BreaksValues, NamesValues, ValuedOperand}
 
 -- Law: what a reference names is an operand of its record, so that it can be placed and is of the kind that the record says.

@@ -1,14 +1,8 @@
 //! The directory of the entries of both records by name.
 
-ghost use Rattle.std.specs.Prelude.{◌≡◌, ◌<◌, ◌∷◌, [], length, map, IfErr, IfNone, IfOk, IfSome, IsFalse, IsTrue};
-ghost use Rattle.cob_copybook_clauses.specs.Written.{names_behind};
-ghost use Rattle.cob_source.specs.Tokens.{lexemes};
-ghost use Rattle.cob_copybook_names.specs.Naming.{IsNameFault, named};
-ghost use Rattle.cob_move_names.specs.Directory.{entries_named, values_named};
+ghost use Rattle.std.specs.Prelude.{map};
 ghost use Rattle.cob_move_names.specs.Listed.{candidate_of, valued_of};
-ghost use Rattle.cob_move_names.specs.References.{BreaksName};
 ghost use Rattle.cob_move_names.specs.Valued.{AreOfEntries};
-ghost use Rattle.cob_move_names.specs.Values.{IsAmbiguous};
 
 use crate::candidate::RecordEntry;
 use crate::qualifiers::QualifierWords;
@@ -30,6 +24,14 @@ pub struct Names<'a> {
 }
 
 impl<'a> Names<'a> {
+    ghost use Rattle.std.specs.Prelude.{◌≡◌, ◌<◌, ◌∷◌, [], length, IfErr, IfNone, IfOk, IfSome, IsFalse, IsTrue};
+    ghost use Rattle.cob_copybook_clauses.specs.Written.{names_behind};
+    ghost use Rattle.cob_source.specs.Tokens.{lexemes};
+    ghost use Rattle.cob_copybook_names.specs.Naming.{IsNameFault, named};
+    ghost use Rattle.cob_move_names.specs.Directory.{entries_named, values_named};
+    ghost use Rattle.cob_move_names.specs.References.{BreaksName};
+    ghost use Rattle.cob_move_names.specs.Values.{IsAmbiguous};
+
     /// The names of these entries, and these condition-names of theirs.
     pub(crate) fn listed(
         alloc: Global,
