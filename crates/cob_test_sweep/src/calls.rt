@@ -8,7 +8,7 @@ use cob_codec::Reading;
 use cob_convert::Converter;
 use cob_copybook::{Book, Role};
 use cob_layout::Layout;
-use cob_move::Paragraph;
+use cob_move::{ConditionNames, Paragraph};
 use cob_move_apply::Scratch;
 use cob_move_names::pairs;
 use cob_move_statements::MoveFault;
@@ -84,7 +84,11 @@ pub(crate) fn read_paragraph(
     output: &Layout,
     text: &[u8],
 ) -> Result<u32, MoveFault> {
-    match Paragraph::read(alloc, input, output, text) {
+    let names = ConditionNames {
+        input: &[],
+        output: &[],
+    };
+    match Paragraph::read(alloc, input, output, names, text) {
         Ok(paragraph) => Ok(paragraph.moves()),
         Err(fault) => Err(fault),
     }
