@@ -1,6 +1,6 @@
 -- Condition-names and the entries that they belong to.
 use Rattle.std.proofs.Common.{◌≡◌, ℕ, zero, suc, ◌+◌, ◌<◌, ◌≤◌, ◌==◌, Bool, true, false, List, [], ◌∷◌, ◌++◌, length, map, drop, get_or, refl, sym, ap, subst, ◌∙◌, inl, inr, arith, Option, Some, None, append-nil, append_assoc}
-use Rattle.std.specs.Prelude.{filter, option_map}
+use Rattle.std.specs.Prelude.{◌&&◌, filter, option_map}
 use Rattle.std.specs.List.{AllByRecursion, flat_map, slice_get}
 use Rattle.std.proofs.lemmas.Bool.Decides.{nat_tests}
 use Rattle.std.proofs.lemmas.List.{at_drop_more, length-append}
@@ -26,7 +26,7 @@ use Rattle.cob_move_names.specs.Listed.{AreInOrder, ListsValues, candidate_of, v
 use Rattle.cob_move_names.specs.declared.valued.ValuedEntry.{ValuedEntry as ListedValued}
 use Rattle.cob_move_names.specs.declared.candidate.RecordEntry.{RecordEntry as ListedEntry}
 use Rattle.cob_move_names.specs.References.{AreSubscriptsOf, entry_operand, subscript_numbers}
-use Rattle.cob_move_names.specs.Valued.{AreOfEntries, IsItemOf, PlainConditionNames, ValuedEntry, all_values, named_value, named_values, valued, valued_by}
+use Rattle.cob_move_names.specs.Valued.{AreOfEntries, PlainConditionNames, ValuedEntry, all_values, entry_with, named_value, named_values, same_side, valued, valued_by}
 use Rattle.cob_move_names.specs.Values.{ValuedOperand}
 use Rattle.cob_move_names.proofs.ReferenceLemmas.{of_candidate}
 
@@ -125,16 +125,7 @@ in_order side above tables n (AnEntry e children more) h =
           (omega (arith, as_many side (with_name e.name above) inner children)) (in_order side above tables (n + 1 + entries_in children) more h.2),
     )
 
--- ---- items among entries
-
-in_left : {A : Type 0} (c : A) (xs ys : List A) → IsIn c xs → IsIn c (xs ++ ys)
-in_left c [] ys h = absurd h
-in_left c (x ∷ xs) ys (inl e) = inl e
-in_left c (x ∷ xs) ys (inr h) = inr (in_left c xs ys h)
-
-in_right : {A : Type 0} (c : A) (xs ys : List A) → IsIn c ys → IsIn c (xs ++ ys)
-in_right c [] ys h = h
-in_right c (x ∷ xs) ys h = inr (in_right c xs ys h)
+-- ---- lists
 
 kept : {A : Type 0} (f : A → Bool) (x : A) (xs : List A) (c : A) (t : Bool) → f x ≡ t → (IsIn c (filter f xs) → IsIn c xs) → IsIn c (filter f (x ∷ xs)) → IsIn c (x ∷ xs)
 kept f x xs c true e so = rw e (λ h. elim h [ inl a ↦ inl a | inr a ↦ inr (so a) ])
@@ -153,33 +144,148 @@ all_in P [] x h o = absurd o
 all_in P (y ∷ xs) x h (inl e) = subst P (sym e) h.0
 all_in P (y ∷ xs) x h (inr o) = all_in P xs x h.1 o
 
-wider : (cs ds : List Candidate) (vs : List (Bearer ValuedEntry)) → ((c : Candidate) → IsIn c cs → IsIn c ds) → AreOfEntries cs vs → AreOfEntries ds vs
-wider cs ds [] f h = tt
-wider cs ds (v ∷ vs) f h = ((h.0.0, f h.0.0 h.0.1, h.0.2), wider cs ds vs f h.1)
+-- ---- entries by side and number
 
-of_valued : (cs : List Candidate) (vs : List PlainSpan) (n : PlainConditionName) (c : Candidate) → IsIn c cs → AreOfEntries cs (valued_by vs n c)
+same_refl : (side : Side) → same_side side side ≡ true
+same_refl In = refl
+same_refl Out = refl
+
+same_is : (a b : Side) → same_side a b ≡ true → a ≡ b
+same_is In In e = refl
+same_is In Out e = cc
+same_is Out In e = cc
+same_is Out Out e = refl
+
+both_true : (a b : Bool) → a ≡ true → b ≡ true → (a && b) ≡ true
+both_true true b e f = f
+both_true false b e f = cc
+
+second_false : (a b : Bool) → b ≡ false → (a && b) ≡ false
+second_false true b f = f
+second_false false b f = refl
+
+first_false : (a b : Bool) → a ≡ false → (a && b) ≡ false
+first_false true b e = cc
+first_false false b e = refl
+
+with_hit : (side : Side) (n : ℕ) (c : Candidate) (cs : List Candidate) → (same_side c.entry.side side && (c.entry.number == n)) ≡ true → entry_with side n (c ∷ cs) ≡ Some c.entry
+with_hit side n c cs e = rw e refl
+
+with_skip : (side : Side) (n : ℕ) (c : Candidate) (cs : List Candidate) → (same_side c.entry.side side && (c.entry.number == n)) ≡ false → entry_with side n (c ∷ cs) ≡ entry_with side n cs
+with_skip side n c cs e = rw e refl
+
+-- numbers behind one are greater
+from_on : (n : ℕ) (cs : List Candidate) (c : Candidate) → AreInOrder n cs → IsIn c cs → n ≤ c.entry.number
+from_on n [] c h o = absurd o
+from_on n (x ∷ cs) c h (inl e) = omega (arith, h.0, ap (λ (y : Candidate). y.entry.number) e)
+from_on n (x ∷ cs) c h (inr o) = omega (arith, from_on (n + 1) cs c h.1 o)
+
+-- an entry of these is the one with its side and number
+with_own : (n : ℕ) (cs : List Candidate) (c : Candidate) → AreInOrder n cs → IsIn c cs → entry_with c.entry.side c.entry.number cs ≡ Some c.entry
+with_own n [] c h o = absurd o
+with_own n (x ∷ cs) c h (inl e) =
+    subst (λ (y : Candidate). entry_with c.entry.side c.entry.number (y ∷ cs) ≡ Some c.entry) e
+    (with_hit c.entry.side c.entry.number c cs (both_true (same_side c.entry.side c.entry.side) (c.entry.number == c.entry.number) (same_refl c.entry.side) (equal c.entry.number c.entry.number refl)))
+with_own n (x ∷ cs) c h (inr o) =
+    with_skip c.entry.side c.entry.number x cs
+    (second_false (same_side x.entry.side c.entry.side) (x.entry.number == c.entry.number) (differ x.entry.number c.entry.number (λ e. omega (arith, e, h.0, from_on (n + 1) cs c h.1 o))))
+    ∙ with_own (n + 1) cs c h.1 o
+
+front_step : (b : Bool) (side : Side) (n : ℕ) (x : Candidate) (xs ys : List Candidate) (e : RecordEntry) → (same_side x.entry.side side && (x.entry.number == n)) ≡ b
+    → (entry_with side n xs ≡ Some e → entry_with side n (xs ++ ys) ≡ Some e) → entry_with side n (x ∷ xs) ≡ Some e → entry_with side n ((x ∷ xs) ++ ys) ≡ Some e
+front_step true side n x xs ys e t so h = with_hit side n x (xs ++ ys) t ∙ sym (with_hit side n x xs t) ∙ h
+front_step false side n x xs ys e t so h = with_skip side n x (xs ++ ys) t ∙ so (sym (with_skip side n x xs t) ∙ h)
+
+with_front : (side : Side) (n : ℕ) (xs ys : List Candidate) (e : RecordEntry) → entry_with side n xs ≡ Some e → entry_with side n (xs ++ ys) ≡ Some e
+with_front side n [] ys e h = absurd cc
+with_front side n (x ∷ xs) ys e h = front_step (same_side x.entry.side side && (x.entry.number == n)) side n x xs ys e refl (with_front side n xs ys e) h
+
+-- entries of one side are none of the other
+with_behind : (n : ℕ) (xs ys : List Candidate) → AllByRecursion (λ c. c.entry.side ≡ In) xs → entry_with Out n (xs ++ ys) ≡ entry_with Out n ys
+with_behind n [] ys h = refl
+with_behind n (x ∷ xs) ys h =
+    with_skip Out n x (xs ++ ys) (first_false (same_side x.entry.side Out) (x.entry.number == n) (ap (λ (s : Side). same_side s Out) h.0)) ∙ with_behind n xs ys h.1
+
+all_of_side : (side : Side) (above : List (List ℕ)) (tables : List ℕ) (f : Forest Resolved) → AllByRecursion (λ c. c.entry.side ≡ side) (candidates side above tables f)
+all_of_side side above tables NoEntries = tt
+all_of_side side above tables (AnEntry e children more) =
+    let inner = with_table (is_table e.occurs) (greatest_number e) tables in (
+      refl,
+      all_both (λ (c : Candidate). c.entry.side ≡ side) (candidates side (with_name e.name above) inner children) (candidates side above tables more)
+          (all_of_side side (with_name e.name above) inner children) (all_of_side side above tables more),
+    )
+
+-- ---- items among entries
+
+abbrev IsKnown : List Candidate → Bearer ValuedEntry → Type 0
+IsKnown cs b = entry_with b.entry.item.side b.entry.item.number cs ≡ Some b.entry.item
+
+abbrev AreKnown : List Candidate → List Candidate → Type 0
+AreKnown cs xs = (c : Candidate) → IsIn c xs → entry_with c.entry.side c.entry.number cs ≡ Some c.entry
+
+of_valued : (cs : List Candidate) (vs : List PlainSpan) (n : PlainConditionName) (c : Candidate) → entry_with c.entry.side c.entry.number cs ≡ Some c.entry → AllByRecursion (IsKnown cs) (valued_by vs n c)
 of_valued cs [] n c o = tt
-of_valued cs (v ∷ vs) n c o = ((c, o, refl), tt)
+of_valued cs (v ∷ vs) n c o = (o, tt)
 
-of_several : (cs xs : List Candidate) (n : PlainConditionName) → ((c : Candidate) → IsIn c xs → IsIn c cs) → AreOfEntries cs (flat_map (valued n) xs)
+of_several : (cs xs : List Candidate) (n : PlainConditionName) → AreKnown cs xs → AllByRecursion (IsKnown cs) (flat_map (valued n) xs)
 of_several cs [] n f = tt
 of_several cs (x ∷ xs) n f =
-    all_both (λ (b : Bearer ValuedEntry). IsItemOf cs b.entry.item) (valued n x) (flat_map (valued n) xs) (of_valued cs n.values n x (f x (inl refl))) (of_several cs xs n (λ c o. f c (inr o)))
+    all_both (IsKnown cs) (valued n x) (flat_map (valued n) xs) (of_valued cs n.values n x (f x (inl refl))) (of_several cs xs n (λ c o. f c (inr o)))
 
-of_values : (cs : List Candidate) (ns : List PlainConditionName) → AreOfEntries cs (named_values cs ns)
-of_values cs [] = tt
-of_values cs (n ∷ ns) =
-    all_both (λ (b : Bearer ValuedEntry). IsItemOf cs b.entry.item) (named_value cs n) (named_values cs ns)
-    (of_several cs (numbered n.entry cs) n (among (λ (c : Candidate). c.entry.number == n.entry) cs)) (of_values cs ns)
+of_values : (cs xs : List Candidate) (ns : List PlainConditionName) → AreKnown cs xs → AllByRecursion (IsKnown cs) (named_values xs ns)
+of_values cs xs [] f = tt
+of_values cs xs (n ∷ ns) f =
+    all_both (IsKnown cs) (named_value xs n) (named_values xs ns)
+    (of_several cs (numbered n.entry xs) n (λ c o. f c (among (λ (x : Candidate). x.entry.number == n.entry) xs c o))) (of_values cs xs ns f)
+
+all_known : (cs : List Candidate) (vs : List (Bearer ValuedEntry)) → AllByRecursion (IsKnown cs) vs → AreOfEntries cs vs
+all_known cs [] h = refl
+all_known cs (v ∷ vs) h =
+    ap (λ (o : Option RecordEntry). o ∷ map (λ b. entry_with b.entry.item.side b.entry.item.number cs) vs) h.0 ∙ ap (λ (os : List (Option RecordEntry)). Some v.entry.item ∷ os) (all_known cs vs h.1)
 
 -- the items of all condition-names are entries of the records
-pub of_all : (input output : Forest Resolved) (names : PlainConditionNames) → AreOfEntries (all_entries input output) (all_values input output names)
-of_all input output names =
+pub of_all : (input output : Forest Resolved) (names : PlainConditionNames) → AreNumbered 0 input → AreNumbered 0 output → AreOfEntries (all_entries input output) (all_values input output names)
+of_all input output names first second =
     let xs = candidates In [] [] input in
     let ys = candidates Out [] [] output in
-    all_both (λ (b : Bearer ValuedEntry). IsItemOf (xs ++ ys) b.entry.item) (named_values xs names.input) (named_values ys names.output)
-    (wider xs (xs ++ ys) (named_values xs names.input) (λ c o. in_left c xs ys o) (of_values xs names.input))
-    (wider ys (xs ++ ys) (named_values ys names.output) (λ c o. in_right c xs ys o) (of_values ys names.output))
+    all_known (xs ++ ys) (all_values input output names)
+    (all_both (IsKnown (xs ++ ys)) (named_values xs names.input) (named_values ys names.output)
+    (of_values (xs ++ ys) xs names.input (λ c o. with_front c.entry.side c.entry.number xs ys c.entry (with_own 0 xs c (in_order In [] [] 0 input first) o)))
+    (of_values (xs ++ ys) ys names.output (λ c o. in_second xs ys c (all_of_side In [] [] input) (all_in (λ (x : Candidate). x.entry.side ≡ Out) ys c (all_of_side Out [] [] output) o) (with_own 0 ys c (in_order Out [] [] 0 output second) o))))
+  where
+    in_second : (xs ys : List Candidate) (c : Candidate) → AllByRecursion (λ x. x.entry.side ≡ In) xs → c.entry.side ≡ Out → entry_with c.entry.side c.entry.number ys ≡ Some c.entry
+        → entry_with c.entry.side c.entry.number (xs ++ ys) ≡ Some c.entry
+    in_second xs ys c all side own =
+        ap (λ (s : Side). entry_with s c.entry.number (xs ++ ys)) side ∙ with_behind c.entry.number xs ys all ∙ ap (λ (s : Side). entry_with s c.entry.number ys) (sym side) ∙ own
+
+-- an entry is one of these
+abbrev IsItemOf : List Candidate → RecordEntry → Type 0
+IsItemOf cs e = (c : Candidate) × IsIn c cs × (e ≡ c.entry)
+
+some_same : (a b : RecordEntry) → Some a ≡ Some b → a ≡ b
+some_same a b e = cc
+
+item_step : (b : Bool) (side : Side) (n : ℕ) (x : Candidate) (xs : List Candidate) (e : RecordEntry) → (same_side x.entry.side side && (x.entry.number == n)) ≡ b
+    → (entry_with side n xs ≡ Some e → IsItemOf xs e) → entry_with side n (x ∷ xs) ≡ Some e → IsItemOf (x ∷ xs) e
+item_step true side n x xs e t so h = (x, inl refl, some_same e x.entry (sym h ∙ with_hit side n x xs t))
+item_step false side n x xs e t so h = let (c, o, is) = so (sym (with_skip side n x xs t) ∙ h) in (c, inr o, is)
+
+item_with : (side : Side) (n : ℕ) (cs : List Candidate) (e : RecordEntry) → entry_with side n cs ≡ Some e → IsItemOf cs e
+item_with side n [] e h = absurd cc
+item_with side n (x ∷ xs) e h = item_step (same_side x.entry.side side && (x.entry.number == n)) side n x xs e refl (item_with side n xs e) h
+
+first_same : (a b : Option RecordEntry) (xs ys : List (Option RecordEntry)) → a ∷ xs ≡ b ∷ ys → a ≡ b
+first_same a b xs ys e = cc
+
+rest_same : (a b : Option RecordEntry) (xs ys : List (Option RecordEntry)) → a ∷ xs ≡ b ∷ ys → xs ≡ ys
+rest_same a b xs ys e = cc
+
+known_all : (cs : List Candidate) (vs : List (Bearer ValuedEntry)) → AreOfEntries cs vs → AllByRecursion (IsKnown cs) vs
+known_all cs [] h = tt
+known_all cs (v ∷ vs) h = (
+  first_same (entry_with v.entry.item.side v.entry.item.number cs) (Some v.entry.item) (map (λ b. entry_with b.entry.item.side b.entry.item.number cs) vs) (map (λ b. Some b.entry.item) vs) h,
+  known_all cs vs (rest_same (entry_with v.entry.item.side v.entry.item.number cs) (Some v.entry.item) (map (λ b. entry_with b.entry.item.side b.entry.item.number cs) vs) (map (λ b. Some b.entry.item) vs) h),
+)
 
 -- ---- operands
 
@@ -193,5 +299,6 @@ pub items_are_operands : RecordsAreSound → ItemsAreOperands
 items_are_operands sound records values r v input output held h =
     let b : Bearer ValuedEntry = h.bearer in
     let o : IsIn b values = among (λ (x : Bearer ValuedEntry). is_named r.name r.qualifiers x) values b (subst (IsIn b) (sym h.only) (inl refl)) in
-    let item = all_in (λ (x : Bearer ValuedEntry). IsItemOf (all_entries records.input records.output) x.entry.item) values b held o in
+    let known : IsKnown (all_entries records.input records.output) b = all_in (IsKnown (all_entries records.input records.output)) values b (known_all (all_entries records.input records.output) values held) o in
+    let item = item_with b.entry.item.side b.entry.item.number (all_entries records.input records.output) b.entry.item known in
     subst (λ (x : ValuedOperand). IsOperand (record_of records x.side) x.operand) (sym h.is) (of_item sound records b.entry.item r.subscripts input output item h.subscripts)

@@ -1,11 +1,11 @@
 -- The condition-names of the two records, as a reference may name them.
-use Rattle.std.specs.Prelude.{◌≡◌, ◌==◌, List, [], ◌∷◌, ◌++◌, Some, filter}
-use Rattle.std.specs.List.{AllByRecursion, flat_map}
+use Rattle.std.specs.Prelude.{◌≡◌, ◌==◌, ◌&&◌, ℕ, Bool, true, false, if◌then◌else◌, List, [], ◌∷◌, ◌++◌, Option, Some, None, filter, map}
+use Rattle.std.specs.List.{flat_map}
 use Rattle.cob_copybook_conditions.specs.Names.{PlainConditionName, PlainSpan, plain_condition_names}
 use Rattle.cob_copybook_names.specs.Naming.{Bearer, with_name}
 use Rattle.cob_copybook_tree.specs.Forests.{Forest}
 use Rattle.cob_copybook_tree.specs.Nodes.{Resolved}
-use Rattle.cob_layout.specs.Kept.{IsIn}
+use Rattle.cob_move_data.specs.declared.operands.Side.{Side}
 use Rattle.cob_move_data.specs.declared.operands.Side.TheVariants.{In, Out}
 use Rattle.cob_move_names.specs.declared.valued.ConditionNames.{ConditionNames}
 use Rattle.cob_move_names.specs.Candidates.{Candidate, RecordEntry, candidates}
@@ -46,10 +46,18 @@ named_values cs ns = flat_map (named_value cs) ns
 abbrev pub all_values : Forest Resolved → Forest Resolved → PlainConditionNames → List (Bearer ValuedEntry)
 all_values input output names = named_values (candidates In [] [] input) names.input ++ named_values (candidates Out [] [] output) names.output
 
--- An entry is one of these.
-abbrev pub IsItemOf : List Candidate → RecordEntry → Type 0
-IsItemOf cs e = (c : Candidate) × IsIn c cs × (e ≡ c.entry)
+-- It is one side, and no other.
+abbrev pub same_side : Side → Side → Bool
+same_side In In = true
+same_side In Out = false
+same_side Out In = false
+same_side Out Out = true
+
+-- The first of these entries that is of this side's record and has this number, if one is.
+abbrev pub entry_with : Side → ℕ → List Candidate → Option RecordEntry
+entry_with side n [] = None
+entry_with side n (c ∷ cs) = if same_side c.entry.side side && (c.entry.number == n) then Some c.entry else entry_with side n cs
 
 -- The items of condition-names are among these entries.
 abbrev pub AreOfEntries : List Candidate → List (Bearer ValuedEntry) → Type 0
-AreOfEntries cs vs = AllByRecursion (λ b. IsItemOf cs b.entry.item) vs
+AreOfEntries cs vs = map (λ b. entry_with b.entry.item.side b.entry.item.number cs) vs ≡ map (λ b. Some b.entry.item) vs

@@ -86,7 +86,8 @@ fn list_record<'a>(
     records_are_sound();
     let before = entries.len();
     list_tree(alloc, side, &[], &[], layout.root(), entries)?;
-    list_values(alloc, &entries.as_slice()[before..], names, values)
+    let (_, own) = entries.as_slice().split_at(before);
+    list_values(alloc, own, names, values)
 }
 
 impl<'a> Names<'a> {
@@ -123,6 +124,11 @@ impl<'a> Names<'a> {
         ensures values { IfOk result (λ names. values_named names
             ≡ all_values input.now output.now (plain_names conditions)) }
     {
+        // For what `listed` asks: the entries of a record description are numbered in order,
+        records_are_sound();
+        // and both layouts are those of record descriptions.
+        let _ = input.root();
+        let _ = output.root();
         let mut entries = Vec::new(alloc);
         let mut values = Vec::new(alloc);
         list_record(
@@ -213,7 +219,8 @@ impl<'a> Names<'a> {
         ensures fault { IfErr result (λ rule. BreaksValues rule
             (entries_named self.now) (values_named self.now) (written_reference reference.now)) }
     {
-        let Some(valued) = self.valued_alone(reference.name, reference.qualifiers)? else {
+        let named = self.valued_alone(reference.name, reference.qualifiers)?;
+        let Some(valued) = named else {
             return Ok(None);
         };
         match operand_of(&valued.entry.item, reference.subscripts) {

@@ -153,12 +153,15 @@ pub(crate) fn alone_of(
         (valued_in entries.now) (written_sender written.now)
         (stated_in (records_of entries.now) asked.old.items last)) }
 {
-    let Some(named) = condition_named(entries, written)? else {
-        return last_relation(alloc, entries, written, last, asked);
-    };
-    let condition = holds(alloc, entries, named, asked)?;
-    Ok(ReadCondition {
-        condition,
-        last: None,
-    })
+    let named = condition_named(entries, written)?;
+    match named {
+        None => last_relation(alloc, entries, written, last, asked),
+        Some(item) => {
+            let condition = holds(alloc, entries, item, asked)?;
+            Ok(ReadCondition {
+                condition,
+                last: None,
+            })
+        }
+    }
 }

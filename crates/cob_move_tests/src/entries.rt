@@ -136,16 +136,17 @@ impl<'a> Entries<'_, 'a> {
         // and both layouts are those of record descriptions.
         let _ = self.input.greatest();
         let _ = self.output.greatest();
-        let Some(named) = self.names.find_values(reference)? else {
-            return Ok(None);
-        };
-        Ok(Some(ValuedItem {
-            item: NamedEntry {
-                side: named.side,
-                entry: named.operand.entry,
-            },
-            first: named.first,
-            more: named.more,
-        }))
+        let found = self.names.find_values(reference)?;
+        match found {
+            None => Ok(None),
+            Some(named) => Ok(Some(ValuedItem {
+                item: NamedEntry {
+                    side: named.side,
+                    entry: named.operand.entry,
+                },
+                first: named.first,
+                more: named.more,
+            })),
+        }
     }
 }
