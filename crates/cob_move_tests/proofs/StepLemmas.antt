@@ -9,6 +9,7 @@ use Rattle.cob_copybook_entry.specs.declared.value.Value.{Value}
 use Rattle.cob_copybook_entry.specs.declared.value.Value.TheVariants as value
 use Rattle.cob_copybook_entry.specs.declared.kinds.Figurative.TheVariants.{Zero}
 use Rattle.cob_copybook_entry.specs.Described.{Figure, plain_value}
+use Rattle.cob_copybook_conditions.specs.Names.{PlainSpan}
 use Rattle.cob_copybook_names.specs.Naming.{Bearer}
 use Rattle.cob_copybook_tree.specs.declared.node.Kind.{Kind}
 use Rattle.cob_copybook_entries.specs.Meaning.{IsConstantOf}
@@ -39,13 +40,13 @@ use Rattle.cob_move_tests.specs.declared.entries.NamedEntry.{NamedEntry}
 use Rattle.cob_move_tests.specs.declared.compared.Compared.{Compared}
 use Rattle.cob_move_tests.specs.declared.compared.Compared.TheVariants as compared
 use Rattle.cob_move_tests.specs.declared.compared.ReadCondition.{ReadCondition}
-use Rattle.cob_move_tests.specs.Asked.{AsksMore, IsNumberForSign, IsTestable, MayBeAsked, kind_asked, kind_named, sender_asked, sender_named}
+use Rattle.cob_move_tests.specs.Asked.{AsksMore, IsNumberForSign, IsTestable, MayBeAsked, MayBeValued, kind_asked, kind_named, sender_asked, sender_named}
 use Rattle.cob_move_tests.specs.Broken.{BreaksAlone, BreaksAloneBy, BreaksCondition, BreaksLastRelation, BreaksNameOf, BreaksNamed, BreaksRelation, BreaksTest, BreaksWords}
 use Rattle.cob_move_tests.specs.Compared.{IsRead, IsThere, kind_of_compared, sender_in, stated_in}
 use Rattle.cob_move_tests.specs.Laws.{ConditionsBreakNoRule}
 use Rattle.cob_move_tests.specs.Meant.{HasQuality, IsAlone, IsConditionOf, IsLastRelation, IsMeantBy, IsNotEmpty, IsOperandBehind, IsOperandOf, IsTestOf, NamesCondition, NoneStated, Stated, StatedAs, StatesRelation, conditions_named, opposite_if, quality_asked}
 use Rattle.cob_move_tests.specs.Qualities.{may_have}
-use Rattle.cob_move_tests.specs.Spans.{MayHold, holds}
+use Rattle.cob_move_tests.specs.Spans.{MayBeWithinAll, MayHold, holds, within_one}
 use Rattle.cob_move_tests.proofs.AskedLemmas.{last_get}
 use Rattle.cob_move_tests.proofs.ReadLemmas.{may_of, parts_read}
 
@@ -215,6 +216,24 @@ name_not_comparable e all values w v s names (inl memory) = inl memory
 name_not_comparable e all values (SentConstant w) v s names (inr (same, lacks)) = absurd names
 name_not_comparable e all values (SentReference w) v s names (inr (same, lacks)) =
     inr (some_alone (conditions_of values w) e all values (SentReference w) s (omega (arith, ap length names.only)) (inr (same, (v, names, lacks))))
+
+-- ---- the item of a condition-name
+
+pub item_means : (r : Records) (before now : List NamedEntry) (n : NamedEntry) (number : ℕ) (first : PlainSpan) (more : List PlainSpan) (c : code.Condition) → number ≡ length before → now ≡ before ++ n ∷ []
+    → ((entry : ℕ → Sender) → condition_of entry c ≡ within_one (entry number) first more)
+    → condition_of (sender_named r now) c ≡ within_one (Entry n.side Pictured (operand_in (record_of r n.side) n.entry)) first more
+item_means r before now n number first more c at e says =
+    says (sender_named r now) ∙ ap (λ (s : Sender). within_one s first more) (the_entry_at r before now n number at e)
+
+pub item_may : (k other : Kind) (first : PlainSpan) (more : List PlainSpan) → k ≡ other → MayBeWithinAll (table.Entry k) first more → MayBeWithinAll (table.Entry other) first more
+item_may k other first more e may = subst (λ (x : Kind). MayBeWithinAll (table.Entry x) first more) e may
+
+pub item_valued : (r : Records) (before now : List NamedEntry) (n : NamedEntry) (number : ℕ) (k : Kind) (first : PlainSpan) (more : List PlainSpan) → number ≡ length before → now ≡ before ++ n ∷ []
+    → k ≡ (operand_in (record_of r n.side) n.entry).kind → MayBeWithinAll (table.Entry k) first more → MayBeValued r now number first more
+item_valued r before now n number k first more at e is may =
+    let same : kind_named r now number ≡ (operand_in (record_of r n.side) n.entry).kind =
+    ap (λ (i : ℕ). kind_named r now i) at ∙ ap (λ (xs : List NamedEntry). kind_named r xs (length before)) e ∙ ap (kind_asked r) (last_get before n) in
+    (later number before now n at e, item_may k (kind_named r now number) first more (is ∙ sym same) may)
 
 -- a condition that stands alone
 pub stands_read : (all : List Candidate) (values : List (Bearer ValuedEntry)) (r : Records) (now : List NamedEntry) (v : WrittenSender) (s : Stated) (x : Result ReadCondition MoveRule)
