@@ -138,10 +138,10 @@ fn conversion_of(
     ensures forms { IfOk result (λ made. (made.in_form ≡ in_form) × (made.out_form ≡ out_form)) }
     ensures input { IfOk result (λ made. made.records.input ≡ input) }
     ensures output { IfOk result (λ made. made.records.output ≡ output) }
-    ensures paragraph { IfOk result (λ made. IsParagraphOf moves.now input output (plain_names names) made.deeds) }
-    ensures only { (d : Deeds Test) → IsParagraphOf moves.now input output (plain_names names) d
+    ensures paragraph { IfOk result (λ made. IsParagraphOf moves.now input output (plain_names names.entry) made.deeds) }
+    ensures only { (d : Deeds Test) → IsParagraphOf moves.now input output (plain_names names.entry) d
         → IfErr result (λ fault. fault ≡ Memory) }
-    ensures refused { IfErr result (λ fault. IsMovesRefusal fault moves.now input output (plain_names names)) }
+    ensures refused { IfErr result (λ fault. IsMovesRefusal fault moves.now input output (plain_names names.entry)) }
 {
     let in_layout = layout_of(alloc, input)?;
     let (out_layout, image) = layout_and_image(alloc, output)?;

@@ -77,11 +77,11 @@ fn deeds_of_words(
 ) -> Result<ReadyDeeds, MoveFault>
     ensures found { IfOk result (λ d. (text : List ℕ)
         → AreParagraphWordsOf text (lexemes words.now)
-        → IsParagraphOf text input.now output.now (plain_names names) (deeds_of (both input.now output.now) d)) }
+        → IsParagraphOf text input.now output.now (plain_names names.entry) (deeds_of (both input.now output.now) d)) }
     ensures ready { IfOk result (AreReady (both input.now output.now)) }
     ensures fault { IfErr result (λ f. (text : List ℕ)
         → AreParagraphWordsOf text (lexemes words.now)
-        → IsRefusalOf f text input.now output.now (plain_names names)) }
+        → IsRefusalOf f text input.now output.now (plain_names names.entry)) }
 {
     let nameable = Names::with_conditions(alloc, input, output, names)?;
     let entries = Entries {
@@ -107,9 +107,9 @@ fn deeds_of_whole(
     text: &[u8],
 ) -> Result<ReadyDeeds, MoveFault>
     ensures found { IfOk result (λ d. IsParagraphOf text.now input.now output.now
-        (plain_names names) (deeds_of (both input.now output.now) d)) }
+        (plain_names names.entry) (deeds_of (both input.now output.now) d)) }
     ensures ready { IfOk result (AreReady (both input.now output.now)) }
-    ensures fault { IfErr result (λ f. IsRefusalOf f text.now input.now output.now (plain_names names)) }
+    ensures fault { IfErr result (λ f. IsRefusalOf f text.now input.now output.now (plain_names names.entry)) }
 {
     let words = paragraph_tokens(alloc, text)?;
     deeds_of_words(alloc, input, output, names, words.as_slice())
@@ -128,9 +128,9 @@ fn deeds_of_text(
     text: &[u8],
 ) -> Result<ReadyDeeds, MoveFault>
     ensures found { IfOk result (λ d. IsParagraphOf text.now input.now output.now
-        (plain_names names) (deeds_of (both input.now output.now) d)) }
+        (plain_names names.entry) (deeds_of (both input.now output.now) d)) }
     ensures ready { IfOk result (AreReady (both input.now output.now)) }
-    ensures fault { IfErr result (λ f. IsRefusalOf f text.now input.now output.now (plain_names names)) }
+    ensures fault { IfErr result (λ f. IsRefusalOf f text.now input.now output.now (plain_names names.entry)) }
 {
     // For what is made ready: what statements mean are moves between the records,
     meant_are_moves();
@@ -160,14 +160,14 @@ impl Paragraph {
     ) -> Result<Paragraph, MoveFault>
         // What is read is what the text does.
         ensures found { IfOk result (λ p. IsParagraphOf text.now input.now output.now
-            (plain_names names) (deeds_in (both input.now output.now) p)) }
+            (plain_names names.entry) (deeds_in (both input.now output.now) p)) }
         // It is ready for these records.
         ensures ready { IfOk result (λ p. IsReadyFor (both input.now output.now) p) }
         // A text that is a paragraph is read, memory aside.
-        ensures only { (d : Deeds Test) → IsParagraphOf text.now input.now output.now (plain_names names) d
+        ensures only { (d : Deeds Test) → IsParagraphOf text.now input.now output.now (plain_names names.entry) d
             → IsOrLacksMemory (λ p. deeds_in (both input.now output.now) p ≡ d) result }
         // A refusal names a rule that is broken.
-        ensures fault { IfErr result (λ f. IsRefusalOf f text.now input.now output.now (plain_names names)) }
+        ensures fault { IfErr result (λ f. IsRefusalOf f text.now input.now output.now (plain_names names.entry)) }
     {
         // For `only`: a text is one paragraph, and a paragraph breaks no rule.
         one_paragraph();

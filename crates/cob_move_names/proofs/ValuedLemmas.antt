@@ -3,7 +3,8 @@ use Rattle.std.proofs.Common.{◌≡◌, ℕ, zero, suc, ◌+◌, ◌<◌, ◌�
 use Rattle.std.specs.Prelude.{◌&&◌, filter, option_map}
 use Rattle.std.specs.List.{AllByRecursion, flat_map, slice_get}
 use Rattle.std.proofs.lemmas.Bool.Decides.{nat_tests}
-use Rattle.std.proofs.lemmas.List.{at_drop_more, length-append}
+use Rattle.std.proofs.lemmas.List.{at_drop_more, drop-map, length-append, length-map}
+use Rattle.std.proofs.Math.Seq.{drop-append_seam}
 use Rattle.std.proofs.lemmas.Option.{slice_get-map, slice_get_past, slice_get_read}
 use Rattle.cob_copybook_conditions.specs.Names.{PlainConditionName, PlainSpan, plain_condition_name, plain_condition_names}
 use Rattle.cob_copybook_conditions.specs.declared.names.ConditionName.{ConditionName}
@@ -19,10 +20,11 @@ use Rattle.cob_layout_places.specs.Places.{is_table}
 use Rattle.cob_copybook.specs.Books.{IsRecordDescription}
 use Rattle.cob_move_data.specs.declared.operands.Side.{Side}
 use Rattle.cob_move_data.specs.declared.operands.Side.TheVariants.{In, Out}
+use Rattle.cob_move_data.specs.declared.operands.Operand.{Operand}
 use Rattle.cob_move_data.specs.Moves.{IsOperand, Records, record_of}
 use Rattle.cob_move_names.specs.Candidates.{Candidate, RecordEntry, all_entries, candidates, with_table}
 use Rattle.cob_move_names.specs.Laws.{ItemsAreOperands}
-use Rattle.cob_move_names.specs.Listed.{AreInOrder, ListsValues, candidate_of, valued_of}
+use Rattle.cob_move_names.specs.Listed.{AreInOrder, ListsMore, ListsValues, candidate_of, valued_of}
 use Rattle.cob_move_names.specs.declared.valued.ValuedEntry.{ValuedEntry as ListedValued}
 use Rattle.cob_move_names.specs.declared.candidate.RecordEntry.{RecordEntry as ListedEntry}
 use Rattle.cob_move_names.specs.References.{AreSubscriptsOf, entry_operand, subscript_numbers}
@@ -149,12 +151,6 @@ all_in P (y ∷ xs) x h (inr o) = all_in P xs x h.1 o
 same_refl : (side : Side) → same_side side side ≡ true
 same_refl In = refl
 same_refl Out = refl
-
-same_is : (a b : Side) → same_side a b ≡ true → a ≡ b
-same_is In In e = refl
-same_is In Out e = cc
-same_is Out In e = cc
-same_is Out Out e = refl
 
 both_true : (a b : Bool) → a ≡ true → b ≡ true → (a && b) ≡ true
 both_true true b e f = f
@@ -286,6 +282,40 @@ known_all cs (v ∷ vs) h = (
   first_same (entry_with v.entry.item.side v.entry.item.number cs) (Some v.entry.item) (map (λ b. entry_with b.entry.item.side b.entry.item.number cs) vs) (map (λ b. Some b.entry.item) vs) h,
   known_all cs vs (rest_same (entry_with v.entry.item.side v.entry.item.number cs) (Some v.entry.item) (map (λ b. entry_with b.entry.item.side b.entry.item.number cs) vs) (map (λ b. Some b.entry.item) vs) h),
 )
+
+-- ---- a record's entries behind others
+
+-- those behind the first so many are the ones that were added
+pub added_are : (old new part : List (Listed ListedEntry)) (n : ℕ) (cs : List Candidate) → n ≡ length old → part ≡ drop n new → map candidate_of new ≡ map candidate_of old ++ cs → map candidate_of part ≡ cs
+added_are old new part n cs at cut adds =
+    ap (λ (bs : List (Listed ListedEntry)). map candidate_of bs) cut ∙ sym (drop-map candidate_of n new) ∙ ap (λ (xs : List Candidate). drop n xs) adds
+    ∙ ap (λ (k : ℕ). drop k (map candidate_of old ++ cs)) (at ∙ sym (length-map old candidate_of)) ∙ drop-append_seam (map candidate_of old) cs
+
+-- they are numbered in order
+pub added_in_order : (side : Side) (t : Forest Resolved) (old new part : List (Listed ListedEntry)) (n : ℕ) → RecordsAreSound → IsRecordDescription t → n ≡ length old → part ≡ drop n new
+    → map candidate_of new ≡ map candidate_of old ++ candidates side [] [] t → AreInOrder 0 (map candidate_of part)
+added_in_order side t old new part n sound record at cut adds =
+    subst (AreInOrder 0) (sym (added_are old new part n (candidates side [] [] t) at cut adds)) (in_order side [] [] 0 t (sound t record).numbered)
+
+-- those of two records, one behind the other
+pub both_listed : (start first second : List (Listed ListedEntry)) (a b : List Candidate) → start ≡ [] → ListsMore start first a → ListsMore first second b → map candidate_of second ≡ a ++ b
+both_listed start first second a b none p q = q ∙ ap (λ (xs : List Candidate). xs ++ b) (p ∙ ap (λ (bs : List (Listed ListedEntry)). map candidate_of bs ++ a) none)
+
+pub both_valued : (start first second : List (Listed ListedValued)) (a b : List (Bearer ValuedEntry)) → start ≡ [] → ListsValues start first a → ListsValues first second b → map valued_of second ≡ a ++ b
+both_valued start first second a b none p q = q ∙ ap (λ (xs : List (Bearer ValuedEntry)). xs ++ b) (p ∙ ap (λ (bs : List (Listed ListedValued)). map valued_of bs ++ a) none)
+
+-- the items of the condition-names of two records that are listed are among their entries
+pub listed_known : (entries : List (Listed ListedEntry)) (values : List (Listed ListedValued)) (input output : Forest Resolved) (names : PlainConditionNames) → AreNumbered 0 input → AreNumbered 0 output
+    → map candidate_of entries ≡ all_entries input output → map valued_of values ≡ all_values input output names → AreOfEntries (map candidate_of entries) (map valued_of values)
+listed_known entries values input output names first second p q =
+    subst (λ (cs : List Candidate). AreOfEntries cs (map valued_of values)) (sym p) (subst (AreOfEntries (all_entries input output)) (sym q) (of_all input output names first second))
+
+-- ---- what is found
+
+-- an operand with these values
+abbrev pub put_operand : Side → PlainSpan → List PlainSpan → Operand → ValuedOperand
+put_operand side first more o = record { side = side; operand = o; first = first; more = more }
+
 
 -- ---- operands
 

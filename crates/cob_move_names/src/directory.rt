@@ -38,8 +38,8 @@ impl<'a> Names<'a> {
         entries: Vec<Bearer<'a, RecordEntry<'a>>>,
         values: Vec<Bearer<'a, ValuedEntry<'a>>>,
     ) -> Result<Names<'a>, AllocError>
-        requires held { AreOfEntries (map candidate_of entries.entry.items)
-            (map valued_of values.entry.items) }
+        requires held { AreOfEntries (map candidate_of entries.items)
+            (map valued_of values.items) }
         ensures entries { IfOk result (λ names. entries_named names
             ≡ map candidate_of entries.entry.items) }
         ensures values { IfOk result (λ names. values_named names

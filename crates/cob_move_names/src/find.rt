@@ -122,7 +122,7 @@ impl<'a> Names<'a> {
         ensures entries { IfOk result
             (λ names. entries_named names ≡ all_entries input.now output.now) }
         ensures values { IfOk result (λ names. values_named names
-            ≡ all_values input.now output.now (plain_names conditions)) }
+            ≡ all_values input.now output.now (plain_names conditions.entry)) }
     {
         // For what `listed` asks: the entries of a record description are numbered in order,
         records_are_sound();

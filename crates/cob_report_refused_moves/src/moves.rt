@@ -414,14 +414,14 @@ pub fn move_refusals(
 ) -> Result<Vec<MoveRefusal>, AllocError>
     // Each names a rule that is broken, and no place but that of a statement which breaks it.
     ensures each { IfOk result
-        (λ v. AreMoveRefusals text.now input.now output.now (plain_names names) v.items) }
+        (λ v. AreMoveRefusals text.now input.now output.now (plain_names names.entry) v.items) }
     // Of a text that is a paragraph nothing is told.
     ensures none { (d : Deeds Test)
-        → IsParagraphOf text.now input.now output.now (plain_names names) d
+        → IsParagraphOf text.now input.now output.now (plain_names names.entry) d
         → IfOk result (λ v. v.items ≡ []) }
     // A text of which nothing is told is a paragraph.
     ensures some { IfOk result (λ v. v.items ≡ []
-        → (d : Deeds Test) × IsParagraphOf text.now input.now output.now (plain_names names) d) }
+        → (d : Deeds Test) × IsParagraphOf text.now input.now output.now (plain_names names.entry) d) }
 {
     let Err(fault) = Paragraph::read(alloc, input, output, names, text) else {
         return Ok(Vec::new(alloc));
