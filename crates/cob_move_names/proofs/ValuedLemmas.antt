@@ -294,8 +294,8 @@ added_are old new part n cs at cut adds =
 -- they are numbered in order
 pub added_in_order : (side : Side) (t : Forest Resolved) (old new part : List (Listed ListedEntry)) (n : ℕ) → RecordsAreSound → IsRecordDescription t → n ≡ length old → part ≡ drop n new
     → map candidate_of new ≡ map candidate_of old ++ candidates side [] [] t → AreInOrder 0 (map candidate_of part)
-added_in_order side t old new part n sound record at cut adds =
-    subst (AreInOrder 0) (sym (added_are old new part n (candidates side [] [] t) at cut adds)) (in_order side [] [] 0 t (sound t record).numbered)
+added_in_order side t old new part n sound described at cut adds =
+    subst (AreInOrder 0) (sym (added_are old new part n (candidates side [] [] t) at cut adds)) (in_order side [] [] 0 t (sound t described).numbered)
 
 -- those of two records, one behind the other
 pub both_listed : (start first second : List (Listed ListedEntry)) (a b : List Candidate) → start ≡ [] → ListsMore start first a → ListsMore first second b → map candidate_of second ≡ a ++ b
@@ -315,7 +315,6 @@ listed_known entries values input output names first second p q =
 -- an operand with these values
 abbrev pub put_operand : Side → PlainSpan → List PlainSpan → Operand → ValuedOperand
 put_operand side first more o = record { side = side; operand = o; first = first; more = more }
-
 
 -- ---- operands
 
