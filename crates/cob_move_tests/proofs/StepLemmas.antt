@@ -28,7 +28,7 @@ use Rattle.cob_move_data.specs.Moves.{Entry, Records, Sender, operand_in, record
 use Rattle.cob_move_names.specs.Candidates.{Candidate, all_entries}
 use Rattle.cob_move_names.specs.References.{NamesOperand}
 use Rattle.cob_move_names.specs.Valued.{ValuedEntry}
-use Rattle.cob_move_names.specs.Values.{BreaksValues, ValuedOperand, conditions_of}
+use Rattle.cob_move_names.specs.Values.{BreaksValues, NamesValues, ValuedOperand, conditions_of}
 use Rattle.cob_move_receive.specs.Table.{SenderKind}
 use Rattle.cob_move_receive.specs.Table as table
 use Rattle.cob_move_statements.specs.declared.fault.MoveFault.{MoveFault}
@@ -190,7 +190,8 @@ name_means : (all : List Candidate) (values : List (Bearer ValuedEntry)) (w : Wr
     → IsOperandBehind all values w s c NoneStated
 name_means all values (SentConstant w) v s c names may is = absurd names
 name_means all values (SentReference w) v s c names may is =
-    subst (λ (bs : List (Bearer ValuedEntry)). IsAlone bs all values (SentReference w) s c NoneStated) (sym names.only) ((v, names, may, is), refl)
+    let h : NamesValues all values w v = names in
+    subst (λ (bs : List (Bearer ValuedEntry)). IsAlone bs all values (SentReference w) s c NoneStated) (sym h.only) ((v, names, may, is), refl)
 
 pub name_read : (all : List Candidate) (values : List (Bearer ValuedEntry)) (r : Records) (now : List NamedEntry) (w : WrittenSender) (v : ValuedOperand) (s : Stated) (c : code.Condition)
     → NamesCondition all values w v → MayHold v → condition_of (sender_named r now) c ≡ holds v → IsTestable r now c
@@ -215,7 +216,8 @@ pub name_not_comparable : (e : MoveRule) (all : List Candidate) (values : List (
 name_not_comparable e all values w v s names (inl memory) = inl memory
 name_not_comparable e all values (SentConstant w) v s names (inr (same, lacks)) = absurd names
 name_not_comparable e all values (SentReference w) v s names (inr (same, lacks)) =
-    inr (some_alone (conditions_of values w) e all values (SentReference w) s (omega (arith, ap length names.only)) (inr (same, (v, names, lacks))))
+    let h : NamesValues all values w v = names in
+    inr (some_alone (conditions_of values w) e all values (SentReference w) s (omega (arith, ap length h.only)) (inr (same, (v, names, lacks))))
 
 -- ---- the item of a condition-name
 
