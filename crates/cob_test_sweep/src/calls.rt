@@ -8,7 +8,7 @@ use cob_codec::Reading;
 use cob_convert::Converter;
 use cob_copybook::{Book, Role};
 use cob_layout::Layout;
-use cob_move::Paragraph;
+use cob_move::{ConditionNames, Paragraph};
 use cob_move_apply::Scratch;
 use cob_move_names::pairs;
 use cob_program_job::job;
@@ -78,7 +78,11 @@ fn makes_pairs(alloc: Global, input: &Layout, output: &Layout) -> bool {
 
 /// Whether a paragraph between two records is read.
 fn reads_paragraph(alloc: Global, input: &Layout, output: &Layout, text: &[u8]) -> bool {
-    Paragraph::read(alloc, input, output, text).is_ok()
+    let names = ConditionNames {
+        input: &[],
+        output: &[],
+    };
+    Paragraph::read(alloc, input, output, names, text).is_ok()
 }
 
 /// Whether there is room for the moves between two records.

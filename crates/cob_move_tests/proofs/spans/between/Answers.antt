@@ -6,10 +6,9 @@ use Rattle.std.specs.declared.cmp.Ordering.TheVariants.{Less}
 use Rattle.cob_move_condition.specs.Conditions.{Both, Compares, Condition, Not, condition_of}
 use Rattle.cob_move_data.specs.Moves.{Literal, Records, Sender}
 use Rattle.cob_move_tests.specs.declared.entries.NamedEntry.{NamedEntry}
-use Rattle.cob_move_tests.specs.Asked.{IsTestable}
-use Rattle.cob_move_choices.specs.Asked.{MayBeListed}
-use Rattle.cob_move_choices.specs.Values.{FromTo, within}
-use Rattle.cob_move_choices.proofs.values.between.Goals as goal
+use Rattle.cob_move_tests.specs.Asked.{IsTestable, MayBeListed}
+use Rattle.cob_move_tests.specs.Spans.{FromTo, within}
+use Rattle.cob_move_tests.proofs.spans.between.Goals as goal
 
 pub returns-clause-means : goal.returns-clause-means
 returns-clause-means c =

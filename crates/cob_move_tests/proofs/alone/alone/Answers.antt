@@ -1,5 +1,5 @@
 use Rattle.std.proofs.Common.{inl, inr, refl}
-use Rattle.cob_move_tests.proofs.conditions.alone.Goals as goal
+use Rattle.cob_move_tests.proofs.alone.alone.Goals as goal
 
 pub returns-in-Constant : goal.returns-in-Constant
 returns-in-Constant c = rw c.in-Constant.is refl

@@ -1,5 +1,5 @@
 use Rattle.std.proofs.Common.{refl}
-use Rattle.cob_move_choices.proofs.values.compares.Goals as goal
+use Rattle.cob_move_tests.proofs.spans.compares.Goals as goal
 
 pub returns-clause-means : goal.returns-clause-means
 returns-clause-means c = λ entry. refl
