@@ -234,12 +234,12 @@ pub(crate) const COMPARISON: [OptionDefinition<'static>; 5] = [
     },
     OptionDefinition {
         name: "key",
-        standing: Standing::Optional("HOW"),
+        standing: Standing::Optional("NAMES"),
         help: KEY_HELP,
     },
     OptionDefinition {
         name: "ignore",
-        standing: Standing::Optional("HOW"),
+        standing: Standing::Optional("NAMES"),
         help: IGNORE_HELP,
     },
     OptionDefinition {
