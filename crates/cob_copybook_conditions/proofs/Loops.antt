@@ -5,7 +5,7 @@ use Rattle.cob_source.specs.Tokens.{Lexeme, lexeme, lexemes}
 use Rattle.cob_source.specs.declared.token.Token.{Token}
 use Rattle.cob_copybook_clauses.specs.Entries.{FirstSentence, HasNoStop, Sentences, is_condition, sentences}
 use Rattle.cob_copybook_clauses.proofs.CutLemmas.{cut, ends}
-use Rattle.cob_copybook_conditions.specs.Names.{AreNamesBehind, AreNamesIn, PlainConditionName, last_by, with_said}
+use Rattle.cob_copybook_conditions.specs.Names.{AreNamesBehind, AreNamesIn, PlainConditionName, last_entry_by, with_said}
 use Rattle.cob_copybook_conditions.specs.Reading.{AddsName}
 
 -- the sentence is the first of the rest, and these words are left behind it
@@ -39,7 +39,7 @@ said_before : (said : Option PlainConditionName) (more : List PlainConditionName
 said_before None more = refl
 said_before (Some n) more = refl
 
-last_few : (c : Bool) (last : ℕ) → last_by c last ≤ last + 1
+last_few : (c : Bool) (last : ℕ) → last_entry_by c last ≤ last + 1
 last_few true last = omega arith
 last_few false last = omega arith
 
@@ -47,7 +47,7 @@ pub goes_on : (entry : ℕ) (ws rest behind s : List Lexeme) (last now : ℕ) (n
     → AddsName last s now ns names → SoFar entry ws behind now names
 goes_on entry ws rest behind s last now ns names far is (said, says, number, same) = record {
   found = λ more h.
-      let here : AreNamesBehind (last_by (is_condition s) last) (sentences behind).ended more = subst (λ (i : ℕ). AreNamesBehind i (sentences behind).ended more) number h in
+      let here : AreNamesBehind (last_entry_by (is_condition s) last) (sentences behind).ended more = subst (λ (i : ℕ). AreNamesBehind i (sentences behind).ended more) number h in
       let all : AreNamesBehind last (sentences rest).ended (with_said said more) =
       subst (λ (ss : List (List Lexeme)). AreNamesBehind last ss (with_said said more)) (sym (first_ended rest s behind is)) (said, more, says, here, refl) in
       subst (AreNamesBehind entry (sentences ws).ended)

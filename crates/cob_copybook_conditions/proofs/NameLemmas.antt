@@ -10,9 +10,9 @@ use Rattle.cob_copybook_clauses.specs.Names.{IsName}
 use Rattle.cob_copybook_clauses.specs.Reading.{EachCutNeither, StandInFront}
 use Rattle.cob_copybook_clauses.proofs.ClauseLemmas.{no_are, no_is}
 use Rattle.cob_copybook_conditions.specs.Written.{WrittenSpan}
-use Rattle.cob_copybook_conditions.specs.Names.{AreSpansOf, IsConditionNameOf, PlainConditionName, PlainSpan, SaysBy, SaysName, last_by, plain_span}
+use Rattle.cob_copybook_conditions.specs.Names.{AreSpansOf, IsConditionNameOf, PlainConditionName, PlainSpan, SaysBy, SaysName, last_entry_by, plain_span}
 use Rattle.cob_copybook_conditions.specs.declared.spans.Span.{Span}
-use Rattle.cob_copybook_conditions.specs.Reading.{AddsName, AreSpansMeant, IsNamed}
+use Rattle.cob_copybook_conditions.specs.Reading.{AddsName, AreSpansMeant, IsNamedCondition}
 use Rattle.cob_copybook_conditions.proofs.Ones.{same_front, values_meant}
 use Rattle.cob_copybook_conditions.proofs.SpanLemmas.{spans_not_first}
 
@@ -20,20 +20,20 @@ use Rattle.cob_copybook_conditions.proofs.SpanLemmas.{spans_not_first}
 behind_value : (ts : List Token) (name : List ℕ) (is : IsCondition (lexemes ts) name) → is.more ≡ lexemes (take (length ts - 3) (drop 3 ts))
 behind_value ts name is = sym (ap (drop 3) is.words) ∙ drop-map lexeme 3 ts ∙ ap lexemes (sym (take_rest ts 3))
 
-pub named_found : (ts : List Token) (name text : List ℕ) → IsCondition (lexemes ts) text → IsName text → name ≡ text → IsNamed (lexemes ts) name (lexemes (take (length ts - 3) (drop 3 ts)))
+pub named_found : (ts : List Token) (name text : List ℕ) → IsCondition (lexemes ts) text → IsName text → name ≡ text → IsNamedCondition (lexemes ts) name (lexemes (take (length ts - 3) (drop 3 ts)))
 named_found ts name text is legal e =
-    subst (λ (n : List ℕ). IsNamed (lexemes ts) n (lexemes (take (length ts - 3) (drop 3 ts)))) (sym e) (record { is = is; legal = legal; behind = behind_value ts text is })
+    subst (λ (n : List ℕ). IsNamedCondition (lexemes ts) n (lexemes (take (length ts - 3) (drop 3 ts)))) (sym e) (record { is = is; legal = legal; behind = behind_value ts text is })
 
 -- a level 88 entry is named once
-pub named_once : (ws : List Lexeme) (a b : List ℕ) (more others : List Lexeme) → IsNamed ws a more → IsNamed ws b others → (a ≡ b) × (more ≡ others)
+pub named_once : (ws : List Lexeme) (a b : List ℕ) (more others : List Lexeme) → IsNamedCondition ws a more → IsNamedCondition ws b others → (a ≡ b) × (more ≡ others)
 named_once ws a b more others p q =
     let front = same_front ws a b p.is q.is in (front.name, sym p.behind ∙ front.behind ∙ q.behind)
 
-pub named_of : (last : ℕ) (ws : List Lexeme) (n : PlainConditionName) (h : IsConditionNameOf last ws n) → IsNamed ws h.written.name h.is.up_to_value.more
+pub named_of : (last : ℕ) (ws : List Lexeme) (n : PlainConditionName) (h : IsConditionNameOf last ws n) → IsNamedCondition ws h.written.name h.is.up_to_value.more
 named_of last ws n h = record { is = h.is.up_to_value; legal = h.is.legal; behind = refl }
 
 -- the words that are left without IS or ARE are those of the values
-pub list_there : (last : ℕ) (ws more vs : List Lexeme) (name : List ℕ) (n : PlainConditionName) → IsNamed ws name more → IsConditionNameOf last ws n
+pub list_there : (last : ℕ) (ws more vs : List Lexeme) (name : List ℕ) (n : PlainConditionName) → IsNamedCondition ws name more → IsConditionNameOf last ws n
     → EachCutNeither IsOrAre term.Is term.Are more (λ left. vs ≡ left) → AreSpansMeant n.values vs
 list_there last ws more vs name n named h cut =
     let meant = values_meant last ws n h in
@@ -55,7 +55,7 @@ some_values last ws n h e =
     omega (arith, many, none, h.is.some)
 
 -- a name and values are a condition-name
-pub named_values : (last : ℕ) (ws more vs : List Lexeme) (name : List ℕ) (ss : List PlainSpan) → IsNamed ws name more → StandInFront IsOrAre more vs → AreSpansMeant ss vs → 0 < length ss
+pub named_values : (last : ℕ) (ws more vs : List Lexeme) (name : List ℕ) (ss : List PlainSpan) → IsNamedCondition ws name more → StandInFront IsOrAre more vs → AreSpansMeant ss vs → 0 < length ss
     → IsConditionNameOf last ws (record { entry = last; name = name; values = ss })
 named_values last ws more vs name ss named (noise, or_are, e) are some =
     let many : length are.written ≡ length ss = as_many are.written ss are.mean in
@@ -86,12 +86,12 @@ values_there vs some = let many = length-map vs plain_span in omega (arith, some
 -- ---- what a sentence adds
 
 pub adds_entry : (last : ℕ) (s : List Lexeme) (ns : List PlainConditionName) → is_condition s ≡ false → AddsName last s (last + 1) ns ns
-adds_entry last s ns e = (None, subst (λ (b : Bool). SaysBy b last s None) (sym e) refl, subst (λ (b : Bool). last + 1 ≡ last_by b last) (sym e) refl, sym (append-nil ns))
+adds_entry last s ns e = (None, subst (λ (b : Bool). SaysBy b last s None) (sym e) refl, subst (λ (b : Bool). last + 1 ≡ last_entry_by b last) (sym e) refl, sym (append-nil ns))
 
 pub adds_none : (last : ℕ) (s : List Lexeme) (ns : List PlainConditionName) → is_condition s ≡ true → SaysName last s None → AddsName last s last ns ns
-adds_none last s ns e says = (None, subst (λ (b : Bool). SaysBy b last s None) (sym e) says, subst (λ (b : Bool). last ≡ last_by b last) (sym e) refl, sym (append-nil ns))
+adds_none last s ns e says = (None, subst (λ (b : Bool). SaysBy b last s None) (sym e) says, subst (λ (b : Bool). last ≡ last_entry_by b last) (sym e) refl, sym (append-nil ns))
 
 pub adds_name : (last : ℕ) (s : List Lexeme) (n : PlainConditionName) (before after : List PlainConditionName) → is_condition s ≡ true → SaysName last s (Some n) → after ≡ before ++ n ∷ []
     → AddsName last s last before after
 adds_name last s n before after e says same =
-    (Some n, subst (λ (b : Bool). SaysBy b last s (Some n)) (sym e) says, subst (λ (b : Bool). last ≡ last_by b last) (sym e) refl, same)
+    (Some n, subst (λ (b : Bool). SaysBy b last s (Some n)) (sym e) says, subst (λ (b : Bool). last ≡ last_entry_by b last) (sym e) refl, same)

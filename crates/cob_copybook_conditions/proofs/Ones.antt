@@ -10,7 +10,7 @@ use Rattle.cob_copybook_clauses.specs.Reading.{NotFirstWord}
 use Rattle.cob_copybook_clauses.proofs.ClauseLemmas.{no_are, no_is}
 use Rattle.cob_copybook_entries.specs.Books.{AreEntriesOf}
 use Rattle.cob_copybook_entries.specs.Laws.{OneListOfEntries}
-use Rattle.cob_copybook_conditions.specs.Names.{AreNamesBehind, AreNamesIn, IsConditionNameOf, PlainConditionName, PlainSpan, SaysBy, SaysName, first_number, last_by, with_said}
+use Rattle.cob_copybook_conditions.specs.Names.{AreNamesBehind, AreNamesIn, IsConditionNameOf, PlainConditionName, PlainSpan, SaysBy, SaysName, first_number, last_entry_by, with_said}
 use Rattle.cob_copybook_conditions.specs.Laws.{OneListOfConditionNames}
 use Rattle.cob_copybook_conditions.specs.Reading.{AreSpansMeant}
 use Rattle.cob_copybook_conditions.proofs.SpanLemmas.{spans_not_first, spans_one}
@@ -84,7 +84,7 @@ behind_one last [] ns ms h k = h ∙ sym k
 behind_one last (s ∷ ss) ns ms (said, more, says, others, e) (dias, rest, yas, srehto, i) =
     e
     ∙ ap (λ (o : Option PlainConditionName). with_said o more) (by_one (is_condition s) last s said dias says yas)
-    ∙ ap (with_said dias) (behind_one (last_by (is_condition s) last) ss more rest others srehto)
+    ∙ ap (with_said dias) (behind_one (last_entry_by (is_condition s) last) ss more rest others srehto)
     ∙ sym i
 
 in_one : (first : ℕ) (ss : List (List Lexeme)) (ns ms : List PlainConditionName) → AreNamesIn first ss ns → AreNamesIn first ss ms → ns ≡ ms

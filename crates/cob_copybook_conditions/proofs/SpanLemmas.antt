@@ -9,7 +9,7 @@ use Rattle.cob_copybook_clauses.specs.Written.{WrittenValue}
 use Rattle.cob_copybook_clauses.proofs.ClauseLemmas.{NoConstant, constant_not_first}
 use Rattle.cob_copybook_entries.specs.Meaning.{IsConstantOf}
 use Rattle.cob_copybook_conditions.specs.Written.{WrittenSpan, One as WrittenOne, FromTo as WrittenFromTo}
-use Rattle.cob_copybook_conditions.specs.Entries.{AreSpansWritten, IsListedValue, IsSpanWritten, IsThrough}
+use Rattle.cob_copybook_conditions.specs.Entries.{AreSpansWritten, IsListedValue, IsSpanWritten, IsThroughWord}
 use Rattle.cob_copybook_conditions.specs.Names.{AreSpansOf, IsSpanOf, PlainSpan, One, FromTo}
 use Rattle.cob_copybook_conditions.specs.Reading.{AreSpansMeant, IsSpanMeant, IsValueMeant, NotThroughFirst}
 use Rattle.cob_copybook_conditions.proofs.Values.{value_cut, value_no_through, value_some}
@@ -75,7 +75,7 @@ span_shorter s words more (ws, is, e) =
 pub one_meant : (c : PlainValue) (ws : List Lexeme) → IsValueMeant c ws → IsSpanMeant (One c) ws
 one_meant c ws is = record { written = WrittenOne is.written; is = is.is; means = is.means }
 
-pub both_meant : (c d : PlainValue) (first : List Lexeme) (through : Lexeme) (last : List Lexeme) → IsValueMeant c first → IsThrough through → IsValueMeant d last
+pub both_meant : (c d : PlainValue) (first : List Lexeme) (through : Lexeme) (last : List Lexeme) → IsValueMeant c first → IsThroughWord through → IsValueMeant d last
     → IsSpanMeant (FromTo c d) (first ++ through ∷ last)
 both_meant c d first through last is between ends = record {
   written = WrittenFromTo is.written ends.written;
@@ -94,7 +94,7 @@ OnlyValue words v behind = (c : PlainValue) (ws more : List Lexeme) → IsValueM
 
 -- THROUGH stands in front, before these words
 abbrev pub IsThroughBefore : List Lexeme → List Lexeme → Type 0
-IsThroughBefore behind after = (w : Lexeme) × IsThrough w × (behind ≡ w ∷ after)
+IsThroughBefore behind after = (w : Lexeme) × IsThroughWord w × (behind ≡ w ∷ after)
 
 -- a value stands in front
 pub record ValueInFront (words : List Lexeme) : Type 0 where
@@ -121,7 +121,7 @@ value_in_front s ws more is = value_in_front_by is.written s ws more is.is is.me
 
 -- no THROUGH stands behind the value
 alone_by : (words behind : List Lexeme) (v : PlainValue) (u : WrittenSpan) (s : PlainSpan) (ws more : List Lexeme) → OnlyValue words v behind
-    → ((w : Lexeme) (after : List Lexeme) → IsThrough w → behind ≡ w ∷ after → ⊥) → IsSpanWritten u ws → IsSpanOf u s → words ≡ ws ++ more → (One v ≡ s) × (behind ≡ more)
+    → ((w : Lexeme) (after : List Lexeme) → IsThroughWord w → behind ≡ w ∷ after → ⊥) → IsSpanWritten u ws → IsSpanOf u s → words ≡ ws ++ more → (One v ≡ s) × (behind ≡ more)
 alone_by words behind v (WrittenOne x) (One c) ws more only none is means e = let r = only c ws more (meant x c ws is means) e in (ap One r.0, r.1)
 alone_by words behind v (WrittenFromTo x y) (FromTo c d) ws more only none (first, last, through, is, between, ends, f) means e =
     let r = only c first (through ∷ (last ++ more)) (meant x c first is means.0) (e ∙ through_apart ws first through last more f) in
@@ -129,7 +129,7 @@ alone_by words behind v (WrittenFromTo x y) (FromTo c d) ws more only none (firs
 alone_by words behind v (WrittenOne x) (FromTo c d) ws more only none is means e = absurd means
 alone_by words behind v (WrittenFromTo x y) (One c) ws more only none is means e = absurd means
 
-pub alone : (words behind : List Lexeme) (v : PlainValue) → OnlyValue words v behind → ((w : Lexeme) (after : List Lexeme) → IsThrough w → behind ≡ w ∷ after → ⊥)
+pub alone : (words behind : List Lexeme) (v : PlainValue) → OnlyValue words v behind → ((w : Lexeme) (after : List Lexeme) → IsThroughWord w → behind ≡ w ∷ after → ⊥)
     → (s : PlainSpan) (ws more : List Lexeme) → IsSpanMeant s ws → words ≡ ws ++ more → (One v ≡ s) × (behind ≡ more)
 alone words behind v only none s ws more is e = alone_by words behind v is.written s ws more only none is.is is.means e
 

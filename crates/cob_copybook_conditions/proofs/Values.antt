@@ -12,7 +12,7 @@ use Rattle.cob_copybook_entries.specs.Meaning.{IsConstantOf}
 use Rattle.cob_copybook_entries.specs.Parts.{IsLiteralOf, IsUnsigned}
 use Rattle.cob_copybook_entries.proofs.Literals.{literal_only}
 use Rattle.cob_copybook_entries.proofs.OneList.{one_constant}
-use Rattle.cob_copybook_conditions.specs.Entries.{IsListedValue, IsLiteralWord, IsThrough}
+use Rattle.cob_copybook_conditions.specs.Entries.{IsListedValue, IsLiteralWord, IsThroughWord}
 use Rattle.cob_copybook_conditions.specs.Reading.{IsValueMeant, NotThroughFirst}
 
 -- ---- THROUGH is no literal
@@ -28,12 +28,12 @@ thru_no_literal : (l : Literal) → IsLiteralOf l (codes "THRU") → ⊥
 thru_no_literal l h = no_digit 84 (72 ∷ 82 ∷ 85 ∷ []) (omega arith) (literal_only (codes "THRU") l h)
 
 -- a word that is a numeric literal isn't THROUGH
-literal_no_through : (text : List ℕ) (l : Literal) (w : Lexeme) → IsLiteralOf l text → IsFree text w → IsThrough w → ⊥
+literal_no_through : (text : List ℕ) (l : Literal) (w : Lexeme) → IsLiteralOf l text → IsFree text w → IsThroughWord w → ⊥
 literal_no_through text l w is free (inl h) = through_no_literal l (subst (IsLiteralOf l) (sym free.same ∙ h.same) is)
 literal_no_through text l w is free (inr h) = thru_no_literal l (subst (IsLiteralOf l) (sym free.same ∙ h.same) is)
 
 -- a word of another class isn't THROUGH
-plain : (w : Lexeme) → IsThrough w → word_class w ≡ term.Plain
+plain : (w : Lexeme) → IsThroughWord w → word_class w ≡ term.Plain
 plain w (inl h) = h.free
 plain w (inr h) = h.free
 

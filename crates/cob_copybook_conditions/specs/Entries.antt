@@ -21,13 +21,13 @@ abbrev pub IsListedValue : WrittenValue → List Lexeme → Type 0
 IsListedValue v ws = IsConstant v ws × IsLiteralWord v
 
 -- THROUGH or THRU; no numeric literal is such a word, so it is never a value
-abbrev pub IsThrough : Lexeme → Type 0
-IsThrough w = IsFree (codes "THROUGH") w ⊎ IsFree (codes "THRU") w
+abbrev pub IsThroughWord : Lexeme → Type 0
+IsThroughWord w = IsFree (codes "THROUGH") w ⊎ IsFree (codes "THRU") w
 
 -- the words of one value, or of two with THROUGH between them
 abbrev pub IsSpanWritten : WrittenSpan → List Lexeme → Type 0
 IsSpanWritten (One v) ws = IsListedValue v ws
-IsSpanWritten (FromTo v w) ws = (first last : List Lexeme) × (through : Lexeme) × IsListedValue v first × IsThrough through × IsListedValue w last × (ws ≡ first ++ through ∷ last)
+IsSpanWritten (FromTo v w) ws = (first last : List Lexeme) × (through : Lexeme) × IsListedValue v first × IsThroughWord through × IsListedValue w last × (ws ≡ first ++ through ∷ last)
 
 -- the words of values one behind another
 abbrev pub AreSpansWritten : List WrittenSpan → List Lexeme → Type 0

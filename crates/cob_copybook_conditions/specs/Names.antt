@@ -68,9 +68,9 @@ SaysBy true last ws said = SaysName last ws said
 SaysBy false last ws said = said ≡ None
 
 -- the number of the last data entry, once this one is read
-abbrev pub last_by : Bool → ℕ → ℕ
-last_by true last = last
-last_by false last = last + 1
+abbrev pub last_entry_by : Bool → ℕ → ℕ
+last_entry_by true last = last
+last_entry_by false last = last + 1
 
 -- the names with the one that is said, if one is
 abbrev pub with_said : Option PlainConditionName → List PlainConditionName → List PlainConditionName
@@ -82,7 +82,7 @@ abbrev pub AreNamesBehind : ℕ → List (List Lexeme) → List PlainConditionNa
 AreNamesBehind last [] ns = ns ≡ []
 AreNamesBehind last (s ∷ ss) ns =
     (said : Option PlainConditionName) × (more : List PlainConditionName)
-    × SaysBy (is_condition s) last s said × AreNamesBehind (last_by (is_condition s) last) ss more × (ns ≡ with_said said more)
+    × SaysBy (is_condition s) last s said × AreNamesBehind (last_entry_by (is_condition s) last) ss more × (ns ≡ with_said said more)
 
 -- sentences, of which the first is the data entry with this number, say these names
 abbrev pub AreNamesIn : ℕ → List (List Lexeme) → List PlainConditionName → Type 0

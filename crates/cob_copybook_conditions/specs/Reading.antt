@@ -10,8 +10,8 @@ use Rattle.cob_copybook_clauses.specs.Names.{IsName}
 use Rattle.cob_copybook_clauses.specs.Written.{WrittenValue}
 use Rattle.cob_copybook_entries.specs.Meaning.{IsConstantOf}
 use Rattle.cob_copybook_conditions.specs.Written.{WrittenSpan}
-use Rattle.cob_copybook_conditions.specs.Entries.{AreSpansWritten, IsListedValue, IsSpanWritten, IsThrough}
-use Rattle.cob_copybook_conditions.specs.Names.{AreSpansOf, IsSpanOf, PlainConditionName, PlainSpan, SaysBy, last_by, with_said}
+use Rattle.cob_copybook_conditions.specs.Entries.{AreSpansWritten, IsListedValue, IsSpanWritten, IsThroughWord}
+use Rattle.cob_copybook_conditions.specs.Names.{AreSpansOf, IsSpanOf, PlainConditionName, PlainSpan, SaysBy, last_entry_by, with_said}
 
 -- the words are those of one value, and mean it
 pub record IsValueMeant (c : PlainValue) (ws : List Lexeme) : Type 0 where
@@ -34,10 +34,10 @@ pub record AreSpansMeant (ss : List PlainSpan) (ws : List Lexeme) : Type 0 where
 -- THROUGH doesn't come first
 abbrev pub NotThroughFirst : List Lexeme → Type 0
 NotThroughFirst [] = Unit {0}
-NotThroughFirst (w ∷ ws) = IsThrough w → ⊥
+NotThroughFirst (w ∷ ws) = IsThroughWord w → ⊥
 
 -- a sentence is a level 88 entry up to VALUE with this name, and these words stand behind VALUE
-pub record IsNamed (sentence : List Lexeme) (name : List ℕ) (more : List Lexeme) : Type 0 where
+pub record IsNamedCondition (sentence : List Lexeme) (name : List ℕ) (more : List Lexeme) : Type 0 where
   pub is : IsCondition sentence name
   pub legal : IsName name
   pub behind : is.more ≡ more
@@ -51,5 +51,5 @@ abbrev pub AddsName : ℕ → List Lexeme → ℕ → (before after : List Plain
 AddsName last s now before after =
     (said : Option PlainConditionName)
     × SaysBy (is_condition s) last s said
-    × (now ≡ last_by (is_condition s) last)
+    × (now ≡ last_entry_by (is_condition s) last)
     × (after ≡ before ++ with_said said [])

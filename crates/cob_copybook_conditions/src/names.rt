@@ -3,7 +3,7 @@
 ghost use Rattle.std.specs.Prelude.{◌≡◌, ℕ, List, IfOk, IfSome, option_map};
 ghost use Rattle.cob_source.specs.Tokens.{Lexeme, lexemes};
 ghost use Rattle.cob_copybook_conditions.specs.Names.{SaysName, plain_condition_name};
-ghost use Rattle.cob_copybook_conditions.specs.Reading.{AnswersName, IsNamed};
+ghost use Rattle.cob_copybook_conditions.specs.Reading.{AnswersName, IsNamedCondition};
 
 use crate::spans::{Span, spans_of};
 use crate::words::without_is_or_are;
@@ -25,9 +25,9 @@ pub struct ConditionName {
 /// The name of a level 88 entry, and the words behind VALUE.
 fn named_at(sentence: &[Token]) -> Option<(Name, &[Token])>
     ensures found { IfSome result
-        (λ r. IsNamed (lexemes sentence.now) r.0 (lexemes r.1.now)) }
+        (λ r. IsNamedCondition (lexemes sentence.now) r.0 (lexemes r.1.now)) }
     ensures only { (name : List ℕ) (more : List Lexeme)
-        → IsNamed (lexemes sentence.now) name more → AnswersName result name more }
+        → IsNamedCondition (lexemes sentence.now) name more → AnswersName result name more }
 {
     let name = name_of_text(read_condition_name(sentence)?)?;
     match sentence {

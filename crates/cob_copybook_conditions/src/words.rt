@@ -4,7 +4,7 @@ ghost use Rattle.std.specs.Prelude.{◌≡◌, ◌↔◌, ◌∷◌, List, IfSom
 ghost use Rattle.cob_source.specs.Tokens.{Lexeme, lexeme, lexemes};
 ghost use Rattle.cob_copybook_clauses.specs.Clauses.{IsOrAre};
 ghost use Rattle.cob_copybook_clauses.specs.Reading.{EachCutNeither, StandInFront};
-ghost use Rattle.cob_copybook_conditions.specs.Entries.{IsThrough};
+ghost use Rattle.cob_copybook_conditions.specs.Entries.{IsThroughWord};
 
 use cob_copybook_clauses::{WordClass, behind, is_term};
 use cob_source::Token;
@@ -26,7 +26,7 @@ pub(crate) fn without_is_or_are(words: &[Token]) -> &[Token]
 
 /// Whether a token is THROUGH or THRU.
 fn is_through(token: &Token) -> bool
-    ensures { IsTrue result ↔ IsThrough (lexeme token.now) }
+    ensures { IsTrue result ↔ IsThroughWord (lexeme token.now) }
 {
     if !is_term(token, WordClass::Plain) {
         return false;
@@ -38,8 +38,8 @@ fn is_through(token: &Token) -> bool
 /// The words behind THROUGH or THRU, if one of them comes first.
 pub(crate) fn behind_through(words: &[Token]) -> Option<&[Token]>
     ensures found { IfSome result
-        (λ r. (w : Lexeme) × IsThrough w × (lexemes words.now ≡ w ∷ lexemes r.now)) }
-    ensures only { (w : Lexeme) (more : List Lexeme) → IsThrough w
+        (λ r. (w : Lexeme) × IsThroughWord w × (lexemes words.now ≡ w ∷ lexemes r.now)) }
+    ensures only { (w : Lexeme) (more : List Lexeme) → IsThroughWord w
         → lexemes words.now ≡ w ∷ more → IsSomeAnd result (λ r. lexemes r.now ≡ more) }
 {
     let (first, more) = words.split_first()?;

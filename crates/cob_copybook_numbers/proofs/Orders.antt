@@ -7,17 +7,17 @@ use Rattle.cob_copybook_tree.specs.Forests.{Forest, NoEntries, AnEntry, entries_
 use Rattle.cob_copybook_tree.specs.Nodes.{Resolved}
 use Rattle.cob_copybook_tree.specs.Resolving.{inherited, resolved}
 use Rattle.cob_copybook_tree.proofs.StandsForLemmas.{as_many_of}
-use Rattle.cob_copybook_numbers.specs.Numbers.{AreInOrder}
+use Rattle.cob_copybook_numbers.specs.Numbers.{AreNumberedInOrder}
 use Rattle.cob_copybook_numbers.specs.Laws.{NumbersInOrder}
 
 -- entries in order, and further ones behind them
-behind : (n m : ℕ) (ds cs : List PlainEntry) (es fs : List Resolved) → m ≡ n + length ds → AreInOrder n ds es → AreInOrder m cs fs → AreInOrder n (ds ++ cs) (es ++ fs)
-behind n m [] cs [] fs e h k = let same : m ≡ n = omega (arith, e) in subst (λ (i : ℕ). AreInOrder i cs fs) same k
+behind : (n m : ℕ) (ds cs : List PlainEntry) (es fs : List Resolved) → m ≡ n + length ds → AreNumberedInOrder n ds es → AreNumberedInOrder m cs fs → AreNumberedInOrder n (ds ++ cs) (es ++ fs)
+behind n m [] cs [] fs e h k = let same : m ≡ n = omega (arith, e) in subst (λ (i : ℕ). AreNumberedInOrder i cs fs) same k
 behind n m (d ∷ ds) cs (x ∷ es) fs e h k = (h.0, h.1, behind (n + 1) m ds cs es fs (omega (arith, e)) h.2 k)
 behind n m [] cs (x ∷ es) fs e h k = absurd h
 behind n m (d ∷ ds) cs [] fs e h k = absurd h
 
-in_order : (counts : List (Option ℕ)) (n : ℕ) (usage : Option Usage) (sign : Option Sign) (f : Forest PlainEntry) → AreInOrder n (flat f) (flat (resolved counts n usage sign f))
+in_order : (counts : List (Option ℕ)) (n : ℕ) (usage : Option Usage) (sign : Option Sign) (f : Forest PlainEntry) → AreNumberedInOrder n (flat f) (flat (resolved counts n usage sign f))
 in_order counts n usage sign NoEntries = tt
 in_order counts n usage sign (AnEntry e children more) = (
   refl,
@@ -29,6 +29,6 @@ in_order counts n usage sign (AnEntry e children more) = (
 pub book_in_order : NumbersInOrder
 book_in_order role text t is =
     let stored = is.is.stored in
-    let tree : AreInOrder 0 (flat is.is.written) (flat t) =
-    subst (λ (u : Forest Resolved). AreInOrder 0 (flat is.is.written) (flat u)) (sym stored.tree) (in_order stored.counts 0 None None is.is.written) in
-    subst (λ (ds : List PlainEntry). AreInOrder 0 ds (flat t)) is.is.stands.entries tree
+    let tree : AreNumberedInOrder 0 (flat is.is.written) (flat t) =
+    subst (λ (u : Forest Resolved). AreNumberedInOrder 0 (flat is.is.written) (flat u)) (sym stored.tree) (in_order stored.counts 0 None None is.is.written) in
+    subst (λ (ds : List PlainEntry). AreNumberedInOrder 0 ds (flat t)) is.is.stands.entries tree

@@ -15,9 +15,9 @@ abbrev pub IsSentenceOf : List Lexeme → Resolved → Type 0
 IsSentenceOf s e = (d : PlainEntry) × IsEntry s d × IsWrittenAs d e
 
 -- Behind a level 88 entry the last entry of the tree is the one before it; a data entry is the next one of the tree.
-abbrev pub IsLast : Bool → List Lexeme → (last : Resolved) (rest : List Resolved) (now : Resolved) (others : List Resolved) → Type 0
-IsLast true s last rest now others = (now ≡ last) × (others ≡ rest)
-IsLast false s last rest now others = IsSentenceOf s now × (rest ≡ now ∷ others)
+abbrev pub IsLastBehind : Bool → List Lexeme → (last : Resolved) (rest : List Resolved) (now : Resolved) (others : List Resolved) → Type 0
+IsLastBehind true s last rest now others = (now ≡ last) × (others ≡ rest)
+IsLastBehind false s last rest now others = IsSentenceOf s now × (rest ≡ now ∷ others)
 
 -- Sentences behind that of the entry `last` say these names, in order, where the tree's entries behind it are `rest`. A level 88 entry has the number of the
 -- entry whose sentence is the last before it.
@@ -26,20 +26,20 @@ AreNamesOf last [] rest ns = (rest ≡ []) × (ns ≡ [])
 AreNamesOf last (s ∷ ss) rest ns =
     (said : Option PlainConditionName) × (now : Resolved) × (others : List Resolved) × (more : List PlainConditionName)
     × SaysBy (is_condition s) last.number s said
-    × IsLast (is_condition s) s last rest now others
+    × IsLastBehind (is_condition s) s last rest now others
     × AreNamesOf now ss others more
     × (ns ≡ with_said said more)
 
 -- the first sentence is the record's, or the first behind a record that the text doesn't name
-abbrev pub IsFirst : Bool → (all : List Resolved) (first : Resolved) (others : List Resolved) → Type 0
-IsFirst true all first others = all ≡ first ∷ others
-IsFirst false all first others = (implied : Resolved) × (all ≡ implied ∷ (first ∷ others))
+abbrev pub IsFirstSentence : Bool → (all : List Resolved) (first : Resolved) (others : List Resolved) → Type 0
+IsFirstSentence true all first others = all ≡ first ∷ others
+IsFirstSentence false all first others = (implied : Resolved) × (all ≡ implied ∷ (first ∷ others))
 
 -- sentences, of which the first is that of a data entry, say these names of the tree's entries
 abbrev pub AreNamesOfTree : List (List Lexeme) → List Resolved → List PlainConditionName → Type 0
 AreNamesOfTree [] es ns = ⊥
 AreNamesOfTree (s ∷ ss) es ns =
-    (first : Resolved) × (others : List Resolved) × IsSentenceOf s first × IsFirst (first.level == 1) es first others × AreNamesOf first ss others ns
+    (first : Resolved) × (others : List Resolved) × IsSentenceOf s first × IsFirstSentence (first.level == 1) es first others × AreNamesOf first ss others ns
 
 -- the text's sentences say these names of the tree's entries
 pub record AreNamesOfText (text : List ℕ) (t : Forest Resolved) (ns : List PlainConditionName) : Type 0 where

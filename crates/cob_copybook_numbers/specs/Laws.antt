@@ -5,12 +5,12 @@ use Rattle.cob_copybook.specs.Books.{IsBookOf}
 use Rattle.cob_copybook_conditions.specs.Names.{AreConditionNamesOf, PlainConditionName}
 use Rattle.cob_copybook_tree.specs.Forests.{Forest, flat}
 use Rattle.cob_copybook_tree.specs.Nodes.{Resolved}
-use Rattle.cob_copybook_numbers.specs.Numbers.{AreInOrder}
+use Rattle.cob_copybook_numbers.specs.Numbers.{AreNumberedInOrder}
 use Rattle.cob_copybook_numbers.specs.Belonging.{AreNamesOfText}
 
 -- law: the entries of a record's tree, a parent before its children, are those of its text in order, and are counted from 0 for the record
 abbrev pub NumbersInOrder : Type 0
-NumbersInOrder = (role : Role) (text : List ℕ) (t : Forest Resolved) (is : IsBookOf role text t) → AreInOrder 0 is.entries (flat t)
+NumbersInOrder = (role : Role) (text : List ℕ) (t : Forest Resolved) (is : IsBookOf role text t) → AreNumberedInOrder 0 is.entries (flat t)
 
 -- law: the condition-names of a record description belong to the entries of its tree that have their numbers
 abbrev pub NamesOfEntries : Type 0

@@ -11,7 +11,7 @@ pub record IsWrittenAs (d : PlainEntry) (e : Resolved) : Type 0 where
   pub value : e.value ≡ d.value
 
 -- entries of a tree are those that are written, one for one, and have numbers one behind another from this one on
-abbrev pub AreInOrder : ℕ → List PlainEntry → List Resolved → Type 0
-AreInOrder n [] [] = Unit {0}
-AreInOrder n (d ∷ ds) (e ∷ es) = (e.number ≡ n) × IsWrittenAs d e × AreInOrder (n + 1) ds es
-AreInOrder n ds es = ⊥
+abbrev pub AreNumberedInOrder : ℕ → List PlainEntry → List Resolved → Type 0
+AreNumberedInOrder n [] [] = Unit {0}
+AreNumberedInOrder n (d ∷ ds) (e ∷ es) = (e.number ≡ n) × IsWrittenAs d e × AreNumberedInOrder (n + 1) ds es
+AreNumberedInOrder n ds es = ⊥

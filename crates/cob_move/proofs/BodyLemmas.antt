@@ -14,7 +14,7 @@ use Rattle.cob_move_deeds.specs.Deeds.{Deeds, IsStraight, moves_of_deeds}
 use Rattle.cob_move_deeds.specs.Prepared.{AreDeedsPrepared, MayBeAsked, deeds_of}
 use Rattle.cob_move_deeds.specs.declared.ready.ReadyDeeds.{ReadyDeeds}
 use Rattle.cob_move_apply.specs.Entries.{IsPlacedEntry}
-use Rattle.cob_move_tests.specs.Asked.{IsAsked, IsNamed, kind_named}
+use Rattle.cob_move_tests.specs.Asked.{IsAsked, IsSubscriptedEntry, kind_named}
 use Rattle.cob_move_condition.specs.Tested.{MayBeTested}
 use Rattle.cob_move_deeds.specs.declared.flow.Asked.{Asked}
 use Rattle.cob_move_deeds.specs.Flows.{AreFlows, FlowSupport, support_of}
@@ -112,13 +112,13 @@ tested_where false r m is = is.conditions
 body_tested : (r : Records) (m : MadeLists) → IsMade r m → AllByRecursion (MayBeTested (IsAsked (closed m).asked) (kind_named r (closed m).asked)) (closed m).conditions
 body_tested r m is = tested_where (nat_eq (length m.list) (last_marked 0 m.ends)) r m is
 
-asked_where : (b : Bool) (r : Records) (m : MadeLists) → IsMade r m → AllByRecursion (IsNamed r) (closed_where b m).asked
+asked_where : (b : Bool) (r : Records) (m : MadeLists) → IsMade r m → AllByRecursion (IsSubscriptedEntry r) (closed_where b m).asked
 asked_where true r m is = is.asked
 asked_where false r m is = is.asked
 
-pub now_asked : (r : Records) (m now : MadeLists) → IsMade r m → now ≡ closed m → AllByRecursion (IsNamed r) now.asked
+pub now_asked : (r : Records) (m now : MadeLists) → IsMade r m → now ≡ closed m → AllByRecursion (IsSubscriptedEntry r) now.asked
 now_asked r m now is same =
-    subst (λ (t : MadeLists). AllByRecursion (IsNamed r) t.asked) (sym same) (asked_where (nat_eq (length m.list) (last_marked 0 m.ends)) r m is)
+    subst (λ (t : MadeLists). AllByRecursion (IsSubscriptedEntry r) t.asked) (sym same) (asked_where (nat_eq (length m.list) (last_marked 0 m.ends)) r m is)
 
 -- what was put together of what is made
 pub record IsPutTogether (r : Records) (m : MadeLists) (moves_made : MarkedMoves) (loops : List CountedLoop) (asked : Asked) (d : ReadyDeeds) : Type 0 where

@@ -14,7 +14,7 @@ use Rattle.cob_move_deeds.specs.Deeds.{Choice, Deeds, IsStraight, Nothing, moves
 use Rattle.cob_move_deeds.specs.Flows.{AreFlows, AreNestedFlows, FlowSupport, IsFlow, behind_first, behind_skip, deeds_from, sender_at, where_holds}
 use Rattle.cob_move_deeds.specs.Tests.{Holds, Test}
 use Rattle.cob_move.specs.declared.made.BranchFlows.{BranchFlows}
-use Rattle.cob_move.specs.DeedsRead.{AreParted, AreTaken, IsConditionAt, TakenBranch, all_deeds, branches_size, chosen, linked_branches, moves_of_whens, taken_branches}
+use Rattle.cob_move.specs.DeedsRead.{AreParted, AreTakenBranches, IsConditionAt, TakenBranch, all_deeds, branches_size, chosen, linked_branches, moves_of_whens, taken_branches}
 use Rattle.cob_move.proofs.FlowLemmas.{none_nested, nothing_done}
 use Rattle.cob_move.proofs.SomeLemmas.{all_append, next}
 
@@ -72,7 +72,7 @@ chosen_deeds r on number c own rest at first then =
 
 -- ---- several
 
-pub branches_flows : (r : Records) (on : FlowSupport) (ws : List When) (bs : List TakenBranch) (other : List Flow) → AreTaken r on ws bs → AreFlows on other → AreFlows on (linked_branches bs other)
+pub branches_flows : (r : Records) (on : FlowSupport) (ws : List When) (bs : List TakenBranch) (other : List Flow) → AreTakenBranches r on ws bs → AreFlows on other → AreFlows on (linked_branches bs other)
 branches_flows r on [] [] other are flows = flows
 branches_flows r on [] (b ∷ bs) other are flows = absurd are
 branches_flows r on (w ∷ ws) [] other are flows = absurd are
@@ -80,7 +80,7 @@ branches_flows r on (w ∷ ws) (b ∷ bs) other ((c, at, means), first, same, ot
     chosen_flows on b.condition c b.flows (linked_branches bs other) at first (branches_flows r on ws bs other others flows)
 
 -- they come to a selection
-pub branches_deeds : (r : Records) (on : FlowSupport) (ws : List When) (bs : List TakenBranch) (other : List Flow) → AreTaken r on ws bs → AreFlows on other
+pub branches_deeds : (r : Records) (on : FlowSupport) (ws : List When) (bs : List TakenBranch) (other : List Flow) → AreTakenBranches r on ws bs → AreFlows on other
     → all_deeds r on (linked_branches bs other) ≡ selection ws (all_deeds r on other)
 branches_deeds r on [] [] other are flows = refl
 branches_deeds r on [] (b ∷ bs) other are flows = absurd are
@@ -92,15 +92,15 @@ branches_deeds r on (w ∷ ws) (b ∷ bs) other ((c, at, means), first, same, ot
     ∙ ap (λ (d : Deeds Test). Choice (Holds w.condition) d (all_deeds r on rest) Nothing) same
     ∙ ap (λ (d : Deeds Test). Choice (Holds w.condition) w.deeds d Nothing) (branches_deeds r on ws bs other others flows)
 
-pub taken_more : (r : Records) (on : FlowSupport) (ws : List When) (bs : List TakenBranch) (w : When) (b : TakenBranch) → AreTaken r on ws bs → IsConditionAt r on b.condition w.condition → AreFlows on b.flows
-    → all_deeds r on b.flows ≡ w.deeds → AreTaken r on (ws ++ w ∷ []) (bs ++ b ∷ [])
+pub taken_more : (r : Records) (on : FlowSupport) (ws : List When) (bs : List TakenBranch) (w : When) (b : TakenBranch) → AreTakenBranches r on ws bs → IsConditionAt r on b.condition w.condition → AreFlows on b.flows
+    → all_deeds r on b.flows ≡ w.deeds → AreTakenBranches r on (ws ++ w ∷ []) (bs ++ b ∷ [])
 taken_more r on [] [] w b are at flows deeds = (at, flows, deeds, tt)
 taken_more r on [] (c ∷ bs) w b are at flows deeds = absurd are
 taken_more r on (v ∷ ws) [] w b are at flows deeds = absurd are
 taken_more r on (v ∷ ws) (c ∷ bs) w b are at flows deeds = (are.0, are.1, are.2, taken_more r on ws bs w b are.3 at flows deeds)
 
 -- none are taken where there is none
-pub some_taken : (r : Records) (on : FlowSupport) (ws : List When) (bs : List TakenBranch) → AreTaken r on ws bs → 0 < length bs → 0 < length ws
+pub some_taken : (r : Records) (on : FlowSupport) (ws : List When) (bs : List TakenBranch) → AreTakenBranches r on ws bs → 0 < length bs → 0 < length ws
 some_taken r on [] [] are some = some
 some_taken r on [] (b ∷ bs) are some = absurd are
 some_taken r on (w ∷ ws) bs are some = omega arith

@@ -4,7 +4,7 @@ use Rattle.std.specs.List.{AllByRecursion, slice_get}
 use Rattle.std.proofs.lemmas.List.{length-append}
 use Rattle.cob_limits.specs.Limits.{most_written_out}
 use Rattle.cob_source.specs.Tokens.{Lexeme}
-use Rattle.cob_move_tests.specs.Asked.{AsksMore, IsAsked, IsNamed, kind_named, sender_named}
+use Rattle.cob_move_tests.specs.Asked.{AsksMore, IsAsked, IsSubscriptedEntry, kind_named, sender_named}
 use Rattle.cob_move_choices.specs.Choices.{Against, IsBranchTestOf, IsSubjectOf, joined_test}
 use Rattle.cob_move_choices.specs.Laws.{BranchTestsBreakNoRule, OneSubject, SubjectsBreakNoRule}
 use Rattle.cob_move_condition.specs.declared.condition.Condition as code
@@ -33,7 +33,7 @@ use Rattle.cob_move_tests.specs.Entries.{AllMayBeNamed, records_of, valued_in}
 use Rattle.cob_move.specs.declared.made.NotRead.{NotRead}
 use Rattle.cob_move.specs.declared.made.NotRead.TheVariants as why
 use Rattle.cob_move.specs.DeedsLaws.{DeedsBreakNoRule, OneDeeds}
-use Rattle.cob_move.specs.DeedsRead.{AddsBranch, AddsBranches, AddsChoice, AddsMade, AreParted, BeginsTested, BranchesAreRefused, BranchesComeTo, BranchesRefused, ChoiceComesTo, ChoiceIsRefused, ChoiceRefused, FewWith, FirstIn, FirstInBranches, FirstInChoice, HasGrown, HasReadBranches, HaveBounds, IsConditionAt, IsFrontOf, IsMade, IsRefusedIn, IsWaiting, LeavesFront, LeftOfBranches, MadeLists, PassageComesTo, ReadsApart, ReadsBranches, RefusedMade, SubjectNotRead, TakenBranch, TestNotRead, TurnRefused, all_deeds, closed, closed_where, last_marked, linked_branches, made_deeds, moves_of_whens, open_deeds, open_statements, with_asked, with_condition, with_one_more, without_flows}
+use Rattle.cob_move.specs.DeedsRead.{AddsBranch, AddsBranches, AddsChoice, AddsMade, AreParted, BeginsTested, BranchesAreRefused, BranchesComeTo, BranchesRefused, ChoiceComesTo, ChoiceIsRefused, ChoiceRefused, FewWith, FirstIn, FirstInBranches, FirstInChoice, HasGrown, HasReadBranches, HaveBounds, IsConditionAt, IsFrontOf, IsMade, IsRefusedIn, IsWaiting, LeavesFront, LeftOfBranches, MadeLists, PassageComesTo, ReadsApart, ReadsBranches, RefusedMade, SubjectNotRead, TakenBranch, TestNotRead, TurnRefused, all_deeds, closed, closed_where, last_marked, linked_branches, made_deeds, moves_of_whens, open_deeds, open_statements, with_asked, with_condition_more, with_one_more, without_flows}
 use Rattle.cob_move.specs.Joined.{before_deeds, joined_deeds}
 use Rattle.cob_move_tests.proofs.AskedLemmas.{last_get}
 use Rattle.cob_move.proofs.AskedLemmas.{all_tested_front, condition_stands, get_front, tested_front}
@@ -93,7 +93,7 @@ asked_made r m asked (more, all, is) made =
       ends = made.ends;
       behind = made.behind;
       bounds = made.bounds;
-      asked = subst (λ (t : List NamedEntry). AllByRecursion (IsNamed r) t) (sym is) (all_append (IsNamed r) m.asked more made.asked all);
+      asked = subst (λ (t : List NamedEntry). AllByRecursion (IsSubscriptedEntry r) t) (sym is) (all_append (IsSubscriptedEntry r) m.asked more made.asked all);
       conditions = all_tested_front r m.asked asked m.conditions (more, is) made.conditions;
       flows = λ on f. made.flows on (front_back m (with_asked m asked) on grown f);
       parted = λ on f. made.parted on (front_back m (with_asked m asked) on grown f);
@@ -123,7 +123,7 @@ one_more_made r m few made = record {
   few = few;
 }
 
-pub condition_grown : (m : MadeLists) (c : code.Condition) → HasGrown m (with_condition m c)
+pub condition_grown : (m : MadeLists) (c : code.Condition) → HasGrown m (with_condition_more m c)
 condition_grown m c = record {
   list = ([], sym (append-nil m.list));
   ends = ([], sym (append-nil m.ends));
@@ -133,7 +133,7 @@ condition_grown m c = record {
   flows = ([], sym (append-nil m.flows));
 }
 
-pub condition_made : (r : Records) (m : MadeLists) (c : code.Condition) → MayBeTested (IsAsked m.asked) (kind_named r m.asked) c → IsMade r m → IsMade r (with_condition m c)
+pub condition_made : (r : Records) (m : MadeLists) (c : code.Condition) → MayBeTested (IsAsked m.asked) (kind_named r m.asked) c → IsMade r m → IsMade r (with_condition_more m c)
 condition_made r m c tested made = record {
   moves = made.moves;
   ends = made.ends;
@@ -141,8 +141,8 @@ condition_made r m c tested made = record {
   bounds = made.bounds;
   asked = made.asked;
   conditions = all_append (MayBeTested (IsAsked m.asked) (kind_named r m.asked)) m.conditions (c ∷ []) made.conditions (tested, tt);
-  flows = λ on f. made.flows on (front_back m (with_condition m c) on (condition_grown m c) f);
-  parted = λ on f. made.parted on (front_back m (with_condition m c) on (condition_grown m c) f);
+  flows = λ on f. made.flows on (front_back m (with_condition_more m c) on (condition_grown m c) f);
+  parted = λ on f. made.parted on (front_back m (with_condition_more m c) on (condition_grown m c) f);
   few = made.few;
 }
 
@@ -233,7 +233,7 @@ apart_deeds e ns body now mid b on f =
 
 -- what is made with a branch: a mark stands behind its statements, and its condition is there
 abbrev pub with_branch : MadeLists → code.Condition → MadeLists
-with_branch mid c = with_condition (without_flows (closed mid)) c
+with_branch mid c = with_condition_more (without_flows (closed mid)) c
 
 pub branch_grown : (now mid : MadeLists) (c : code.Condition) → now.flows ≡ [] → HasGrown now mid → HasGrown now (with_branch mid c)
 branch_grown now mid c none g = grown_both now (without_flows (closed mid)) (with_branch mid c) (closed_after now mid none g) (condition_grown (without_flows (closed mid)) c)
@@ -684,7 +684,7 @@ left_taken law e ns a k words rest more ws body waiting own c taken old now new 
     let apart = adds.apart in
     let read : BranchRead e ns part.body (with_asked now asked) apart.mid = record { none = none; marked = marked; grown = apart.grown; made = apart.made; adds = apart.adds part.body part.within } in
     let not_none : (part.body ≡ NoMore) → ⊥ = λ same. absurd (omega (arith, some, ap length (subst (λ (x : Passage). IsPassage x body) same part.within))) in
-    let new_is : new ≡ with_branch apart.mid c = adds.new_is ∙ ap (λ (m : MadeLists). with_condition m c) apart.after in
+    let new_is : new ≡ with_branch apart.mid c = adds.new_is ∙ ap (λ (m : MadeLists). with_condition_more m c) apart.after in
     let after_is : after ≡ taken ++ record { condition = length (closed apart.mid).conditions; flows = (closed apart.mid).flows } ∷ [] =
     adds.taken ∙ ap (λ (m : MadeLists). taken ++ record { condition = length m.conditions; flows = adds.own } ∷ []) apart.after
     ∙ ap (λ (fs : List Flow). taken ++ record { condition = length (closed apart.mid).conditions; flows = fs } ∷ []) apart.flows in (
@@ -732,7 +732,7 @@ pub branch_kept : (e : Entries) (ns : List Counted) (c : code.Condition) (words 
     → AddsBranch e ns c words taken after now new → IsKeptBehind (records_of e) now new
 branch_kept e ns c words taken after now new none tested adds =
     let apart = adds.apart in
-    let new_is : new ≡ with_branch apart.mid c = adds.new_is ∙ ap (λ (m : MadeLists). with_condition m c) apart.after in
+    let new_is : new ≡ with_branch apart.mid c = adds.new_is ∙ ap (λ (m : MadeLists). with_condition_more m c) apart.after in
     subst (λ (m : MadeLists). IsKeptBehind (records_of e) now m) (sym new_is) (record {
       made = branch_made (records_of e) now apart.mid c apart.grown tested apart.made;
       grown = branch_grown now apart.mid c none apart.grown;

@@ -21,7 +21,7 @@ use Rattle.cob_move_tests.specs.declared.entries.Entries.{Entries}
 use Rattle.cob_move_tests.specs.Entries.{nameable, valued_in}
 use Rattle.cob_move.specs.Deeds.{IsLoopRefused}
 use Rattle.cob_move.specs.DeedsLaws.{OneDeeds}
-use Rattle.cob_move.specs.DeedsRead.{AddsDeeds, BoundNotRead, BreaksInTurn, FrontStops, IsRefusedIn, IsSure, LoopStops, MadeLists, PassageComesTo, RunRefusedIn, StopsAt, WordsStop, closed, closed_where, deep, deep_front, in_its_turn, last_marked, taken_back, without_flows, words_in_front}
+use Rattle.cob_move.specs.DeedsRead.{AddsDeeds, BoundNotRead, BreaksInSomeTurn, FrontStops, IsRefusedIn, IsSure, LoopStops, MadeLists, PassageComesTo, RunRefusedIn, StopsAt, WordsStop, closed, closed_where, deep, deep_front, in_its_turn, last_marked, taken_back, without_flows, words_in_front}
 use Rattle.cob_move.specs.Loops.{RunRefused}
 use Rattle.cob_move.proofs.DeedsLemmas.{either_side, up_to_some}
 use Rattle.cob_move.proofs.FewLemmas.{refused_joined}
@@ -162,5 +162,5 @@ next_sure law ended one e ns l body step number next deepest before size now mid
     omega (arith, within, few, product, reads_same number next size mid after kept passed)
 
 -- a turn that is sure, and breaks a rule
-pub sure_breaks : (f : MoveFault) (e : Entries) (ns : List Counted) (words : List Lexeme) (before : ℕ) → WordsStop (why.Broken f) e ns words → IsSure e ns words before → BreaksInTurn f e ns words before
+pub sure_breaks : (f : MoveFault) (e : Entries) (ns : List Counted) (words : List Lexeme) (before : ℕ) → WordsStop (why.Broken f) e ns words → IsSure e ns words before → BreaksInSomeTurn f e ns words before
 sure_breaks f e ns words before stop sure p is = let (other, refused) = stop p is in (other, refused, sure p is)

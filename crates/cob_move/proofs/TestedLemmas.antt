@@ -36,7 +36,7 @@ use Rattle.cob_move_tests.specs.declared.entries.Entries.{Entries}
 use Rattle.cob_move_tests.specs.declared.entries.NamedEntry.{NamedEntry}
 use Rattle.cob_move_tests.specs.Entries.{AllMayBeNamed, nameable, records_of, valued_in}
 use Rattle.cob_move.specs.Deeds.{AreDeeds, ComeFirstInLoop, IsBoundOf, IsLoopOf, IsLoopRefused, IsTurnRefused, count_of_turns}
-use Rattle.cob_move.specs.DeedsRead.{AddsDeeds, AddsLoop, AddsMade, AreKept, AreParted, AreTurns, BoundNotRead, BreaksInTurn, FewWith, FirstBelow, FirstIn, FirstInLoop, HasBounds, HasGrown, HasNoTurn, IsBoundRead, IsFrontOf, IsMade, IsNotBroken, IsRefusedIn, IsSizeOf, LeavesFront, LoopComesTo, LoopRefused, MadeLists, PassageComesTo, ReadsTurns, TurnRefused, all_deeds, closed, closed_where, flow_lists, in_its_turn, last_marked, linked_turns, made_deeds, open_deeds, open_statements, taken_back, without_flows}
+use Rattle.cob_move.specs.DeedsRead.{AddsDeeds, AddsLoop, AddsMade, AreKept, AreParted, AreTurns, BoundNotRead, BreaksInSomeTurn, FewWith, FirstBelow, FirstIn, FirstInLoop, HasBounds, HasGrown, HasNoTurn, IsBoundRead, IsFrontOf, IsMade, IsNotBroken, IsRefusedIn, IsSizeOf, LeavesFront, LoopComesTo, LoopRefused, MadeLists, PassageComesTo, ReadsTurns, TurnRefused, all_deeds, closed, closed_where, flow_lists, in_its_turn, last_marked, linked_turns, made_deeds, open_deeds, open_statements, taken_back, without_flows}
 use Rattle.cob_move.specs.DeedsLaws.{DeedsBreakNoRule, OneDeeds}
 use Rattle.cob_move.specs.Joined.{before_deeds, joined_deeds}
 use Rattle.cob_move.proofs.CloseLemmas.{closed_deeds, closed_flows, closed_grown, closed_made, closed_open, closed_read, equal_is, equal_not}
@@ -274,7 +274,7 @@ reads_kept law e ns l p behind next turns old now mid kept here none marked grow
 -- ---- why a loop to an item isn't read
 
 pub first_refused : OneDeeds → DeedsBreakNoRule → (f : MoveFault) (e : Entries) (ns : List Counted) (l : WrittenLoop) (ws body : List Lexeme) (number : ℕ) (old : MadeLists) → AllMayBeNamed e → l.bound ≡ ToItem ws → number ≡ l.from
-    → BreaksInTurn f e (in_its_turn ns l number) body old.read → LoopRefused (why.Broken f) e ns l body old
+    → BreaksInSomeTurn f e (in_its_turn ns l number) body old.read → LoopRefused (why.Broken f) e ns l body old
 first_refused law unbroken f e ns l ws body number old named bound first broken p is =
     let k : ((f.rule ≡ rule.Memory) → ⊥) × IsRefusedIn f e (in_its_turn ns l l.from) p × FewWith (λ many. FirstIn e (in_its_turn ns l l.from) p many) old.read =
     subst (λ (i : ℕ). ((f.rule ≡ rule.Memory) → ⊥) × IsRefusedIn f e (in_its_turn ns l i) p × FewWith (λ many. FirstIn e (in_its_turn ns l i) p many) old.read) first (broken p is) in (
@@ -705,7 +705,7 @@ tried_now e ns l body behind number next turns old now new at same t =
 
 -- so a first turn that breaks a rule does so behind what was made before the loop
 pub breaks_first : (f : MoveFault) (e : Entries) (ns inner : List Counted) (l : WrittenLoop) (body : List Lexeme) (behind next : ℕ) (turns : List (List Flow)) (old now : MadeLists) → HasTried e ns l body behind next turns old now → behind ≡ l.from
-    → BreaksInTurn f e inner body now.read → BreaksInTurn f e inner body old.read
+    → BreaksInSomeTurn f e inner body now.read → BreaksInSomeTurn f e inner body old.read
 breaks_first f e ns inner l body behind next turns old now t same broken p is =
     let r = t.reads p is in
     let size : now.read ≡ old.read = omega (arith, r.longer, none_before r.count l.from behind same) in
@@ -713,5 +713,5 @@ breaks_first f e ns inner l body behind next turns old now t same broken p is =
     (k.0, k.1, subst (λ (n : ℕ). FewWith (λ many. FirstIn e inner p many) n) size k.2)
 
 -- behind a turn that was taken back the same is made
-pub breaks_same : (f : MoveFault) (e : Entries) (inner : List Counted) (body : List Lexeme) (now new : MadeLists) → new ≡ now → BreaksInTurn f e inner body now.read → HasNoTurn e inner body new.read
-breaks_same f e inner body now new same broken = (f, subst (λ (m : MadeLists). BreaksInTurn f e inner body m.read) (sym same) broken)
+pub breaks_same : (f : MoveFault) (e : Entries) (inner : List Counted) (body : List Lexeme) (now new : MadeLists) → new ≡ now → BreaksInSomeTurn f e inner body now.read → HasNoTurn e inner body new.read
+breaks_same f e inner body now new same broken = (f, subst (λ (m : MadeLists). BreaksInSomeTurn f e inner body m.read) (sym same) broken)

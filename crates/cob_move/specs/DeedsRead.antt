@@ -9,7 +9,7 @@ use Rattle.cob_limits.specs.Limits.{longest_record, most_written_out}
 use Rattle.cob_source.specs.Tokens.{Lexeme}
 use Rattle.cob_move_apply.specs.declared.placed.PlacedEntry.{PlacedEntry}
 use Rattle.cob_move_apply.specs.Marked.{RiseUpTo, ends_of_marks}
-use Rattle.cob_move_tests.specs.Asked.{IsAsked, IsNamed, kind_named, sender_named}
+use Rattle.cob_move_tests.specs.Asked.{IsAsked, IsSubscriptedEntry, kind_named, sender_named}
 use Rattle.cob_move_choices.specs.Choices.{Against, BreaksBranchTest, BreaksSubject, IsSubjectOf}
 use Rattle.cob_move_condition.specs.declared.condition.Condition.{Condition}
 use Rattle.cob_move_condition.specs.Conditions.{Condition as Meant, condition_of}
@@ -123,7 +123,7 @@ pub record IsMade (r : Records) (m : MadeLists) : Type 0 where
   pub ends : RiseUpTo 0 (last_marked 0 m.ends) m.ends
   pub behind : last_marked 0 m.ends ≤ length m.list
   pub bounds : AllByRecursion (IsBound r) m.bounds
-  pub asked : AllByRecursion (IsNamed r) m.asked
+  pub asked : AllByRecursion (IsSubscriptedEntry r) m.asked
   pub conditions : AllByRecursion (MayBeTested (IsAsked m.asked) (kind_named r m.asked)) m.conditions
   pub flows : (on : FlowSupport) → IsFrontOf m on → AreFlows on m.flows
   pub parted : (on : FlowSupport) → IsFrontOf m on → AreParted (all_deeds r on m.flows)
@@ -385,12 +385,12 @@ abbrev pub FrontRefused : NotRead → Entries → List Counted → PassageFront 
 FrontRefused n e ns front old = (p : Passage) → Within front p → RefusedMade n (λ f. FrontIsRefused f e ns front p) (λ many. FirstInFront e ns front p many) old
 
 -- whatever passage words are, it breaks a rule in a turn, and behind so many statements those that come first are few
-abbrev pub BreaksInTurn : MoveFault → Entries → List Counted → List Lexeme → ℕ → Type 0
-BreaksInTurn f e ns words before = (p : Passage) → IsPassage p words → ((f.rule ≡ rule.Memory) → ⊥) × IsRefusedIn f e ns p × FewWith (λ many. FirstIn e ns p many) before
+abbrev pub BreaksInSomeTurn : MoveFault → Entries → List Counted → List Lexeme → ℕ → Type 0
+BreaksInSomeTurn f e ns words before = (p : Passage) → IsPassage p words → ((f.rule ≡ rule.Memory) → ⊥) × IsRefusedIn f e ns p × FewWith (λ many. FirstIn e ns p many) before
 
 -- so it does, whatever the fault is
 abbrev pub HasNoTurn : Entries → List Counted → List Lexeme → ℕ → Type 0
-HasNoTurn e ns words before = (f : MoveFault) × BreaksInTurn f e ns words before
+HasNoTurn e ns words before = (f : MoveFault) × BreaksInSomeTurn f e ns words before
 
 -- ---- turns of a loop
 
@@ -565,11 +565,11 @@ abbrev pub IsConditionAt : Records → FlowSupport → ℕ → Meant → Type 0
 IsConditionAt r on number t = (c : Condition) × (slice_get on.conditions number ≡ Some c) × (condition_of (sender_at r on) c ≡ t)
 
 -- branches that were read come to these
-abbrev pub AreTaken : Records → FlowSupport → List When → List TakenBranch → Type 0
-AreTaken r on [] [] = Unit {0}
-AreTaken r on [] (b ∷ bs) = ⊥
-AreTaken r on (w ∷ ws) [] = ⊥
-AreTaken r on (w ∷ ws) (b ∷ bs) = IsConditionAt r on b.condition w.condition × AreFlows on b.flows × (all_deeds r on b.flows ≡ w.deeds) × AreTaken r on ws bs
+abbrev pub AreTakenBranches : Records → FlowSupport → List When → List TakenBranch → Type 0
+AreTakenBranches r on [] [] = Unit {0}
+AreTakenBranches r on [] (b ∷ bs) = ⊥
+AreTakenBranches r on (w ∷ ws) [] = ⊥
+AreTakenBranches r on (w ∷ ws) (b ∷ bs) = IsConditionAt r on b.condition w.condition × AreFlows on b.flows × (all_deeds r on b.flows ≡ w.deeds) × AreTakenBranches r on ws bs
 
 -- the moves of their statements
 abbrev pub moves_of_whens : List When → List Move
@@ -607,8 +607,8 @@ abbrev pub with_one_more : MadeLists → MadeLists
 with_one_more m = record { list = m.list; ends = m.ends; bounds = m.bounds; asked = m.asked; conditions = m.conditions; flows = m.flows; read = m.read + 1 }
 
 -- the same with a condition more
-abbrev pub with_condition : MadeLists → Condition → MadeLists
-with_condition m c = record { list = m.list; ends = m.ends; bounds = m.bounds; asked = m.asked; conditions = m.conditions ++ c ∷ []; flows = m.flows; read = m.read }
+abbrev pub with_condition_more : MadeLists → Condition → MadeLists
+with_condition_more m c = record { list = m.list; ends = m.ends; bounds = m.bounds; asked = m.asked; conditions = m.conditions ++ c ∷ []; flows = m.flows; read = m.read }
 
 -- What stands before the branches of a choice isn't read: memory was refused, or its words break a rule on its line.
 abbrev pub SubjectNotRead : NotRead → Entries → List Counted → WrittenChoice → Type 0
@@ -636,7 +636,7 @@ pub record AddsBranch (e : Entries) (ns : List Counted) (test : Condition) (word
   pub own : List Flow
   pub read : MadeLists
   pub apart : ReadsApart e ns words own old read
-  pub new_is : new ≡ with_condition read test
+  pub new_is : new ≡ with_condition_more read test
   pub taken : after ≡ before ++ record { condition = length read.conditions; flows = own } ∷ []
 
 -- Branches in front are read, behind what was made before, and branches are left, whose passage is this one: what those come to, behind the tests that wait, makes
@@ -648,7 +648,7 @@ pub record ReadsBranches (e : Entries) (ns : List Counted) (a : Against) (p q : 
   pub comes : (d : Deeds Test) (many : ℕ) → BranchesComeTo e ns a waits q d many → BranchesComeTo e ns a None p (selection whens d) (count + many)
   pub waited : IsWaiting (records_of e) new.asked waiting waits
   pub some : BeginsTested p → (0 < length whens) ⊎ BeginsTested q
-  pub are : (on : FlowSupport) → IsFrontOf new on → AreTaken (records_of e) on whens taken
+  pub are : (on : FlowSupport) → IsFrontOf new on → AreTakenBranches (records_of e) on whens taken
   pub refuses : (f : MoveFault) → BranchesAreRefused f e ns a q → BranchesAreRefused f e ns a p
   pub longer : new.read ≡ old.read + count
   pub whole : moves (records_of e) new.list ≡ moves (records_of e) old.list ++ moves_of_whens whens
@@ -669,7 +669,7 @@ pub record HasReadBranches (e : Entries) (ns : List Counted) (a : Against) (p : 
   pub many : ℕ
   pub comes : BranchesComeTo e ns a None p (selection whens last) many
   pub some : BeginsTested p → 0 < length whens
-  pub are : (on : FlowSupport) → IsFrontOf new on → AreTaken (records_of e) on whens taken
+  pub are : (on : FlowSupport) → IsFrontOf new on → AreTakenBranches (records_of e) on whens taken
   pub flows : (on : FlowSupport) → IsFrontOf new on → AreFlows on other
   pub deeds : (on : FlowSupport) → IsFrontOf new on → all_deeds (records_of e) on other ≡ last
   pub longer : new.read ≡ old.read + many

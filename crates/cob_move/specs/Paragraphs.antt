@@ -118,7 +118,7 @@ BreaksFormat rule.Memory line text = line ≡ 0
 BreaksFormat other line text = ⊥
 
 -- the words of the text, behind their heading, are refused
-pub record BreaksWords (f : MoveFault) (text : List ℕ) (input output : Forest Resolved) (names : PlainConditionNames) : Type 0 where
+pub record BreaksParagraphWords (f : MoveFault) (text : List ℕ) (input output : Forest Resolved) (names : PlainConditionNames) : Type 0 where
   pub words : List Lexeme
   pub body : List Lexeme
   pub are_words : AreParagraphWordsOf text words
@@ -127,7 +127,7 @@ pub record BreaksWords (f : MoveFault) (text : List ℕ) (input output : Forest 
 
 -- A refusal names a rule that is broken: by the text, by its words, or by one of its statements.
 abbrev pub IsRefusalOf : MoveFault → List ℕ → Forest Resolved → Forest Resolved → PlainConditionNames → Type 0
-IsRefusalOf f text input output names = BreaksFormat f.rule f.line text ⊎ BreaksWords f text input output names
+IsRefusalOf f text input output names = BreaksFormat f.rule f.line text ⊎ BreaksParagraphWords f text input output names
 
 -- ---- paragraphs that are read
 

@@ -3,7 +3,7 @@
 ghost use Rattle.std.specs.Prelude.{◌≡◌, [], map, IfErr, IfOk, OnOk};
 ghost use Rattle.std.specs.List.{AllByRecursion};
 ghost use Rattle.cob_move_apply.specs.Entries.{IsPlacedEntry};
-ghost use Rattle.cob_move_tests.specs.Asked.{IsNamed};
+ghost use Rattle.cob_move_tests.specs.Asked.{IsSubscriptedEntry};
 ghost use Rattle.cob_move_data.specs.Moves.{AreMoves, moves};
 ghost use Rattle.cob_move_deeds.specs.Prepared.{deeds_of};
 ghost use Rattle.cob_move_loops.specs.Bounded.{AreBounded, LacksBound};
@@ -88,7 +88,7 @@ fn placed_entries(
     input: &Layout,
     output: &Layout,
 ) -> Result<Vec<PlacedEntry>, AllocError>
-    requires operands { AllByRecursion (IsNamed (both input.now output.now)) asked.items }
+    requires operands { AllByRecursion (IsSubscriptedEntry (both input.now output.now)) asked.items }
     ensures named { IfOk result (λ v. map named_of v.items ≡ asked.items) }
     ensures placed { IfOk result
         (λ v. AllByRecursion (IsPlacedEntry (both input.now output.now)) v.items) }

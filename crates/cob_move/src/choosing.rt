@@ -3,7 +3,7 @@
 ghost use Rattle.std.specs.Prelude.{◌≡◌, ◌⊎◌, ◌+◌, ◌<◌, ◌≤◌, ℕ, List, option_map, IfErr, IfNone, IfOk, IfSome, OnOk};
 ghost use Rattle.cob_limits.specs.Limits.{most_written_out};
 ghost use Rattle.std.specs.List.{AllByRecursion};
-ghost use Rattle.cob_move_tests.specs.Asked.{AsksMore, IsAsked, IsNamed, IsTestable, kind_named, sender_named};
+ghost use Rattle.cob_move_tests.specs.Asked.{AsksMore, IsAsked, IsSubscriptedEntry, IsTestable, kind_named, sender_named};
 ghost use Rattle.cob_move_tests.specs.declared.entries.NamedEntry.{NamedEntry};
 ghost use Rattle.cob_move_choices.specs.Asked.{IsSubjectAsked, against};
 ghost use Rattle.cob_move_choices.specs.Choices.{IsBranchTestOf, IsSubjectOf, joined_test};
@@ -125,7 +125,7 @@ pub(crate) fn read_test(
 ) -> Result<Condition, NotRead>
     requires named { AllMayBeNamed entries.now }
     requires there { IsSubjectAsked made.old.asked.items subject }
-    requires operands { AllByRecursion (IsNamed (records_of entries.now)) made.old.asked.items }
+    requires operands { AllByRecursion (IsSubscriptedEntry (records_of entries.now)) made.old.asked.items }
     ensures found { IfOk result (λ c. IsBranchTestOf (records_of entries.now) (valued_in entries.now) (counters turn.now)
         (against (sender_named (records_of entries.now) made.old.asked.items) subject)
         (lexemes words.now)

@@ -17,7 +17,7 @@ ghost use Rattle.cob_move.specs.Deeds.{IsBoundOf};
 ghost use Rattle.cob_move.specs.Between.{ArePairsOf};
 ghost use Rattle.cob_move_tests.specs.Asked.{sender_named};
 ghost use Rattle.cob_move_choices.specs.Asked.{IsSubjectAsked, against};
-ghost use Rattle.cob_move.specs.DeedsRead.{AddsBranch, AddsBranches, AddsChoice, AddsDeeds, AddsFront, AddsLoop, AddsMoved, AreKept, BoundNotRead, BoundRefused, BranchesRefused, BreaksInTurn, ChoiceRefused, FrontHasBounds, FrontRefused, HasBounds, HasGrown, HasNoTurn, HaveBounds, IsBoundRead, IsFrontRead, IsMade, IsNotBroken, IsSure, LeavesFront, LoopRefused, MovedRefused, ReadsApart, ReadsTurns, TurnRefused, closed, flow_lists, in_its_turn, last_marked, linked_size, linked_turns, made_lists, open_statements, taken_back, taken_branches, without_flows};
+ghost use Rattle.cob_move.specs.DeedsRead.{AddsBranch, AddsBranches, AddsChoice, AddsDeeds, AddsFront, AddsLoop, AddsMoved, AreKept, BoundNotRead, BoundRefused, BranchesRefused, BreaksInSomeTurn, ChoiceRefused, FrontHasBounds, FrontRefused, HasBounds, HasGrown, HasNoTurn, HaveBounds, IsBoundRead, IsFrontRead, IsMade, IsNotBroken, IsSure, LeavesFront, LoopRefused, MovedRefused, ReadsApart, ReadsTurns, TurnRefused, closed, flow_lists, in_its_turn, last_marked, linked_size, linked_turns, made_lists, open_statements, taken_back, taken_branches, without_flows};
 ghost use Rattle.cob_move.specs.Loops.{AddsRun, RunRefused};
 ghost use Rattle.cob_move.specs.declared.made.NotRead.TheVariants as unread;
 
@@ -273,7 +273,7 @@ fn try_turn<'a>(
     ensures added { IfOk result (λ o. IfNone o (AddsDeeds entries.now
         (in_its_turn (counters turn.now) (written_loop head.now) number) (lexemes body.now)
         (made_lists made.old) (made_lists made.new))) }
-    ensures refused { IfOk result (λ o. IfSome o (λ f. BreaksInTurn f entries.now
+    ensures refused { IfOk result (λ o. IfSome o (λ f. BreaksInSomeTurn f entries.now
         (in_its_turn (counters turn.now) (written_loop head.now) number) (lexemes body.now)
         (made_lists made.old).read)) }
     ensures same { IfOk result (λ o. IfSome o

@@ -17,7 +17,7 @@ use Rattle.cob_move_tests.specs.Laws.{ConditionsBreakNoRule}
 use Rattle.cob_move_tests.specs.Meant.{IsOperandOf}
 use Rattle.cob_move_tests.specs.Spans.{FromTo, MayBeWithin, One, Span}
 use Rattle.cob_move_tests.proofs.NoRuleLemmas.{no_operand}
-use Rattle.cob_move_choices.specs.Choices.{AnEntry, BreaksEvaluated, BreaksListed, BreaksListedValue, BreaksSpan, IsEvaluated, IsListed, Truth, all_of}
+use Rattle.cob_move_choices.specs.Choices.{AnEntry, BreaksEvaluated, BreaksListed, BreaksListedValue, BreaksSpan, IsEvaluated, IsListedTest, Truth, all_of}
 use Rattle.cob_move_choices.specs.Laws.{BranchTestsBreakNoRule, SubjectsBreakNoRule}
 use Rattle.cob_move_choices.specs.Values.{FromToWritten, IsSpanOf, OneWritten, WrittenSpan}
 use Rattle.cob_move_choices.proofs.SpanLemmas.{one_span, one_span_of}
@@ -53,7 +53,7 @@ no_span one law r records s (FromToWritten x y) v (a, b, is, last, e) may (inr b
     let may_too : MayBeWithin s (FromTo a b) = subst (λ (z : Span). MayBeWithin s z) e may in
     no_value one law r records s y b last may_too.1 broken
 
-no_listed : OneNamed → NamedBreakNoRule → (r : MoveRule) (records : Records) (s : Sender) (ws : List Lexeme) (c : Condition) → IsListed records s ws c → BreaksListed r records s ws → ⊥
+no_listed : OneNamed → NamedBreakNoRule → (r : MoveRule) (records : Records) (s : Sender) (ws : List Lexeme) (c : Condition) → IsListedTest records s ws c → BreaksListed r records s ws → ⊥
 no_listed one law r records s ws c (w, v, spelled, is, may, e) (inl (same, none)) = none w spelled
 no_listed one law r records s ws c (w, v, spelled, is, may, e) (inr (x, it, broken)) =
     no_span one law r records s w v is may (subst (λ (z : WrittenSpan). BreaksSpan r records s z) (one_span x w ws it spelled) broken)

@@ -14,7 +14,7 @@ use Rattle.cob_move_statements.specs.Written.{WrittenReference}
 use Rattle.cob_move_statements.proofs.OneLemmas.{one_reference}
 use Rattle.cob_move_tests.specs.Laws.{OneConditionOf}
 use Rattle.cob_move_tests.specs.Spans.{Span, within}
-use Rattle.cob_move_choices.specs.Choices.{AnEntry, IsEvaluated, IsListed, Truth, all_of}
+use Rattle.cob_move_choices.specs.Choices.{AnEntry, IsEvaluated, IsListedTest, Truth, all_of}
 use Rattle.cob_move_choices.specs.Laws.{OneBranchTest, OneSubject}
 use Rattle.cob_move_choices.specs.Values.{IsSpanOf, WrittenSpan}
 use Rattle.cob_move_choices.proofs.SpanLemmas.{one_span, one_span_of}
@@ -33,7 +33,7 @@ one_subject_of law r ns (AnEvaluate line ws) a b (inr (never, other)) (inl (is, 
 one_subject_of law r ns (AnEvaluate line ws) a b (inr (never, (s, is, e))) (inr (none, (t, it, f))) =
     e ∙ ap (λ (z : Sender). AnEntry z) (one_evaluated law r ns ws s t is it) ∙ sym f
 
-one_listed : OneNamed → (r : Records) (s : Sender) (ws : List Lexeme) (c d : Condition) → IsListed r s ws c → IsListed r s ws d → c ≡ d
+one_listed : OneNamed → (r : Records) (s : Sender) (ws : List Lexeme) (c d : Condition) → IsListedTest r s ws c → IsListedTest r s ws d → c ≡ d
 one_listed law r s ws c d (w, v, spelled, is, may, e) (x, u, spelled_too, it, might, f) =
     let same : w ≡ x = one_span w x ws spelled spelled_too in
     let meant : v ≡ u = one_span_of law (all_of r) x v u (subst (λ (z : WrittenSpan). IsSpanOf (all_of r) z v) same is) it in

@@ -21,15 +21,15 @@ use Rattle.cob_move_statements.specs.declared.fault.MoveRule.{MoveRule}
 use Rattle.cob_move_statements.specs.declared.fault.MoveRule.TheVariants as rule
 use Rattle.cob_move_statements.specs.Written.{SentConstant}
 use Rattle.cob_move_tests.specs.declared.entries.NamedEntry.{NamedEntry}
-use Rattle.cob_move_tests.specs.Asked.{AsksMore, IsAsked, IsNamed, MayBeListed, kind_asked, sender_asked, sender_named}
-use Rattle.cob_move_tests.specs.Broken.{BreaksWords}
+use Rattle.cob_move_tests.specs.Asked.{AsksMore, IsAsked, IsSubscriptedEntry, MayBeListed, kind_asked, sender_asked, sender_named}
+use Rattle.cob_move_tests.specs.Broken.{BreaksConditionWords}
 use Rattle.cob_move_tests.specs.Counters.{HasNoCounter, has_no_counter}
 use Rattle.cob_move_tests.specs.Meant.{IsConditionOf, IsOperandOf}
 use Rattle.cob_move_tests.specs.Spans.{FromTo, One, within}
 use Rattle.cob_move_tests.proofs.AskedLemmas.{last_get, one_more}
 use Rattle.cob_move_choices.specs.declared.subjects.Subject.TheVariants as subject
 use Rattle.cob_move_choices.specs.Asked.{against}
-use Rattle.cob_move_choices.specs.Choices.{Against, AnEntry, BreaksBranchTest, BreaksEvaluated, BreaksInTurn, BreaksListed, BreaksListedValue, BreaksSpan, BreaksSubject, IsBranchTestOf, IsEvaluated, IsListed, IsSubjectOf, IsTruth, Truth, all_of}
+use Rattle.cob_move_choices.specs.Choices.{Against, AnEntry, BreaksBranchTest, BreaksEvaluated, BreaksTestInTurn, BreaksListed, BreaksListedValue, BreaksSpan, BreaksSubject, IsBranchTestOf, IsEvaluated, IsListedTest, IsSubjectOf, IsTruth, Truth, all_of}
 use Rattle.cob_move_choices.specs.Values.{FromToWritten, IsSpanWritten, OneWritten, WrittenSpan}
 
 both : (t : Bool) → t ≡ true → t ≡ false → ⊥
@@ -51,7 +51,7 @@ subject_found r ns line ws before now n number other is at e =
 pub subject_there : (before now : List NamedEntry) (n : NamedEntry) (number : ℕ) → number ≡ length before → now ≡ before ++ n ∷ [] → IsAsked now number
 subject_there before now n number at e = omega (arith, at, ap length e, length-append before (n ∷ []))
 
-pub subject_asks : (r : Records) (before now : List NamedEntry) (n : NamedEntry) → IsNamed r n → now ≡ before ++ n ∷ [] → AsksMore r before now
+pub subject_asks : (r : Records) (before now : List NamedEntry) (n : NamedEntry) → IsSubscriptedEntry r n → now ≡ before ++ n ∷ [] → AsksMore r before now
 subject_asks r before now n is e = one_more r before now n is e
 
 -- a counter is among the words of an EVALUATE
@@ -66,13 +66,13 @@ head_refused r records ns line ws other (inr broken) = inr (other, broken)
 -- ---- values
 
 pub one_found : (r : Records) (s : Sender) (ws : List Lexeme) (v : WrittenValue) (x : PlainValue) (c : Condition) → IsSpanWritten (OneWritten v) ws
-    → IsOperandOf (all_of r) (SentConstant v) (Literal x) → may_compare (kind_of_sender s) (kind_of_sender (Literal x)) ≡ true → c ≡ Compares s Equal (Literal x) → IsListed r s ws c
+    → IsOperandOf (all_of r) (SentConstant v) (Literal x) → may_compare (kind_of_sender s) (kind_of_sender (Literal x)) ≡ true → c ≡ Compares s Equal (Literal x) → IsListedTest r s ws c
 one_found r s ws v x c is means may e = (OneWritten v, One (Literal x), is, (Literal x, means, refl), may, e)
 
 pub two_found : (r : Records) (s : Sender) (ws : List Lexeme) (v w : WrittenValue) (x y : PlainValue) (c : Condition) → IsSpanWritten (FromToWritten v w) ws
     → IsOperandOf (all_of r) (SentConstant v) (Literal x) → may_compare (kind_of_sender s) (kind_of_sender (Literal x)) ≡ true
     → IsOperandOf (all_of r) (SentConstant w) (Literal y) → may_compare (kind_of_sender s) (kind_of_sender (Literal y)) ≡ true
-    → c ≡ within s (FromTo (Literal x) (Literal y)) → IsListed r s ws c
+    → c ≡ within s (FromTo (Literal x) (Literal y)) → IsListedTest r s ws c
 two_found r s ws v w x y c is first may last might e =
     (FromToWritten v w, FromTo (Literal x) (Literal y), is, (Literal x, Literal y, first, last, refl), (may, might), e)
 
@@ -91,12 +91,12 @@ pub entry_compares : (r : Records) (n : NamedEntry) (kind : Kind) (x : PlainValu
 entry_compares r n kind x may same is = sym (is ∙ ap (λ (k : Kind). may_compare (table.Entry k) (table.Literal x)) same)
 
 -- an entry under a number is one of those that are asked for
-pub named_at : (r : Records) (asked : List NamedEntry) (number : ℕ) (n : NamedEntry) → slice_get asked number ≡ Some n → AllByRecursion (IsNamed r) asked → IsNamed r n
+pub named_at : (r : Records) (asked : List NamedEntry) (number : ℕ) (n : NamedEntry) → slice_get asked number ≡ Some n → AllByRecursion (IsSubscriptedEntry r) asked → IsSubscriptedEntry r n
 named_at r [] number n at all = absurd (none_some n at)
   where
     none_some : (n : NamedEntry) → None ≡ Some n → ⊥
     none_some n e = cc
-named_at r (m ∷ asked) zero n at all = subst (IsNamed r) (some_same m n at) all.0
+named_at r (m ∷ asked) zero n at all = subst (IsSubscriptedEntry r) (some_same m n at) all.0
   where
     some_same : (m n : NamedEntry) → Some m ≡ Some n → m ≡ n
     some_same m n e = cc
@@ -129,19 +129,19 @@ pub truth_found : (r : Records) (values : List (Bearer ValuedEntry)) (ns : List 
     → IsBranchTestOf r values ns Truth ws c
 truth_found r values ns ws own c none same is = (none, subst (λ (t : List Lexeme). IsConditionOf r values t c) same is)
 
-pub listed_found : (r : Records) (values : List (Bearer ValuedEntry)) (ns : List Counted) (s : Sender) (ws own : List Lexeme) (c : Condition) → HasNoCounter ns ws → own ≡ in_turn ns false 0 ws → IsListed r s own c
+pub listed_found : (r : Records) (values : List (Bearer ValuedEntry)) (ns : List Counted) (s : Sender) (ws own : List Lexeme) (c : Condition) → HasNoCounter ns ws → own ≡ in_turn ns false 0 ws → IsListedTest r s own c
     → IsBranchTestOf r values ns (AnEntry s) ws c
-listed_found r values ns s ws own c none same is = (none, subst (λ (t : List Lexeme). IsListed r s t c) same is)
+listed_found r values ns s ws own c none same is = (none, subst (λ (t : List Lexeme). IsListedTest r s t c) same is)
 
 pub test_refused : (r : MoveRule) (records : Records) (values : List (Bearer ValuedEntry)) (ns : List Counted) (a : Against) (ws own : List Lexeme) → HasNoCounter ns ws → own ≡ in_turn ns false 0 ws
-    → BreaksInTurn r records values a own → BreaksBranchTest r records values ns a ws
-test_refused r records values ns a ws own none same broken = inr (none, subst (λ (t : List Lexeme). BreaksInTurn r records values a t) same broken)
+    → BreaksTestInTurn r records values a own → BreaksBranchTest r records values ns a ws
+test_refused r records values ns a ws own none same broken = inr (none, subst (λ (t : List Lexeme). BreaksTestInTurn r records values a t) same broken)
 
 pub counter_among : (records : Records) (values : List (Bearer ValuedEntry)) (ns : List Counted) (a : Against) (ws : List Lexeme) → has_no_counter ns false false ws ≡ false → BreaksBranchTest rule.Grammar records values ns a ws
 counter_among records values ns a ws some = inl (refl, λ none. both (has_no_counter ns false false ws) none some)
 
 -- why a test isn't read, in a choice that is held against nothing
-pub truth_refused : (r : MoveRule) (records : Records) (values : List (Bearer ValuedEntry)) (ns : List Counted) (a : Against) (ws own : List Lexeme) → a ≡ Truth → HasNoCounter ns ws → own ≡ in_turn ns false 0 ws → (r ≡ rule.Memory) ⊎ BreaksWords r records values own
+pub truth_refused : (r : MoveRule) (records : Records) (values : List (Bearer ValuedEntry)) (ns : List Counted) (a : Against) (ws own : List Lexeme) → a ≡ Truth → HasNoCounter ns ws → own ≡ in_turn ns false 0 ws → (r ≡ rule.Memory) ⊎ BreaksConditionWords r records values own
     → (r ≡ rule.Memory) ⊎ BreaksBranchTest r records values ns a ws
 truth_refused r records values ns a ws own held none same (inl memory) = inl memory
 truth_refused r records values ns a ws own held none same (inr broken) =

@@ -18,7 +18,7 @@ use Rattle.cob_move_names.specs.Valued.{ValuedEntry}
 use Rattle.cob_move_statements.specs.declared.fault.MoveRule.{MoveRule}
 use Rattle.cob_move_statements.specs.declared.fault.MoveRule.TheVariants as rule
 use Rattle.cob_move_statements.specs.Written.{SentConstant, SentReference, WrittenReference}
-use Rattle.cob_move_tests.specs.Broken.{BreaksOperand, BreaksWords}
+use Rattle.cob_move_tests.specs.Broken.{BreaksOperand, BreaksConditionWords}
 use Rattle.cob_move_tests.specs.Counters.{HasNoCounter}
 use Rattle.cob_move_tests.specs.Meant.{IsConditionOf}
 use Rattle.cob_move_tests.specs.Spans.{MayBeWithin, Span, within}
@@ -54,13 +54,13 @@ IsSubjectOf r ns (AnEvaluate line ws) a =
     ⊎ ((IsTruth ws → ⊥) × ((s : Sender) × IsEvaluated r ns ws s × (a ≡ AnEntry s)))
 
 -- Words of a WHEN list values that an entry may be compared with: the test is whether it is one of them.
-abbrev pub IsListed : Records → Sender → List Lexeme → Condition → Type 0
-IsListed r s ws c = (w : WrittenSpan) × (v : Span) × IsSpanWritten w ws × IsSpanOf (all_of r) w v × MayBeWithin s v × (c ≡ within s v)
+abbrev pub IsListedTest : Records → Sender → List Lexeme → Condition → Type 0
+IsListedTest r s ws c = (w : WrittenSpan) × (v : Span) × IsSpanWritten w ws × IsSpanOf (all_of r) w v × MayBeWithin s v × (c ≡ within s v)
 
 -- The words of a test mean this condition in a turn, between two records that have these condition-names.
 abbrev pub IsBranchTestOf : Records → List (Bearer ValuedEntry) → List Counted → Against → List Lexeme → Condition → Type 0
 IsBranchTestOf r values ns Truth ws c = HasNoCounter ns ws × IsConditionOf r values (in_turn ns false 0 ws) c
-IsBranchTestOf r values ns (AnEntry s) ws c = HasNoCounter ns ws × IsListed r s (in_turn ns false 0 ws) c
+IsBranchTestOf r values ns (AnEntry s) ws c = HasNoCounter ns ws × IsListedTest r s (in_turn ns false 0 ws) c
 
 -- a test behind those of WHENs whose statements are the same: one of them holds
 abbrev pub joined_test : Option Condition → Condition → Condition
@@ -98,12 +98,12 @@ BreaksListed r records s ws =
     ⊎ ((w : WrittenSpan) × IsSpanWritten w ws × BreaksSpan r records s w)
 
 -- the words of a test without counters do, in a turn
-abbrev pub BreaksInTurn : MoveRule → Records → List (Bearer ValuedEntry) → Against → List Lexeme → Type 0
-BreaksInTurn r records values Truth ws = BreaksWords r records values ws
-BreaksInTurn r records values (AnEntry s) ws = BreaksListed r records s ws
+abbrev pub BreaksTestInTurn : MoveRule → Records → List (Bearer ValuedEntry) → Against → List Lexeme → Type 0
+BreaksTestInTurn r records values Truth ws = BreaksConditionWords r records values ws
+BreaksTestInTurn r records values (AnEntry s) ws = BreaksListed r records s ws
 
 -- The words of a test break a rule in a turn: a counter is among them (M1), or they do so with its number in its place.
 abbrev pub BreaksBranchTest : MoveRule → Records → List (Bearer ValuedEntry) → List Counted → Against → List Lexeme → Type 0
 BreaksBranchTest r records values ns a ws =
     ((r ≡ rule.Grammar) × (HasNoCounter ns ws → ⊥))
-    ⊎ (HasNoCounter ns ws × BreaksInTurn r records values a (in_turn ns false 0 ws))
+    ⊎ (HasNoCounter ns ws × BreaksTestInTurn r records values a (in_turn ns false 0 ws))

@@ -7,7 +7,7 @@ ghost use Rattle.cob_source.specs.Tokens.{lexemes};
 ghost use Rattle.cob_move_loops.specs.Reading.{counters, written_choice};
 ghost use Rattle.cob_move_statements.specs.declared.fault.MoveRule.TheVariants.{Memory};
 ghost use Rattle.cob_move_tests.specs.Entries.{AllMayBeNamed, records_of};
-ghost use Rattle.cob_move_tests.specs.Asked.{AsksMore, IsNamed, sender_asked, sender_named};
+ghost use Rattle.cob_move_tests.specs.Asked.{AsksMore, IsSubscriptedEntry, sender_asked, sender_named};
 ghost use Rattle.cob_move_choices.specs.Asked.{IsSubjectAsked, against};
 ghost use Rattle.cob_move_choices.specs.Choices.{BreaksEvaluated, BreaksSubject, IsEvaluated, IsSubjectOf, IsTruth};
 
@@ -54,7 +54,7 @@ fn evaluated(
     requires named { AllMayBeNamed entries.now }
     ensures found { IfOk result (λ n. IsEvaluated (records_of entries.now) (counters turn.now)
         (lexemes words.now) (sender_asked (records_of entries.now) (Some n))) }
-    ensures operand { IfOk result (IsNamed (records_of entries.now)) }
+    ensures operand { IfOk result (IsSubscriptedEntry (records_of entries.now)) }
     ensures fault { IfErr result (λ r. (r ≡ Memory) ⊎ BreaksEvaluated r (records_of entries.now)
         (counters turn.now) (lexemes words.now)) }
 {

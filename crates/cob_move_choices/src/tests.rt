@@ -7,7 +7,7 @@ ghost use Rattle.cob_move_statements.specs.declared.fault.MoveRule.TheVariants.{
 ghost use Rattle.cob_source.specs.Tokens.{lexemes};
 ghost use Rattle.cob_move_tests.specs.Entries.{AllMayBeNamed, records_of, valued_in};
 ghost use Rattle.std.specs.List.{AllByRecursion};
-ghost use Rattle.cob_move_tests.specs.Asked.{AsksMore, IsNamed, IsTestable, sender_named};
+ghost use Rattle.cob_move_tests.specs.Asked.{AsksMore, IsSubscriptedEntry, IsTestable, sender_named};
 ghost use Rattle.cob_move_choices.specs.Asked.{IsSubjectAsked, against};
 ghost use Rattle.cob_move_choices.specs.Choices.{BreaksBranchTest, IsBranchTestOf};
 
@@ -35,7 +35,7 @@ pub fn branch_test(
 ) -> Result<Condition, MoveRule>
     requires named { AllMayBeNamed entries.now }
     requires there { IsSubjectAsked asked.old.items subject }
-    requires operands { AllByRecursion (IsNamed (records_of entries.now)) asked.old.items }
+    requires operands { AllByRecursion (IsSubscriptedEntry (records_of entries.now)) asked.old.items }
     ensures found { IfOk result (λ c. IsBranchTestOf (records_of entries.now) (valued_in entries.now) (counters turn.now)
         (against (sender_named (records_of entries.now) asked.old.items) subject)
         (lexemes words.now)

@@ -12,11 +12,11 @@ ghost use Rattle.cob_move_data.specs.Moves.{Literal as LiteralSender};
 ghost use Rattle.cob_move_names.specs.Senders.{kind_of_sender};
 ghost use Rattle.cob_move_statements.specs.declared.fault.MoveRule.TheVariants.{Memory};
 ghost use Rattle.cob_move_statements.specs.Written.{SentConstant};
-ghost use Rattle.cob_move_tests.specs.Asked.{IsAsked, IsNamed, IsTestable, sender_asked, sender_named};
+ghost use Rattle.cob_move_tests.specs.Asked.{IsAsked, IsSubscriptedEntry, IsTestable, sender_asked, sender_named};
 ghost use Rattle.cob_move_tests.specs.Entries.{AllMayBeNamed, nameable, records_of};
 ghost use Rattle.cob_move_tests.specs.Meant.{IsOperandOf};
 ghost use Rattle.cob_source.specs.Tokens.{lexeme, lexemes};
-ghost use Rattle.cob_move_choices.specs.Choices.{BreaksListed, BreaksListedValue, IsListed};
+ghost use Rattle.cob_move_choices.specs.Choices.{BreaksListed, BreaksListedValue, IsListedTest};
 ghost use Rattle.cob_move_choices.specs.Values.{IsSpanWritten, IsThru, IsValueWritten, WrittenSpan, written_span};
 
 use cob_copybook_clauses::ValueClause;
@@ -89,7 +89,7 @@ fn value_of(
     entry: &NamedEntry,
     written: &ValueClause<'_>,
 ) -> Result<Value, MoveRule>
-    requires { IsNamed (records_of entries.now) entry.now }
+    requires { IsSubscriptedEntry (records_of entries.now) entry.now }
     ensures found { IfOk result (λ v. IsOperandOf (nameable entries.now)
         (SentConstant (written_value written.now)) (LiteralSender (plain_value v))) }
     ensures may { IfOk result (λ v. may_compare
@@ -120,8 +120,8 @@ pub(crate) fn value_test(
 ) -> Result<Condition, MoveRule>
     requires named { AllMayBeNamed entries.now }
     requires there { IsAsked asked.now number }
-    requires operands { AllByRecursion (IsNamed (records_of entries.now)) asked.now }
-    ensures found { IfOk result (λ c. IsListed (records_of entries.now)
+    requires operands { AllByRecursion (IsSubscriptedEntry (records_of entries.now)) asked.now }
+    ensures found { IfOk result (λ c. IsListedTest (records_of entries.now)
         (sender_named (records_of entries.now) asked.now number) (lexemes words.now)
         (condition_of (sender_named (records_of entries.now) asked.now) c)) }
     ensures tested { IfOk result (IsTestable (records_of entries.now) asked.now) }

@@ -19,8 +19,8 @@ use Rattle.cob_move_tests.specs.declared.entries.NamedEntry.{NamedEntry}
 use Rattle.cob_move_tests.specs.declared.compared.Compared.{Compared}
 use Rattle.cob_move_tests.specs.declared.compared.Compared.TheVariants as compared
 use Rattle.cob_move_tests.specs.declared.compared.LastRelation.{LastRelation}
-use Rattle.cob_move_tests.specs.Asked.{AsksMore, IsAsked, IsNamed, IsTestable, kind_asked, kind_named, sender_asked, sender_named}
-use Rattle.cob_move_tests.specs.Compared.{IsStatedThere, IsThere, sender_in, stated_in}
+use Rattle.cob_move_tests.specs.Asked.{AsksMore, IsAsked, IsSubscriptedEntry, IsTestable, kind_asked, kind_named, sender_asked, sender_named}
+use Rattle.cob_move_tests.specs.Compared.{IsStatedThere, IsComparedThere, sender_in, stated_in}
 use Rattle.cob_move_tests.specs.Meant.{StatedAs}
 
 -- ---- lists
@@ -45,12 +45,12 @@ none_more r xs = ([], tt, sym (append-nil xs))
 pub same_more : (r : Records) (before now : List NamedEntry) → now ≡ before → AsksMore r before now
 same_more r before now e = ([], tt, e ∙ sym (append-nil before))
 
-pub one_more : (r : Records) (before now : List NamedEntry) (n : NamedEntry) → IsNamed r n → now ≡ before ++ n ∷ [] → AsksMore r before now
+pub one_more : (r : Records) (before now : List NamedEntry) (n : NamedEntry) → IsSubscriptedEntry r n → now ≡ before ++ n ∷ [] → AsksMore r before now
 one_more r before now n is e = (n ∷ [], (is, tt), e)
 
 pub both_more : (r : Records) (xs ys zs : List NamedEntry) → AsksMore r xs ys → AsksMore r ys zs → AsksMore r xs zs
 both_more r xs ys zs (more, all, e) (others, all_others, f) =
-    (more ++ others, all_append (IsNamed r) more others all all_others, f ∙ ap (λ (t : List NamedEntry). t ++ others) e ∙ append_assoc xs more others)
+    (more ++ others, all_append (IsSubscriptedEntry r) more others all all_others, f ∙ ap (λ (t : List NamedEntry). t ++ others) e ∙ append_assoc xs more others)
 
 later_there : (before more : List NamedEntry) (n : ℕ) → n < length before → n < length (before ++ more)
 later_there before more n lt = omega (arith, lt, length-append before more)
@@ -64,14 +64,14 @@ kind_more r before more n lt = ap (kind_asked r) (front_get before more n lt)
 -- what is compared stays what it was
 pub record IsSame (r : Records) (before now : List NamedEntry) (a : Compared) : Type 0 where
   pub sender : sender_in r now a ≡ sender_in r before a
-  pub there : IsThere r now a
+  pub there : IsComparedThere r now a
 
-compared_more : (r : Records) (before more : List NamedEntry) (a : Compared) → IsThere r before a → IsSame r before (before ++ more) a
+compared_more : (r : Records) (before more : List NamedEntry) (a : Compared) → IsComparedThere r before a → IsSame r before (before ++ more) a
 compared_more r before more (compared.Entry n k) (lt, e) =
     record { sender = sender_more r before more n lt; there = (later_there before more n lt, e ∙ sym (kind_more r before more n lt)) }
 compared_more r before more (compared.Constant v) h = record { sender = refl; there = tt }
 
-pub compared_same : (r : Records) (before now : List NamedEntry) (a : Compared) → AsksMore r before now → IsThere r before a → IsSame r before now a
+pub compared_same : (r : Records) (before now : List NamedEntry) (a : Compared) → AsksMore r before now → IsComparedThere r before a → IsSame r before now a
 compared_same r before now a (more, all, e) h = subst (λ (xs : List NamedEntry). IsSame r before xs a) (sym e) (compared_more r before more a h)
 
 -- and so does what was stated last

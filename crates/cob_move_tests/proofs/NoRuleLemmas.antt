@@ -22,7 +22,7 @@ use Rattle.cob_move_names.specs.Values.{ValuedOperand}
 use Rattle.cob_move_statements.specs.declared.fault.MoveRule.{MoveRule}
 use Rattle.cob_move_statements.specs.declared.fault.MoveRule.TheVariants as rule
 use Rattle.cob_move_statements.specs.Written.{SentConstant, SentReference, WrittenReference, WrittenSender}
-use Rattle.cob_move_tests.specs.Broken.{BreaksAloneBy, BreaksCondition, BreaksLastRelation, BreaksNameOf, BreaksNamed, BreaksOperand, BreaksQuality, BreaksRelation, BreaksTest}
+use Rattle.cob_move_tests.specs.Broken.{BreaksAloneBy, BreaksWrittenCondition, BreaksLastRelation, BreaksNameOf, BreaksNamed, BreaksOperand, BreaksQuality, BreaksRelation, BreaksTest}
 use Rattle.cob_move_tests.specs.Laws.{ConditionsBreakNoRule}
 use Rattle.cob_move_tests.specs.Meant.{HasQuality, IsAlone, IsLastRelation, IsMeantBy, IsNameOf, IsOperandOf, IsRelationOf, IsTestOf, NamesCondition, NoneStated, Stated, StatedAs, conditions_named}
 use Rattle.cob_move_tests.specs.Qualities.{may_have}
@@ -86,20 +86,20 @@ no_test one law valued keeps rule all values r (StandsAlone v) s c next is broke
 no_test one law valued keeps rule all values r (Has w opposite q) s c next (has, e) broken = no_quality one law rule all r w opposite q c has broken
 
 no_condition : OneNamed → NamedBreakNoRule → OneValued → ValuedBreakNoRule → (rule : MoveRule) (all : List Candidate) (values : List (Bearer ValuedEntry)) (r : Records) (w : WrittenCondition) (s : Stated) (c : Condition) (next : Stated)
-    → IsMeantBy all values r w s c next → BreaksCondition rule all values r w s → ⊥
+    → IsMeantBy all values r w s c next → BreaksWrittenCondition rule all values r w s → ⊥
 no_condition one law valued keeps rule all values r (Simple t) s c next is broken = no_test one law valued keeps rule all values r t s c next is broken
 no_condition one law valued keeps rule all values r (InBrackets w) s c next (last, is, e) broken = no_condition one law valued keeps rule all values r w NoneStated c last is broken
 no_condition one law valued keeps rule all values r (BehindNot w) s c next (x, is, e) broken = no_condition one law valued keeps rule all values r w s x next is broken
 no_condition one law valued keeps rule all values r (WithAnd v w) s c next (x, y, mid, h, k, e) (inl broken) = no_condition one law valued keeps rule all values r v s x mid h broken
 no_condition one law valued keeps rule all values r (WithAnd v w) s c next (x, y, mid, h, k, e) (inr (z, other, i, broken)) =
-    no_condition one law valued keeps rule all values r w mid y next k (subst (λ (t : Stated). BreaksCondition rule all values r w t) ((one_meant one valued all values r v s z x other mid i h).1) broken)
+    no_condition one law valued keeps rule all values r w mid y next k (subst (λ (t : Stated). BreaksWrittenCondition rule all values r w t) ((one_meant one valued all values r v s z x other mid i h).1) broken)
 no_condition one law valued keeps rule all values r (WithOr v w) s c next (x, y, mid, h, k, e) (inl broken) = no_condition one law valued keeps rule all values r v s x mid h broken
 no_condition one law valued keeps rule all values r (WithOr v w) s c next (x, y, mid, h, k, e) (inr (z, other, i, broken)) =
-    no_condition one law valued keeps rule all values r w mid y next k (subst (λ (t : Stated). BreaksCondition rule all values r w t) ((one_meant one valued all values r v s z x other mid i h).1) broken)
+    no_condition one law valued keeps rule all values r w mid y next k (subst (λ (t : Stated). BreaksWrittenCondition rule all values r w t) ((one_meant one valued all values r v s z x other mid i h).1) broken)
 
 pub no_rule : OneWrittenCondition → OneNamed → NamedBreakNoRule → OneValued → ValuedBreakNoRule → ConditionsBreakNoRule
 no_rule spelled one law valued keeps rule r values ws c h (inl (same, none)) = none h.written h.spelled
 no_rule spelled one law valued keeps rule r values ws c h (inr (w, is, broken)) =
     let all : List Candidate = all_entries r.input r.output in
     no_condition one law valued keeps rule all values r h.written NoneStated c h.last h.meant
-    (subst (λ (x : WrittenCondition). BreaksCondition rule all values r x NoneStated) (spelled ws w h.written is h.spelled) broken)
+    (subst (λ (x : WrittenCondition). BreaksWrittenCondition rule all values r x NoneStated) (spelled ws w h.written is h.spelled) broken)

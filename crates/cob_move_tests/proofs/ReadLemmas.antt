@@ -25,7 +25,7 @@ use Rattle.cob_move_tests.specs.declared.compared.Compared.{Compared}
 use Rattle.cob_move_tests.specs.declared.compared.Compared.TheVariants as compared
 use Rattle.cob_move_tests.specs.declared.compared.ReadCondition.{ReadCondition}
 use Rattle.cob_move_tests.specs.Asked.{AsksMore, IsAsked, IsTestable, kind_asked, kind_named, sender_asked, sender_named}
-use Rattle.cob_move_tests.specs.Compared.{IsComparandOf, IsRead, IsStatedThere, IsThere, kind_of_compared, sender_in, stated_in}
+use Rattle.cob_move_tests.specs.Compared.{IsComparandOf, IsReadCondition, IsStatedThere, IsComparedThere, kind_of_compared, sender_in, stated_in}
 use Rattle.cob_move_tests.specs.Meant.{IsOperandOf, Stated, StatedAs, StatesRelation, opposite_if}
 use Rattle.cob_move_tests.proofs.AskedLemmas.{compared_same, condition_same, last_get, stated_same}
 
@@ -44,7 +44,7 @@ entry_found all r before now w n number k at e names =
     ((n.side, operand_in (record_of r n.side) n.entry, names, same), tt)
 
 pub entry_there : (r : Records) (before now : List NamedEntry) (n : NamedEntry) (number : ℕ) (k : Kind) → number ≡ length before → now ≡ before ++ n ∷ []
-    → k ≡ (operand_in (record_of r n.side) n.entry).kind → IsThere r now (compared.Entry number k)
+    → k ≡ (operand_in (record_of r n.side) n.entry).kind → IsComparedThere r now (compared.Entry number k)
 entry_there r before now n number k at e is = (
   omega (arith, at, ap length e, length-append before (n ∷ [])),
   is ∙ sym (ap (kind_asked r) (asked_last r before now n e)) ∙ ap (λ (i : ℕ). kind_named r now i) (sym at),
@@ -58,13 +58,13 @@ compared_is r asked (compared.Constant v) (comparand.Constant w) e = ap (λ (x :
 compared_is r asked (compared.Entry n k) (comparand.Constant w) e = absurd e
 compared_is r asked (compared.Constant v) (comparand.Entry m) e = absurd e
 
-compared_there : (r : Records) (asked : List NamedEntry) (s : Compared) (a : Comparand) → IsComparandOf s a → IsThere r asked s → IsComparandThere (IsAsked asked) a
+compared_there : (r : Records) (asked : List NamedEntry) (s : Compared) (a : Comparand) → IsComparandOf s a → IsComparedThere r asked s → IsComparandThere (IsAsked asked) a
 compared_there r asked (compared.Entry n k) (comparand.Entry m) e (lt, is) = omega (arith, lt, e)
 compared_there r asked (compared.Constant v) (comparand.Constant w) e there = tt
 compared_there r asked (compared.Entry n k) (comparand.Constant w) e there = absurd e
 compared_there r asked (compared.Constant v) (comparand.Entry m) e there = absurd e
 
-compared_kind : (r : Records) (asked : List NamedEntry) (s : Compared) (a : Comparand) → IsComparandOf s a → IsThere r asked s → kind_compared (kind_named r asked) a ≡ kind_of_compared s
+compared_kind : (r : Records) (asked : List NamedEntry) (s : Compared) (a : Comparand) → IsComparandOf s a → IsComparedThere r asked s → kind_compared (kind_named r asked) a ≡ kind_of_compared s
 compared_kind r asked (compared.Entry n k) (comparand.Entry m) e (lt, is) = ap (λ (x : Kind). table.Entry x) (ap (λ (i : ℕ). kind_named r asked i) e ∙ sym is)
 compared_kind r asked (compared.Constant v) (comparand.Constant w) e there = ap (λ (x : PlainValue). table.Literal x) e
 compared_kind r asked (compared.Entry n k) (comparand.Constant w) e there = absurd e
@@ -80,7 +80,7 @@ some_there [] n lt = let never : ⊥ = omega (arith, lt) in absurd never
 some_there (x ∷ xs) zero lt = (x, refl)
 some_there (x ∷ xs) (suc n) lt = some_there xs n (omega (arith, lt))
 
-pub kind_there : (r : Records) (asked : List NamedEntry) (s : Compared) → IsThere r asked s → kind_of_sender (sender_in r asked s) ≡ kind_of_compared s
+pub kind_there : (r : Records) (asked : List NamedEntry) (s : Compared) → IsComparedThere r asked s → kind_of_sender (sender_in r asked s) ≡ kind_of_compared s
 kind_there r asked (compared.Entry n k) (lt, is) =
     let (m, e) = some_there asked n lt in
     kind_of_some r m (slice_get asked n) e ∙ ap (λ (x : Kind). table.Entry x) (sym is)
@@ -88,18 +88,18 @@ kind_there r asked (compared.Constant v) there = refl
 
 -- ---- relations
 
-pub may_of : (r : Records) (before now : List NamedEntry) (subject object : Compared) (may : Bool) → AsksMore r before now → IsThere r before subject → IsThere r now object
+pub may_of : (r : Records) (before now : List NamedEntry) (subject object : Compared) (may : Bool) → AsksMore r before now → IsComparedThere r before subject → IsComparedThere r now object
     → may ≡ may_compare (kind_of_compared subject) (kind_of_compared object) → may_compare (kind_of_sender (sender_in r before subject)) (kind_of_sender (sender_in r now object)) ≡ may
 may_of r before now subject object may grown there there_too is =
     ap (λ (k : SenderKind). may_compare k (kind_of_sender (sender_in r now object))) (kind_there r before subject there)
     ∙ ap (λ (k : SenderKind). may_compare (kind_of_compared subject) k) (kind_there r now object there_too) ∙ sym is
 
 pub relation_read : (all : List Candidate) (r : Records) (before now : List NamedEntry) (subject object : Compared) (a b : Comparand) (q : Relation) (w : WrittenSender) (c : code.Condition)
-    → IsComparandOf subject a → IsComparandOf object b → IsThere r before subject → AsksMore r before now → IsOperandOf all w (sender_in r now object) → IsThere r now object
+    → IsComparandOf subject a → IsComparandOf object b → IsComparedThere r before subject → AsksMore r before now → IsOperandOf all w (sender_in r now object) → IsComparedThere r now object
     → true ≡ may_compare (kind_of_compared subject) (kind_of_compared object)
     → ((entry : ℕ → Sender) → condition_of entry c ≡ opposite_if q.opposite (Compares (sender_compared entry a) q.order (sender_compared entry b)))
     → ((s : Records) (asked : List NamedEntry) → IsTestable s asked (code_condition.Compares a q.order b) → IsTestable s asked c)
-    → IsRead r now (StatesRelation all (sender_in r before subject) q w) (record { condition = c; last = Some (record { subject = subject; relation = q }) })
+    → IsReadCondition r now (StatesRelation all (sender_in r before subject) q w) (record { condition = c; last = Some (record { subject = subject; relation = q }) })
 relation_read all r before now subject object a b q w c of_subject of_object there grown means there_too may says testable =
     let same = compared_same r before now subject grown there in
     let f : ℕ → Sender = sender_named r now in
@@ -127,7 +127,7 @@ relation_read all r before now subject object a b q w c of_subject of_object the
 -- ---- conditions that others are part of
 
 -- what was read stays so where more is asked for
-pub read_later : (r : Records) (before now : List NamedEntry) (Is : Condition → Stated → Type 0) (m : ReadCondition) → AsksMore r before now → IsRead r before Is m → IsRead r now Is m
+pub read_later : (r : Records) (before now : List NamedEntry) (Is : Condition → Stated → Type 0) (m : ReadCondition) → AsksMore r before now → IsReadCondition r before Is m → IsReadCondition r now Is m
 read_later r before now Is m grown h =
     let x = condition_same r before now m.condition grown h.testable in
     let y = stated_same r before now m.last grown h.there in record {
@@ -146,7 +146,7 @@ pub record AreRead (r : Records) (now : List NamedEntry) (IsOne : Condition → 
   pub there : IsStatedThere r now other.last
 
 pub parts_read : (r : Records) (mid now : List NamedEntry) (IsOne : Condition → Stated → Type 0) (IsOther : Stated → Condition → Stated → Type 0) (one other : ReadCondition) → AsksMore r mid now
-    → IsRead r mid IsOne one → IsRead r now (IsOther (stated_in r mid one.last)) other → AreRead r now IsOne IsOther one other
+    → IsReadCondition r mid IsOne one → IsReadCondition r now (IsOther (stated_in r mid one.last)) other → AreRead r now IsOne IsOther one other
 parts_read r mid now IsOne IsOther one other grown h k =
     let x = condition_same r mid now one.condition grown h.testable in record {
       mid = stated_in r mid one.last;

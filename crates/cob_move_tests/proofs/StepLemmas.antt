@@ -40,9 +40,9 @@ use Rattle.cob_move_tests.specs.declared.entries.NamedEntry.{NamedEntry}
 use Rattle.cob_move_tests.specs.declared.compared.Compared.{Compared}
 use Rattle.cob_move_tests.specs.declared.compared.Compared.TheVariants as compared
 use Rattle.cob_move_tests.specs.declared.compared.ReadCondition.{ReadCondition}
-use Rattle.cob_move_tests.specs.Asked.{AsksMore, IsNumberForSign, IsTestable, MayBeAsked, MayBeValued, kind_asked, kind_named, sender_asked, sender_named}
-use Rattle.cob_move_tests.specs.Broken.{BreaksAlone, BreaksAloneBy, BreaksCondition, BreaksLastRelation, BreaksNameOf, BreaksNamed, BreaksRelation, BreaksTest, BreaksWords}
-use Rattle.cob_move_tests.specs.Compared.{IsRead, IsThere, kind_of_compared, sender_in, stated_in}
+use Rattle.cob_move_tests.specs.Asked.{AsksMore, IsNumberForSign, IsTestable, MayAskQuality, MayBeValued, kind_asked, kind_named, sender_asked, sender_named}
+use Rattle.cob_move_tests.specs.Broken.{BreaksOperandAlone, BreaksAloneBy, BreaksWrittenCondition, BreaksLastRelation, BreaksNameOf, BreaksNamed, BreaksRelation, BreaksTest, BreaksConditionWords}
+use Rattle.cob_move_tests.specs.Compared.{IsReadCondition, IsComparedThere, kind_of_compared, sender_in, stated_in}
 use Rattle.cob_move_tests.specs.Laws.{ConditionsBreakNoRule}
 use Rattle.cob_move_tests.specs.Meant.{HasQuality, IsAlone, IsConditionOf, IsLastRelation, IsMeantBy, IsNotEmpty, IsOperandBehind, IsOperandOf, IsTestOf, NamesCondition, NoneStated, Stated, StatedAs, StatesRelation, conditions_named, opposite_if, quality_asked}
 use Rattle.cob_move_tests.specs.Qualities.{may_have}
@@ -85,8 +85,8 @@ pub kinds_compare : (a b k l : SenderKind) (may : Bool) → may ≡ may_compare 
 kinds_compare a b k l may is e f = is ∙ ap (λ (x : SenderKind). may_compare x b) e ∙ ap (λ (x : SenderKind). may_compare k x) f
 
 -- two operands may not be compared
-pub not_comparable : (all : List Candidate) (r : Records) (before now : List NamedEntry) (subject object : Compared) (w : WrittenSender) → AsksMore r before now → IsThere r before subject
-    → IsOperandOf all w (sender_in r now object) → IsThere r now object → false ≡ may_compare (kind_of_compared subject) (kind_of_compared object)
+pub not_comparable : (all : List Candidate) (r : Records) (before now : List NamedEntry) (subject object : Compared) (w : WrittenSender) → AsksMore r before now → IsComparedThere r before subject
+    → IsOperandOf all w (sender_in r now object) → IsComparedThere r now object → false ≡ may_compare (kind_of_compared subject) (kind_of_compared object)
     → BreaksRelation rule.NotComparable all (sender_in r before subject) w
 not_comparable all r before now subject object w grown there means there_too lacks =
     inr (refl, (sender_in r now object, means, may_of r before now subject object false grown there there_too lacks))
@@ -121,7 +121,7 @@ later : (number : ℕ) (before now : List NamedEntry) (n : NamedEntry) → numbe
 later number before now n at e = omega (arith, at, ap length e, length-append before (n ∷ []))
 
 pub quality_there : (r : Records) (before now : List NamedEntry) (q : Quality) (n : NamedEntry) (number : ℕ) → number ≡ length before → now ≡ before ++ n ∷ []
-    → true ≡ may_have (record_of r n.side) q (operand_in (record_of r n.side) n.entry) → MayBeAsked r now q number
+    → true ≡ may_have (record_of r n.side) q (operand_in (record_of r n.side) n.entry) → MayAskQuality r now q number
 quality_there r before now q n number at e may =
     let same : kind_named r now number ≡ (operand_in (record_of r n.side) n.entry).kind =
     ap (λ (i : ℕ). kind_named r now i) at ∙ ap (λ (xs : List NamedEntry). kind_named r xs (length before)) e ∙ ap (kind_asked r) (last_get before n) in
@@ -131,20 +131,20 @@ quality_there r before now q n number at e may =
 zero_compares : (k : Kind) → is_number_operand (table.Entry k) ≡ true → may_compare (table.Entry k) (table.Literal (Figure Zero)) ≡ true
 zero_compares k e = ap (λ (b : Bool). (b && true) || have_characters (table.Entry k) (table.Literal (Figure Zero))) e
 
-pub sign_testable : (r : Records) (asked : List NamedEntry) (order : Ordering) (number : ℕ) → MayBeAsked r asked (quality.Sign order) number
+pub sign_testable : (r : Records) (asked : List NamedEntry) (order : Ordering) (number : ℕ) → MayAskQuality r asked (quality.Sign order) number
     → IsTestable r asked (code_condition.Compares (comparand.Entry number) order (comparand.Constant (value.Figurative Zero)))
 sign_testable r asked order number (there, is) = (there, tt, zero_compares (kind_named r asked number) is)
 
 -- ---- simple conditions
 
 -- what was read is so in other words
-pub read_map : (r : Records) (now : List NamedEntry) (Is It : Condition → Stated → Type 0) (m : ReadCondition) → ((c : Condition) (s : Stated) → Is c s → It c s) → IsRead r now Is m → IsRead r now It m
+pub read_map : (r : Records) (now : List NamedEntry) (Is It : Condition → Stated → Type 0) (m : ReadCondition) → ((c : Condition) (s : Stated) → Is c s → It c s) → IsReadCondition r now Is m → IsReadCondition r now It m
 read_map r now Is It m f h = record { is = f (condition_of (sender_named r now) m.condition) (stated_in r now m.last) h.is; testable = h.testable; there = h.there }
 
 pub relates_read : (all : List Candidate) (values : List (Bearer ValuedEntry)) (r : Records) (now : List NamedEntry) (a : Sender) (w v : WrittenSender) (q : Relation) (s : Stated) (x : Result ReadCondition MoveRule) → IsOperandOf all w a
-    → IfOk x (IsRead r now (StatesRelation all a q v)) → IfOk x (IsRead r now (IsTestOf all values r (Relates w q v) s))
+    → IfOk x (IsReadCondition r now (StatesRelation all a q v)) → IfOk x (IsReadCondition r now (IsTestOf all values r (Relates w q v) s))
 relates_read all values r now a w v q s x means h =
-    ok_map (IsRead r now (StatesRelation all a q v)) (IsRead r now (IsTestOf all values r (Relates w q v) s)) x
+    ok_map (IsReadCondition r now (StatesRelation all a q v)) (IsReadCondition r now (IsTestOf all values r (Relates w q v) s)) x
     (λ m k. read_map r now (StatesRelation all a q v) (IsTestOf all values r (Relates w q v) s) m (λ c next i. (a, means, i)) k) h
 
 pub relates_broken : (all : List Candidate) (values : List (Bearer ValuedEntry)) (r : Records) (a : Sender) (w v : WrittenSender) (q : Relation) (s : Stated) (x : Result ReadCondition MoveRule) → IsOperandOf all w a
@@ -154,35 +154,35 @@ relates_broken all values r a w v q s x means h =
     (λ e k. memory_map (λ b. inr (a, means, b)) k) h
 
 pub quality_stands : (all : List Candidate) (values : List (Bearer ValuedEntry)) (r : Records) (now : List NamedEntry) (w : WrittenReference) (opposite : Bool) (q : Quality) (s : Stated) (c : code.Condition)
-    → HasQuality all r w opposite q (condition_of (sender_named r now) c) → IsTestable r now c → IsRead r now (IsTestOf all values r (Has w opposite q) s) (record { condition = c; last = None })
+    → HasQuality all r w opposite q (condition_of (sender_named r now) c) → IsTestable r now c → IsReadCondition r now (IsTestOf all values r (Has w opposite q) s) (record { condition = c; last = None })
 quality_stands all values r now w opposite q s c has testable = record { is = (has, refl); testable = testable; there = tt }
 
 pub relates_to_read : (all : List Candidate) (values : List (Bearer ValuedEntry)) (r : Records) (now : List NamedEntry) (a : Sender) (last q : Relation) (v : WrittenSender) (x : Result ReadCondition MoveRule)
-    → IfOk x (IsRead r now (StatesRelation all a q v)) → IfOk x (IsRead r now (IsTestOf all values r (RelatesTo q v) (StatedAs a last)))
+    → IfOk x (IsReadCondition r now (StatesRelation all a q v)) → IfOk x (IsReadCondition r now (IsTestOf all values r (RelatesTo q v) (StatedAs a last)))
 relates_to_read all values r now a last q v x h =
-    ok_map (IsRead r now (StatesRelation all a q v)) (IsRead r now (IsTestOf all values r (RelatesTo q v) (StatedAs a last))) x
+    ok_map (IsReadCondition r now (StatesRelation all a q v)) (IsReadCondition r now (IsTestOf all values r (RelatesTo q v) (StatedAs a last))) x
     (λ m k. read_map r now (StatesRelation all a q v) (IsTestOf all values r (RelatesTo q v) (StatedAs a last)) m (λ c next i. i) k) h
 
 pub alone_read : (all : List Candidate) (r : Records) (now : List NamedEntry) (a : Sender) (q : Relation) (v : WrittenSender) (x : Result ReadCondition MoveRule)
-    → IfOk x (IsRead r now (StatesRelation all a q v)) → IfOk x (IsRead r now (IsLastRelation all v (StatedAs a q)))
+    → IfOk x (IsReadCondition r now (StatesRelation all a q v)) → IfOk x (IsReadCondition r now (IsLastRelation all v (StatedAs a q)))
 alone_read all r now a q v x h =
-    ok_map (IsRead r now (StatesRelation all a q v)) (IsRead r now (IsLastRelation all v (StatedAs a q))) x
+    ok_map (IsReadCondition r now (StatesRelation all a q v)) (IsReadCondition r now (IsLastRelation all v (StatedAs a q))) x
     (λ m k. read_map r now (StatesRelation all a q v) (IsLastRelation all v (StatedAs a q)) m (λ c next i. i) k) h
 
 -- ---- what stands alone
 
 -- what names no condition means the relation stated last to it
 pub last_read : (all : List Candidate) (values : List (Bearer ValuedEntry)) (r : Records) (now : List NamedEntry) (w : WrittenSender) (s : Stated) (x : Result ReadCondition MoveRule)
-    → conditions_named values w ≡ [] → IfOk x (IsRead r now (IsLastRelation all w s)) → IfOk x (IsRead r now (IsOperandBehind all values w s))
+    → conditions_named values w ≡ [] → IfOk x (IsReadCondition r now (IsLastRelation all w s)) → IfOk x (IsReadCondition r now (IsOperandBehind all values w s))
 last_read all values r now w s x none h =
-    ok_map (IsRead r now (IsLastRelation all w s)) (IsRead r now (IsOperandBehind all values w s)) x
+    ok_map (IsReadCondition r now (IsLastRelation all w s)) (IsReadCondition r now (IsOperandBehind all values w s)) x
     (λ m k. read_map r now (IsLastRelation all w s) (IsOperandBehind all values w s) m
     (λ c next i. subst (λ (bs : List (Bearer ValuedEntry)). IsAlone bs all values w s c next) (sym none) i) k) h
 
 pub last_broken : (all : List Candidate) (values : List (Bearer ValuedEntry)) (w : WrittenSender) (s : Stated) (x : Result ReadCondition MoveRule)
-    → conditions_named values w ≡ [] → IfErr x (λ e. (e ≡ rule.Memory) ⊎ BreaksLastRelation e all w s) → IfErr x (λ e. (e ≡ rule.Memory) ⊎ BreaksAlone e all values w s)
+    → conditions_named values w ≡ [] → IfErr x (λ e. (e ≡ rule.Memory) ⊎ BreaksLastRelation e all w s) → IfErr x (λ e. (e ≡ rule.Memory) ⊎ BreaksOperandAlone e all values w s)
 last_broken all values w s x none h =
-    err_map (λ e. (e ≡ rule.Memory) ⊎ BreaksLastRelation e all w s) (λ e. (e ≡ rule.Memory) ⊎ BreaksAlone e all values w s) x
+    err_map (λ e. (e ≡ rule.Memory) ⊎ BreaksLastRelation e all w s) (λ e. (e ≡ rule.Memory) ⊎ BreaksOperandAlone e all values w s) x
     (λ e k. memory_map (λ b. subst (λ (bs : List (Bearer ValuedEntry)). BreaksAloneBy bs e all values w s) (sym none) b) k) h
 
 -- what names one means that
@@ -195,7 +195,7 @@ name_means all values (SentReference w) v s c names may is =
 
 pub name_read : (all : List Candidate) (values : List (Bearer ValuedEntry)) (r : Records) (now : List NamedEntry) (w : WrittenSender) (v : ValuedOperand) (s : Stated) (c : code.Condition)
     → NamesCondition all values w v → MayHold v → condition_of (sender_named r now) c ≡ holds v → IsTestable r now c
-    → IsRead r now (IsOperandBehind all values w s) (record { condition = c; last = None })
+    → IsReadCondition r now (IsOperandBehind all values w s) (record { condition = c; last = None })
 name_read all values r now w v s c names may is testable =
     record { is = name_means all values w v s (condition_of (sender_named r now) c) names may is; testable = testable; there = tt }
 
@@ -207,12 +207,12 @@ some_broken : (e : MoveRule) (all : List Candidate) (values : List (Bearer Value
 some_broken e all values w (inl (same, some, many)) = some
 some_broken e all values w (inr (same, (b, only, lacks))) = omega (arith, ap length only)
 
-pub name_broken : (e : MoveRule) (all : List Candidate) (values : List (Bearer ValuedEntry)) (w : WrittenSender) (s : Stated) → BreaksNamed e all values w → BreaksAlone e all values w s
+pub name_broken : (e : MoveRule) (all : List Candidate) (values : List (Bearer ValuedEntry)) (w : WrittenSender) (s : Stated) → BreaksNamed e all values w → BreaksOperandAlone e all values w s
 name_broken e all values (SentConstant w) s broken = absurd broken
 name_broken e all values (SentReference w) s broken = some_alone (conditions_of values w) e all values (SentReference w) s (some_broken e all values w broken) (inl broken)
 
 pub name_not_comparable : (e : MoveRule) (all : List Candidate) (values : List (Bearer ValuedEntry)) (w : WrittenSender) (v : ValuedOperand) (s : Stated) → NamesCondition all values w v
-    → (e ≡ rule.Memory) ⊎ ((e ≡ rule.NotComparable) × (MayHold v → ⊥)) → (e ≡ rule.Memory) ⊎ BreaksAlone e all values w s
+    → (e ≡ rule.Memory) ⊎ ((e ≡ rule.NotComparable) × (MayHold v → ⊥)) → (e ≡ rule.Memory) ⊎ BreaksOperandAlone e all values w s
 name_not_comparable e all values w v s names (inl memory) = inl memory
 name_not_comparable e all values (SentConstant w) v s names (inr (same, lacks)) = absurd names
 name_not_comparable e all values (SentReference w) v s names (inr (same, lacks)) =
@@ -239,34 +239,34 @@ item_valued r before now n number k first more at e is may =
 
 -- a condition that stands alone
 pub stands_read : (all : List Candidate) (values : List (Bearer ValuedEntry)) (r : Records) (now : List NamedEntry) (v : WrittenSender) (s : Stated) (x : Result ReadCondition MoveRule)
-    → IfOk x (IsRead r now (IsOperandBehind all values v s)) → IfOk x (IsRead r now (IsTestOf all values r (StandsAlone v) s))
+    → IfOk x (IsReadCondition r now (IsOperandBehind all values v s)) → IfOk x (IsReadCondition r now (IsTestOf all values r (StandsAlone v) s))
 stands_read all values r now v s x h =
-    ok_map (IsRead r now (IsOperandBehind all values v s)) (IsRead r now (IsTestOf all values r (StandsAlone v) s)) x
+    ok_map (IsReadCondition r now (IsOperandBehind all values v s)) (IsReadCondition r now (IsTestOf all values r (StandsAlone v) s)) x
     (λ m k. read_map r now (IsOperandBehind all values v s) (IsTestOf all values r (StandsAlone v) s) m (λ c next i. i) k) h
 
 -- ---- conditions
 
-pub simple_read : (all : List Candidate) (values : List (Bearer ValuedEntry)) (r : Records) (now : List NamedEntry) (t : WrittenTest) (s : Stated) (x : Result ReadCondition MoveRule) → IfOk x (IsRead r now (IsTestOf all values r t s))
-    → IfOk x (IsRead r now (IsMeantBy all values r (Simple t) s))
+pub simple_read : (all : List Candidate) (values : List (Bearer ValuedEntry)) (r : Records) (now : List NamedEntry) (t : WrittenTest) (s : Stated) (x : Result ReadCondition MoveRule) → IfOk x (IsReadCondition r now (IsTestOf all values r t s))
+    → IfOk x (IsReadCondition r now (IsMeantBy all values r (Simple t) s))
 simple_read all values r now t s x h =
-    ok_map (IsRead r now (IsTestOf all values r t s)) (IsRead r now (IsMeantBy all values r (Simple t) s)) x
+    ok_map (IsReadCondition r now (IsTestOf all values r t s)) (IsReadCondition r now (IsMeantBy all values r (Simple t) s)) x
     (λ m k. read_map r now (IsTestOf all values r t s) (IsMeantBy all values r (Simple t) s) m (λ c next i. i) k) h
 
-pub brackets_read : (all : List Candidate) (values : List (Bearer ValuedEntry)) (r : Records) (now : List NamedEntry) (w : WrittenCondition) (s : Stated) (m : ReadCondition) → IsRead r now (IsMeantBy all values r w NoneStated) m
-    → IsRead r now (IsMeantBy all values r (InBrackets w) s) (record { condition = m.condition; last = None })
+pub brackets_read : (all : List Candidate) (values : List (Bearer ValuedEntry)) (r : Records) (now : List NamedEntry) (w : WrittenCondition) (s : Stated) (m : ReadCondition) → IsReadCondition r now (IsMeantBy all values r w NoneStated) m
+    → IsReadCondition r now (IsMeantBy all values r (InBrackets w) s) (record { condition = m.condition; last = None })
 brackets_read all values r now w s m h = record { is = (stated_in r now m.last, h.is, refl); testable = h.testable; there = tt }
 
 pub not_read : (all : List Candidate) (values : List (Bearer ValuedEntry)) (r : Records) (now : List NamedEntry) (w : WrittenCondition) (s : Stated) (m : ReadCondition) (c : code.Condition)
     → ((entry : ℕ → Sender) → condition_of entry c ≡ Not (condition_of entry m.condition)) → ((o : Records) (asked : List NamedEntry) → IsTestable o asked m.condition → IsTestable o asked c)
-    → IsRead r now (IsMeantBy all values r w s) m → IsRead r now (IsMeantBy all values r (BehindNot w) s) (record { condition = c; last = m.last })
+    → IsReadCondition r now (IsMeantBy all values r w s) m → IsReadCondition r now (IsMeantBy all values r (BehindNot w) s) (record { condition = c; last = m.last })
 not_read all values r now w s m c says testable h =
     record { is = (condition_of (sender_named r now) m.condition, h.is, says (sender_named r now)); testable = testable r now h.testable; there = h.there }
 
 pub and_read : (all : List Candidate) (values : List (Bearer ValuedEntry)) (r : Records) (mid now : List NamedEntry) (v w : WrittenCondition) (s : Stated) (one other : ReadCondition) (c : code.Condition) → AsksMore r mid now
     → ((entry : ℕ → Sender) → condition_of entry c ≡ Both (condition_of entry one.condition) (condition_of entry other.condition))
     → ((o : Records) (asked : List NamedEntry) → IsTestable o asked one.condition → IsTestable o asked other.condition → IsTestable o asked c)
-    → IsRead r mid (IsMeantBy all values r v s) one → IsRead r now (IsMeantBy all values r w (stated_in r mid one.last)) other
-    → IsRead r now (IsMeantBy all values r (WithAnd v w) s) (record { condition = c; last = other.last })
+    → IsReadCondition r mid (IsMeantBy all values r v s) one → IsReadCondition r now (IsMeantBy all values r w (stated_in r mid one.last)) other
+    → IsReadCondition r now (IsMeantBy all values r (WithAnd v w) s) (record { condition = c; last = other.last })
 and_read all values r mid now v w s one other c grown says testable h k =
     let parts = parts_read r mid now (IsMeantBy all values r v s) (IsMeantBy all values r w) one other grown h k in
     let f : ℕ → Sender = sender_named r now in
@@ -275,20 +275,20 @@ and_read all values r mid now v w s one other c grown says testable h k =
 pub or_read : (all : List Candidate) (values : List (Bearer ValuedEntry)) (r : Records) (mid now : List NamedEntry) (v w : WrittenCondition) (s : Stated) (one other : ReadCondition) (c : code.Condition) → AsksMore r mid now
     → ((entry : ℕ → Sender) → condition_of entry c ≡ Either (condition_of entry one.condition) (condition_of entry other.condition))
     → ((o : Records) (asked : List NamedEntry) → IsTestable o asked one.condition → IsTestable o asked other.condition → IsTestable o asked c)
-    → IsRead r mid (IsMeantBy all values r v s) one → IsRead r now (IsMeantBy all values r w (stated_in r mid one.last)) other
-    → IsRead r now (IsMeantBy all values r (WithOr v w) s) (record { condition = c; last = other.last })
+    → IsReadCondition r mid (IsMeantBy all values r v s) one → IsReadCondition r now (IsMeantBy all values r w (stated_in r mid one.last)) other
+    → IsReadCondition r now (IsMeantBy all values r (WithOr v w) s) (record { condition = c; last = other.last })
 or_read all values r mid now v w s one other c grown says testable h k =
     let parts = parts_read r mid now (IsMeantBy all values r v s) (IsMeantBy all values r w) one other grown h k in
     let f : ℕ → Sender = sender_named r now in
     record { is = (condition_of f one.condition, condition_of f other.condition, parts.mid, parts.first, parts.second, says f); testable = testable r now parts.testable parts.testable_too; there = parts.there }
 
 -- what breaks the second of two
-pub second_broken : (e : MoveRule) (all : List Candidate) (values : List (Bearer ValuedEntry)) (r : Records) (mid : List NamedEntry) (v w : WrittenCondition) (s : Stated) (one : ReadCondition) → IsRead r mid (IsMeantBy all values r v s) one
-    → (e ≡ rule.Memory) ⊎ BreaksCondition e all values r w (stated_in r mid one.last) → (e ≡ rule.Memory) ⊎ BreaksCondition e all values r (WithAnd v w) s
+pub second_broken : (e : MoveRule) (all : List Candidate) (values : List (Bearer ValuedEntry)) (r : Records) (mid : List NamedEntry) (v w : WrittenCondition) (s : Stated) (one : ReadCondition) → IsReadCondition r mid (IsMeantBy all values r v s) one
+    → (e ≡ rule.Memory) ⊎ BreaksWrittenCondition e all values r w (stated_in r mid one.last) → (e ≡ rule.Memory) ⊎ BreaksWrittenCondition e all values r (WithAnd v w) s
 second_broken e all values r mid v w s one h b = memory_map (λ k. inr (condition_of (sender_named r mid) one.condition, stated_in r mid one.last, h.is, k)) b
 
-pub second_broken_or : (e : MoveRule) (all : List Candidate) (values : List (Bearer ValuedEntry)) (r : Records) (mid : List NamedEntry) (v w : WrittenCondition) (s : Stated) (one : ReadCondition) → IsRead r mid (IsMeantBy all values r v s) one
-    → (e ≡ rule.Memory) ⊎ BreaksCondition e all values r w (stated_in r mid one.last) → (e ≡ rule.Memory) ⊎ BreaksCondition e all values r (WithOr v w) s
+pub second_broken_or : (e : MoveRule) (all : List Candidate) (values : List (Bearer ValuedEntry)) (r : Records) (mid : List NamedEntry) (v w : WrittenCondition) (s : Stated) (one : ReadCondition) → IsReadCondition r mid (IsMeantBy all values r v s) one
+    → (e ≡ rule.Memory) ⊎ BreaksWrittenCondition e all values r w (stated_in r mid one.last) → (e ≡ rule.Memory) ⊎ BreaksWrittenCondition e all values r (WithOr v w) s
 second_broken_or e all values r mid v w s one h b = memory_map (λ k. inr (condition_of (sender_named r mid) one.condition, stated_in r mid one.last, h.is, k)) b
 
 -- ---- whole words
@@ -299,7 +299,7 @@ phrase_broken ws f (inl memory) = inl memory
 phrase_broken ws f (inr (grammar, line, none)) = inr (grammar, none)
 
 pub words_mean : (all : List Candidate) (values : List (Bearer ValuedEntry)) (r : Records) (now : List NamedEntry) (ws : List Lexeme) (w : WrittenCondition) (m : ReadCondition) → all ≡ all_entries r.input r.output → IsWholeCondition w ws
-    → IsRead r now (IsMeantBy all values r w NoneStated) m → IsConditionOf r values ws (condition_of (sender_named r now) m.condition)
+    → IsReadCondition r now (IsMeantBy all values r w NoneStated) m → IsConditionOf r values ws (condition_of (sender_named r now) m.condition)
 words_mean all values r now ws w m same is h = record {
   written = w;
   last = stated_in r now m.last;
@@ -307,14 +307,14 @@ words_mean all values r now ws w m same is h = record {
   meant = subst (λ (cs : List Candidate). IsMeantBy cs values r w NoneStated (condition_of (sender_named r now) m.condition) (stated_in r now m.last)) same h.is;
 }
 
-pub no_words : (e : MoveRule) (r : Records) (values : List (Bearer ValuedEntry)) (ws : List Lexeme) → (e ≡ rule.Memory) ⊎ ((e ≡ rule.Grammar) × ((c : WrittenCondition) → IsWholeCondition c ws → ⊥)) → (e ≡ rule.Memory) ⊎ BreaksWords e r values ws
+pub no_words : (e : MoveRule) (r : Records) (values : List (Bearer ValuedEntry)) (ws : List Lexeme) → (e ≡ rule.Memory) ⊎ ((e ≡ rule.Grammar) × ((c : WrittenCondition) → IsWholeCondition c ws → ⊥)) → (e ≡ rule.Memory) ⊎ BreaksConditionWords e r values ws
 no_words e r values ws b = memory_map (λ k. inl k) b
 
 pub words_broken : (e : MoveRule) (all : List Candidate) (values : List (Bearer ValuedEntry)) (r : Records) (ws : List Lexeme) (w : WrittenCondition) → all ≡ all_entries r.input r.output → IsWholeCondition w ws
-    → (e ≡ rule.Memory) ⊎ BreaksCondition e all values r w NoneStated → (e ≡ rule.Memory) ⊎ BreaksWords e r values ws
-words_broken e all values r ws w same is b = memory_map (λ k. inr (w, is, subst (λ (cs : List Candidate). BreaksCondition e cs values r w NoneStated) same k)) b
+    → (e ≡ rule.Memory) ⊎ BreaksWrittenCondition e all values r w NoneStated → (e ≡ rule.Memory) ⊎ BreaksConditionWords e r values ws
+words_broken e all values r ws w same is b = memory_map (λ k. inr (w, is, subst (λ (cs : List Candidate). BreaksWrittenCondition e cs values r w NoneStated) same k)) b
 
 -- words that mean a condition are refused for want of memory alone
-pub only_memory : ConditionsBreakNoRule → (e : MoveRule) (r : Records) (values : List (Bearer ValuedEntry)) (ws : List Lexeme) (d : Condition) → IsConditionOf r values ws d → (e ≡ rule.Memory) ⊎ BreaksWords e r values ws → e ≡ rule.Memory
+pub only_memory : ConditionsBreakNoRule → (e : MoveRule) (r : Records) (values : List (Bearer ValuedEntry)) (ws : List Lexeme) (d : Condition) → IsConditionOf r values ws d → (e ≡ rule.Memory) ⊎ BreaksConditionWords e r values ws → e ≡ rule.Memory
 only_memory law e r values ws d is (inl m) = m
 only_memory law e r values ws d is (inr b) = absurd (law e r values ws d is b)

@@ -42,12 +42,12 @@ abbrev pub IsAsked : List NamedEntry → ℕ → Type 0
 IsAsked asked number = number < length asked
 
 -- an entry of its side's record, with a subscript for each of its tables
-abbrev pub IsNamed : Records → NamedEntry → Type 0
-IsNamed r n = IsOperand (record_of r n.side) (operand_in (record_of r n.side) n.entry)
+abbrev pub IsSubscriptedEntry : Records → NamedEntry → Type 0
+IsSubscriptedEntry r n = IsOperand (record_of r n.side) (operand_in (record_of r n.side) n.entry)
 
 -- others stand behind those that were asked for before, and are entries of the records
 abbrev pub AsksMore : Records → List NamedEntry → List NamedEntry → Type 0
-AsksMore r before now = (more : List NamedEntry) × AllByRecursion (IsNamed r) more × (now ≡ before ++ more)
+AsksMore r before now = (more : List NamedEntry) × AllByRecursion (IsSubscriptedEntry r) more × (now ≡ before ++ more)
 
 -- a condition may be tested: the entries that it asks for are there, and those that are compared may be
 abbrev pub IsTestable : Records → List NamedEntry → code.Condition → Type 0
@@ -59,8 +59,8 @@ IsNumberForSign (quality.Class class) kind = Unit {0}
 IsNumberForSign (quality.Sign order) kind = is_number_operand (EntryOf kind) ≡ true
 
 -- a class or a sign of an entry that is there may be tested
-abbrev pub MayBeAsked : Records → List NamedEntry → Quality → ℕ → Type 0
-MayBeAsked r asked q number = IsAsked asked number × IsNumberForSign q (kind_named r asked number)
+abbrev pub MayAskQuality : Records → List NamedEntry → Quality → ℕ → Type 0
+MayAskQuality r asked q number = IsAsked asked number × IsNumberForSign q (kind_named r asked number)
 
 -- an answer is so, or memory was refused
 abbrev pub IsOrMemory : {A : Type 0} → Result A MoveRule → (A → Type 0) → Type 0

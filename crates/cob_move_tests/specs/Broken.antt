@@ -19,12 +19,12 @@ use Rattle.cob_move_statements.specs.declared.fault.MoveRule.TheVariants as rule
 use Rattle.cob_move_statements.specs.Written.{SentConstant, SentReference, WrittenReference, WrittenSender}
 use Rattle.cob_source.specs.Tokens.{Lexeme}
 use Rattle.cob_move_tests.specs.Qualities.{may_have}
-use Rattle.cob_move_tests.specs.Meant.{HasCharacters, IsMeantBy, IsOperandOf, NamesCondition, NoneStated, Stated, StatedAs, conditions_named}
+use Rattle.cob_move_tests.specs.Meant.{IsNoEmptyLiteral, IsMeantBy, IsOperandOf, NamesCondition, NoneStated, Stated, StatedAs, conditions_named}
 use Rattle.cob_move_tests.specs.Spans.{MayHold}
 
 -- What is compared breaks a rule as any sender does, and M7 where it is a quoted literal without a character.
 abbrev pub BreaksOperand : MoveRule → List Candidate → WrittenSender → Type 0
-BreaksOperand r all w = BreaksSender r all w ⊎ ((r ≡ rule.Literal) × (HasCharacters w → ⊥))
+BreaksOperand r all w = BreaksSender r all w ⊎ ((r ≡ rule.Literal) × (IsNoEmptyLiteral w → ⊥))
 
 -- What stands behind a relation breaks a rule, or the two may not be compared (M13).
 abbrev pub BreaksRelation : MoveRule → List Candidate → Sender → WrittenSender → Type 0
@@ -63,8 +63,8 @@ BreaksAloneBy [] r all values w s = BreaksLastRelation r all w s
 BreaksAloneBy (b ∷ bs) r all values w s = BreaksNameOf r all values w
 
 -- The same, of the conditions that it names.
-abbrev pub BreaksAlone : MoveRule → List Candidate → List (Bearer ValuedEntry) → WrittenSender → Stated → Type 0
-BreaksAlone r all values w s = BreaksAloneBy (conditions_named values w) r all values w s
+abbrev pub BreaksOperandAlone : MoveRule → List Candidate → List (Bearer ValuedEntry) → WrittenSender → Stated → Type 0
+BreaksOperandAlone r all values w s = BreaksAloneBy (conditions_named values w) r all values w s
 
 -- A class or a sign of what a reference names breaks a rule: the reference does, or it may not be asked of that (M13).
 abbrev pub BreaksQuality : MoveRule → List Candidate → Records → WrittenReference → Quality → Type 0
@@ -76,21 +76,21 @@ BreaksQuality r all records w q =
 abbrev pub BreaksTest : MoveRule → List Candidate → List (Bearer ValuedEntry) → Records → WrittenTest → Stated → Type 0
 BreaksTest r all values records (Relates w q v) s = BreaksOperand r all w ⊎ ((a : Sender) × IsOperandOf all w a × BreaksRelation r all a v)
 BreaksTest r all values records (RelatesTo q v) s = BreaksBehind r all v s
-BreaksTest r all values records (StandsAlone v) s = BreaksAlone r all values v s
+BreaksTest r all values records (StandsAlone v) s = BreaksOperandAlone r all values v s
 BreaksTest r all values records (Has w opposite q) s = BreaksQuality r all records w q
 
 -- A written condition breaks a rule behind what was stated: one of its parts does.
-abbrev pub BreaksCondition : MoveRule → List Candidate → List (Bearer ValuedEntry) → Records → WrittenCondition → Stated → Type 0
-BreaksCondition r all values records (Simple t) s = BreaksTest r all values records t s
-BreaksCondition r all values records (InBrackets d) s = BreaksCondition r all values records d NoneStated
-BreaksCondition r all values records (BehindNot d) s = BreaksCondition r all values records d s
-BreaksCondition r all values records (WithAnd d e) s =
-    BreaksCondition r all values records d s ⊎ ((x : Condition) × (mid : Stated) × IsMeantBy all values records d s x mid × BreaksCondition r all values records e mid)
-BreaksCondition r all values records (WithOr d e) s =
-    BreaksCondition r all values records d s ⊎ ((x : Condition) × (mid : Stated) × IsMeantBy all values records d s x mid × BreaksCondition r all values records e mid)
+abbrev pub BreaksWrittenCondition : MoveRule → List Candidate → List (Bearer ValuedEntry) → Records → WrittenCondition → Stated → Type 0
+BreaksWrittenCondition r all values records (Simple t) s = BreaksTest r all values records t s
+BreaksWrittenCondition r all values records (InBrackets d) s = BreaksWrittenCondition r all values records d NoneStated
+BreaksWrittenCondition r all values records (BehindNot d) s = BreaksWrittenCondition r all values records d s
+BreaksWrittenCondition r all values records (WithAnd d e) s =
+    BreaksWrittenCondition r all values records d s ⊎ ((x : Condition) × (mid : Stated) × IsMeantBy all values records d s x mid × BreaksWrittenCondition r all values records e mid)
+BreaksWrittenCondition r all values records (WithOr d e) s =
+    BreaksWrittenCondition r all values records d s ⊎ ((x : Condition) × (mid : Stated) × IsMeantBy all values records d s x mid × BreaksWrittenCondition r all values records e mid)
 
 -- Words break a rule between two records, which have these condition-names: they are no condition (M1), or the one that they are breaks it.
-abbrev pub BreaksWords : MoveRule → Records → List (Bearer ValuedEntry) → List Lexeme → Type 0
-BreaksWords r records values ws =
+abbrev pub BreaksConditionWords : MoveRule → Records → List (Bearer ValuedEntry) → List Lexeme → Type 0
+BreaksConditionWords r records values ws =
     ((r ≡ rule.Grammar) × ((c : WrittenCondition) → IsWholeCondition c ws → ⊥))
-    ⊎ ((c : WrittenCondition) × IsWholeCondition c ws × BreaksCondition r (all_entries records.input records.output) values records c NoneStated)
+    ⊎ ((c : WrittenCondition) × IsWholeCondition c ws × BreaksWrittenCondition r (all_entries records.input records.output) values records c NoneStated)

@@ -25,9 +25,9 @@ kind_of_compared (compared.Entry number kind) = EntryOf kind
 kind_of_compared (compared.Constant value) = LiteralOf (plain_value value)
 
 -- it is among those that are asked for, and describes what it says
-abbrev pub IsThere : Records → List NamedEntry → Compared → Type 0
-IsThere r asked (compared.Entry number kind) = (number < length asked) × (kind ≡ kind_named r asked number)
-IsThere r asked (compared.Constant value) = Unit {0}
+abbrev pub IsComparedThere : Records → List NamedEntry → Compared → Type 0
+IsComparedThere r asked (compared.Entry number kind) = (number < length asked) × (kind ≡ kind_named r asked number)
+IsComparedThere r asked (compared.Constant value) = Unit {0}
 
 -- what conditions have in its place
 abbrev pub IsComparandOf : Compared → Comparand → Type 0
@@ -44,10 +44,10 @@ stated_in r asked (Some s) = StatedAs (sender_in r asked s.subject) s.relation
 -- its subject is there
 abbrev pub IsStatedThere : Records → List NamedEntry → Option LastRelation → Type 0
 IsStatedThere r asked None = Unit {0}
-IsStatedThere r asked (Some s) = IsThere r asked s.subject
+IsStatedThere r asked (Some s) = IsComparedThere r asked s.subject
 
 -- words were read as this: their condition and what they state are so, and the condition may be tested
-pub record IsRead (r : Records) (asked : List NamedEntry) (Is : Condition → Stated → Type 0) (m : ReadCondition) : Type 0 where
+pub record IsReadCondition (r : Records) (asked : List NamedEntry) (Is : Condition → Stated → Type 0) (m : ReadCondition) : Type 0 where
   pub is : Is (condition_of (sender_named r asked) m.condition) (stated_in r asked m.last)
   pub testable : IsTestable r asked m.condition
   pub there : IsStatedThere r asked m.last

@@ -6,7 +6,7 @@ use Rattle.cob_move_data.specs.Moves.{Records}
 use Rattle.cob_move_names.specs.Valued.{ValuedEntry}
 use Rattle.cob_move_statements.specs.declared.fault.MoveRule.{MoveRule}
 use Rattle.cob_source.specs.Tokens.{Lexeme}
-use Rattle.cob_move_tests.specs.Broken.{BreaksWords}
+use Rattle.cob_move_tests.specs.Broken.{BreaksConditionWords}
 use Rattle.cob_move_tests.specs.Meant.{IsConditionOf}
 
 -- Law: words mean one condition.
@@ -15,4 +15,4 @@ OneConditionOf = (r : Records) (values : List (Bearer ValuedEntry)) (ws : List L
 
 -- Law: words that mean a condition break no rule.
 abbrev pub ConditionsBreakNoRule : Type 0
-ConditionsBreakNoRule = (rule : MoveRule) (r : Records) (values : List (Bearer ValuedEntry)) (ws : List Lexeme) (c : Condition) → IsConditionOf r values ws c → BreaksWords rule r values ws → ⊥
+ConditionsBreakNoRule = (rule : MoveRule) (r : Records) (values : List (Bearer ValuedEntry)) (ws : List Lexeme) (c : Condition) → IsConditionOf r values ws c → BreaksConditionWords rule r values ws → ⊥

@@ -44,13 +44,13 @@ IsNotEmpty (FigureWord f) = Unit {0}
 IsNotEmpty (RepeatedText text) = Unit {0}
 
 -- what is compared is none
-abbrev pub HasCharacters : WrittenSender → Type 0
-HasCharacters (SentReference r) = Unit {0}
-HasCharacters (SentConstant w) = IsNotEmpty w
+abbrev pub IsNoEmptyLiteral : WrittenSender → Type 0
+IsNoEmptyLiteral (SentReference r) = Unit {0}
+IsNoEmptyLiteral (SentConstant w) = IsNotEmpty w
 
 -- what is compared means this sender
 abbrev pub IsOperandOf : List Candidate → WrittenSender → Sender → Type 0
-IsOperandOf all w s = IsSenderOf all w s × HasCharacters w
+IsOperandOf all w s = IsSenderOf all w s × IsNoEmptyLiteral w
 
 -- a sender, a relation and what stands behind it mean this: the two may be compared
 abbrev pub IsRelationOf : List Candidate → Sender → Relation → WrittenSender → Condition → Type 0

@@ -4,14 +4,14 @@ ghost use Rattle.std.specs.Prelude.{◌≡◌, ◌⊎◌, [], IfErr, IfNone, IfO
 ghost use Rattle.cob_move_condition.specs.Conditions.{condition_of};
 ghost use Rattle.cob_move_statements.specs.declared.fault.MoveRule.TheVariants.{Memory, NotComparable};
 ghost use Rattle.cob_move_statements.specs.Written.{written_sender};
-ghost use Rattle.cob_move_tests.specs.Asked.{AsksMore, IsNamed, IsTestable, sender_named};
+ghost use Rattle.cob_move_tests.specs.Asked.{AsksMore, IsSubscriptedEntry, IsTestable, sender_named};
 ghost use Rattle.cob_move_tests.specs.Broken.{
-  BreaksAlone,
+  BreaksOperandAlone,
   BreaksLastRelation,
   BreaksLone,
   BreaksNamed,
 };
-ghost use Rattle.cob_move_tests.specs.Compared.{IsRead, IsStatedThere, stated_in};
+ghost use Rattle.cob_move_tests.specs.Compared.{IsReadCondition, IsStatedThere, stated_in};
 ghost use Rattle.cob_move_tests.specs.Entries.{AllMayBeNamed, nameable, records_of, valued_in, valued_item};
 ghost use Rattle.cob_move_tests.specs.Meant.{IsLastRelation, IsOperandBehind, NamesCondition, conditions_named};
 ghost use Rattle.cob_move_tests.specs.Spans.{MayHold, holds};
@@ -52,7 +52,7 @@ fn last_relation(
 ) -> Result<ReadCondition, MoveRule>
     requires named { AllMayBeNamed entries.now }
     requires there { IsStatedThere (records_of entries.now) asked.old.items last }
-    ensures found { IfOk result (IsRead (records_of entries.now) asked.new.items
+    ensures found { IfOk result (IsReadCondition (records_of entries.now) asked.new.items
         (IsLastRelation (nameable entries.now) (written_sender written.now)
         (stated_in (records_of entries.now) asked.old.items last))) }
     ensures there { IfOk result (λ c. IsStatedThere (records_of entries.now) asked.new.items c.last) }
@@ -87,7 +87,7 @@ fn condition_named<'a>(
         (valued_in entries.now) (written_sender written.now)
         (valued_item (records_of entries.now) v))) }
     ensures operand { IfOk result
-        (λ found. IfSome found (λ v. IsNamed (records_of entries.now) v.item)) }
+        (λ found. IfSome found (λ v. IsSubscriptedEntry (records_of entries.now) v.item)) }
     ensures none { IfOk result (λ found. IfNone found
         (conditions_named (valued_in entries.now) (written_sender written.now) ≡ [])) }
     ensures fault { IfErr result (λ r. BreaksNamed r (nameable entries.now)
@@ -110,7 +110,7 @@ fn holds(
     named: ValuedItem<'_>,
     asked: &mut Vec<NamedEntry>,
 ) -> Result<Condition, MoveRule>
-    requires operand { IsNamed (records_of entries.now) named.item }
+    requires operand { IsSubscriptedEntry (records_of entries.now) named.item }
     ensures means { IfOk result (λ c. condition_of
         (sender_named (records_of entries.now) asked.new.items) c
         ≡ holds (valued_item (records_of entries.now) named.entry)) }
@@ -144,12 +144,12 @@ pub(crate) fn alone_of(
 ) -> Result<ReadCondition, MoveRule>
     requires named { AllMayBeNamed entries.now }
     requires there { IsStatedThere (records_of entries.now) asked.old.items last }
-    ensures found { IfOk result (IsRead (records_of entries.now) asked.new.items
+    ensures found { IfOk result (IsReadCondition (records_of entries.now) asked.new.items
         (IsOperandBehind (nameable entries.now) (valued_in entries.now)
         (written_sender written.now) (stated_in (records_of entries.now) asked.old.items last))) }
     ensures there { IfOk result (λ c. IsStatedThere (records_of entries.now) asked.new.items c.last) }
     ensures grown { AsksMore (records_of entries.now) asked.old.items asked.new.items }
-    ensures fault { IfErr result (λ r. (r ≡ Memory) ⊎ BreaksAlone r (nameable entries.now)
+    ensures fault { IfErr result (λ r. (r ≡ Memory) ⊎ BreaksOperandAlone r (nameable entries.now)
         (valued_in entries.now) (written_sender written.now)
         (stated_in (records_of entries.now) asked.old.items last)) }
 {

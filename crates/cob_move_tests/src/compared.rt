@@ -10,7 +10,7 @@ ghost use Rattle.cob_move_statements.specs.declared.fault.MoveRule.TheVariants.{
 ghost use Rattle.cob_move_statements.specs.Written.{SentReference, written_reference, written_sender};
 ghost use Rattle.cob_move_tests.specs.Asked.{AsksMore};
 ghost use Rattle.cob_move_tests.specs.Broken.{BreaksOperand};
-ghost use Rattle.cob_move_tests.specs.Compared.{IsComparandOf, IsThere, kind_of_compared, sender_in};
+ghost use Rattle.cob_move_tests.specs.Compared.{IsComparandOf, IsComparedThere, kind_of_compared, sender_in};
 ghost use Rattle.cob_move_tests.specs.Entries.{AllMayBeNamed, nameable, records_of};
 ghost use Rattle.cob_move_tests.specs.Meant.{IsNotEmpty, IsOperandOf};
 
@@ -83,7 +83,7 @@ fn entry_compared(
     ensures found { IfOk result (λ a. IsOperandOf (nameable entries.now)
         (SentReference (written_reference reference.now))
         (sender_in (records_of entries.now) asked.new.items a)) }
-    ensures there { IfOk result (IsThere (records_of entries.now) asked.new.items) }
+    ensures there { IfOk result (IsComparedThere (records_of entries.now) asked.new.items) }
     ensures grown { AsksMore (records_of entries.now) asked.old.items asked.new.items }
     ensures fault { IfErr result (λ r. (r ≡ Memory) ⊎ BreaksOperand r (nameable entries.now)
         (SentReference (written_reference reference.now))) }
@@ -137,7 +137,7 @@ pub(crate) fn compared_of(
     requires named { AllMayBeNamed entries.now }
     ensures found { IfOk result (λ a. IsOperandOf (nameable entries.now)
         (written_sender written.now) (sender_in (records_of entries.now) asked.new.items a)) }
-    ensures there { IfOk result (IsThere (records_of entries.now) asked.new.items) }
+    ensures there { IfOk result (IsComparedThere (records_of entries.now) asked.new.items) }
     ensures grown { AsksMore (records_of entries.now) asked.old.items asked.new.items }
     ensures fault { IfErr result (λ r. (r ≡ Memory)
         ⊎ BreaksOperand r (nameable entries.now) (written_sender written.now)) }

@@ -9,15 +9,15 @@ ghost use Rattle.cob_move_data.specs.Moves.{Records, Sender};
 ghost use Rattle.cob_move_statements.specs.declared.fault.MoveRule.TheVariants.{Grammar, Memory};
 ghost use Rattle.cob_move_statements.specs.Written.{written_reference, written_sender};
 ghost use Rattle.cob_move_tests.specs.declared.entries.NamedEntry.{NamedEntry as Named};
-ghost use Rattle.cob_move_tests.specs.Asked.{AsksMore, IsOrMemory, IsTestable, MayBeAsked, sender_named};
+ghost use Rattle.cob_move_tests.specs.Asked.{AsksMore, IsOrMemory, IsTestable, MayAskQuality, sender_named};
 ghost use Rattle.cob_move_tests.specs.Broken.{
-  BreaksCondition,
+  BreaksWrittenCondition,
   BreaksQuality,
   BreaksRelation,
   BreaksTest,
-  BreaksWords,
+  BreaksConditionWords,
 };
-ghost use Rattle.cob_move_tests.specs.Compared.{IsRead, IsStatedThere, IsThere, sender_in, stated_in};
+ghost use Rattle.cob_move_tests.specs.Compared.{IsReadCondition, IsStatedThere, IsComparedThere, sender_in, stated_in};
 ghost use Rattle.cob_move_tests.specs.Entries.{AllMayBeNamed, nameable, records_of, valued_in};
 ghost use Rattle.cob_move_tests.specs.Meant.{
   HasQuality,
@@ -109,8 +109,8 @@ pub(crate) fn relation_of(
     asked: &mut Vec<NamedEntry>,
 ) -> Result<ReadCondition, MoveRule>
     requires named { AllMayBeNamed entries.now }
-    requires there { IsThere (records_of entries.now) asked.old.items subject }
-    ensures found { IfOk result (IsRead (records_of entries.now) asked.new.items
+    requires there { IsComparedThere (records_of entries.now) asked.old.items subject }
+    ensures found { IfOk result (IsReadCondition (records_of entries.now) asked.new.items
         (StatesRelation (nameable entries.now)
         (sender_in (records_of entries.now) asked.old.items subject) relation
         (written_sender written.now))) }
@@ -136,7 +136,7 @@ fn quality_at(number: usize, quality: Quality) -> Condition
     ensures means { (entry : ℕ → Sender)
         → condition_of entry result ≡ quality_asked quality (entry number) }
     ensures testable { (r : Records) (asked : List Named)
-        → MayBeAsked r asked quality number → IsTestable r asked result }
+        → MayAskQuality r asked quality number → IsTestable r asked result }
 {
     match quality {
         Quality::Class(class) => Condition::HasClass(number, class),
@@ -194,7 +194,7 @@ fn test_of(
 ) -> Result<ReadCondition, MoveRule>
     requires named { AllMayBeNamed entries.now }
     requires there { IsStatedThere (records_of entries.now) asked.old.items last }
-    ensures found { IfOk result (IsRead (records_of entries.now) asked.new.items
+    ensures found { IfOk result (IsReadCondition (records_of entries.now) asked.new.items
         (IsTestOf (nameable entries.now) (valued_in entries.now) (records_of entries.now) (written_test phrase.now)
         (stated_in (records_of entries.now) asked.old.items last))) }
     ensures there { IfOk result (λ c. IsStatedThere (records_of entries.now) asked.new.items c.last) }
@@ -241,12 +241,12 @@ fn reading_of(
 ) -> Result<ReadCondition, MoveRule>
     requires named { AllMayBeNamed entries.now }
     requires there { IsStatedThere (records_of entries.now) asked.old.items last }
-    ensures found { IfOk result (IsRead (records_of entries.now) asked.new.items
+    ensures found { IfOk result (IsReadCondition (records_of entries.now) asked.new.items
         (IsMeantBy (nameable entries.now) (valued_in entries.now) (records_of entries.now) (written_condition phrase.now)
         (stated_in (records_of entries.now) asked.old.items last))) }
     ensures there { IfOk result (λ c. IsStatedThere (records_of entries.now) asked.new.items c.last) }
     ensures grown { AsksMore (records_of entries.now) asked.old.items asked.new.items }
-    ensures fault { IfErr result (λ r. (r ≡ Memory) ⊎ BreaksCondition r (nameable entries.now)
+    ensures fault { IfErr result (λ r. (r ≡ Memory) ⊎ BreaksWrittenCondition r (nameable entries.now)
         (valued_in entries.now) (records_of entries.now) (written_condition phrase.now)
         (stated_in (records_of entries.now) asked.old.items last)) }
 {
@@ -318,7 +318,7 @@ fn read_condition(
     ensures tested { IfOk result (IsTestable (records_of entries.now) asked.new.items) }
     ensures grown { AsksMore (records_of entries.now) asked.old.items asked.new.items }
     ensures fault { IfErr result (λ r. (r ≡ Memory)
-        ⊎ BreaksWords r (records_of entries.now) (valued_in entries.now) (lexemes words.now)) }
+        ⊎ BreaksConditionWords r (records_of entries.now) (valued_in entries.now) (lexemes words.now)) }
 {
     let phrase = phrase_of(alloc, words)?;
     let reading = reading_of(alloc, entries, &phrase, None, asked)?;
@@ -351,7 +351,7 @@ pub fn condition_of(
     ensures grown { AsksMore (records_of entries.now) asked.old.items asked.new.items }
     // A refusal is for want of memory, or names a rule that the words break.
     ensures fault { IfErr result (λ r. (r ≡ Memory)
-        ⊎ BreaksWords r (records_of entries.now) (valued_in entries.now) (lexemes words.now)) }
+        ⊎ BreaksConditionWords r (records_of entries.now) (valued_in entries.now) (lexemes words.now)) }
 {
     // For `only`: words mean one condition, and where they mean one, break no rule.
     one_condition_of();

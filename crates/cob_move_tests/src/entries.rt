@@ -7,7 +7,7 @@ ghost use Rattle.cob_move_names.specs.Directory.{entries_named};
 ghost use Rattle.cob_move_names.specs.References.{BreaksReceiver, BreaksReference};
 ghost use Rattle.cob_move_names.specs.Values.{BreaksValues, NamesValues, conditions_of};
 ghost use Rattle.cob_move_statements.specs.Written.{written_reference};
-ghost use Rattle.cob_move_tests.specs.Asked.{IsNamed};
+ghost use Rattle.cob_move_tests.specs.Asked.{IsSubscriptedEntry};
 ghost use Rattle.cob_move_tests.specs.Entries.{AllMayBeNamed, NamesAmong, nameable, records_of, valued_in, valued_item};
 
 use cob_copybook_conditions::Span;
@@ -125,7 +125,7 @@ impl<'a> Entries<'_, 'a> {
             (valued_in self.now) (written_reference reference.now)
             (valued_item (records_of self.now) v))) }
         ensures operand { IfOk result
-            (λ found. IfSome found (λ v. IsNamed (records_of self.now) v.item)) }
+            (λ found. IfSome found (λ v. IsSubscriptedEntry (records_of self.now) v.item)) }
         ensures none { IfOk result (λ found. IfNone found
             (conditions_of (valued_in self.now) (written_reference reference.now) ≡ [])) }
         ensures fault { IfErr result (λ r. BreaksValues r (nameable self.now) (valued_in self.now)

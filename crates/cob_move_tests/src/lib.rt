@@ -3,7 +3,7 @@
 //!
 //! What is promised of [`condition_of`]: `Ok` has the condition that the words mean (clause `found`; `IsConditionOf` of specs/Meant.antt), over the entries that
 //! it asks for, which stand behind those that were asked for before (`grown`); it may be tested (`tested`); the words of a condition are read, memory aside,
-//! and mean nothing else (`only`); and a refusal is for want of memory, or names a rule that the words break (`fault`; `BreaksWords` of specs/Broken.antt):
+//! and mean nothing else (`only`); and a refusal is for want of memory, or names a rule that the words break (`fault`; `BreaksConditionWords` of specs/Broken.antt):
 //!
 //! - M1: they are no condition, or a relation lacks its subject where none was stated;
 //! - M2, M3, M4: a reference names no entry, or several, or its subscripts aren't those of the entry's tables;

@@ -6,7 +6,7 @@ ghost use Rattle.cob_move_condition.specs.Comparable.{is_number_operand};
 ghost use Rattle.cob_move_data.specs.Moves.{IsOperand, operand_in, record_of};
 ghost use Rattle.cob_move_names.specs.Groups.{entries_below};
 ghost use Rattle.cob_move_receive.specs.Table.{Entry as EntryOf};
-ghost use Rattle.cob_move_tests.specs.Asked.{IsNamed};
+ghost use Rattle.cob_move_tests.specs.Asked.{IsSubscriptedEntry};
 ghost use Rattle.cob_move_tests.specs.Entries.{records_of};
 ghost use Rattle.cob_move_tests.specs.Qualities.{
   has_sign,
@@ -109,7 +109,7 @@ fn may_be_of_class(entries: &Entries<'_, '_>, named: &NamedEntry, kind: &Kind, c
 
 /// Whether a class or a sign may be asked of an entry.
 pub(crate) fn may_have(entries: &Entries<'_, '_>, named: &NamedEntry, quality: Quality) -> bool
-    requires operand { IsNamed (records_of entries.now) named.now }
+    requires operand { IsSubscriptedEntry (records_of entries.now) named.now }
     ensures { result ≡ may_have (record_of (records_of entries.now) named.now.side) quality
         (operand_in (record_of (records_of entries.now) named.now.side) named.now.entry) }
 {

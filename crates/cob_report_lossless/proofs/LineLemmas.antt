@@ -22,7 +22,7 @@ use Rattle.cob_move_statements.specs.Statements.{IsBody, IsEndedStatement, IsHea
 use Rattle.cob_move_statements.specs.Written.{WrittenStatement}
 use Rattle.cob_move_statements.specs.declared.fault.MoveFault.{MoveFault}
 use Rattle.cob_move_statements.specs.declared.fault.MoveRule.TheVariants as rule
-use Rattle.cob_report_lossless.specs.Lines.{AreLinesOf, AreRunLines, AreStatementLines, HasBody, line_of}
+use Rattle.cob_report_lossless.specs.Lines.{AreLinesOf, AreRunLines, AreStatementLines, HasBody, line_of_statement}
 
 none_in : {A : Type 0} (xs : List A) → length xs ≡ 0 → xs ≡ []
 none_in {A} [] e = refl
@@ -71,8 +71,8 @@ lacks_memory f ws lines are (inl memory) = memory
 lacks_memory f ws lines are (inr (grammar, none)) = absurd (none are.statements are.spelled)
 
 -- the lines of the statements that were read are theirs
-pub same_lines : (ws : List Lexeme) (lines own : List ℕ) (read : List WrittenStatement) → (a : AreStatementLines ws lines) → ((ss : List WrittenStatement) → Several IsEndedStatement ss ws → read ≡ ss) → own ≡ map line_of read → own ≡ lines
-same_lines ws lines own read a only is = is ∙ ap (map line_of) (only a.statements a.spelled) ∙ sym a.lines_are
+pub same_lines : (ws : List Lexeme) (lines own : List ℕ) (read : List WrittenStatement) → (a : AreStatementLines ws lines) → ((ss : List WrittenStatement) → Several IsEndedStatement ss ws → read ≡ ss) → own ≡ map line_of_statement read → own ≡ lines
+same_lines ws lines own read a only is = is ∙ ap (map line_of_statement) (only a.statements a.spelled) ∙ sym a.lines_are
 
 -- behind the lines of some runs those of the others are left
 abbrev pub LinesLeft : List Run → ℕ → List ℕ → List ℕ → Type 0

@@ -14,7 +14,7 @@ use Rattle.cob_move_loops.specs.Passages.{ABranch, AChoice, ALoop, APause, ARun,
 use Rattle.cob_move_loops.specs.Reading.{Within}
 use Rattle.cob_move_loops.specs.Turns.{Counted, counter_at, in_turn, turns_of}
 use Rattle.cob_move_loops.proofs.PassageLemmas.{IsOnlyFront, Parted, empty_passage, joined, nothing_left, parted}
-use Rattle.cob_report_lossless.specs.Turned.{FoundCondition, FoundTest, TellBranch, TellCondition, TellFound, TellFront, TellLast, TellPassage, TellTest, TellTested, TellTests, TellTurned, TellTurns, Telling, ToldCondition, ToldLines, ToldLoop, first_condition, first_test, plain_condition, told_loop, unknown_condition, unknown_lines, unknown_loop, with_condition, with_loop, with_statements}
+use Rattle.cob_report_lossless.specs.Turned.{FoundCondition, FoundTest, TellBranch, TellCondition, TellFound, TellFront, TellLast, TellPassage, TellTest, TellTested, TellTests, TellTurned, TellTurns, Telling, ToldCondition, ToldLines, ToldLoop, first_found_condition, first_test, plain_condition, told_loop, unknown_condition, unknown_lines, unknown_loop, with_told_condition, with_loop, with_statements}
 use Rattle.cob_report_lossless.specs.declared.turned.ConditionLine.{ConditionLine}
 use Rattle.cob_report_lossless.specs.declared.turned.LoopLine.{LoopLine}
 
@@ -84,11 +84,11 @@ some_in_branch one k t own ws fs rest left now between after is some test told =
     inr (λ none. some (ap (λ (d : List Lexeme). length d) (subst (λ (p : Passage). IsPassage p ws) none is)), rest, between, test, told)
 
 -- where a condition stands is known
-pub condition_told : (c : ToldCondition) (one : FoundCondition) (fs : List Flow) (now after : ToldLines) → first_condition fs ≡ Some one → after ≡ with_condition one.condition c now → TellCondition c fs now one.behind after
+pub condition_told : (c : ToldCondition) (one : FoundCondition) (fs : List Flow) (now after : ToldLines) → first_found_condition fs ≡ Some one → after ≡ with_told_condition one.condition c now → TellCondition c fs now one.behind after
 condition_told c one fs now after found same = subst (λ (o : Option FoundCondition). TellFound c o fs now one.behind after) (sym found) (refl, same)
 
 -- no condition is left
-pub no_condition_told : (c : ToldCondition) (fs : List Flow) (now : ToldLines) → first_condition fs ≡ None → TellCondition c fs now fs now
+pub no_condition_told : (c : ToldCondition) (fs : List Flow) (now : ToldLines) → first_found_condition fs ≡ None → TellCondition c fs now fs now
 no_condition_told c fs now none = subst (λ (o : Option FoundCondition). TellFound c o fs now fs now) (sym none) (refl, refl)
 
 -- ---- turns of a loop to a number

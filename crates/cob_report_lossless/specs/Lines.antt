@@ -8,14 +8,14 @@ use Rattle.cob_move_statements.specs.Statements.{IsEndedStatement, IsHeading, Se
 use Rattle.cob_move_statements.specs.Written.{WrittenStatement}
 
 -- the line of a statement's first word
-abbrev pub line_of : WrittenStatement → ℕ
-line_of s = s.line
+abbrev pub line_of_statement : WrittenStatement → ℕ
+line_of_statement s = s.line
 
 -- Words spell statements, whose first words stand on these lines.
 pub record AreStatementLines (ws : List Lexeme) (lines : List ℕ) : Type 0 where
   pub statements : List WrittenStatement
   pub spelled : Several IsEndedStatement statements ws
-  pub lines_are : lines ≡ map line_of statements
+  pub lines_are : lines ≡ map line_of_statement statements
 
 -- So do runs of words, one run's behind another's.
 abbrev pub AreRunLines : List (List Lexeme) → List ℕ → Type 0

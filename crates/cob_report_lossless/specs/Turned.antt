@@ -76,8 +76,8 @@ abbrev pub with_loop : ℕ → WrittenLoop → ToldLines → ToldLines
 with_loop bound l lines = record { statements = lines.statements; loops = slice_set lines.loops bound (told_of l); conditions = lines.conditions }
 
 -- where the condition with this number stands is known
-abbrev pub with_condition : ℕ → ToldCondition → ToldLines → ToldLines
-with_condition condition c lines = record { statements = lines.statements; loops = lines.loops; conditions = slice_set lines.conditions condition c }
+abbrev pub with_told_condition : ℕ → ToldCondition → ToldLines → ToldLines
+with_told_condition condition c lines = record { statements = lines.statements; loops = lines.loops; conditions = slice_set lines.conditions condition c }
 
 -- ---- how
 
@@ -114,13 +114,13 @@ abbrev pub found_condition : NextCondition → FoundCondition
 found_condition c = record { condition = c.condition; behind = c.behind.now }
 
 -- the first condition of flows
-abbrev pub first_condition : List Flow → Option FoundCondition
-first_condition [] = None
-first_condition (flow.Moves number ∷ more) = first_condition more
-first_condition (flow.Turns number ∷ more) = first_condition more
-first_condition (flow.Until bound number skip ∷ more) = first_condition more
-first_condition (flow.Skip count ∷ more) = first_condition more
-first_condition (flow.Where condition holding lacking ∷ more) = Some (record { condition = condition; behind = more })
+abbrev pub first_found_condition : List Flow → Option FoundCondition
+first_found_condition [] = None
+first_found_condition (flow.Moves number ∷ more) = first_found_condition more
+first_found_condition (flow.Turns number ∷ more) = first_found_condition more
+first_found_condition (flow.Until bound number skip ∷ more) = first_found_condition more
+first_found_condition (flow.Skip count ∷ more) = first_found_condition more
+first_found_condition (flow.Where condition holding lacking ∷ more) = Some (record { condition = condition; behind = more })
 
 -- so many turns, one behind another
 abbrev pub TellTurns : (ℕ → Telling) → (by n i : ℕ) → List Flow → ToldLines → List Flow → ToldLines → Type 0
@@ -156,10 +156,10 @@ TellLoop one l body (ToItem ws) fs before left after = TellTested one l fs befor
 -- this condition is the first one among flows, and so it is known where that stands; where none is there, nothing is known
 abbrev pub TellFound : ToldCondition → Option FoundCondition → List Flow → ToldLines → List Flow → ToldLines → Type 0
 TellFound c None fs before left after = (left ≡ fs) × (after ≡ before)
-TellFound c (Some one) fs before left after = (left ≡ one.behind) × (after ≡ with_condition one.condition c before)
+TellFound c (Some one) fs before left after = (left ≡ one.behind) × (after ≡ with_told_condition one.condition c before)
 
 abbrev pub TellCondition : ToldCondition → List Flow → ToldLines → List Flow → ToldLines → Type 0
-TellCondition c fs before left after = TellFound c (first_condition fs) fs before left after
+TellCondition c fs before left after = TellFound c (first_found_condition fs) fs before left after
 
 -- what a branch of a choice of this kind is taken by: a condition; or none, where none before it holds
 abbrev pub TellTest : ChoiceKind → WrittenTest → List Flow → ToldLines → List Flow → ToldLines → Type 0

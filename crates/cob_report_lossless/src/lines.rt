@@ -6,7 +6,7 @@ ghost use Rattle.cob_move_loops.specs.Reading.{all_runs, run_words};
 ghost use Rattle.cob_move_loops.specs.Turns.{words_by_turn};
 ghost use Rattle.cob_move_statements.specs.Reading.{IsOrLacksMemory};
 ghost use Rattle.cob_move_statements.specs.Written.{written_statements};
-ghost use Rattle.cob_report_lossless.specs.Lines.{AreLinesOf, AreRunLines, AreStatementLines, HasBody, line_of};
+ghost use Rattle.cob_report_lossless.specs.Lines.{AreLinesOf, AreRunLines, AreStatementLines, HasBody, line_of_statement};
 ghost use Rattle.cob_source.specs.Tokens.{Lexeme, lexemes};
 
 use cob_move_loops::{Run, breaks_none, check, in_turn, no_turn, one_passage, write_out};
@@ -16,7 +16,7 @@ use std::alloc::{AllocError, Global};
 
 /// The line of the first word of each statement.
 fn first_lines(alloc: Global, statements: &[Statement<'_>]) -> Result<Vec<u32>, AllocError>
-    ensures { IfOk result (λ lines. lines.items ≡ map line_of (written_statements statements.now)) }
+    ensures { IfOk result (λ lines. lines.items ≡ map line_of_statement (written_statements statements.now)) }
 {
     let mut lines = Vec::with_capacity(alloc, statements.len())?;
     for statement in statements {

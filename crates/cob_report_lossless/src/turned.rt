@@ -9,7 +9,7 @@ ghost use Rattle.cob_move_loops.specs.Reading.{counters, item_front, written_loo
 ghost use Rattle.cob_move_loops.specs.Turns.{counter_at, in_turn};
 ghost use Rattle.cob_move_loops.specs.declared.parts.Place.TheVariants as standing;
 ghost use Rattle.cob_report_lossless.specs.Lines.{AreLinesOf, AreStatementLines};
-ghost use Rattle.cob_report_lossless.specs.Turned.{first_condition, first_test, found_condition, found_test, kind_in, plain_condition, told_condition, told_lines, told_loop, told_of, unknown_condition, unknown_loop, with_condition, with_loop, with_statements, AreDeedLinesOf, TellBranch, TellCondition, TellFront, TellPassage, TellTest, TellTested, TellTurned};
+ghost use Rattle.cob_report_lossless.specs.Turned.{first_found_condition, first_test, found_condition, found_test, kind_in, plain_condition, told_condition, told_lines, told_loop, told_of, unknown_condition, unknown_loop, with_told_condition, with_loop, with_statements, AreDeedLinesOf, TellBranch, TellCondition, TellFront, TellPassage, TellTest, TellTested, TellTurned};
 ghost use Rattle.cob_source.specs.Tokens.{lexemes};
 
 use crate::lines::{body_of, lines_of, statement_lines};
@@ -105,9 +105,9 @@ struct NextCondition<'a> {
 /// The condition that a flow tests, if it tests one.
 fn condition_at<'a>(flow: &Flow, more: &'a [Flow]) -> Option<NextCondition<'a>>
     ensures found { IfSome result
-        (λ one. first_condition (flow.now ∷ more.now) ≡ Some (found_condition one)) }
+        (λ one. first_found_condition (flow.now ∷ more.now) ≡ Some (found_condition one)) }
     ensures none { IfNone result
-        (first_condition (flow.now ∷ more.now) ≡ first_condition more.now) }
+        (first_found_condition (flow.now ∷ more.now) ≡ first_found_condition more.now) }
     ensures fewer { IfSome result (λ one. length one.behind.now ≤ length more.now) }
 {
     match *flow {
@@ -123,8 +123,8 @@ fn condition_at<'a>(flow: &Flow, more: &'a [Flow]) -> Option<NextCondition<'a>>
 
 /// The first condition of flows.
 fn next_condition(flows: &[Flow]) -> Option<NextCondition<'_>>
-    ensures found { IfSome result (λ one. first_condition flows.now ≡ Some (found_condition one)) }
-    ensures none { IfNone result (first_condition flows.now ≡ None) }
+    ensures found { IfSome result (λ one. first_found_condition flows.now ≡ Some (found_condition one)) }
+    ensures none { IfNone result (first_found_condition flows.now ≡ None) }
     ensures fewer { IfSome result (λ one. length one.behind.now < length flows.now) }
 {
     let mut rest = flows;
@@ -193,7 +193,7 @@ fn put_condition(condition: usize, one: ConditionLine, conditions: &mut [Conditi
 
 /// Notes of the condition with this number that these words of a choice of this kind are it.
 fn note_condition(condition: usize, kind: ChoiceKind, words: &[Token], lines: &mut DeedLines)
-    ensures { told_lines lines.new ≡ with_condition condition
+    ensures { told_lines lines.new ≡ with_told_condition condition
         (told_condition kind (lexemes words.now)) (told_lines lines.old) }
 {
     let one = ConditionLine {

@@ -4,7 +4,7 @@ use Rattle.std.specs.Vec.Iter.{into_iter_items}
 use Rattle.std.proofs.lemmas.List.{map-append}
 use Rattle.cob_move_apply.specs.declared.placed.PlacedEntry.{PlacedEntry}
 use Rattle.cob_move_apply.specs.Entries.{IsPlacedEntry}
-use Rattle.cob_move_tests.specs.Asked.{IsNamed}
+use Rattle.cob_move_tests.specs.Asked.{IsSubscriptedEntry}
 use Rattle.cob_move_tests.specs.declared.entries.NamedEntry.{NamedEntry}
 use Rattle.cob_move.specs.Among.{both}
 use Rattle.cob_move.specs.DeedsRead.{named_of}
@@ -18,7 +18,7 @@ new-entry-requires c =
     let x = c.in-Some.named in
     let steps : into_iter_items at.named-iterator ≡ x ∷ into_iter_items c.next.new.self = c.in-Some.ensures.steps.0 in
     let whole : c.args.asked.items ≡ at.yielded ++ x ∷ into_iter_items c.next.new.self = sym at.invariant.all ∙ ap (λ (t : List NamedEntry). at.yielded ++ t) steps in
-    record { operand = all_here (IsNamed (both c.args.input.now c.args.output.now)) at.yielded (into_iter_items c.next.new.self) x (subst (AllByRecursion (IsNamed (both c.args.input.now c.args.output.now))) whole c.requires.operands) }
+    record { operand = all_here (IsSubscriptedEntry (both c.args.input.now c.args.output.now)) at.yielded (into_iter_items c.next.new.self) x (subst (AllByRecursion (IsSubscriptedEntry (both c.args.input.now c.args.output.now))) whole c.requires.operands) }
 
 pub loop-named-preserved : goal.loop-named-preserved
 loop-named-preserved c =

@@ -5,13 +5,13 @@ use Rattle.cob_move_condition.specs.Conditions.{condition_of}
 use Rattle.cob_move_loops.specs.Reading.{counters}
 use Rattle.cob_move_loops.specs.Turns.{in_turn}
 use Rattle.cob_move_tests.specs.declared.entries.NamedEntry.{NamedEntry}
-use Rattle.cob_move_tests.specs.Asked.{IsAsked, IsNamed, IsTestable, sender_named}
+use Rattle.cob_move_tests.specs.Asked.{IsAsked, IsSubscriptedEntry, IsTestable, sender_named}
 use Rattle.cob_move_tests.specs.Entries.{records_of, valued_in}
 use Rattle.cob_move_tests.proofs.AskedLemmas.{none_more}
 use Rattle.cob_source.specs.Tokens.{Lexeme, lexemes}
 use Rattle.cob_move_choices.specs.declared.subjects.Subject.{Subject}
 use Rattle.cob_move_choices.specs.Asked.{IsSubjectAsked, against}
-use Rattle.cob_move_choices.specs.Choices.{AnEntry, IsBranchTestOf, IsListed, Truth}
+use Rattle.cob_move_choices.specs.Choices.{AnEntry, IsBranchTestOf, IsListedTest, Truth}
 use Rattle.cob_move_choices.proofs.ReadLemmas.{counter_among, listed_found, listed_refused, truth_found, truth_refused}
 use Rattle.cob_move_choices.proofs.tests.branch_test.Goals as goal
 
@@ -52,7 +52,7 @@ value_test-requires-clause-there c =
 
 pub value_test-requires-clause-operands : goal.value_test-requires-clause-operands
 value_test-requires-clause-operands c =
-    subst (λ (ns : List NamedEntry). AllByRecursion (IsNamed (records_of c.args.entries.now)) ns) (sym c.as_slice.ensures.value) c.requires.operands
+    subst (λ (ns : List NamedEntry). AllByRecursion (IsSubscriptedEntry (records_of c.args.entries.now)) ns) (sym c.as_slice.ensures.value) c.requires.operands
 
 pub returns-in_err-test-in-Entry-clause-asks : goal.returns-in_err-test-in-Entry-clause-asks
 returns-in_err-test-in-Entry-clause-asks c = none_more (records_of c.args.entries.now) c.args.asked.now.items

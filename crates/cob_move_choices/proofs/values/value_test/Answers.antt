@@ -6,7 +6,7 @@ use Rattle.cob_source.specs.Tokens.{lexemes}
 use Rattle.cob_copybook_clauses.specs.Written.{written_value}
 use Rattle.cob_copybook_entry.specs.Described.{plain_value}
 use Rattle.cob_move_condition.specs.Conditions.{condition_of}
-use Rattle.cob_move_tests.specs.Asked.{IsNamed, sender_named}
+use Rattle.cob_move_tests.specs.Asked.{IsSubscriptedEntry, sender_named}
 use Rattle.cob_move_tests.specs.Entries.{records_of}
 use Rattle.cob_move_choices.specs.declared.values.Listed.{Listed}
 use Rattle.cob_move_choices.specs.Values.{FromToWritten, IsSpanWritten, OneWritten, written_span}

@@ -1,10 +1,10 @@
 use Rattle.std.proofs.Common.{◌≡◌, ◌≤◌, length}
-use Rattle.cob_report_lossless.specs.Turned.{first_condition}
+use Rattle.cob_report_lossless.specs.Turned.{first_found_condition}
 use Rattle.cob_report_lossless.proofs.turned.next_condition.Given as goal
 
 abbrev pub invariant-loop-flow : goal.invariant-loop-flow
 invariant-loop-flow l = record {
-  same : first_condition l.flows ≡ first_condition l.rest;
+  same : first_found_condition l.flows ≡ first_found_condition l.rest;
   fewer : length l.rest ≤ length l.flows;
 }
 
