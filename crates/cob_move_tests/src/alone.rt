@@ -113,12 +113,12 @@ fn holds(
     requires operand { IsSubscriptedEntry (records_of entries.now) named.item }
     ensures means { IfOk result (λ c. condition_of
         (sender_named (records_of entries.now) asked.new.items) c
-        ≡ holds (valued_item (records_of entries.now) named)) }
-    ensures may { IfOk result (λ c. MayHold (valued_item (records_of entries.now) named)) }
+        ≡ holds (valued_item (records_of entries.now) named.entry)) }
+    ensures may { IfOk result (λ c. MayHold (valued_item (records_of entries.now) named.entry)) }
     ensures testable { IfOk result (IsTestable (records_of entries.now) asked.new.items) }
     ensures grown { AsksMore (records_of entries.now) asked.old.items asked.new.items }
     ensures fault { IfErr result (λ r. (r ≡ Memory) ⊎ ((r ≡ NotComparable)
-        × (MayHold (valued_item (records_of entries.now) named) → ⊥))) }
+        × (MayHold (valued_item (records_of entries.now) named.entry) → ⊥))) }
 {
     let ValuedItem { item, first, more } = named;
     if !may_hold(entries.kind(item.side, &item.entry), first, more) {
