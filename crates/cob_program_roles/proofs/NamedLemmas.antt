@@ -1,7 +1,10 @@
 -- Records under another name.
-use Rattle.std.proofs.Common.{◌≡◌, ◌∙◌, ◌||◌, is_some, ℕ, List, Option, Some, refl, sym, ap}
+use Rattle.std.proofs.Common.{◌≡◌, ◌∙◌, ◌||◌, Bool, is_some, ℕ, List, Option, Some, Result, Ok, Err, IfOk, refl, sym, ap, subst}
+use Rattle.std.specs.Bool.{Decides}
 use Rattle.cob_back_moves.proofs.SameLemmas.{opened}
-use Rattle.cob_back_moves.specs.Same.{unnamed}
+use Rattle.cob_back_moves.specs.Same.{IsSameRecord, unnamed}
+use Rattle.cob_copybook.specs.Books.{IsBookOf, record_name}
+use Rattle.cob_copybook.specs.declared.role.Role.{Role}
 use Rattle.cob_copybook_tree.specs.declared.node.Node.{Node}
 use Rattle.cob_copybook_tree.specs.declared.node.Node.TheViews.{out-Node}
 use Rattle.cob_copybook_tree.specs.Forests.{Forest, NoEntries, AnEntry}
@@ -9,7 +12,7 @@ use Rattle.cob_copybook_tree.specs.Nodes.{Resolved, is_group_kind, tree_of}
 use Rattle.cob_copybook_tree.specs.Lengths.{greatest_number, sum_of}
 use Rattle.cob_layout_places.specs.Lengths.{times}
 use Rattle.cob_program_roles.specs.Laws.{NameAloneChanges, NamingKeepsEntries, NamingKeepsLengths, NamingKeepsPlaces}
-use Rattle.cob_program_roles.specs.Named.{may_be_named, name_of_record, named_record}
+use Rattle.cob_program_roles.specs.Named.{DescribesNamed, IsNamedIn, may_be_named, name_of_record, named_record}
 
 -- ---- the record of a book
 
@@ -51,3 +54,15 @@ keeps_lengths = record { greatest = greatest_stays; counted = counted_stays }
 pub keeps_places : NamingKeepsPlaces
 keeps_places counts number name NoEntries subscripts = refl
 keeps_places counts number name (AnEntry e children more) subscripts = refl
+
+-- ---- a record that is read
+
+-- what is told of the one record that a text describes is told of the text
+pub described_by : {E : Type 0} (r : Result Bool E) (role : Role) (text named : List ℕ) (before : Forest Resolved) → IsBookOf role text before
+    → ((t : Forest Resolved) → IsBookOf role text t → before ≡ t) → IfOk r (λ yes. Decides yes (IsNamedIn role before named))
+    → IfOk r (λ yes. Decides yes (DescribesNamed role (record_name role) text named))
+described_by (Ok yes) role text named before found one told = (
+  λ is. let h = told.0 is in record { before = before; after = h.0; described = found; described_named = h.1; same = h.2; borne = h.3 },
+  λ d. told.1 (d.after, d.described_named, subst (λ (t : Forest Resolved). IsSameRecord t d.after) (sym (one d.before d.described)) d.same, d.borne),
+)
+described_by (Err e) role text named before found one told = tt

@@ -36,6 +36,11 @@ pub record DescribesNamed (role : Role) (name text named : List ℕ) : Type 0 wh
   pub same : IsSameRecord before after
   pub borne : name_of_record after ≡ Some name
 
+-- a text describes in a role this record, with the name of the role
+abbrev pub IsNamedIn : Role → Forest Resolved → List ℕ → Type 0
+IsNamedIn role before named =
+    (after : Forest Resolved) × IsBookOf role named after × IsSameRecord before after × (name_of_record after ≡ Some (record_name role))
+
 -- the other role
 abbrev pub other_role : Role → Role
 other_role In = Out

@@ -1,6 +1,6 @@
 //! Copybooks whose records are named by their roles.
 
-ghost use Rattle.std.specs.Prelude.{IfOk, IfSome, IsTrue};
+ghost use Rattle.std.specs.Prelude.{◌≡◌, IfOk, IfSome, IsTrue};
 ghost use Rattle.cob_program_roles.specs.Named.{DescribesBack, IsNamedByRole, other_role};
 
 use crate::blanking::{blanked, words_of};
@@ -97,8 +97,7 @@ fn if_named(
     made: Option<Vec<u8>>,
 ) -> Result<Option<Vec<u8>>, AllocError>
     ensures { IfOk result (λ o. IfSome o (λ named.
-        DescribesNamed role (record_name role) text.now named.items
-        × DescribesBack ways role text.now named.items)) }
+        IsNamedByRole ways role text.now named.items)) }
 {
     let Some(named) = made else {
         return Ok(None);
@@ -121,8 +120,7 @@ fn made_named(
     text: &[u8],
 ) -> Result<Option<Vec<u8>>, AllocError>
     ensures { IfOk result (λ o. IfSome o (λ named.
-        DescribesNamed role (record_name role) text.now named.items
-        × DescribesBack ways role text.now named.items)) }
+        IsNamedByRole ways role text.now named.items)) }
 {
     let itself = Some(Vec::from_slice(alloc, text)?);
     if let Some(named) = if_named(alloc, ways, role, text, itself)? {

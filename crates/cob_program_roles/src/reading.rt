@@ -7,7 +7,7 @@ ghost use Rattle.cob_copybook.specs.Books.{IsBookOf, IsMemory, record_name};
 ghost use Rattle.cob_copybook_tree.specs.Forests.{Forest};
 ghost use Rattle.cob_copybook_tree.specs.Nodes.{Resolved, is_group_kind};
 ghost use Rattle.cob_copybook_tree.specs.declared.node.Node.TheViews.{out-Node};
-ghost use Rattle.cob_program_roles.specs.Named.{DescribesNameable, DescribesNamed, may_be_named, name_of_record};
+ghost use Rattle.cob_program_roles.specs.Named.{DescribesNameable, DescribesNamed, IsNamedIn, may_be_named, name_of_record};
 
 use cob_back_moves::is_same_book;
 use cob_copybook::{Book, BookRule, Node, Role};
@@ -106,6 +106,20 @@ fn is_named(book: &Book, named: &Book, name: &[u8]) -> bool
     is_same_book(book, named) && bears(named, name)
 }
 
+/// Whether a text describes the record of a copybook, with the name of its role.
+///
+/// # Errors
+///
+/// Where no memory is left.
+fn is_named_in(alloc: Global, role: Role, book: &Book, named: &[u8]) -> Result<bool, AllocError>
+    ensures { IfOk result (λ yes. Decides yes (IsNamedIn role book.now named.now)) }
+{
+    match book_of(alloc, role, named)? {
+        Some(after) => Ok(is_named(book, &after, role_name(role))),
+        None => Ok(false),
+    }
+}
+
 /// Whether a text describes the record of another one, with the name of its role: all else is the same.
 ///
 /// # Errors
@@ -120,11 +134,8 @@ pub(crate) fn describes_named(
     ensures { IfOk result (λ yes. Decides yes
         (DescribesNamed role (record_name role) text.now named.now)) }
 {
-    let Some(before) = book_of(alloc, role, text)? else {
-        return Ok(false);
-    };
-    match book_of(alloc, role, named)? {
-        Some(after) => Ok(is_named(&before, &after, role_name(role))),
+    match book_of(alloc, role, text)? {
+        Some(before) => is_named_in(alloc, role, &before, named),
         None => Ok(false),
     }
 }
