@@ -110,7 +110,7 @@ fn edited(
     record: &[u8],
     to: &mut [u8],
 ) -> Result<Option<bool>, AllocError>
-    requires { length to.old ≤ 32 }
+    requires { length to.old ≤ 16 }
 {
     match EditStep::prepare(alloc, sender, receiver)? {
         Some(step) => Ok(Some(step.run(record, to))),
