@@ -89,8 +89,8 @@ impl<'a> BothRecords<'a> {
         inputs: Vec<DraftBearer<'a>>,
         outputs: Vec<DraftBearer<'a>>,
     ) -> Result<BothRecords<'a>, AllocError>
-        ensures inputs { IfOk result (λ r. r.inputs.items ≡ inputs.items) }
-        ensures outputs { IfOk result (λ r. r.outputs.items ≡ outputs.items) }
+        ensures inputs { IfOk result (λ r. r.inputs.items ≡ inputs.entry.items) }
+        ensures outputs { IfOk result (λ r. r.outputs.items ≡ outputs.entry.items) }
     {
         let groups = GroupNames::of(alloc, inputs.as_slice())?;
         let output_groups = GroupNames::of(alloc, outputs.as_slice())?;
