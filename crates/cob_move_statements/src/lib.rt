@@ -3,7 +3,8 @@
 //!
 //! A paragraph is the words of MOVE statements, each with as many periods behind it as one likes, behind the paragraph's name and its
 //! period if it has one. [`statements`] reads a paragraph's words into [`Statement`]s, each with the line of its first word: a sender and
-//! its receivers, or the two references of CORRESPONDING. Which entries names mean isn't looked at here.
+//! its receivers, or the two references of CORRESPONDING. Behind its subscripts a reference may have a part of the item, `(start:length)` or `(start:)`
+//! ([`ReferencePart`]). Which entries names mean isn't looked at here.
 //!
 //! What is promised of [`statements`]: `Ok` has exactly the statements that the words say (clause `found`; `IsParagraph` of
 //! specs/Statements.antt); the words of a paragraph are read, memory aside, and say nothing else (`only`); a refusal is for want of
@@ -11,7 +12,7 @@
 //! statements of a paragraph in one way ([`one_list_of_statements`]). [`whole_reference`] answers the reference that words are, which is one at most
 //! ([`one_reference`]). [`reference_at`] and [`sender_at`] answer what stands in front of words, and what is behind it.
 //!
-//! [`MoveRule`] names every rule that a paragraph may break, for all crates that read one, and prints as `M1` to `M13` and `M19`, or as the rule of
+//! [`MoveRule`] names every rule that a paragraph may break, for all crates that read one, and prints as `M1` to `M13`, `M15` and `M19`, or as the rule of
 //! the text; [`MoveFault`] adds the line.
 //!
 //! # Where it is proved
@@ -21,6 +22,7 @@
 
 mod actions;
 mod fault;
+mod item_parts;
 mod laws;
 mod paragraph;
 mod parts;
@@ -31,6 +33,6 @@ mod subscripts;
 pub use fault::{MoveFault, MoveRule};
 pub use laws::{one_list_of_ended, one_list_of_statements, one_reference};
 pub use paragraph::{behind_heading, ended_statements, statements};
-pub use parts::{Action, Reference, Statement, StatementSender};
+pub use parts::{Action, Reference, ReferencePart, Statement, StatementSender};
 pub use references::{reference_at, whole_reference};
 pub use senders::sender_at;
