@@ -1,5 +1,6 @@
 pub mod Candidates
 pub mod Listed
+pub mod Measured
 pub mod References
 pub mod Directory
 pub mod Laws

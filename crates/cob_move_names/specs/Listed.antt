@@ -1,6 +1,8 @@
 -- The listed entries without where they lie in memory.
 use Rattle.std.specs.Prelude.{◌≡◌, List, ◌++◌, map}
 use Rattle.cob_copybook_tree.specs.declared.node.Node.TheViews.{out-Node}
+use Rattle.cob_copybook_tree.specs.Nodes.{forest}
+use Rattle.cob_layout_places.specs.Parts.{characters_of}
 use Rattle.cob_copybook_names.specs.declared.bearer.Bearer.{Bearer as Listed}
 use Rattle.cob_copybook_names.specs.Listed.{bearer_by}
 use Rattle.cob_move_names.specs.declared.candidate.RecordEntry.{RecordEntry as ListedEntry}
@@ -8,7 +10,13 @@ use Rattle.cob_move_names.specs.Candidates.{Candidate, RecordEntry}
 
 -- What is known of a listed entry.
 abbrev pub listed_record_entry : ListedEntry → RecordEntry
-listed_record_entry e = record { side = e.side; number = (out-Node e.entry.now).number; tables = e.tables.items; kind = (out-Node e.entry.now).kind }
+listed_record_entry e = record {
+  side = e.side;
+  number = (out-Node e.entry.now).number;
+  tables = e.tables.items;
+  kind = (out-Node e.entry.now).kind;
+  characters = characters_of (out-Node e.entry.now).kind (forest (out-Node e.entry.now).children.items);
+}
 
 -- A listed entry, with its names.
 abbrev pub candidate_of : Listed ListedEntry → Candidate

@@ -1,23 +1,26 @@
 //! What a written reference names.
 
-ghost use Rattle.std.specs.Prelude.{◌≡◌, IfErr, IfNone, IfOk, IfSome, IsOkAnd};
+ghost use Rattle.std.specs.Prelude.{◌≡◌, ◌<◌, ◌+◌, ◌-◌, ◌≤◌, IfErr, IfNone, IfOk, IfSome, IsOkAnd, Option, Some, option_map};
 ghost use Rattle.cob_source.specs.Tokens.{lexemes};
 ghost use Rattle.cob_move_data.specs.declared.operands.Operand.{Operand as SeenOperand};
 ghost use Rattle.cob_move_data.specs.declared.operands.Side.TheVariants.{Out};
-ghost use Rattle.cob_move_statements.specs.Written.{word_texts, written_reference};
+ghost use Rattle.cob_layout_places.specs.declared.reference.ItemPart.{ItemPart as SeenPart};
+ghost use Rattle.cob_move_statements.specs.Written.{word_texts, written_part, written_reference};
 ghost use Rattle.cob_move_names.specs.Candidates.{all_entries};
 ghost use Rattle.cob_move_names.specs.Directory.{FindsOnly, entries_named};
 ghost use Rattle.cob_move_names.specs.Listed.{candidate_of};
-ghost use Rattle.cob_move_names.specs.References.{AreSubscriptsOf, BreaksReceiver, BreaksReference, NamesOperand, operand, subscript_numbers};
+ghost use Rattle.cob_move_names.specs.References.{AreSubscriptsOf, BreaksReceiver, BreaksReference, HasPart, IsLengthOf, NamesOperand, length_meant, operand, part_meant, subscript_numbers};
 
 use crate::candidate::{RecordEntry, list_tree};
 use crate::directory::Names;
-use crate::subscripts::read_subscripts;
+use crate::subscripts::{read_subscripts, subscript_of};
 use arrayvec::ArrayVec;
 use cob_copybook_names::Bearer;
+use cob_copybook_tree::Kind;
 use cob_layout::{Layout, Ref, records_are_sound};
+use cob_layout_places::{ItemPart, characters_of};
 use cob_move_data::{Operand, Side};
-use cob_move_statements::{MoveRule, Reference};
+use cob_move_statements::{MoveRule, Reference, ReferencePart};
 use cob_source::Token;
 use std::alloc::{AllocError, Global};
 
@@ -28,27 +31,103 @@ pub struct Named {
     pub operand: Operand,
 }
 
-/// An entry with its subscripts, if they are those of its tables.
-fn operand_of(candidate: &Bearer<'_, RecordEntry<'_>>, written: &[Token]) -> Option<Operand>
-    ensures found { IfSome result (λ o. o ≡ operand (candidate_of candidate.now)
-        (subscript_numbers (word_texts (lexemes written.now)))) }
-    ensures yes { IfSome result (λ o. AreSubscriptsOf
+/// The subscripts of an entry, if they are those of its tables.
+fn subscripts_of(
+    candidate: &Bearer<'_, RecordEntry<'_>>,
+    written: &[Token],
+) -> Option<ArrayVec<u32, MAX_SUBSCRIPTS>>
+    ensures found { IfSome result (λ v. v.items
+        ≡ subscript_numbers (word_texts (lexemes written.now))) }
+    ensures yes { IfSome result (λ v. AreSubscriptsOf
         (candidate_of candidate.now).entry.tables (word_texts (lexemes written.now))) }
     ensures no { IfNone result (AreSubscriptsOf
         (candidate_of candidate.now).entry.tables (word_texts (lexemes written.now)) → ⊥) }
 {
-    let named = &candidate.entry;
     let mut subscripts = ArrayVec::new();
-    if !read_subscripts(named.tables.as_slice(), written, &mut subscripts) {
+    if !read_subscripts(candidate.entry.tables.as_slice(), written, &mut subscripts) {
         return None;
     }
-    Some(Operand {
+    Some(subscripts)
+}
+
+/// How long a part is, where so many characters are left: as long as is written, or all of them.
+fn length_of(written: Option<&[u8]>, left: u32) -> Option<u32>
+    requires some { 0 < left }
+    ensures found { (start characters : ℕ) → left ≡ characters + 1 - start → IfSome result
+        (λ n. n ≡ length_meant characters start (option_map (λ t. t.now) written)) }
+    ensures yes { IfSome result (λ _. IsLengthOf left (option_map (λ t. t.now) written)) }
+    ensures no { IfNone result (IsLengthOf left (option_map (λ t. t.now) written) → ⊥) }
+{
+    match written {
+        None => Some(left),
+        Some(text) => subscript_of(text, left),
+    }
+}
+
+/// The part that is meant of an element with so many characters, if it has it.
+fn part_within(characters: u32, written: &ReferencePart<'_>) -> Option<ItemPart>
+    requires short { characters ≤ longest_record }
+    ensures found { IfSome result (λ p. Some p ≡ part_meant characters
+        (Some (written_part written.now))) }
+    ensures yes { IfSome result (λ p. HasPart characters (Some (written_part written.now))) }
+    ensures no { IfNone result (HasPart characters (Some (written_part written.now)) → ⊥) }
+{
+    let start = subscript_of(written.start, characters)?;
+    let length = length_of(written.length, characters + 1 - start)?;
+    Some(ItemPart { start, length })
+}
+
+/// The part that is meant of an entry, if one is, and the entry has it.
+fn part_of(
+    candidate: &Bearer<'_, RecordEntry<'_>>,
+    written: &Option<ReferencePart<'_>>,
+) -> Option<Option<ItemPart>>
+    ensures found { IfSome result (λ p. p ≡ part_meant (candidate_of candidate.now).entry.characters
+        (option_map written_part written.now)) }
+    ensures yes { IfSome result (λ _. HasPart (candidate_of candidate.now).entry.characters
+        (option_map written_part written.now)) }
+    ensures no { IfNone result (HasPart (candidate_of candidate.now).entry.characters
+        (option_map written_part written.now) → ⊥) }
+{
+    match written {
+        None => Some(None),
+        Some(part) => {
+            let part = part_within(characters_of(candidate.entry.entry), part)?;
+            Some(Some(part))
+        }
+    }
+}
+
+/// What a part of an element describes, or all of it.
+fn kind_of(part: Option<ItemPart>, kind: &Kind) -> Kind
+    requires { (p : SeenPart) → part ≡ Some p → (0 < p.length) × (p.length ≤ longest_record) }
+    ensures { result ≡ kind_of_part part kind.now }
+{
+    match part {
+        None => kind.clone(),
+        Some(part) => kind_of_characters(part.length),
+    }
+}
+
+/// An entry with its subscripts, or a part of it.
+fn operand_of(
+    candidate: &Bearer<'_, RecordEntry<'_>>,
+    subscripts: ArrayVec<u32, MAX_SUBSCRIPTS>,
+    part: Option<ItemPart>,
+) -> Operand
+    requires { (p : SeenPart) → part ≡ Some p → (0 < p.length) × (p.length ≤ longest_record) }
+    ensures entry { result.entry ≡ record { node = (candidate_of candidate.now).entry.number; subscripts = subscripts; part = part } }
+    ensures kind { result.kind ≡ kind_of_part part (candidate_of candidate.now).entry.kind }
+{
+    let named = &candidate.entry;
+    Operand {
         entry: Ref {
             node: named.entry.number,
             subscripts,
+            part,
         },
-        kind: named.entry.kind.clone(),
-    })
+        kind: kind_of(part, &named.entry.kind),
+    }
 }
 
 impl<'a> Names<'a> {
@@ -72,8 +151,9 @@ impl<'a> Names<'a> {
     ///
     /// # Errors
     ///
-    /// `Unknown` where no entry of the two records has the name with these qualifiers, `Ambiguous` where several have, and `Subscripts` where
-    /// the subscripts aren't one for each table of the entry, of no more digits than a literal has, from 1 to its greatest number.
+    /// `Unknown` where no entry of the two records has the name with these qualifiers, `Ambiguous` where several have, `Subscripts` where
+    /// the subscripts aren't one for each table of the entry, of no more digits than a literal has, from 1 to its greatest number, and `Part` where the entry
+    /// hasn't the part that is meant.
     pub fn find(&self, reference: &Reference<'_>) -> Result<Named, MoveRule>
         // What is found is what the reference names.
         ensures found { IfOk result (λ n. NamesOperand
@@ -85,13 +165,16 @@ impl<'a> Names<'a> {
             rule (entries_named self.now) (written_reference reference.now)) }
     {
         let candidate = self.only_named(reference.name, reference.qualifiers)?;
-        match operand_of(candidate, reference.subscripts) {
-            Some(operand) => Ok(Named {
-                side: candidate.entry.side,
-                operand,
-            }),
-            None => Err(MoveRule::Subscripts),
-        }
+        let Some(subscripts) = subscripts_of(candidate, reference.subscripts) else {
+            return Err(MoveRule::Subscripts);
+        };
+        let Some(part) = part_of(candidate, &reference.part) else {
+            return Err(MoveRule::Part);
+        };
+        Ok(Named {
+            side: candidate.entry.side,
+            operand: operand_of(candidate, subscripts, part),
+        })
     }
 
     /// What a receiver's written reference names in the output record.
