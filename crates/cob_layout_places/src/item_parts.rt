@@ -1,6 +1,6 @@
 //! Parts of elements: how many characters there are to take them from.
 
-ghost use Rattle.std.specs.Prelude.{◌≡◌};
+ghost use Rattle.std.specs.Prelude.{◌≡◌, ◌≤◌};
 ghost use Rattle.cob_copybook_tree.specs.Nodes.{node};
 ghost use Rattle.cob_copybook_tree.specs.Lengths.{greatest_number, whole_length};
 ghost use Rattle.cob_limits.specs.Limits.{longest_record};
@@ -29,7 +29,8 @@ pub fn characters_of(entry: &Node) -> u32
     requires possible { MayOccur (tree_of entry.now) }
     requires small { whole_length greatest_number (node entry.now).top (node entry.now).beneath ≤
         longest_record }
-    ensures { result ≡ characters_of (node entry.now).top.kind (node entry.now).beneath }
+    ensures value { result ≡ characters_of (node entry.now).top.kind (node entry.now).beneath }
+    ensures short { result ≤ longest_record }
 {
     match &entry.kind {
         Kind::Item(item) => match item.usage {

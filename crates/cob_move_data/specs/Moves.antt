@@ -1,11 +1,9 @@
 -- Moves between two records.
-use Rattle.std.specs.Prelude.{◌≡◌, ℕ, false, List, [], ◌∷◌, map, replicate, Option, Some, None, option_map}
+use Rattle.std.specs.Prelude.{◌≡◌, ℕ, false, List, [], ◌∷◌, map, Option, Some, None, option_map}
 use Rattle.std.specs.List.{AllByRecursion, flat_map}
 use Rattle.cob_codec.specs.declared.reading.Reading.{Reading}
 use Rattle.cob_codec.specs.declared.reading.Reading.TheVariants.{Pictured}
-use Rattle.cob_picture.specs.declared.category.Category.TheVariants.{Alphanumeric}
-use Rattle.cob_picture.specs.declared.symbol.Symbol.TheVariants.{X}
-use Rattle.cob_picture.specs.Positions.{PlainPicture, positions}
+use Rattle.cob_picture.specs.Characters.{picture_of_characters}
 use Rattle.cob_copybook_entry.specs.declared.kinds.Usage.TheVariants.{Display}
 use Rattle.cob_copybook_entry.specs.Described.{PlainValue, plain_value}
 use Rattle.cob_copybook_tree.specs.declared.node.Item.{Item}
@@ -53,10 +51,6 @@ record_of records Out = records.output
 abbrev pub or_group : Option Kind → Kind
 or_group None = Group
 or_group (Some kind) = kind
-
--- the picture X(n)
-abbrev pub picture_of_characters : ℕ → PlainPicture
-picture_of_characters n = record { category = Alphanumeric; positions = positions Alphanumeric (replicate n X) }
 
 -- the elementary item of so many characters: PIC X(n), DISPLAY, neither JUSTIFIED nor BLANK WHEN ZERO
 abbrev pub item_of_characters : ℕ → Item

@@ -1,10 +1,11 @@
 //! What a written reference names.
 
-ghost use Rattle.std.specs.Prelude.{◌≡◌, ◌<◌, ◌+◌, ◌-◌, ◌≤◌, IfErr, IfNone, IfOk, IfSome, IsOkAnd, Option, Some, option_map};
+ghost use Rattle.std.specs.Prelude.{◌≡◌, ◌<◌, ◌+◌, ◌-◌, ◌≤◌, IfErr, IfNone, IfOk, IfSome, IsOkAnd, ℕ, Some, option_map};
 ghost use Rattle.cob_source.specs.Tokens.{lexemes};
 ghost use Rattle.cob_move_data.specs.declared.operands.Operand.{Operand as SeenOperand};
 ghost use Rattle.cob_move_data.specs.declared.operands.Side.TheVariants.{Out};
-ghost use Rattle.cob_layout_places.specs.declared.reference.ItemPart.{ItemPart as SeenPart};
+ghost use Rattle.cob_limits.specs.Limits.{longest_record};
+ghost use Rattle.cob_move_data.specs.Moves.{kind_of_part};
 ghost use Rattle.cob_move_statements.specs.Written.{word_texts, written_part, written_reference};
 ghost use Rattle.cob_move_names.specs.Candidates.{all_entries};
 ghost use Rattle.cob_move_names.specs.Directory.{FindsOnly, entries_named};
@@ -16,10 +17,10 @@ use crate::directory::Names;
 use crate::subscripts::{read_subscripts, subscript_of};
 use arrayvec::ArrayVec;
 use cob_copybook_names::Bearer;
-use cob_copybook_tree::Kind;
 use cob_layout::{Layout, Ref, records_are_sound};
 use cob_layout_places::{ItemPart, characters_of};
-use cob_move_data::{Operand, Side};
+use cob_limits::MAX_SUBSCRIPTS;
+use cob_move_data::{Operand, Side, kind_of_part};
 use cob_move_statements::{MoveRule, Reference, ReferencePart};
 use cob_source::Token;
 use std::alloc::{AllocError, Global};
@@ -53,6 +54,7 @@ fn subscripts_of(
 /// How long a part is, where so many characters are left: as long as is written, or all of them.
 fn length_of(written: Option<&[u8]>, left: u32) -> Option<u32>
     requires some { 0 < left }
+    ensures short { IfSome result (λ n. (0 < n) × (n ≤ left)) }
     ensures found { (start characters : ℕ) → left ≡ characters + 1 - start → IfSome result
         (λ n. n ≡ length_meant characters start (option_map (λ t. t.now) written)) }
     ensures yes { IfSome result (λ _. IsLengthOf left (option_map (λ t. t.now) written)) }
@@ -69,6 +71,7 @@ fn part_within(characters: u32, written: &ReferencePart<'_>) -> Option<ItemPart>
     requires short { characters ≤ longest_record }
     ensures found { IfSome result (λ p. Some p ≡ part_meant characters
         (Some (written_part written.now))) }
+    ensures short { IfSome result (λ p. (0 < p.length) × (p.length ≤ longest_record)) }
     ensures yes { IfSome result (λ p. HasPart characters (Some (written_part written.now))) }
     ensures no { IfNone result (HasPart characters (Some (written_part written.now)) → ⊥) }
 {
@@ -84,6 +87,7 @@ fn part_of(
 ) -> Option<Option<ItemPart>>
     ensures found { IfSome result (λ p. p ≡ part_meant (candidate_of candidate.now).entry.characters
         (option_map written_part written.now)) }
+    ensures short { IfSome result (λ o. IfSome o (λ p. (0 < p.length) × (p.length ≤ longest_record))) }
     ensures yes { IfSome result (λ _. HasPart (candidate_of candidate.now).entry.characters
         (option_map written_part written.now)) }
     ensures no { IfNone result (HasPart (candidate_of candidate.now).entry.characters
@@ -98,24 +102,13 @@ fn part_of(
     }
 }
 
-/// What a part of an element describes, or all of it.
-fn kind_of(part: Option<ItemPart>, kind: &Kind) -> Kind
-    requires { (p : SeenPart) → part ≡ Some p → (0 < p.length) × (p.length ≤ longest_record) }
-    ensures { result ≡ kind_of_part part kind.now }
-{
-    match part {
-        None => kind.clone(),
-        Some(part) => kind_of_characters(part.length),
-    }
-}
-
 /// An entry with its subscripts, or a part of it.
 fn operand_of(
     candidate: &Bearer<'_, RecordEntry<'_>>,
     subscripts: ArrayVec<u32, MAX_SUBSCRIPTS>,
     part: Option<ItemPart>,
 ) -> Operand
-    requires { (p : SeenPart) → part ≡ Some p → (0 < p.length) × (p.length ≤ longest_record) }
+    requires { IfSome part (λ p. (0 < p.length) × (p.length ≤ longest_record)) }
     ensures entry { result.entry ≡ record { node = (candidate_of candidate.now).entry.number; subscripts = subscripts; part = part } }
     ensures kind { result.kind ≡ kind_of_part part (candidate_of candidate.now).entry.kind }
 {
@@ -126,7 +119,7 @@ fn operand_of(
             subscripts,
             part,
         },
-        kind: kind_of(part, &named.entry.kind),
+        kind: kind_of_part(part, &named.entry.kind),
     }
 }
 
