@@ -1,4 +1,5 @@
 pub mod ReferenceLemmas
+pub mod MeasuredLemmas
 pub mod SubscriptLemmas
 pub mod OnceLemmas
 pub mod SubordinateLemmas
