@@ -107,3 +107,52 @@ part_one (Some x) None n m a b p q f g e =
     sym (ap (λ (t : List Lexeme). t ++ b) q) ∙ sym e ∙ ap (λ (t : List Lexeme). t ++ a) p.words in
     absurd (subst (NotFirstWord term.OpenBracket) it g p.opens)
 part_one (Some x) (Some y) n m a b p q f g e = let r = bracketed_part_one x y n m a b p q e in (ap Some r.0, r.1)
+
+-- ---- how long a part is, read from the front
+
+-- a number comes first, and it is the length
+pub length_here : (words : List Lexeme) (w : Lexeme) (text : List ℕ) (rest : List Lexeme) → IsNumeral w → words ≡ w ∷ rest
+    → ((v : Lexeme) (more : List Lexeme) → IsNumeral v → words ≡ v ∷ more → (text ≡ v.text) × (rest ≡ more))
+    → (x : Option (List ℕ)) (ws more : List Lexeme) → IsPartLength x ws → NotFirstWord term.Plain more → words ≡ ws ++ more → (Some text ≡ x) × (rest ≡ more)
+length_here words w text rest is first only None ws more none nf e =
+    let it : more ≡ w ∷ rest = ap (λ (t : List Lexeme). t ++ more) (sym none) ∙ sym e ∙ first in
+    absurd (subst (NotFirstWord term.Plain) it nf is.plain)
+length_here words w text rest is first only (Some t) ws more (v, si, same, cut) nf e =
+    let r = only v more si (e ∙ ap (λ (y : List Lexeme). y ++ more) cut) in
+    (ap Some (r.0 ∙ sym same), r.1)
+
+-- none does, and there is no length
+pub no_length : (words : List Lexeme) → ((v : Lexeme) (more : List Lexeme) → IsNumeral v → words ≡ v ∷ more → ⊥)
+    → (x : Option (List ℕ)) (ws more : List Lexeme) → IsPartLength x ws → NotFirstWord term.Plain more → words ≡ ws ++ more → (None ≡ x) × (words ≡ more)
+no_length words only None ws more none nf e = (refl, e ∙ ap (λ (t : List Lexeme). t ++ more) none)
+no_length words only (Some t) ws more (v, si, same, cut) nf e = absurd (only v more si (e ∙ ap (λ (y : List Lexeme). y ++ more) cut))
+
+-- ---- a part, or none
+
+-- brackets come first, and no part in them: so there is none here
+pub no_part_in : (words rest : List Lexeme) (w : Lexeme) → words ≡ w ∷ rest → word_class w ≡ term.OpenBracket
+    → ((p : WrittenPart) (ws more : List Lexeme) → IsBracketedPart p ws → words ≡ ws ++ more → ⊥)
+    → (x : Option WrittenPart) (ws more : List Lexeme) → IsPart x ws → NotFirstWord term.OpenBracket more → words ≡ ws ++ more → ⊥
+no_part_in words rest w first opens only None ws more none nf e =
+    let it : more ≡ w ∷ rest = ap (λ (t : List Lexeme). t ++ more) (sym none) ∙ sym e ∙ first in
+    subst (NotFirstWord term.OpenBracket) it nf opens
+no_part_in words rest w first opens only (Some p) ws more is nf e = only p ws more is e
+
+-- brackets come first, and this part in them
+pub part_in : (words rest left : List Lexeme) (w : Lexeme) (part : WrittenPart) → words ≡ w ∷ rest → word_class w ≡ term.OpenBracket
+    → ((p : WrittenPart) (ws more : List Lexeme) → IsBracketedPart p ws → words ≡ ws ++ more → (part ≡ p) × (left ≡ more))
+    → (x : Option WrittenPart) (ws more : List Lexeme) → IsPart x ws → NotFirstWord term.OpenBracket more → words ≡ ws ++ more → (Some part ≡ x) × (left ≡ more)
+part_in words rest left w part first opens only None ws more none nf e =
+    let it : more ≡ w ∷ rest = ap (λ (t : List Lexeme). t ++ more) (sym none) ∙ sym e ∙ first in
+    absurd (subst (NotFirstWord term.OpenBracket) it nf opens)
+part_in words rest left w part first opens only (Some p) ws more is nf e = let r = only p ws more is e in (ap Some r.0, r.1)
+
+-- no brackets come first
+pub no_part : (words : List Lexeme) → NotFirstWord term.OpenBracket words → (x : Option WrittenPart) (ws more : List Lexeme) → IsPart x ws → words ≡ ws ++ more → (None ≡ x) × (words ≡ more)
+no_part words nf None ws more none e = (refl, e ∙ ap (λ (t : List Lexeme). t ++ more) none)
+no_part words nf (Some p) ws more is e =
+    let it : words ≡ p_words is ++ more = e ∙ ap (λ (t : List Lexeme). t ++ more) is.words in
+    absurd (subst (NotFirstWord term.OpenBracket) it nf is.opens)
+  where
+    p_words : {q : WrittenPart} {vs : List Lexeme} → IsBracketedPart q vs → List Lexeme
+    p_words h = h.open_bracket ∷ h.first ∷ h.colon ∷ (h.long ++ h.close_bracket ∷ [])
