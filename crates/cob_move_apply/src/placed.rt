@@ -14,7 +14,7 @@ ghost use Rattle.cob_move_apply.specs.Room.{room_of};
 ghost use Rattle.cob_move_apply.specs.Spent.{Spends};
 ghost use Rattle.cob_move_apply.specs.Surveyed.{IsSurvey};
 
-use crate::basis::{Basis, placed_operand};
+use crate::basis::{Basis, entry_kind, placed_operand};
 use crate::places::{Stored, locate};
 use crate::preparation::basis_of;
 use crate::scratch::Scratch;
@@ -101,7 +101,8 @@ impl PlacedEntry {
             layout,
             bytes,
         };
-        let operand = placed_operand(layout, &self.entry, &self.basis);
+        let kind = entry_kind(layout, &self.entry);
+        let operand = placed_operand(&self.entry, &kind, &self.basis);
         locate(&stored, &operand, false, survey)
     }
 
