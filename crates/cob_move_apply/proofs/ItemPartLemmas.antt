@@ -5,18 +5,20 @@ use Rattle.cob_copybook_tree.specs.declared.node.Kind.{Kind}
 use Rattle.cob_copybook_tree.specs.Forests.{Forest}
 use Rattle.cob_copybook_tree.specs.Nodes.{Resolved}
 use Rattle.cob_picture.proofs.CharactersPicture.{characters_size}
+use Rattle.cob_limits.specs.Limits.{longest_record}
+use Rattle.cob_layout_places.specs.Counts.{kind_in}
 use Rattle.cob_layout.specs.declared.fields.Place.{Place}
 use Rattle.cob_layout.specs.declared.layout.PlaceFault.{PlaceFault}
 use Rattle.cob_layout.specs.Finding.{IsFound}
 use Rattle.cob_layout.specs.Placed.{placed_under}
 use Rattle.cob_layout.proofs.StorageLemmas.{found_by}
-use Rattle.cob_layout_places.specs.Lengths.{times}
+use Rattle.cob_layout_places.specs.Lengths.{FitsInRecord, times}
 use Rattle.cob_layout_places.specs.Places.{place_of}
-use Rattle.cob_layout_places.specs.Parts.{CharactersAreBytes, IsPartIn, characters_in}
+use Rattle.cob_layout_places.specs.Parts.{CharactersAreBytes, CharactersAreFew, IsPartIn, characters_in}
 use Rattle.cob_layout_places.specs.declared.reference.ItemPart.{ItemPart}
 use Rattle.cob_layout_places.specs.declared.reference.Ref.{Ref}
 use Rattle.cob_move_data.specs.declared.operands.Operand.{Operand}
-use Rattle.cob_move_data.specs.Moves.{IsOperand, kind_of_part}
+use Rattle.cob_move_data.specs.Moves.{IsOperand, kind_of_part, or_group}
 use Rattle.cob_move_receive.specs.Sent.{Occupies}
 use Rattle.cob_move_apply.specs.Located.{StandsUnder, part_place, part_placed}
 
@@ -62,3 +64,12 @@ own_kind part (Some k) kind e = (k, refl, (let same : kind_of_part part k ≡ ki
 pub filled_part : (part : Option ItemPart) (k : Kind) (whole : Place) → Occupies k whole.length → Occupies (kind_of_part part k) (part_place part whole).length
 filled_part None k whole h = h
 filled_part (Some p) k whole h = (sym (characters_size p.length), refl)
+
+-- it has no more characters than the longest record
+pub few_characters : CharactersAreFew → (t : Forest Resolved) (r : Ref) (part : Option ItemPart) → FitsInRecord 0 t → IsPartIn (characters_in r.node t) part → IfSome part (λ p. (0 < p.length) × (p.length ≤ longest_record))
+few_characters law t r None fit is = tt
+few_characters law t r (Some p) fit (n, has, is) = (is.some, omega (arith, is.first, is.last, law t r.node n fit has))
+
+-- what the entry describes, as the operand has it
+pub kind_there : (t : Forest Resolved) (r : Ref) (k : Kind) → kind_in r.node t ≡ Some k → k ≡ or_group (kind_in r.node t)
+kind_there t r k is = sym (ap or_group is)

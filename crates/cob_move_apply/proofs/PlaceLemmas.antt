@@ -23,6 +23,7 @@ use Rattle.cob_layout.proofs.StorageLemmas.{found_by}
 use Rattle.cob_layout.specs.Counting.{greatest_counts, ReadsNone}
 use Rattle.cob_layout.specs.Elements.{HaveSoMany, IsElementPlace, IsThereBy, KeptPlaceElements}
 use Rattle.cob_layout.specs.Standing.{RoomForCounts}
+use Rattle.cob_limits.specs.Limits.{longest_record}
 use Rattle.cob_layout.specs.Storage.{greatest_length}
 use Rattle.cob_move_data.specs.declared.operands.Side.{Side}
 use Rattle.cob_move_data.specs.declared.operands.Operand.{Operand}
@@ -108,6 +109,10 @@ pub nowhere : (side : Side) (t : Forest Resolved) (receiving : Bool) (o : Operan
     → stop ≡ stop_of side f → IsFound t o.entry receiving bytes r → Located side t receiving o bytes (Err stop)
 nowhere side t receiving o bytes r f stop is same found =
     subst (λ (s : Stop). Located side t receiving o bytes (Err s)) (sym same) (no_place side t receiving o bytes f (subst (IsFound t o.entry receiving bytes) is found))
+
+-- a place of a record ends within the longest one
+pub short_record : (t : Forest Resolved) → IsSound t → (p : Place) → p.offset + p.length ≤ greatest_length t → p.offset + p.length ≤ longest_record
+short_record t sound p within = omega (arith, within, sound.fit.small)
 
 -- ---- what a place rests on
 

@@ -135,6 +135,7 @@ fn place_by_sums(
 {
     match summed {
         Some(summed) => {
+            characters_are_bytes();
             let layout = stored.layout;
             let whole = layout.place_by_sums(entry, receiving, stored.bytes, summed, counts)?;
             Some(part_place(entry.part, whole))
