@@ -66,15 +66,11 @@ pub fn entry_kind<'a>(layout: &'a Layout, entry: &Ref) -> OperandKind<'a>
 #[inline(always)]
 pub(crate) fn placed_operand<'a>(
     entry: &'a Ref,
-    kind: &'a OperandKind<'_>,
+    kind: &'a Kind,
     basis: &'a Basis,
 ) -> PlacedOperand<'a>
     ensures operand { operand_of result ≡ record { entry = entry.now; kind = kind.now } }
     ensures basis { result.basis.now ≡ basis.now }
 {
-    PlacedOperand {
-        entry,
-        kind: kind.get(),
-        basis,
-    }
+    PlacedOperand { entry, kind, basis }
 }

@@ -105,7 +105,7 @@ pub(crate) fn run_located_constant(
         bytes: &*output,
     };
     let kind = entry_kind(layouts.output, &one.receiver);
-    let receiver = placed_operand(&one.receiver, &kind, &one.to);
+    let receiver = placed_operand(&one.receiver, kind.get(), &one.to);
     let Some(to) = locate_if_there(&receiving, &receiver, true, &mut space.output) else {
         return false;
     };
@@ -145,7 +145,7 @@ pub(crate) fn make_located_constant(
         bytes: &*output,
     };
     let kind = entry_kind(layouts.output, &one.receiver);
-    let receiver = placed_operand(&one.receiver, &kind, &one.to);
+    let receiver = placed_operand(&one.receiver, kind.get(), &one.to);
     match locate(&receiving, &receiver, true, &mut space.output) {
         Ok(to) => {
             make_there(plan, one, to, layouts, input, output, space);

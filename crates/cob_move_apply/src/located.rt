@@ -77,7 +77,7 @@ fn sender_place(
         bytes: input,
     };
     let kind = entry_kind(layouts.input, &one.sent);
-    let sender = placed_operand(&one.sent, &kind, &one.from);
+    let sender = placed_operand(&one.sent, kind.get(), &one.from);
     locate_if_there(&sending, &sender, false, survey)
 }
 
@@ -112,7 +112,7 @@ fn receiver_place(
         bytes: output,
     };
     let kind = entry_kind(layouts.output, &one.receiver);
-    let receiver = placed_operand(&one.receiver, &kind, &one.to);
+    let receiver = placed_operand(&one.receiver, kind.get(), &one.to);
     locate_if_there(&receiving, &receiver, true, survey)
 }
 

@@ -97,7 +97,7 @@ pub(crate) fn receive_all(
 {
     for (index, entry) in receivers.entries.iter().enumerate() {
         let kind = entry_kind(layout, entry);
-        let receiver = placed_operand(entry, &kind, &receivers.bases[index]);
+        let receiver = placed_operand(entry, kind.get(), &receivers.bases[index]);
         receive_one(layout, given, &receiver, output, survey)?;
     }
     Ok(())

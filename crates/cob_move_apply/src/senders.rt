@@ -156,12 +156,12 @@ pub(crate) fn move_entry(
     match sent.side {
         Side::In => {
             let kind = entry_kind(layouts.input, sent.entry);
-            let sender = placed_operand(sent.entry, &kind, &sent.basis);
+            let sender = placed_operand(sent.entry, kind.get(), &sent.basis);
             move_from_input(&sender, receivers, layouts, input, output, space)
         }
         Side::Out => {
             let kind = entry_kind(layouts.output, sent.entry);
-            let sender = placed_operand(sent.entry, &kind, &sent.basis);
+            let sender = placed_operand(sent.entry, kind.get(), &sent.basis);
             move_within_output(&sender, receivers, layouts, input, output, space)
         }
     }

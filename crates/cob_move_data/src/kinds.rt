@@ -1,6 +1,6 @@
 //! What parts of elements describe.
 
-ghost use Rattle.std.specs.Prelude.{◌≡◌, ◌<◌, ◌≤◌, IfSome};
+ghost use Rattle.std.specs.Prelude.{◌≡◌, ◌<◌, ◌≤◌, IfSome, option_map};
 ghost use Rattle.cob_limits.specs.Limits.{longest_record};
 ghost use Rattle.cob_copybook_tree.specs.declared.node.Kind.TheVariants.{Item as ItemKind};
 ghost use Rattle.cob_copybook_tree.specs.declared.node.Kind.{Kind as SeenKind};
@@ -35,6 +35,17 @@ pub fn kind_of_part(part: Option<ItemPart>, kind: &Kind) -> Kind
     match part {
         None => kind.clone(),
         Some(part) => kind_of_characters(part.length),
+    }
+}
+
+/// What a part of an element describes, if one is meant. It takes no memory.
+pub fn part_kind(part: Option<ItemPart>) -> Option<Kind>
+    requires { IfSome part (λ p. (0 < p.length) × (p.length ≤ longest_record)) }
+    ensures { result ≡ option_map (λ p. ItemKind (item_of_characters p.length)) part }
+{
+    match part {
+        None => None,
+        Some(part) => Some(kind_of_characters(part.length)),
     }
 }
 

@@ -30,7 +30,7 @@ mod senders;
 mod single;
 mod singles;
 
-pub use kinds::{OperandKind, kind_of_part};
+pub use kinds::{OperandKind, kind_of_part, part_kind};
 pub use laws::{senders_of_moves, singles_of_moves};
 pub use operands::{Move, NumberedPair, Operand, PairMoves, Sender, Side, StatementMoves};
 pub use senders::Senders;
