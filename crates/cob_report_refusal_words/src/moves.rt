@@ -18,7 +18,7 @@ use crate::source::{SourceText, told_source};
 use crate::statements::{
     broken_on, is_constant, statement_in_front, tested_on, with_head, words_at,
 };
-use crate::subscripts::told_subscripts;
+use crate::subscripts::{told_part, told_subscripts};
 use crate::told::{Caret, Told, advised, said};
 use crate::verbs::told_statement_words;
 use cob_move_statements::MoveRule;
@@ -139,6 +139,7 @@ fn told_other(statement: &[Token], rule: MoveRule) -> Told<'_> {
         | MoveRule::Groups
         | MoveRule::TooLong
         | MoveRule::NotComparable
+        | MoveRule::Part
         | MoveRule::Memory => told_whole(
             statement,
             "the statement breaks this rule",
@@ -179,6 +180,7 @@ fn told_statement<'a>(both: BothWords<'a>, words: &'a [Token], rule: MoveRule) -
         MoveRule::Literal => told_literal(statement),
         MoveRule::Groups => told_groups(both, statement),
         MoveRule::NotComparable => told_comparison(both, statement),
+        MoveRule::Part => told_part(statement),
         MoveRule::Source(_)
         | MoveRule::Twice
         | MoveRule::Counter
