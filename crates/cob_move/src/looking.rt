@@ -1,6 +1,6 @@
 //! Turns of loops to items, looked at before they are read.
 
-ghost use Rattle.std.specs.Prelude.{◌≡◌, ◌+◌, ◌*◌, ◌<◌, ◌≤◌, false, length, IfErr, IfOk, IfSome, IsTrue};
+ghost use Rattle.std.specs.Prelude.{◌≡◌, ◌+◌, ◌*◌, ◌<◌, ◌≤◌, length, IfErr, IfOk, IfSome, IsFalse, IsTrue};
 ghost use Rattle.cob_limits.specs.Limits.{most_written_out};
 ghost use Rattle.cob_move_loops.specs.Passages.{IsPassage, Passage};
 ghost use Rattle.cob_move_loops.specs.Reading.{Within, counters, item_front, written_loop};
@@ -233,7 +233,7 @@ fn depth(words: &[Token]) -> u64
 
 /// Whether a colon is among words: an item may have a part there.
 fn has_colon(words: &[Token]) -> bool
-    ensures { false ≡ result → HaveNoColon (lexemes words.now) }
+    ensures { IsFalse result → HaveNoColon (lexemes words.now) }
 {
     for word in words {
         if is_colon(word) {

@@ -1,4 +1,4 @@
-use Rattle.std.proofs.Common.{refl}
+use Rattle.std.proofs.Common.{◌≡◌, true, false}
 use Rattle.cob_source.specs.Tokens.{Lexeme, lexeme}
 use Rattle.cob_move_statements.specs.Statements.{IsColon}
 use Rattle.cob_move.proofs.LoopLemmas.{loops_end, loops_later, not_true}
@@ -15,7 +15,7 @@ loop-word-preserved c = record {
 }
 
 pub returns-then-is_colon : goal.returns-then-is_colon
-returns-then-is_colon c = λ never. absurd (let same : false ≡ true = never in cc)
+returns-then-is_colon c = λ never. absurd (let same : true ≡ false = never in cc)
 
 pub returns : goal.returns
 returns c = λ same. c.loop-word.invariant.none
