@@ -11,8 +11,7 @@ use Rattle.cob_copybook_tree.specs.Nodes.{Resolved}
 use Rattle.cob_move_data.specs.declared.operands.Operand.{Operand}
 use Rattle.cob_move_data.specs.declared.operands.Side.{Side}
 use Rattle.cob_move_data.specs.declared.operands.Side.TheVariants.{Out}
-use Rattle.cob_move_data.specs.Kinds.{kind_of_part}
-use Rattle.cob_move_data.specs.Moves.{Entry, Move, Sender}
+use Rattle.cob_move_data.specs.Moves.{Entry, Move, Sender, kind_of_part}
 use Rattle.cob_move_names.specs.Candidates.{Candidate, all_entries}
 use Rattle.cob_move_names.specs.Pairs.{AreOnce, Pair, is_elementary}
 use Rattle.cob_move_names.specs.References.{AreSubscriptsOf, HasPart, IsSubscriptOf, NamesOperand, operand, part_meant, subscript_numbers}

@@ -72,6 +72,7 @@ pub(crate) fn first_stay<'a>(
         let element = Element {
             number,
             subscripts: subscripts.as_slice(),
+            part: None,
         };
         if let Some(stay) = stay_of(ways, item, element) {
             return Some((subscripts, stay));
