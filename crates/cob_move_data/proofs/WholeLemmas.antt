@@ -2,7 +2,8 @@
 use Rattle.std.proofs.Common.{◌≡◌, ◌∙◌, Option, Some, None, option_map, refl, sym, ap, subst}
 use Rattle.std.specs.Prelude.{◌↔◌}
 use Rattle.cob_copybook_tree.specs.declared.node.Kind.{Kind}
-use Rattle.cob_copybook_tree.specs.Forests.{Forest, kind_in}
+use Rattle.cob_copybook_tree.specs.Forests.{Forest}
+use Rattle.cob_layout_places.specs.Counts.{kind_in}
 use Rattle.cob_copybook_tree.specs.Nodes.{Resolved}
 use Rattle.cob_layout_places.specs.Parts.{IsPartIn, characters_in}
 use Rattle.cob_layout_places.specs.declared.reference.ItemPart.{ItemPart}

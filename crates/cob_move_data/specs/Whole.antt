@@ -1,6 +1,8 @@
 -- What has no part is what it was before there were parts.
 use Rattle.std.specs.Prelude.{◌≡◌, ◌↔◌, Some, None}
-use Rattle.cob_copybook_tree.specs.Forests.{Forest, Refers, kind_in}
+use Rattle.cob_copybook_tree.specs.Forests.{Forest}
+use Rattle.cob_layout_places.specs.Counts.{kind_in}
+use Rattle.cob_layout_places.specs.References.{Refers}
 use Rattle.cob_copybook_tree.specs.Nodes.{Resolved}
 use Rattle.cob_move_data.specs.Moves.{IsOperand}
 use Rattle.cob_move_data.specs.declared.operands.Operand.{Operand}
