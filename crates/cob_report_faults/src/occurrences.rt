@@ -3,7 +3,7 @@
 use cob_copybook_tree::{Item, Kind, Name, Node, Value};
 use cob_layout_places::{ItemPart, Ref};
 use cob_move_data::{Sender, Side};
-use cob_report_words::{ConstantText, NamedOccurrence, entry_of, write_subscripts};
+use cob_report_words::{ConstantText, NamedOccurrence, entry_of, write_part, write_subscripts};
 use std::fmt;
 
 /// The records of a paragraph, in which names are looked for.
@@ -83,14 +83,6 @@ impl<'a> Occurrence<'a> {
     /// The same with the names of all groups that hold it.
     pub fn qualified(&self) -> NamedOccurrence<'a> {
         NamedOccurrence::new(self.records.record(self.side), self.number, self.subscripts)
-    }
-}
-
-/// Writes a part in brackets, where one is meant.
-fn write_part<W: fmt::Write>(f: &mut fmt::Formatter<W>, part: Option<ItemPart>) -> fmt::Result {
-    match part {
-        Some(part) => write!(f, " ({}:{})", part.start, part.length),
-        None => Ok(()),
     }
 }
 
