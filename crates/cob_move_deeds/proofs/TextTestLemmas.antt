@@ -1,0 +1,86 @@
+-- Comparisons of characters that are made ready say what their conditions say.
+use Rattle.std.proofs.Common.{◌≡◌, ℕ, zero, suc, ◌+◌, ◌≤◌, ◌&&◌, ◌||◌, not, false, Bool, List, [], ◌∷◌, Ok, Option, Some, ap, ◌∙◌, arith, drop, length, refl, subst, sym}
+use Rattle.std.proofs.lemmas.List.{length-drop, length-take}
+use Rattle.std.specs.Prelude.{MatchBool}
+use Rattle.std.specs.List.{AllByRecursion, slice_get}
+use Rattle.std.specs.declared.cmp.Ordering.{Ordering}
+use Rattle.cob_codec.specs.declared.reading.Reading.{Reading}
+use Rattle.cob_copybook.specs.Books.{IsRecordDescription}
+use Rattle.cob_copybook_entry.specs.Described.{PlainValue, plain_value}
+use Rattle.cob_copybook_tree.specs.declared.node.Kind.{Kind}
+use Rattle.cob_copybook_tree.specs.declared.node.Kind.TheVariants.{Group, Item as ItemKind}
+use Rattle.cob_layout.specs.Fields.{field_of}
+use Rattle.cob_layout.specs.Laws.{LieInStorage}
+use Rattle.cob_layout.specs.Storage.{IsStorage}
+use Rattle.cob_layout.specs.declared.fields.Place.{Place}
+use Rattle.cob_move_data.specs.declared.operands.Side.{Side}
+use Rattle.cob_move_data.specs.Moves.{Literal, Records, Sender, operand_in, record_of}
+use Rattle.cob_move_receive.specs.Characters.{GivesConstant}
+use Rattle.cob_move_receive.specs.Sent as given
+use Rattle.cob_move_receive.specs.Table.{Entry}
+use Rattle.cob_move_condition.specs.Comparable.{is_number_constant, is_number_operand}
+use Rattle.cob_move_condition.specs.Compared.{GivesBeside, GivesNumerals, IsCompared, NumbersCompared, TextsCompared, text_order}
+use Rattle.cob_move_condition.specs.Conditions.{condition_of}
+use Rattle.cob_move_condition.specs.Says.{Says, SaysRelation, is_relation}
+use Rattle.cob_move_condition.specs.declared.condition.Condition.{Condition}
+use Rattle.cob_move_constants.specs.LaidOut.{IsLaidOut}
+use Rattle.cob_move_apply.specs.Applied.{storage_of}
+use Rattle.cob_move_apply.specs.Entries.{IsPlacedEntry}
+use Rattle.cob_move_apply.specs.declared.placed.PlacedEntry.{PlacedEntry}
+use Rattle.cob_move_deeds.specs.Flows.{sender_placed}
+use Rattle.cob_move_deeds.specs.Giving.{constant_gives}
+use Rattle.cob_move_deeds.specs.Tests.{GivesIn, LacksIn}
+use Rattle.cob_move_deeds.specs.TextTests.{IsTextTest}
+use Rattle.cob_move_deeds.specs.declared.text_test.TextTest.{TextTest}
+use Rattle.cob_move_deeds.proofs.GivingLemmas.{gives_at, lies_within}
+
+-- what is no number gives its bytes beside a constant
+plain_gives : (kind : Kind) (bytes : List ℕ) (reading : Reading) → is_number_operand (Entry kind) ≡ false → GivesBeside false kind bytes reading bytes
+plain_gives Group bytes reading plain = refl
+plain_gives (ItemKind i) bytes reading plain = subst (λ (b : Bool). MatchBool (false || not b) (bytes ≡ bytes) (GivesNumerals reading i bytes bytes)) (sym plain) refl
+
+-- a field within a storage has as many bytes as its place says
+field_long : (p : Place) (storage : List ℕ) → p.offset + p.length ≤ length storage → length (field_of p storage) ≡ p.length
+field_long p storage within = omega (arith, within, length-take p.length (drop p.offset storage), length-drop p.offset storage)
+
+-- what is no number has the order beside a constant that its bytes have beside those that are laid out
+plain_compared : (kind : Kind) (bytes : List ℕ) (reading : Reading) (c : PlainValue) (laid : List ℕ) (n : ℕ) → is_number_operand (Entry kind) ≡ false → length bytes ≡ n → IsLaidOut c n laid
+    → IsCompared (given.Entry kind bytes reading) (given.Literal c) (text_order bytes laid)
+plain_compared kind bytes reading c laid n plain long is =
+    let a : given.Sent = given.Entry kind bytes reading in
+    let b : given.Sent = given.Literal c in
+    let o : Ordering = text_order bytes laid in
+    subst (λ (numbers : Bool). MatchBool (numbers && is_number_constant c) (NumbersCompared a b o) (TextsCompared a b o)) (sym plain)
+    (bytes, is.text, (plain_gives kind bytes reading plain, subst (λ (k : ℕ). GivesConstant c k is.text) (sym long) is.gives), is.same bytes)
+
+-- the place of such a test lies within the storage
+pub test_within : LieInStorage → (r : Records) (entries : List PlacedEntry) (c : Condition) (t : TextTest) (input output : List ℕ) (test : IsTextTest r entries c t) → IsPlacedEntry r test.entry
+    → IsRecordDescription (record_of r t.side) → IsStorage (record_of r t.side) (storage_of t.side input output) → t.place.offset + t.place.length ≤ length (storage_of t.side input output)
+test_within law r entries c t input output test placed description storage =
+    lies_within law r test.entry input output t.side t.place (sym test.side) placed (test.stands.place test.entry.side (storage_of test.entry.side input output)) description storage
+
+-- its answer is what the condition says
+pub test_says : (r : Records) (entries : List PlacedEntry) (reading : Reading) (c : Condition) (t : TextTest) (input output : List ℕ) (holds : Bool) → IsTextTest r entries c t
+    → t.place.offset + t.place.length ≤ length (storage_of t.side input output)
+    → holds ≡ is_relation t.relation (text_order (field_of t.place (storage_of t.side input output)) t.laid.items)
+    → Says (GivesIn r input output) (LacksIn r input output) (condition_of (λ n. sender_placed r reading (slice_get entries n)) c) (Ok holds)
+test_says r entries reading c t input output holds test within is =
+    let e : PlacedEntry = test.entry in
+    let kind : Kind = (operand_in (record_of r e.side) e.entry).kind in
+    let constant : PlainValue = plain_value test.value in
+    let within_own : t.place.offset + t.place.length ≤ length (storage_of e.side input output) =
+    subst (λ (s : Side). t.place.offset + t.place.length ≤ length (storage_of s input output)) test.side within in
+    let is_own : holds ≡ is_relation t.relation (text_order (field_of t.place (storage_of e.side input output)) t.laid.items) =
+    subst (λ (s : Side). holds ≡ is_relation t.relation (text_order (field_of t.place (storage_of s input output)) t.laid.items)) test.side is in
+    let bytes : List ℕ = field_of t.place (storage_of e.side input output) in
+    let said : SaysRelation (GivesIn r input output) (LacksIn r input output) (sender_placed r reading (Some e)) t.relation (Literal constant) (Ok holds) = (
+      given.Entry kind bytes reading,
+      given.Literal constant,
+      text_order bytes t.laid.items,
+      gives_at r e reading input output e.side t.place (given.Entry kind bytes reading) refl (test.stands.place e.side (storage_of e.side input output)) refl,
+      constant_gives r input output constant,
+      plain_compared kind bytes reading constant t.laid.items t.place.length test.plain (field_long t.place (storage_of e.side input output) within_own) test.laid,
+      is_own,
+    ) in
+    subst (λ (k : Condition). Says (GivesIn r input output) (LacksIn r input output) (condition_of (λ n. sender_placed r reading (slice_get entries n)) k) (Ok holds)) (sym test.is)
+    (subst (λ (s : Option PlacedEntry). SaysRelation (GivesIn r input output) (LacksIn r input output) (sender_placed r reading s) t.relation (Literal constant) (Ok holds)) (sym test.at) said)

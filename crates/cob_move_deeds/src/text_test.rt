@@ -1,0 +1,134 @@
+//! Comparisons of characters that are made ready before the first record comes: where an entry stands at one place in every storage, and is no number, a constant
+//! is laid out beside it, and a record costs a look at as many bytes.
+
+ghost use Rattle.std.specs.Prelude.{◌≡◌, ◌+◌, ◌≤◌, length, IfOk, IfSome};
+ghost use Rattle.std.specs.List.{AllByRecursion};
+ghost use Rattle.cob_layout.specs.Fields.{field_of};
+ghost use Rattle.cob_layout.specs.Sound.{IsSound};
+ghost use Rattle.cob_move_data.specs.Moves.{IsOperand, operand_in};
+ghost use Rattle.cob_move_receive.specs.Table.{Entry};
+ghost use Rattle.cob_move_condition.specs.Comparable.{is_number_operand};
+ghost use Rattle.cob_move_condition.specs.Compared.{text_order};
+ghost use Rattle.cob_move_condition.specs.Says.{is_relation};
+ghost use Rattle.cob_move_apply.specs.Applied.{storage_of};
+ghost use Rattle.cob_move_apply.specs.Entries.{IsPlacedEntry};
+ghost use Rattle.cob_move_apply.specs.Placed.{IsFixed};
+ghost use Rattle.cob_move_deeds.specs.Prepared.{kind_placed};
+ghost use Rattle.cob_move_deeds.specs.TextTests.{IsTextTest};
+ghost use Rattle.cob_move_condition.specs.Tested.{MayBeTested};
+
+use crate::sides::Sides;
+use cob_copybook_tree::{Kind, is_number};
+use cob_layout::{Layout, Place, field, records_are_sound};
+use cob_move_apply::{PlacedEntry, entry_kind};
+use cob_move_condition::{Comparand, Condition};
+use cob_move_constants::{laid_out, order_of_equals};
+use cob_move_data::Side;
+use std::alloc::{AllocError, Global};
+use std::cmp::Ordering;
+
+/// A comparison of the characters of an entry with a constant.
+#[derive(Drop)]
+pub(crate) struct TextTest {
+    pub(crate) side: Side,
+    /// Where the entry stands in every storage of its record.
+    pub(crate) place: Place,
+    pub(crate) relation: Ordering,
+    /// The constant, laid out beside the entry: as many bytes.
+    pub(crate) laid: Vec<u8>,
+}
+
+/// Whether an order is the one that is asked for.
+fn is_relation(relation: Ordering, order: Ordering) -> bool
+    ensures { result ≡ is_relation relation order }
+{
+    match relation {
+        Ordering::Less => order.is_lt(),
+        Ordering::Equal => order.is_eq(),
+        Ordering::Greater => order.is_gt(),
+    }
+}
+
+/// The storage of a side.
+fn storage_of<'a>(side: Side, sides: &Sides<'a>, output: &'a [u8]) -> &'a [u8]
+    ensures { result.now ≡ storage_of side sides.now.input.now output.now }
+{
+    match side {
+        Side::In => sides.input,
+        Side::Out => output,
+    }
+}
+
+impl TextTest {
+    /// Whether it holds of the storages of two records.
+    pub(crate) fn holds(&self, sides: &Sides<'_>, output: &[u8]) -> bool
+        requires within { self.now.place.offset + self.now.place.length
+            ≤ length (storage_of self.now.side sides.now.input.now output.now) }
+        requires long { length self.now.laid.items ≡ self.now.place.length }
+        ensures { result ≡ is_relation self.now.relation
+            (text_order
+            (field_of self.now.place (storage_of self.now.side sides.now.input.now output.now))
+            self.now.laid.items) }
+    {
+        let text = field(storage_of(self.side, sides, output), self.place);
+        is_relation(self.relation, order_of_equals(text, &self.laid))
+    }
+}
+
+/// Whether what an entry describes is a number.
+fn is_number_kind(kind: &Kind) -> bool
+    ensures { result ≡ is_number_operand (Entry kind.now) }
+{
+    match kind {
+        Kind::Group => false,
+        Kind::Item(item) => is_number(item),
+    }
+}
+
+/// The place of an entry of a layout's record, if it stands there in every storage and is no number.
+fn text_place(entry: &PlacedEntry, layout: &Layout) -> Option<Place>
+    requires operand { IsOperand layout.now (operand_in layout.now entry.now.entry) }
+    ensures stands { IfSome result
+        (λ p. IsFixed layout.now false (operand_in layout.now entry.now.entry) p) }
+    ensures plain { IfSome result
+        (λ _. is_number_operand (Entry (operand_in layout.now entry.now.entry).kind) ≡ false) }
+{
+    records_are_sound();
+    let _ = layout.greatest();
+    if is_number_kind(entry_kind(layout, entry.entry())) {
+        return None;
+    }
+    layout.fixed_place(entry.entry(), false)
+}
+
+/// A comparison of an entry with a constant, made ready; None where that can't be.
+///
+/// # Errors
+///
+/// Where no memory is left.
+fn entry_test(
+    alloc: Global,
+    entry: &PlacedEntry,
+    relation: Ordering,
+    value: &Value,
+    input: &Layout,
+    output: &Layout,
+) -> Result<Option<TextTest>, AllocError>
+{
+    let found = match entry.side() {
+        Side::In => text_place(entry, input),
+        Side::Out => text_place(entry, output),
+    };
+    let Some(place) = found else {
+        return Ok(None);
+    };
+    let Some(laid) = laid_out(alloc, value, place.length as usize)? else {
+        return Ok(None);
+    };
+    Ok(Some(TextTest {
+        side: entry.side(),
+        place,
+        relation,
+        laid,
+    }))
+}
