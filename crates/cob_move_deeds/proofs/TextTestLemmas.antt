@@ -1,7 +1,8 @@
 -- Comparisons of characters that are made ready say what their conditions say.
-use Rattle.std.proofs.Common.{◌≡◌, ℕ, zero, suc, ◌+◌, ◌≤◌, ◌&&◌, ◌||◌, not, false, Bool, List, [], ◌∷◌, Ok, Option, Some, ap, ◌∙◌, arith, drop, length, refl, subst, sym}
+use Rattle.std.proofs.Common.{◌≡◌, ℕ, zero, suc, ◌+◌, ◌≤◌, ◌&&◌, ◌||◌, not, false, Bool, List, [], ◌∷◌, ◌++◌, Ok, Option, Some, ap, ◌∙◌, arith, drop, length, refl, subst, sym}
 use Rattle.std.proofs.lemmas.List.{length-drop, length-take}
-use Rattle.std.specs.Prelude.{MatchBool}
+use Rattle.std.specs.Prelude.{IfSome, MatchBool}
+use Rattle.std.proofs.lemmas.Option.{same_Some}
 use Rattle.std.specs.List.{AllByRecursion, slice_get}
 use Rattle.std.specs.declared.cmp.Ordering.{Ordering}
 use Rattle.cob_codec.specs.declared.reading.Reading.{Reading}
@@ -30,7 +31,7 @@ use Rattle.cob_move_apply.specs.declared.placed.PlacedEntry.{PlacedEntry}
 use Rattle.cob_move_deeds.specs.Flows.{sender_placed}
 use Rattle.cob_move_deeds.specs.Giving.{constant_gives}
 use Rattle.cob_move_deeds.specs.Tests.{GivesIn, LacksIn}
-use Rattle.cob_move_deeds.specs.TextTests.{IsTextTest}
+use Rattle.cob_move_deeds.specs.TextTests.{AreTextTests, IsTextTest}
 use Rattle.cob_move_deeds.specs.declared.text_test.TextTest.{TextTest}
 use Rattle.cob_move_deeds.proofs.GivingLemmas.{gives_at, lies_within}
 
@@ -84,3 +85,32 @@ test_says r entries reading c t input output holds test within is =
     ) in
     subst (λ (k : Condition). Says (GivesIn r input output) (LacksIn r input output) (condition_of (λ n. sender_placed r reading (slice_get entries n)) k) (Ok holds)) (sym test.is)
     (subst (λ (s : Option PlacedEntry). SaysRelation (GivesIn r input output) (LacksIn r input output) (sender_placed r reading s) t.relation (Literal constant) (Ok holds)) (sym test.at) said)
+
+-- ---- what is made ready of conditions
+
+-- that of one is so
+pub test_is : (r : Records) (entries : List PlacedEntry) (cs : List Condition) (ts : List (Option TextTest)) (n : ℕ) (c : Condition) (t : TextTest) → AreTextTests r entries cs ts
+    → slice_get cs n ≡ Some c → slice_get ts n ≡ Some (Some t) → IsTextTest r entries c t
+test_is r entries cs [] n c t are at is = absurd (cc)
+test_is r entries [] (x ∷ xs) n c t are at is = absurd are
+test_is r entries (d ∷ ds) (x ∷ xs) zero c t are at is =
+    subst (λ (k : Condition). IsTextTest r entries k t) (same_Some d c at) (subst (λ (y : Option TextTest). IfSome y (IsTextTest r entries d)) (same_Some x (Some t) is) are.0)
+test_is r entries (d ∷ ds) (x ∷ xs) (suc n) c t are at is = test_is r entries ds xs n c t are.1 at is
+
+-- and so it is of one more
+pub one_more_test : (r : Records) (entries : List PlacedEntry) (cs : List Condition) (ts : List (Option TextTest)) (c : Condition) (rest : List Condition) (t : Option TextTest) → AreTextTests r entries cs ts
+    → drop (length ts) cs ≡ c ∷ rest → IfSome t (IsTextTest r entries c) → AreTextTests r entries cs (ts ++ t ∷ [])
+one_more_test r entries cs [] c rest t are left is = subst (λ (ds : List Condition). AreTextTests r entries ds (t ∷ [])) (sym left) (is, tt)
+one_more_test r entries [] (x ∷ xs) c rest t are left is = absurd are
+one_more_test r entries (d ∷ ds) (x ∷ xs) c rest t are left is = (are.0, one_more_test r entries ds xs c rest t are.1 left is)
+
+-- and what is left is what stands behind it
+pub one_less : (cs : List Condition) (n : ℕ) (c : Condition) (rest : List Condition) → drop n cs ≡ c ∷ rest → drop (n + 1) cs ≡ rest
+one_less [] n c rest left = absurd (cc)
+one_less (d ∷ ds) zero c rest left = search
+one_less (d ∷ ds) (suc n) c rest left = one_less ds n c rest left
+
+pub all_placed : (r : Records) (entries : List PlacedEntry) (n : ℕ) (e : PlacedEntry) → AllByRecursion (IsPlacedEntry r) entries → slice_get entries n ≡ Some e → IsPlacedEntry r e
+all_placed r [] n e are at = absurd (cc)
+all_placed r (x ∷ xs) zero e are at = subst (λ (y : PlacedEntry). IsPlacedEntry r y) (same_Some x e at) are.0
+all_placed r (x ∷ xs) (suc n) e are at = all_placed r xs n e are.1 at

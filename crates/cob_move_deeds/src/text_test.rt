@@ -1,11 +1,10 @@
 //! Comparisons of characters that are made ready before the first record comes: where an entry stands at one place in every storage, and is no number, a constant
 //! is laid out beside it, and a record costs a look at as many bytes.
 
-ghost use Rattle.std.specs.Prelude.{◌≡◌, ◌+◌, ◌≤◌, length, IfOk, IfSome};
-ghost use Rattle.std.specs.List.{AllByRecursion};
+ghost use Rattle.std.specs.Prelude.{◌≡◌, ◌+◌, ◌≤◌, ℕ, List, length, IfOk, IfSome, Some};
+ghost use Rattle.std.specs.List.{AllByRecursion, slice_get};
 ghost use Rattle.cob_layout.specs.Fields.{field_of};
-ghost use Rattle.cob_layout.specs.Sound.{IsSound};
-ghost use Rattle.cob_move_data.specs.Moves.{IsOperand, operand_in};
+ghost use Rattle.cob_move_data.specs.Moves.{IsOperand, Records, operand_in};
 ghost use Rattle.cob_move_receive.specs.Table.{Entry};
 ghost use Rattle.cob_move_condition.specs.Comparable.{is_number_operand};
 ghost use Rattle.cob_move_condition.specs.Compared.{text_order};
@@ -13,12 +12,16 @@ ghost use Rattle.cob_move_condition.specs.Says.{is_relation};
 ghost use Rattle.cob_move_apply.specs.Applied.{storage_of};
 ghost use Rattle.cob_move_apply.specs.Entries.{IsPlacedEntry};
 ghost use Rattle.cob_move_apply.specs.Placed.{IsFixed};
-ghost use Rattle.cob_move_deeds.specs.Prepared.{kind_placed};
-ghost use Rattle.cob_move_deeds.specs.TextTests.{IsTextTest};
-ghost use Rattle.cob_move_condition.specs.Tested.{MayBeTested};
+ghost use Rattle.cob_move_deeds.specs.Prepared.{AreDeedsPrepared, deeds_of};
+ghost use Rattle.cob_move_deeds.specs.TextTests.{AreTextTests, IsTextTest};
+ghost use Rattle.cob_move_condition.specs.declared.condition.Comparand.TheVariants as comparand;
+ghost use Rattle.cob_move_condition.specs.declared.condition.Condition.{Condition as ConditionCode};
+ghost use Rattle.cob_move_condition.specs.declared.condition.Condition.TheVariants.{Compares};
+ghost use Rattle.cob_move_apply.specs.declared.placed.PlacedEntry.{PlacedEntry as PlacedEntries};
 
+use crate::ready::ReadyDeeds;
 use crate::sides::Sides;
-use cob_copybook_tree::{Kind, is_number};
+use cob_copybook_tree::{Kind, Value, is_number};
 use cob_layout::{Layout, Place, field, records_are_sound};
 use cob_move_apply::{PlacedEntry, entry_kind};
 use cob_move_condition::{Comparand, Condition};
@@ -114,6 +117,11 @@ fn entry_test(
     input: &Layout,
     output: &Layout,
 ) -> Result<Option<TextTest>, AllocError>
+    requires placed { IsPlacedEntry (record { input = input.now; output = output.now }) entry.now }
+    ensures { IfOk result (λ found. IfSome found (λ t. (number : ℕ) (entries : List PlacedEntries)
+        → slice_get entries number ≡ Some entry.now
+        → IsTextTest (record { input = input.now; output = output.now }) entries
+        (Compares (comparand.Entry number) relation (comparand.Constant value.now)) t)) }
 {
     let found = match entry.side() {
         Side::In => text_place(entry, input),
@@ -131,4 +139,116 @@ fn entry_test(
         relation,
         laid,
     }))
+}
+
+/// A condition made ready: a comparison of an entry that is no number with a constant; None of any other.
+///
+/// # Errors
+///
+/// Where no memory is left.
+fn text_test(
+    alloc: Global,
+    condition: &Condition,
+    entries: &[PlacedEntry],
+    input: &Layout,
+    output: &Layout,
+) -> Result<Option<TextTest>, AllocError>
+    requires placed { AllByRecursion
+        (IsPlacedEntry (record { input = input.now; output = output.now })) entries.now }
+    ensures { IfOk result (λ found. IfSome found
+        (IsTextTest (record { input = input.now; output = output.now }) entries.now condition.now)) }
+{
+    let Condition::Compares(Comparand::Entry(number), relation, Comparand::Constant(value)) =
+        condition
+    else {
+        return Ok(None);
+    };
+    let Some(entry) = entries.get(*number) else {
+        return Ok(None);
+    };
+    entry_test(alloc, entry, *relation, value, input, output)
+}
+
+/// What was made ready of the condition with this number, if anything was.
+fn test_at(tests: &[Option<TextTest>], number: usize) -> Option<&TextTest>
+    ensures { IfSome result (λ t. slice_get tests.now number ≡ Some (Some t.now)) }
+{
+    match tests.get(number) {
+        Some(Some(test)) => Some(test),
+        _ => None,
+    }
+}
+
+impl ReadyDeeds {
+    /// What is made ready of the conditions, in their order.
+    ///
+    /// # Errors
+    ///
+    /// Where no memory is left.
+    fn made_ready(
+        &self,
+        alloc: Global,
+        input: &Layout,
+        output: &Layout,
+    ) -> Result<Vec<Option<TextTest>>, AllocError>
+        requires prepared { AreDeedsPrepared
+            (record { input = input.now; output = output.now }) self.now }
+        ensures { IfOk result (λ tests. AreTextTests
+            (record { input = input.now; output = output.now }) self.now.asked.entries.items
+            self.now.asked.conditions.items tests.items) }
+    {
+        let mut tests = Vec::with_capacity(alloc, self.asked.conditions.len())?;
+        let mut rest = self.asked.conditions.as_slice();
+        while let Some((condition, more)) = rest.split_first() {
+            let entries = self.asked.entries.as_slice();
+            let test = text_test(alloc, condition, entries, input, output)?;
+            tests.push(test)?;
+            rest = more;
+        }
+        Ok(tests)
+    }
+
+    /// The same deeds, with what can be made ready of their conditions: a comparison of an entry that is no number, and stands at one place in every storage,
+    /// with a constant.
+    ///
+    /// # Errors
+    ///
+    /// Where no memory is left.
+    pub fn with_ready_tests(
+        self,
+        alloc: Global,
+        input: &Layout,
+        output: &Layout,
+    ) -> Result<ReadyDeeds, AllocError>
+        requires prepared { AreDeedsPrepared
+            (record { input = input.now; output = output.now }) self }
+        ensures deeds { IfOk result (λ d. (r : Records) → deeds_of r d ≡ deeds_of r self) }
+        ensures moves { IfOk result (λ d. d.moves ≡ self.moves) }
+        ensures prepared { IfOk result (λ d. AreDeedsPrepared
+            (record { input = input.now; output = output.now }) d) }
+    {
+        let tests = self.made_ready(alloc, input, output)?;
+        Ok(ReadyDeeds {
+            moves: self.moves,
+            bounds: self.bounds,
+            loops: self.loops,
+            asked: self.asked,
+            flows: self.flows,
+            steady: self.steady,
+            tests: Some(tests),
+            at_once: self.at_once,
+        })
+    }
+
+    /// What was made ready of the condition with this number, if anything was.
+    pub(crate) fn ready_test(&self, number: usize) -> Option<&TextTest>
+        ensures { IfSome result (λ t. (r : Records) (c : ConditionCode) → AreDeedsPrepared r self.now
+            → slice_get self.now.asked.conditions.items number ≡ Some c
+            → IsTextTest r self.now.asked.entries.items c t.now) }
+    {
+        match &self.tests {
+            Some(tests) => test_at(tests.as_slice(), number),
+            None => None,
+        }
+    }
 }
