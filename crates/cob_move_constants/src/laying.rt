@@ -11,6 +11,13 @@ use cob_move_receive::{Sent, receive_in_group};
 use std::alloc::{AllocError, Global};
 use std::cmp::Ordering;
 
+/// Whether so many bytes have room in others.
+fn is_within(length: usize, size: usize) -> bool
+    ensures { IsTrue result → length ≤ size }
+{
+    length <= size
+}
+
 /// Whether the characters of a constant have room in so many bytes. Of a number that isn't asked.
 fn has_room(value: &Value, size: usize) -> bool
     ensures { IsTrue result → (text : List ℕ) → GivesConstant (plain_value value.now) size text
@@ -18,7 +25,7 @@ fn has_room(value: &Value, size: usize) -> bool
 {
     match value {
         Value::Number { .. } => false,
-        Value::Literal(text) => text.as_bytes().len() <= size,
+        Value::Literal(text) => is_within(text.as_bytes().len(), size),
         Value::Figurative(_) | Value::All(_) => true,
     }
 }
