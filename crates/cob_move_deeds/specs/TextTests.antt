@@ -2,7 +2,7 @@
 use Rattle.std.specs.Prelude.{◌≡◌, ℕ, false, List, [], ◌∷◌, Option, Some, IfSome}
 use Rattle.std.specs.List.{slice_get}
 use Rattle.cob_copybook_entry.specs.Described.{plain_value}
-use Rattle.cob_copybook_tree.specs.declared.node.Value.{Value}
+use Rattle.cob_copybook_entry.specs.declared.value.Value.{Value}
 use Rattle.cob_move_data.specs.Moves.{Records, operand_in, record_of}
 use Rattle.cob_move_receive.specs.Table.{Entry}
 use Rattle.cob_move_condition.specs.Comparable.{is_number_operand}

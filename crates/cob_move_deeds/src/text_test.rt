@@ -1,7 +1,7 @@
 //! Comparisons of characters that are made ready before the first record comes: where an entry stands at one place in every storage, and is no number, a constant
 //! is laid out beside it, and a record costs a look at as many bytes.
 
-ghost use Rattle.std.specs.Prelude.{◌≡◌, ◌+◌, ◌≤◌, ℕ, List, length, IfOk, IfSome, Some};
+ghost use Rattle.std.specs.Prelude.{◌≡◌, ◌+◌, ◌≤◌, ℕ, List, length, false, IfOk, IfSome, Some};
 ghost use Rattle.std.specs.List.{AllByRecursion, slice_get};
 ghost use Rattle.cob_layout.specs.Fields.{field_of};
 ghost use Rattle.cob_move_data.specs.Moves.{IsOperand, Records, operand_in};
