@@ -1,7 +1,8 @@
 -- Comparisons of characters that are made ready say what their conditions say.
-use Rattle.std.proofs.Common.{◌≡◌, ℕ, zero, suc, ◌+◌, ◌≤◌, ◌&&◌, ◌||◌, not, false, Bool, List, [], ◌∷◌, ◌++◌, Ok, Option, Some, ap, ◌∙◌, arith, drop, length, refl, subst, sym}
+use Rattle.std.proofs.Common.{◌≡◌, ℕ, zero, suc, ◌+◌, ◌<◌, ◌≤◌, ◌&&◌, ◌||◌, not, false, Bool, List, [], ◌∷◌, ◌++◌, None, Ok, Option, Some, ap, ◌∙◌, arith, drop, length, refl, subst, sym}
 use Rattle.std.proofs.lemmas.List.{length-drop, length-take}
 use Rattle.std.specs.Prelude.{IfSome, MatchBool}
+use Rattle.std.proofs.Common.{inl}
 use Rattle.std.proofs.lemmas.Option.{same_Some}
 use Rattle.std.specs.List.{AllByRecursion, slice_get}
 use Rattle.std.specs.declared.cmp.Ordering.{Ordering}
@@ -12,9 +13,10 @@ use Rattle.cob_copybook_tree.specs.declared.node.Kind.{Kind}
 use Rattle.cob_copybook_tree.specs.declared.node.Kind.TheVariants.{Group, Item as ItemKind}
 use Rattle.cob_layout.specs.Fields.{field_of}
 use Rattle.cob_layout.specs.Laws.{LieInStorage}
-use Rattle.cob_layout.specs.Storage.{IsStorage}
+use Rattle.cob_layout.specs.Storage.{IsStorage, greatest_length}
 use Rattle.cob_layout.specs.declared.fields.Place.{Place}
 use Rattle.cob_move_data.specs.declared.operands.Side.{Side}
+use Rattle.cob_move_data.specs.declared.operands.Side.TheVariants.{In, Out}
 use Rattle.cob_move_data.specs.Moves.{Literal, Records, Sender, operand_in, record_of}
 use Rattle.cob_move_receive.specs.Characters.{GivesConstant}
 use Rattle.cob_move_receive.specs.Sent as given
@@ -114,3 +116,32 @@ pub all_placed : (r : Records) (entries : List PlacedEntry) (n : ℕ) (e : Place
 all_placed r [] n e are at = absurd (cc)
 all_placed r (x ∷ xs) zero e are at = subst (λ (y : PlacedEntry). IsPlacedEntry r y) (same_Some x e at) are.0
 all_placed r (x ∷ xs) (suc n) e are at = all_placed r xs n e are.1 at
+
+-- ---- as they are asked for
+
+-- there is a condition with each number below their count
+pub some_condition : (cs : List Condition) (n : ℕ) → n < length cs → (c : Condition) × (slice_get cs n ≡ Some c)
+some_condition [] n lt = absurd (omega (arith, lt))
+some_condition (d ∷ ds) zero lt = (d, refl)
+some_condition (d ∷ ds) (suc n) lt = some_condition ds n (omega (arith, lt))
+
+pub some_so : {T : Type 0} (o : Option T) (P Q : T → Type 0) → ((t : T) → P t → Q t) → IfSome o P → IfSome o Q
+some_so None P Q f h = tt
+some_so (Some t) P Q f h = f t h
+
+pub tests_so : {V : Type 0} (items : V → List (Option TextTest)) (r : Records) (entries : List PlacedEntry) (cs : List Condition) (tests : Option V) (v : V) → tests ≡ Some v
+    → IfSome tests (λ w. AreTextTests r entries cs (items w)) → AreTextTests r entries cs (items v)
+tests_so items r entries cs tests v is so = subst (λ o. IfSome o (λ w. AreTextTests r entries cs (items w))) is so
+
+either_side : (P : Side → Type 0) → P In → P Out → (s : Side) → P s
+either_side P a b In = a
+either_side P a b Out = b
+
+-- the place of such a test lies within the storage of its side, where both storages are those of their records
+pub test_in_storage : LieInStorage → (r : Records) (entries : List PlacedEntry) (c : Condition) (t : TextTest) (input output : List ℕ) (test : IsTextTest r entries c t) → IsPlacedEntry r test.entry
+    → IsRecordDescription r.input → IsRecordDescription r.output → IsStorage r.input input → length output ≡ greatest_length r.output
+    → t.place.offset + t.place.length ≤ length (storage_of t.side input output)
+test_in_storage law r entries c t input output test placed of_input of_output first other =
+    let P : Side → Type 0 = λ (s : Side). IsRecordDescription (record_of r s) × IsStorage (record_of r s) (storage_of s input output) in
+    let both : (s : Side) → P s = either_side P (of_input, first) (of_output, inl other) in
+    test_within law r entries c t input output test placed (both t.side).0 (both t.side).1

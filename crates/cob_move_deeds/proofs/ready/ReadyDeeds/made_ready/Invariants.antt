@@ -1,6 +1,6 @@
 use Rattle.std.proofs.Common.{◌≡◌, drop, length}
 use Rattle.cob_move_deeds.specs.TextTests.{AreTextTests}
-use Rattle.cob_move_deeds.proofs.text_test.ReadyDeeds.made_ready.Given as goal
+use Rattle.cob_move_deeds.proofs.ready.ReadyDeeds.made_ready.Given as goal
 
 abbrev pub invariant-loop-condition : goal.invariant-loop-condition
 invariant-loop-condition l = record {
