@@ -108,7 +108,8 @@ one_more_test r entries (d ∷ ds) (x ∷ xs) c rest t are left is = (are.0, one
 
 -- and what is left is what stands behind it
 pub one_less : (cs : List Condition) (n : ℕ) (c : Condition) (rest : List Condition) → drop n cs ≡ c ∷ rest → drop (n + 1) cs ≡ rest
-one_less [] n c rest left = absurd (cc)
+one_less [] zero c rest left = absurd (cc)
+one_less [] (suc n) c rest left = absurd (cc)
 one_less (d ∷ ds) zero c rest left = search
 one_less (d ∷ ds) (suc n) c rest left = one_less ds n c rest left
 

@@ -1,6 +1,4 @@
-use Rattle.std.proofs.Common.{◌≡◌, List, ℕ}
 use Rattle.cob_move_data.specs.Moves.{Records}
-use Rattle.cob_move_apply.specs.declared.placed.PlacedEntry.{PlacedEntry}
 use Rattle.cob_move_deeds.specs.Carrying.{records_of_sides}
 use Rattle.cob_move_deeds.proofs.TextTestLemmas.{all_placed, some_condition, test_in_storage, test_says}
 use Rattle.cob_move_deeds.proofs.carrying.ready_says.Goals as goal
@@ -26,4 +24,7 @@ returns c = λ k at.
     let r : Records = records_of_sides c.args.sides.now in
     let d = c.args.deeds.now in
     let test = c.in_ok-test.ensures r k c.requires.prepared at in
-    test_says r d.asked.entries.items d.moves.moves.reading k c.in_ok-test.test.now c.args.sides.now.input.now c.args.output.now c.holds.result test (c.holds.requires.within) c.holds.ensures
+    test_says r d.asked.entries.items d.moves.moves.reading k c.in_ok-test.test.now c.args.sides.now.input.now c.args.output.now c.holds.result test
+    (test_in_storage c.places_lie_in_storage.ensures r d.asked.entries.items k c.in_ok-test.test.now c.args.sides.now.input.now c.args.output.now test
+    (all_placed r d.asked.entries.items test.number test.entry c.requires.prepared.asked.entries test.at) c.greatest.ensures.record c.greatest-2.ensures.record c.requires.input c.requires.output)
+    c.holds.ensures
