@@ -111,7 +111,9 @@ pub one_less : (cs : List Condition) (n : ℕ) (c : Condition) (rest : List Cond
 one_less [] zero c rest left = absurd (cc)
 one_less [] (suc n) c rest left = absurd (cc)
 one_less (d ∷ ds) zero c rest left = search
-one_less (d ∷ ds) (suc n) c rest left = one_less ds n c rest left
+one_less (d ∷ ds) (suc n) c rest left =
+    let one_on : suc n + 1 ≡ suc (n + 1) = omega arith in
+    ap (λ (k : ℕ). drop k (d ∷ ds)) one_on ∙ one_less ds n c rest left
 
 pub all_placed : (r : Records) (entries : List PlacedEntry) (n : ℕ) (e : PlacedEntry) → AllByRecursion (IsPlacedEntry r) entries → slice_get entries n ≡ Some e → IsPlacedEntry r e
 all_placed r [] n e are at = absurd (cc)
