@@ -35,7 +35,7 @@ pub(crate) struct EntryName {
 }
 
 impl Display for EntryName {
-    fn fmt(&self, f: &mut Formatter<'_>) -> fmt::Result {
+    fn fmt<W: Write>(&self, f: &mut Formatter<W>) -> fmt::Result {
         write!(f, "{}{:03}", self.prefix, self.number)
     }
 }
