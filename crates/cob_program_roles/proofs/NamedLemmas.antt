@@ -61,7 +61,7 @@ keeps_places counts number name (AnEntry e children more) subscripts = refl
 pub described_by : {E : Type 0} (r : Result Bool E) (role : Role) (text named : List ℕ) (before : Forest Resolved) → IsBookOf role text before
     → ((t : Forest Resolved) → IsBookOf role text t → before ≡ t) → IfOk r (λ yes. Decides yes (IsNamedIn role before named))
     → IfOk r (λ yes. Decides yes (DescribesNamed role (record_name role) text named))
-described_by (Ok yes) role text named before found one told = (
+described_by (Ok answer) role text named before found one told = (
   λ is. let h = told.0 is in record { before = before; after = h.0; described = found; described_named = h.1; same = h.2; borne = h.3 },
   λ d. told.1 (d.after, d.described_named, subst (λ (t : Forest Resolved). IsSameRecord t d.after) (sym (one d.before d.described)) d.same, d.borne),
 )
