@@ -28,9 +28,9 @@ all_of (suc n) = omega (arith, all_of n)
 
 is_alphanumeric : (n : ℕ) → 0 < n → IsAlphanumeric (replicate n X)
 is_alphanumeric n some = record {
-  each = omega (arith, none_of A n refl, all_of n, none_of Nine n refl, length-replicate n X);
-  not_letters = omega (arith, none_of A n refl, length-replicate n X, some);
-  not_digits = omega (arith, none_of Nine n refl, length-replicate n X, some);
+  each = omega (arith, none_of A n refl, all_of n, none_of Nine n refl, length-replicate {A = Symbol} n X);
+  not_letters = omega (arith, none_of A n refl, length-replicate {A = Symbol} n X, some);
+  not_digits = omega (arith, none_of Nine n refl, length-replicate {A = Symbol} n X, some);
 }
 
 no_floating : (n : ℕ) → floating (replicate n X) ≡ None
