@@ -75,6 +75,32 @@ struct Found {
     identity: Option<FileIdentity>,
 }
 
+/// The text in a file, if there is one that opens.
+fn text_at<R: AllocGlobal + Files>(rt: &R, path: &str) -> Result<Option<Found>, ShelfFault> {
+    match read_text(rt, path) {
+        Ok(text) => Ok(Some(Found {
+            text,
+            identity: FileIdentity::of(rt, path),
+        })),
+        Err(TextFault::NotOpened) => Ok(None),
+        Err(TextFault::NotRead) => Err(ShelfFault::Unreadable),
+        Err(TextFault::Memory) => Err(ShelfFault::Memory),
+    }
+}
+
+/// The text in the file of this name with these characters behind it, if there is one that opens.
+fn text_with<R: AllocGlobal + Files>(
+    rt: &R,
+    folder: &str,
+    name: &str,
+    suffix: &str,
+) -> Result<Option<Found>, ShelfFault> {
+    match format!(in rt.alloc(); "{folder}/{name}{suffix}") {
+        Ok(path) => text_at(rt, &path),
+        Err(_) => Err(ShelfFault::Memory),
+    }
+}
+
 /// The text in the first file in a folder that may have it: of the name with nothing, `.cpy` or `.cbl` behind it.
 fn text_in<R: AllocGlobal + Files>(
     rt: &R,
@@ -82,20 +108,39 @@ fn text_in<R: AllocGlobal + Files>(
     name: &str,
 ) -> Result<Option<Found>, ShelfFault> {
     for suffix in &SUFFIXES {
-        let Ok(path) = format!(in rt.alloc(); "{folder}/{name}{suffix}") else {
-            return Err(ShelfFault::Memory);
-        };
-        match read_text(rt, &path) {
-            Ok(text) => {
-                let identity = FileIdentity::of(rt, &path);
-                return Ok(Some(Found { text, identity }));
-            }
-            Err(TextFault::NotOpened) => {}
-            Err(TextFault::NotRead) => return Err(ShelfFault::Unreadable),
-            Err(TextFault::Memory) => return Err(ShelfFault::Memory),
+        let found = text_with(rt, folder, name, *suffix)?;
+        if found.is_some() {
+            return Ok(found);
         }
     }
     Ok(None)
+}
+
+/// The text in the first file in a folder, or in that of a library beneath it, that may have it.
+fn text_beneath<R: AllocGlobal + Files>(
+    rt: &R,
+    folder: &str,
+    library: Option<&str>,
+    name: &str,
+    is_small: bool,
+) -> Result<Option<Found>, ShelfFault> {
+    match folder_of(rt.alloc(), folder, library, is_small) {
+        Ok(beneath) => text_in(rt, &beneath, name),
+        Err(_) => Err(ShelfFault::Memory),
+    }
+}
+
+/// The text in the first file that may have it, its name in small letters.
+fn text_small<R: AllocGlobal + Files>(
+    rt: &R,
+    folder: &str,
+    library: Option<&str>,
+    name: &str,
+) -> Result<Option<Found>, ShelfFault> {
+    match name.to_ascii_lowercase(rt.alloc()) {
+        Ok(small) => text_beneath(rt, folder, library, &small, true),
+        Err(_) => Err(ShelfFault::Memory),
+    }
 }
 
 /// The text in the first file that may have it, its name in capitals, or else in small letters.
@@ -105,28 +150,19 @@ fn text_named<R: AllocGlobal + Files>(
     library: Option<&str>,
     name: &str,
 ) -> Result<Option<Found>, ShelfFault> {
-    let alloc = rt.alloc();
-    let Ok(beneath) = folder_of(alloc, folder, library, false) else {
-        return Err(ShelfFault::Memory);
-    };
-    if let Some(found) = text_in(rt, &beneath, name)? {
-        return Ok(Some(found));
+    match text_beneath(rt, folder, library, name, false) {
+        Ok(None) => text_small(rt, folder, library, name),
+        found => found,
     }
-    let Ok(small_beneath) = folder_of(alloc, folder, library, true) else {
-        return Err(ShelfFault::Memory);
-    };
-    let Ok(small) = name.to_ascii_lowercase(alloc) else {
-        return Err(ShelfFault::Memory);
-    };
-    text_in(rt, &small_beneath, &small)
 }
 
 impl<R: AllocGlobal + Files> Folders<'_, R> {
     /// The text of this name in the first folder that has it.
     fn found(&self, library: Option<&str>, name: &str) -> Result<Option<Found>, ShelfFault> {
         for folder in self.folders.split(':') {
-            if let Some(found) = text_named(self.rt, folder, library, name)? {
-                return Ok(Some(found));
+            let found = text_named(self.rt, folder, library, name)?;
+            if found.is_some() {
+                return Ok(found);
             }
         }
         Ok(None)

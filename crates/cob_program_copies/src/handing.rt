@@ -38,11 +38,11 @@ struct BookOption<'a> {
 
 /// What is asked of all copybooks of a line.
 #[derive(Clone, Copy)]
-struct Asked<'a> {
+struct Asked<'t, 'a> {
     /// What the options say.
-    options: Handing<'a>,
+    options: &'t Handing<'a>,
     /// The files that the command writes.
-    outputs: Outputs,
+    outputs: &'t Outputs,
     /// How the texts stand on their lines.
     spacing: Spacing,
     /// Whether refusals of texts that are made are told in words too.
@@ -51,7 +51,7 @@ struct Asked<'a> {
 
 impl<'a> BookOption<'a> {
     /// How the faults of the text that is made of it are told.
-    fn telling(self, handing: &Asked<'_>) -> Telling<'a> {
+    fn telling(self, handing: &Asked<'_, '_>) -> Telling<'a> {
         Telling {
             option: self.file,
             path: self.path,
@@ -60,27 +60,38 @@ impl<'a> BookOption<'a> {
     }
 }
 
-/// The texts that these words copy, or the exchanges in them, as the options say.
-fn copying_of<R: AllocGlobal + Files>(
+/// The texts that these words copy, from the first of these folders that has each.
+fn fetched<R: AllocGlobal + Files>(
     rt: &R,
     file: FileName,
-    handing: &Asked<'_>,
+    handing: &Asked<'_, '_>,
+    folders: &str,
     words: &[Token],
 ) -> Result<Copying, BookRefusal> {
     let alloc = rt.alloc();
-    if let Some(said) = handing.options.replace {
-        return Ok(Copying::Replaced(exchanges_of(alloc, said)?));
-    }
-    let Some(folders) = handing.options.copy_dirs else {
-        return Ok(Copying::Left);
-    };
-    let mut shelf = Folders::new(rt, folders, handing.outputs, handing.spacing);
+    let mut shelf = Folders::new(rt, folders, *handing.outputs, handing.spacing);
     match fetch(alloc, &mut shelf, words) {
         Ok(library) => match shelf.lost() {
             Some(output) => Err(BookRefusal::OneFile(file, output)),
             None => Ok(Copying::CarriedOut(library)),
         },
         Err(fault) => Err(of_fetching(alloc, file, &fault)?),
+    }
+}
+
+/// The texts that these words copy, or the exchanges in them, as the options say.
+fn copying_of<R: AllocGlobal + Files>(
+    rt: &R,
+    file: FileName,
+    handing: &Asked<'_, '_>,
+    words: &[Token],
+) -> Result<Copying, BookRefusal> {
+    if let Some(said) = handing.options.replace {
+        return Ok(Copying::Replaced(exchanges_of(rt.alloc(), said)?));
+    }
+    match handing.options.copy_dirs {
+        Some(folders) => fetched(rt, file, handing, folders, words),
+        None => Ok(Copying::Left),
     }
 }
 
@@ -105,6 +116,35 @@ fn unread(
     }
 }
 
+/// A text in reference format that says the words of a copybook in free format.
+///
+/// # Errors
+///
+/// The words have no room in one text; the text that is made is refused; want of memory.
+fn in_columns(
+    alloc: Global,
+    book: BookOption<'_>,
+    handing: &Asked<'_, '_>,
+    words: &[Token],
+) -> Result<Vec<u8>, BookRefusal> {
+    match text_saying(alloc, words)? {
+        Some(made) => judged(
+            alloc,
+            book.telling(handing),
+            book.role,
+            &Copying::Left,
+            made,
+        ),
+        None => Err(of_text(
+            alloc,
+            book.file,
+            &Copying::Left,
+            "",
+            RecordTextFault::TooLong,
+        )?),
+    }
+}
+
 /// The text of a copybook whose words are all meant as they stand: itself, or of one in free format one in reference format that says them.
 ///
 /// # Errors
@@ -113,28 +153,71 @@ fn unread(
 fn unchanged(
     alloc: Global,
     book: BookOption<'_>,
-    handing: &Asked<'_>,
+    handing: &Asked<'_, '_>,
     words: &[Token],
     text: Vec<u8>,
 ) -> Result<Vec<u8>, BookRefusal> {
     match handing.spacing.format {
         TextFormat::Reference => Ok(text),
-        TextFormat::Free => match text_saying(alloc, words)? {
-            Some(made) => judged(
-                alloc,
-                book.telling(handing),
-                book.role,
-                &Copying::Left,
-                made,
-            ),
-            None => Err(of_text(
-                alloc,
-                book.file,
-                &Copying::Left,
-                "",
-                RecordTextFault::TooLong,
-            )?),
-        },
+        TextFormat::Free => in_columns(alloc, book, handing, words),
+    }
+}
+
+/// The text that is made of these words, with the texts that they copy and the record that is chosen, if one is: itself, where nothing is done to it.
+fn text_of_record(
+    alloc: Global,
+    book: BookOption<'_>,
+    handing: &Asked<'_, '_>,
+    how: &Copying,
+    chosen: Option<&str>,
+    words: &[Token],
+    text: Vec<u8>,
+) -> Result<Vec<u8>, BookRefusal> {
+    let name = chosen.unwrap_or("");
+    match record_text(alloc, how, bytes_of(chosen), words) {
+        Ok(None) => unchanged(alloc, book, handing, words, text),
+        Ok(Some(made)) => judged(alloc, book.telling(handing), book.role, how, made),
+        Err(fault) => Err(of_text(alloc, book.file, how, name, fault)?),
+    }
+}
+
+/// The bytes of a text, if there is one.
+fn bytes_of(text: Option<&str>) -> Option<&[u8]> {
+    match text {
+        Some(text) => Some(text.as_bytes()),
+        None => None,
+    }
+}
+
+/// The text that is made of these words, with the texts that they copy: itself, where nothing is done to it.
+fn text_copied(
+    alloc: Global,
+    book: BookOption<'_>,
+    handing: &Asked<'_, '_>,
+    how: &Copying,
+    words: &[Token],
+    text: Vec<u8>,
+) -> Result<Vec<u8>, BookRefusal> {
+    let Some(record) = book.record else {
+        return text_of_record(alloc, book, handing, how, None, words, text);
+    };
+    match record.to_ascii_uppercase(alloc) {
+        Ok(name) => text_of_record(alloc, book, handing, how, Some(name.as_str()), words, text),
+        Err(_) => Err(BookRefusal::Memory),
+    }
+}
+
+/// The text that is made of a copybook with these words: itself, where nothing is done to it.
+fn text_made<R: AllocGlobal + Files>(
+    rt: &R,
+    book: BookOption<'_>,
+    handing: &Asked<'_, '_>,
+    words: &[Token],
+    text: Vec<u8>,
+) -> Result<Vec<u8>, BookRefusal> {
+    match copying_of(rt, book.file, handing, words) {
+        Ok(how) => text_copied(rt.alloc(), book, handing, &how, words, text),
+        Err(refusal) => Err(refusal),
     }
 }
 
@@ -142,26 +225,15 @@ fn unchanged(
 fn text_handed<R: AllocGlobal + Files>(
     rt: &R,
     book: BookOption<'_>,
-    handing: &Asked<'_>,
+    handing: &Asked<'_, '_>,
     text: Vec<u8>,
 ) -> Result<Vec<u8>, BookRefusal> {
     let alloc = rt.alloc();
     let format = handing.spacing.format;
     let text = handing.spacing.spaced(alloc, text)?;
-    let words = match tokens_in(alloc, format, text.as_slice()) {
-        Ok(words) => words,
-        Err(fault) => return unread(alloc, book.file, format, fault, text),
-    };
-    let how = copying_of(rt, book.file, handing, words.as_slice())?;
-    let name = book.record.unwrap_or("").to_ascii_uppercase(alloc)?;
-    let chosen = match book.record {
-        Some(_) => Some(name.as_bytes()),
-        None => None,
-    };
-    match record_text(alloc, &how, chosen, words.as_slice()) {
-        Ok(None) => unchanged(alloc, book, handing, words.as_slice(), text),
-        Ok(Some(made)) => judged(alloc, book.telling(handing), book.role, &how, made),
-        Err(fault) => Err(of_text(alloc, book.file, &how, &name, fault)?),
+    match tokens_in(alloc, format, text.as_slice()) {
+        Ok(words) => text_made(rt, book, handing, words.as_slice(), text),
+        Err(fault) => unread(alloc, book.file, format, fault, text),
     }
 }
 
@@ -169,7 +241,7 @@ fn text_handed<R: AllocGlobal + Files>(
 fn push_handed<'a, R: AllocGlobal + Files>(
     rt: &R,
     book: BookOption<'a>,
-    handing: &Asked<'_>,
+    handing: &Asked<'_, '_>,
     text: Vec<u8>,
     out: &mut Vec<HandedBook<'a>>,
 ) -> Result<(), HandingFault>
@@ -195,7 +267,7 @@ fn read_of<R: AllocGlobal + Files>(rt: &R, book: BookOption<'_>) -> Result<Vec<u
 fn hand_one<'a, R: AllocGlobal + Files>(
     rt: &R,
     path: &'a str,
-    handing: &Asked<'a>,
+    handing: &Asked<'_, 'a>,
 ) -> Result<Vec<HandedBook<'a>>, HandingFault>
     ensures { IfErr result LacksHanding }
 {
@@ -215,12 +287,29 @@ fn hand_one<'a, R: AllocGlobal + Files>(
     Ok(out)
 }
 
+/// Hands two copybooks with these texts over.
+fn hand_texts<'a, R: AllocGlobal + Files>(
+    rt: &R,
+    in_book: BookOption<'a>,
+    in_text: Vec<u8>,
+    out_book: BookOption<'a>,
+    out_text: Vec<u8>,
+    handing: &Asked<'_, '_>,
+) -> Result<Vec<HandedBook<'a>>, HandingFault>
+    ensures { IfErr result LacksHanding }
+{
+    let mut out = Vec::new(rt.alloc());
+    push_handed(rt, in_book, handing, in_text, &mut out)?;
+    push_handed(rt, out_book, handing, out_text, &mut out)?;
+    Ok(out)
+}
+
 /// Hands the copybooks of the input record and of the output record over. Both files are read first.
 fn hand_both<'a, R: AllocGlobal + Files>(
     rt: &R,
     in_path: &'a str,
     out_path: &'a str,
-    handing: &Asked<'a>,
+    handing: &Asked<'_, 'a>,
 ) -> Result<Vec<HandedBook<'a>>, HandingFault>
     ensures { IfErr result LacksHanding }
 {
@@ -242,21 +331,17 @@ fn hand_both<'a, R: AllocGlobal + Files>(
         Ok(text) => text,
         Err(fault) => return Err(HandingFault::File(fault)),
     };
-    let out_text = match read_of(rt, out_book) {
-        Ok(text) => text,
-        Err(fault) => return Err(HandingFault::File(fault)),
-    };
-    let mut out = Vec::new(rt.alloc());
-    push_handed(rt, in_book, handing, in_text, &mut out)?;
-    push_handed(rt, out_book, handing, out_text, &mut out)?;
-    Ok(out)
+    match read_of(rt, out_book) {
+        Ok(out_text) => hand_texts(rt, in_book, in_text, out_book, out_text, handing),
+        Err(fault) => Err(HandingFault::File(fault)),
+    }
 }
 
 /// Hands these copybooks over.
 fn hand_files<'a, R: AllocGlobal + Files>(
     rt: &R,
     files: BookFiles<'a>,
-    asked: &Asked<'a>,
+    asked: &Asked<'_, 'a>,
 ) -> Result<Vec<HandedBook<'a>>, HandingFault>
     ensures { IfErr result LacksHanding }
 {
@@ -288,9 +373,10 @@ pub fn hand_over<'a, R: AllocGlobal + Files>(
         Ok(spacing) => spacing,
         Err(refusal) => return Err(HandingFault::Book(refusal)),
     };
+    let outputs = Outputs::of(rt, line);
     let asked = Asked {
-        options: *handing,
-        outputs: Outputs::of(rt, line),
+        options: handing,
+        outputs: &outputs,
         spacing,
         in_words,
     };

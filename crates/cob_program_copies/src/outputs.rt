@@ -6,7 +6,7 @@ use std::fmt;
 use std::rt::Files;
 
 /// Which of the files that a command writes one is.
-#[derive(Clone, Copy, Debug, PartialEq, Eq)]
+#[derive(Clone, Copy)]
 pub enum WrittenFile {
     Output,
     Rejects,
@@ -17,9 +17,9 @@ impl fmt::Display for WrittenFile {
     /// The option that names it, without its hyphens.
     fn fmt<W: fmt::Write>(&self, f: &mut fmt::Formatter<W>) -> fmt::Result {
         match self {
-            WrittenFile::Output => write!(f, "out"),
-            WrittenFile::Rejects => write!(f, "rejects"),
-            WrittenFile::Report => write!(f, "report"),
+            WrittenFile::Output => f.write_str("out"),
+            WrittenFile::Rejects => f.write_str("rejects"),
+            WrittenFile::Report => f.write_str("report"),
         }
     }
 }
@@ -61,7 +61,7 @@ impl Output {
     }
 
     /// Whether writing it would lose what this file holds.
-    fn loses(self, file: Option<FileIdentity>) -> bool {
+    fn loses(&self, file: Option<FileIdentity>) -> bool {
         loses(self.itself, file) || loses(self.part, file)
     }
 }

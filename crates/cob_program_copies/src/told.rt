@@ -21,6 +21,12 @@ fn words_of_name(alloc: Global, named: &TextName) -> Result<String, AllocError> 
     }
 }
 
+/// A line of a text that is copied, with that one's name.
+fn words_of_own_line(alloc: Global, named: &TextName, line: u32) -> Result<String, AllocError> {
+    let name = words_of_name(alloc, named)?;
+    format!(in alloc; "line {line} of {name}")
+}
+
 /// A line by its number as it is counted on: of the copybook itself, or of a text that it copies, with that one's name.
 fn words_of_line(alloc: Global, how: &Copying, number: u32) -> Result<String, AllocError> {
     if number == 0 {
@@ -35,10 +41,7 @@ fn words_of_line(alloc: Global, how: &Copying, number: u32) -> Result<String, Al
         return format!(in alloc; "line {line}");
     };
     match library.texts.get(before) {
-        Some(text) => {
-            let name = words_of_name(alloc, &text.named)?;
-            format!(in alloc; "line {line} of {name}")
-        }
+        Some(text) => words_of_own_line(alloc, &text.named, line),
         None => format!(in alloc; "line {line}"),
     }
 }
@@ -53,6 +56,12 @@ pub(crate) fn of_book(
     let line = words_of_line(alloc, how, fault.line)?;
     let rule = fault.rule;
     format!(in alloc; "{file} {rule} {line}")
+}
+
+/// A line of a text that is copied, as a place.
+fn place_in_text(alloc: Global, named: &TextName, line: u32) -> Result<String, AllocError> {
+    let name = words_of_name(alloc, named)?;
+    format!(in alloc; "{name}:{line}")
 }
 
 /// A line by its number as it is counted on, as a place: of the copybook itself, by its file, or of a text that it copies, by that one's name.
@@ -74,12 +83,21 @@ pub(crate) fn place_of(
         return format!(in alloc; "{path}:{line}");
     };
     match library.texts.get(before) {
-        Some(text) => {
-            let name = words_of_name(alloc, &text.named)?;
-            format!(in alloc; "{name}:{line}")
-        }
+        Some(text) => place_in_text(alloc, &text.named, line),
         None => format!(in alloc; "{path}:{line}"),
     }
+}
+
+/// The fault of a copybook that copies texts, told by the line that it is on.
+fn words_of_copy(
+    alloc: Global,
+    file: FileName,
+    how: &Copying,
+    fault: CopyFault,
+) -> Result<String, AllocError> {
+    let line = words_of_line(alloc, how, fault.line)?;
+    let rule = fault.rule;
+    format!(in alloc; "{file} B17 {rule} {line}")
 }
 
 /// What is told where no text is made of a copybook.
@@ -94,10 +112,7 @@ pub(crate) fn of_text(
         RecordTextFault::Memory => return Ok(BookRefusal::Memory),
         RecordTextFault::Record(_) => format!(in alloc; "{file} B16 {name}")?,
         RecordTextFault::TooLong => format!(in alloc; "{file} B17 C4")?,
-        RecordTextFault::Copy(CopyFault { rule, line }) => {
-            let line = words_of_line(alloc, how, line)?;
-            format!(in alloc; "{file} B17 {rule} {line}")?
-        }
+        RecordTextFault::Copy(fault) => words_of_copy(alloc, file, how, fault)?,
     };
     Ok(BookRefusal::Refused(words))
 }
@@ -154,6 +169,12 @@ fn of_place(
     Ok(BookRefusal::Refused(format!(in alloc; "{file} B17 {code} {name}")?))
 }
 
+/// What is told of a text that is there, and of which a read failed.
+fn of_unread(alloc: Global, file: FileName, named: &TextName) -> Result<BookRefusal, AllocError> {
+    let name = words_of_name(alloc, named)?;
+    Ok(BookRefusal::NotRead(format!(in alloc; "cannot read {name} of {file}")?))
+}
+
 /// What is told where the texts that a copybook copies are not fetched.
 pub(crate) fn of_fetching(
     alloc: Global,
@@ -167,10 +188,7 @@ pub(crate) fn of_fetching(
         FetchFault::WithinItself(named) => of_place(alloc, file, "C5", named),
         FetchFault::TooDeep(named) => of_place(alloc, file, "C6", named),
         FetchFault::TooManyTexts(named) => of_place(alloc, file, "C7", named),
-        FetchFault::Shelf(named, ShelfFault::Unreadable) => {
-            let name = words_of_name(alloc, named)?;
-            Ok(BookRefusal::NotRead(format!(in alloc; "cannot read {name} of {file}")?))
-        }
+        FetchFault::Shelf(named, ShelfFault::Unreadable) => of_unread(alloc, file, named),
         FetchFault::Shelf(_, ShelfFault::Memory) | FetchFault::Memory => Ok(BookRefusal::Memory),
     }
 }

@@ -5,7 +5,7 @@ ghost use Rattle.cob_program_faults.specs.Ends.{EndsAmong};
 ghost use Rattle.cob_program_list.specs.Ends.{MayEndLayout};
 ghost use Rattle.cob_program_list.specs.Listed.{listed_entries};
 
-use crate::copybook::{Listed, read_book};
+use crate::copybook::{NamedBook, read_named_book};
 use crate::ends::tell_listed;
 use cob_convert::Status;
 use cob_program_faults::CommandFault;
@@ -15,14 +15,14 @@ use cob_report_show::layout_text;
 use std::io::{BufWriter, Eprint, Print, Write};
 use std::rt::Files;
 
-/// Lists the entries of a copybook, and hands all of the list to the device.
+/// Lists the entries of a copybook with their condition-names, and hands all of the list to the device.
 fn list_to_end<W: Write + Drop>(
-    listed: &Listed,
+    book: &NamedBook,
     sink: &mut WriteSink<BufWriter<W>>,
 ) -> Result<(), DeviceFault>
     ensures { OnOk result (writer_buffer (sink_writer sink.new) ≡ []) }
 {
-    match layout_text(&listed.layout, sink) {
+    match layout_text(&book.listed.layout, &book.names, sink) {
         Ok(()) => sink.flush(),
         Err(_) => Err(DeviceFault),
     }
@@ -39,7 +39,7 @@ fn listed(handed: Result<(), DeviceFault>) -> Result<(), CommandFault>
     }
 }
 
-/// Prints a line for each entry of a copybook on standard output.
+/// Prints a line for each entry of a copybook on standard output, and behind it one for each of its condition-names.
 ///
 /// # Errors
 ///
@@ -50,7 +50,7 @@ pub fn list_entries<R: AllocGlobal + Files + Print>(
 ) -> Result<(), CommandFault>
     ensures { IfErr result MayEndLayout }
 {
-    let book = read_book(rt, line.book)?;
+    let book = read_named_book(rt, line.book)?;
     let Ok(mut sink) = create_sink(rt, "-") else {
         return Err(CommandFault::Memory);
     };

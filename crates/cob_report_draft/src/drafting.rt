@@ -25,17 +25,11 @@ pub enum Lacking {
 
 impl fmt::Display for Lacking {
     fn fmt<W: fmt::Write>(&self, f: &mut fmt::Formatter<W>) -> fmt::Result {
-        match self {
-            Lacking::Statement => write!(f, "the paragraph lacks a statement"),
-            Lacking::Lines => write!(
-                f,
-                "the paragraph lacks the lines that its text has no room for"
-            ),
-            Lacking::Turns => write!(
-                f,
-                "the paragraph lacks the statements that its loops have no room for"
-            ),
-        }
+        f.write_str(match self {
+            Lacking::Statement => "the paragraph lacks a statement",
+            Lacking::Lines => "the paragraph lacks the lines that its text has no room for",
+            Lacking::Turns => "the paragraph lacks the statements that its loops have no room for",
+        })
     }
 }
 
@@ -107,13 +101,28 @@ fn lacking_in(progress: &DraftProgress<'_, '_>, text: &DraftText) -> Option<Lack
 /// The letters with which the names of counters begin, that of the outermost loop first.
 const LETTERS: [u8; MAX_SUBSCRIPTS] = *b"IJKLMNO";
 
+/// Adds the name of a counter with this letter, if there is one, and answers whether there is.
+fn push_counter(
+    alloc: Global,
+    records: &Records<'_>,
+    letter: u8,
+    counters: &mut CounterNames,
+) -> Result<bool, AllocError> {
+    match counter_name(alloc, &records.both, letter)? {
+        Some(name) => {
+            counters.push(name)?;
+            Ok(true)
+        }
+        None => Ok(false),
+    }
+}
+
 /// The names of the counters of loops in one another, that of the outermost first.
 fn counters_of(alloc: Global, records: &Records<'_>) -> Result<CounterNames, AllocError> {
     let mut counters = Vec::new(alloc);
     for letter in LETTERS {
-        match counter_name(alloc, &records.both, letter)? {
-            Some(name) => counters.push(name)?,
-            None => break,
+        if !push_counter(alloc, records, letter, &mut counters)? {
+            break;
         }
     }
     Ok(counters)

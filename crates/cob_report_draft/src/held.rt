@@ -18,14 +18,19 @@ pub(crate) enum ItemContent<'a> {
     Shifted,
 }
 
+/// What an item holds without a VALUE.
+fn filled(kind: &Kind) -> ItemContent<'static> {
+    match kind {
+        Kind::Item(item) if item.picture.category().shows_number() => ItemContent::Zeros,
+        _ => ItemContent::Spaces,
+    }
+}
+
 /// What an entry holds beneath a group without a VALUE.
 fn own_held(entry: &Node) -> ItemContent<'_> {
     match &entry.value {
         Some(value) => ItemContent::Own(value),
-        None => match &entry.kind {
-            Kind::Item(item) if item.picture.category().shows_number() => ItemContent::Zeros,
-            _ => ItemContent::Spaces,
-        },
+        None => filled(&entry.kind),
     }
 }
 
@@ -85,13 +90,10 @@ impl fmt::Display for ItemContent<'_> {
             ItemContent::Part(value) => {
                 write!(f, "its part of {}", ConstantText { value: *value })
             }
-            ItemContent::Zeros => write!(f, "zeros"),
-            ItemContent::Spaces => write!(f, "spaces"),
+            ItemContent::Zeros => f.write_str("zeros"),
+            ItemContent::Spaces => f.write_str("spaces"),
             ItemContent::Shifted => {
-                write!(
-                    f,
-                    "what the greatest counts put there, behind a table that varies"
-                )
+                f.write_str("what the greatest counts put there, behind a table that varies")
             }
         }
     }

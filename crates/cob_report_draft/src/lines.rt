@@ -28,7 +28,7 @@ const DEEPEST: usize = 6;
 const FEWEST: usize = 15;
 
 /// Whether a line is a comment.
-#[derive(Clone, Copy, PartialEq, Eq)]
+#[derive(Clone, Copy)]
 pub(crate) enum DraftLineKind {
     Statement,
     Comment,

@@ -31,7 +31,7 @@ pub(crate) struct TableLoop {
 }
 
 /// A table of the input record and one of the output record, over whose elements a statement goes.
-#[derive(Clone, Copy, PartialEq, Eq, Default)]
+#[derive(Clone, Copy, Default)]
 pub(crate) struct LoopLevel {
     /// How many elements both have at most.
     most: u32,
@@ -274,13 +274,23 @@ fn holds(own: &TableLoop, number: usize) -> bool {
 /// How many of these loops, the outermost first, go over tables that hold an entry of the output record.
 pub(crate) fn count_holding(loops: &[TableLoop], to: &DraftBearer<'_>) -> usize {
     let number = number_of(to);
-    loops.iter().take_while(|own| holds(own, number)).count()
+    for (count, own) in loops.iter().enumerate() {
+        if !holds(own, number) {
+            return count;
+        }
+    }
+    loops.len()
 }
 
 /// How many loops, the outermost first, are the same.
 pub(crate) fn count_same(one: &[TableLoop], other: &[TableLoop]) -> usize {
-    let pairs = one.iter().zip(other.iter());
-    pairs.take_while(|(own, another)| own == another).count()
+    for (count, own) in one.iter().enumerate() {
+        match other.get(count) {
+            Some(another) if own == another => {}
+            _ => return count,
+        }
+    }
+    one.len()
 }
 
 /// The subscript, in loops that are numbered from here, for the table that so many tables hold, of which there are so many elements: the counter of its loop,

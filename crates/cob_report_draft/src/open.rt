@@ -10,30 +10,12 @@ use cob_layout::Layout;
 use cob_layout_steady::is_steady;
 use cob_report_partners::DraftBearer;
 use std::alloc::AllocError;
-use std::fmt;
 
-/// Elements that the other record doesn't have, if it is of these that something is told.
-#[derive(Clone, Copy)]
-struct Past {
-    is_part: bool,
-    other: &'static str,
-}
-
-/// The words for elements that the other record doesn't have.
-fn past_words(share: Share, other: &'static str) -> Past {
-    Past {
-        is_part: share == Share::Part,
-        other,
-    }
-}
-
-impl fmt::Display for Past {
-    fn fmt<W: fmt::Write>(&self, f: &mut fmt::Formatter<W>) -> fmt::Result {
-        if !self.is_part {
-            return Ok(());
-        }
-        let other = self.other;
-        write!(f, ", past the elements of the {other}")
+/// What is said of elements that the other record doesn't have, if it is of these that something is told.
+fn past_words(share: Share, words: &'static str) -> &'static str {
+    match share {
+        Share::Part => words,
+        Share::Nothing | Share::All => "",
     }
 }
 
@@ -73,7 +55,7 @@ impl DraftText {
         own: ItemContent<'_>,
     ) -> Result<(), AllocError> {
         let name = NamedReference::whole(to);
-        let past = past_words(share, "input");
+        let past = past_words(share, ", past the elements of the input");
         let held = held_there(layout, to, own);
         let words = format!(in self.alloc; "{name}{past}: {held}")?;
         self.lines.push_listed(&words)
@@ -120,7 +102,7 @@ impl DraftText {
         share: Share,
     ) -> Result<(), AllocError> {
         let name = NamedReference::whole(from);
-        let past = past_words(share, "output");
+        let past = past_words(share, ", past the elements of the output");
         let words = format!(in self.alloc; "{name}{past}")?;
         self.lines.push_listed(&words)
     }

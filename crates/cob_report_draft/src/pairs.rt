@@ -22,7 +22,10 @@ pub(crate) struct Records<'a> {
 
 /// With how many qualifiers an entry is named; `None` where it isn't told from another one.
 pub(crate) fn qualifiers_of(records: &BothRecords<'_>, bearer: &DraftBearer<'_>) -> Option<usize> {
-    qualifiers_needed(records, bearer.name?, bearer.above.as_slice())
+    match bearer.name {
+        Some(name) => qualifiers_needed(records, name, bearer.above.as_slice()),
+        None => None,
+    }
 }
 
 /// The numbers of the counts of the input record that a statement can name.
@@ -36,6 +39,18 @@ fn named_counts(alloc: Global, records: &BothRecords<'_>) -> Result<Vec<usize>, 
     Ok(named)
 }
 
+/// The tables of the output record, and the numbers of the counts of the input record that a statement can name.
+fn tables_and_counts(
+    alloc: Global,
+    records: &BothRecords<'_>,
+) -> Result<(HoldingTables, Vec<usize>), AllocError> {
+    let tables = HoldingTables::of(alloc, records.outputs())?;
+    match named_counts(alloc, records) {
+        Ok(named) => Ok((tables, named)),
+        Err(refused) => Err(refused),
+    }
+}
+
 impl<'a> Records<'a> {
     /// The records of two layouts.
     pub(crate) fn of(
@@ -44,15 +59,16 @@ impl<'a> Records<'a> {
         output: &'a Layout,
     ) -> Result<Records<'a>, AllocError> {
         let both = BothRecords::of(alloc, input, output)?;
-        let tables = HoldingTables::of(alloc, both.outputs())?;
-        let named = named_counts(alloc, &both)?;
-        Ok(Records {
-            both,
-            input,
-            output,
-            tables,
-            named,
-        })
+        match tables_and_counts(alloc, &both) {
+            Ok((tables, named)) => Ok(Records {
+                both,
+                input,
+                output,
+                tables,
+                named,
+            }),
+            Err(refused) => Err(refused),
+        }
     }
 }
 
@@ -94,14 +110,15 @@ pub(crate) fn paired<'s, 'a>(
     from: &'s DraftBearer<'a>,
     to: &'s DraftBearer<'a>,
 ) -> Option<PartnerPair<'s, 'a>> {
-    let from_qualifiers = qualifiers_of(records, from)?;
-    let to_qualifiers = qualifiers_of(records, to)?;
-    Some(PartnerPair {
-        from,
-        to,
-        from_qualifiers,
-        to_qualifiers,
-    })
+    match (qualifiers_of(records, from), qualifiers_of(records, to)) {
+        (Some(from_qualifiers), Some(to_qualifiers)) => Some(PartnerPair {
+            from,
+            to,
+            from_qualifiers,
+            to_qualifiers,
+        }),
+        _ => None,
+    }
 }
 
 /// The number of an entry.

@@ -50,6 +50,15 @@ pub(crate) struct DraftProgress<'s, 'a> {
     pub(crate) received: Shares,
 }
 
+/// Nothing is moved of the entries of the input record, nor to those of the output record.
+fn shares_of(alloc: Global, records: &Records<'_>) -> Result<(Shares, Shares), AllocError> {
+    let sent = Shares::nothing(alloc, records.both.inputs().len())?;
+    match Shares::nothing(alloc, records.both.outputs().len()) {
+        Ok(received) => Ok((sent, received)),
+        Err(refused) => Err(refused),
+    }
+}
+
 impl<'s, 'a> DraftProgress<'s, 'a> {
     /// Nothing yet, where the counts with these numbers may be moved.
     pub(crate) fn new(
@@ -57,8 +66,7 @@ impl<'s, 'a> DraftProgress<'s, 'a> {
         records: &Records<'_>,
         filled: Vec<usize>,
     ) -> Result<DraftProgress<'s, 'a>, AllocError> {
-        let sent = Shares::nothing(alloc, records.both.inputs().len())?;
-        let received = Shares::nothing(alloc, records.both.outputs().len())?;
+        let (sent, received) = shares_of(alloc, records)?;
         Ok(DraftProgress {
             alloc,
             pieces: Vec::new(alloc),

@@ -1,6 +1,6 @@
 //! What is against the move of an entry to its partner, in words.
 
-use crate::pairs::{PartnerPair, Records, kind_of};
+use crate::pairs::{PartnerPair, Records, is_item, kind_of};
 use cob_back_losses::{Gets, Losses, Unkept};
 use cob_copybook_tree::{Item, Kind};
 use cob_report_partners::Objection;
@@ -32,6 +32,17 @@ fn write_losses<W: fmt::Write>(
 }
 
 impl ObjectionReason<'_, '_> {
+    /// Writes what the move may lose, with both pictures where it is of an item to an item.
+    fn write_loses<W: fmt::Write>(&self, f: &mut fmt::Formatter<W>, losses: Losses) -> fmt::Result {
+        match (kind_of(self.pair.from), kind_of(self.pair.to)) {
+            (Kind::Item(from), Kind::Item(to)) => write_losses(f, from, to, losses),
+            _ => {
+                let objection = Objection::Loses(losses);
+                write!(f, "{objection}:")
+            }
+        }
+    }
+
     /// Writes which item does not keep its description, and what it gets.
     fn write_description<W: fmt::Write>(
         &self,
@@ -53,16 +64,13 @@ impl ObjectionReason<'_, '_> {
 
 impl fmt::Display for ObjectionReason<'_, '_> {
     fn fmt<W: fmt::Write>(&self, f: &mut fmt::Formatter<W>) -> fmt::Result {
-        let kinds = (kind_of(self.pair.from), kind_of(self.pair.to));
-        match (self.objection, kinds) {
-            (Objection::Loses(losses), (Kind::Item(from), Kind::Item(to))) => {
-                write_losses(f, from, to, losses)
+        match self.objection {
+            Objection::Loses(losses) => self.write_loses(f, losses),
+            Objection::Description(unkept) => self.write_description(f, unkept),
+            Objection::Counts if !is_item(self.pair.to) => {
+                f.write_str("A table whose count it holds is not filled:")
             }
-            (Objection::Description(unkept), _) => self.write_description(f, unkept),
-            (Objection::Counts, (_, Kind::Group)) => {
-                write!(f, "A table whose count it holds is not filled:")
-            }
-            (objection, _) => write!(f, "{objection}:"),
+            objection => write!(f, "{objection}:"),
         }
     }
 }

@@ -7,7 +7,7 @@ use std::fmt;
 pub(crate) type CounterNames = Vec<Vec<u8>>;
 
 /// A subscript of a statement.
-#[derive(Clone, Copy, PartialEq, Eq, Default)]
+#[derive(Clone, Copy, Default)]
 pub(crate) enum Subscript {
     /// That of the first element.
     #[default]
@@ -29,6 +29,17 @@ pub(crate) struct NamedReference<'s, 'a, 'w> {
     pub(crate) bearer: &'s DraftBearer<'a>,
     pub(crate) qualifiers: usize,
     pub(crate) written: WrittenSubscripts<'w>,
+}
+
+impl NamedReference<'_, '_, '_> {
+    /// Writes its qualifiers.
+    fn write_qualifiers<W: fmt::Write>(&self, f: &mut fmt::Formatter<W>) -> fmt::Result {
+        for name in self.bearer.above.iter().take(self.qualifiers) {
+            f.write_str(" OF ")?;
+            write_name(f, name)?;
+        }
+        Ok(())
+    }
 }
 
 impl<'s, 'a> NamedReference<'s, 'a, 's> {
@@ -86,12 +97,20 @@ impl fmt::Display for WrittenBound<'_, '_> {
     }
 }
 
+/// Writes a word with spaces round it, and the name of a counter behind it.
+fn write_counter<W: fmt::Write>(
+    f: &mut fmt::Formatter<W>,
+    words: &str,
+    counter: &[u8],
+) -> fmt::Result {
+    f.write_str(words)?;
+    write_name(f, counter)
+}
+
 impl fmt::Display for LoopHead<'_, '_> {
     fn fmt<W: fmt::Write>(&self, f: &mut fmt::Formatter<W>) -> fmt::Result {
-        write!(f, "PERFORM VARYING ")?;
-        write_name(f, self.counter)?;
-        write!(f, " FROM 1 BY 1 UNTIL ")?;
-        write_name(f, self.counter)?;
+        write_counter(f, "PERFORM VARYING ", self.counter)?;
+        write_counter(f, " FROM 1 BY 1 UNTIL ", self.counter)?;
         let bound = self.bound;
         write!(f, " > {bound}")
     }
@@ -105,38 +124,53 @@ impl WrittenSubscripts<'_> {
         subscript: Subscript,
     ) -> fmt::Result {
         match subscript {
-            Subscript::First => write!(f, "1"),
+            Subscript::First => f.write_char('1'),
             Subscript::Counter(number) => match self.counters.get(number) {
                 Some(name) => write_name(f, name),
-                None => write!(f, "1"),
+                None => f.write_char('1'),
             },
         }
     }
-}
 
-impl fmt::Display for WrittenSubscripts<'_> {
-    fn fmt<W: fmt::Write>(&self, f: &mut fmt::Formatter<W>) -> fmt::Result {
+    /// Writes one behind a comma.
+    fn write_next<W: fmt::Write>(
+        &self,
+        f: &mut fmt::Formatter<W>,
+        subscript: Subscript,
+    ) -> fmt::Result {
+        f.write_str(", ")?;
+        self.write_subscript(f, subscript)
+    }
+
+    /// Writes the first and the others behind it, without brackets.
+    fn write_list<W: fmt::Write>(
+        &self,
+        f: &mut fmt::Formatter<W>,
+        first: Subscript,
+        others: &[Subscript],
+    ) -> fmt::Result {
+        self.write_subscript(f, first)?;
+        for subscript in others {
+            self.write_next(f, *subscript)?;
+        }
+        Ok(())
+    }
+
+    /// Writes all of them in brackets, and nothing where there are none.
+    fn write<W: fmt::Write>(&self, f: &mut fmt::Formatter<W>) -> fmt::Result {
         let Some((first, others)) = self.subscripts.split_first() else {
             return Ok(());
         };
-        write!(f, " (")?;
-        self.write_subscript(f, *first)?;
-        for subscript in others {
-            write!(f, ", ")?;
-            self.write_subscript(f, *subscript)?;
-        }
-        write!(f, ")")
+        f.write_str(" (")?;
+        self.write_list(f, *first, others)?;
+        f.write_char(')')
     }
 }
 
 impl fmt::Display for NamedReference<'_, '_, '_> {
     fn fmt<W: fmt::Write>(&self, f: &mut fmt::Formatter<W>) -> fmt::Result {
         write_name(f, self.bearer.name.unwrap_or(b"FILLER"))?;
-        for name in self.bearer.above.iter().take(self.qualifiers) {
-            write!(f, " OF ")?;
-            write_name(f, name)?;
-        }
-        let written = self.written;
-        write!(f, "{written}")
+        self.write_qualifiers(f)?;
+        self.written.write(f)
     }
 }

@@ -111,7 +111,12 @@ impl DraftText {
         };
         let head = LoopHead { counter, bound };
         let words = format!(in self.alloc; "{head}")?;
-        if self.lines.open_loop(&words)? {
+        self.open_with(&words, own)
+    }
+
+    /// Opens a loop with this head, if the text has room for it.
+    fn open_with(&mut self, head: &str, own: &TableLoop) -> Result<(), AllocError> {
+        if self.lines.open_loop(head)? {
             let _ = self.open.try_push(*own);
         }
         Ok(())
@@ -190,8 +195,13 @@ impl DraftText {
     /// Adds a statement that may not stand, as a comment, and why.
     fn push_objection(&mut self, reason: &ObjectionReason<'_, '_>) -> Result<(), AllocError> {
         let words = format!(in self.alloc; "{reason}")?;
-        self.lines.push_remark(&words)?;
-        self.push_move(DraftLineKind::Comment, &reason.pair)
+        self.push_reasoned(&words, &reason.pair)
+    }
+
+    /// Adds the statement of a pair as a comment, behind a remark.
+    fn push_reasoned(&mut self, words: &str, pair: &PartnerPair<'_, '_>) -> Result<(), AllocError> {
+        self.lines.push_remark(words)?;
+        self.push_move(DraftLineKind::Comment, pair)
     }
 
     /// Adds a remark on an entry of the output record.

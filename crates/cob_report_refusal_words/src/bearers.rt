@@ -1,9 +1,8 @@
 //! The entries of both records that bear a name.
 
-use crate::entry::{
-    WrittenEntry, entry_at, entry_in_front, level_of, line_of, name_word, write_picture,
-};
-use crate::search::{Looked, MOST_LEVELS, found_between, found_in, holder_at};
+use crate::entry::{entry_at, entry_in_front, level_of, line_of, name_word};
+use crate::phrases::Part;
+use crate::search::{Looked, MOST_LEVELS, found_between, found_in, has_name, holder_at};
 use crate::terms::behind;
 use crate::words::write_word;
 use cob_copybook_clauses::WordClass;
@@ -32,6 +31,19 @@ impl<'a> BookWords<'a> {
         None
     }
 
+    /// The option that names the copybook, without its hyphens.
+    pub(crate) fn option(self) -> &'static str {
+        if self.is_input { "in-book" } else { "out-book" }
+    }
+
+    /// The record, by its name.
+    pub(crate) fn record_part(self) -> Part<'a> {
+        match self.record_word() {
+            Some(word) => Part::Word(word),
+            None => Part::Text(self.given_name()),
+        }
+    }
+
     /// The name of a record that has none.
     fn given_name(self) -> &'static str {
         if self.is_input {
@@ -51,17 +63,9 @@ pub(crate) struct Bearer<'a> {
     pub(crate) before: usize,
 }
 
-/// Whether the entry behind so many words has this name.
-fn has_name(words: &[Token], before: usize, name: &[u8]) -> bool {
-    match name_word(entry_at(words, before)) {
-        Some(word) => word.text.as_slice() == name,
-        None => false,
-    }
-}
-
 impl<'a> Bearer<'a> {
     /// The entry as it is written.
-    pub(crate) fn entry(self) -> WrittenEntry<'a> {
+    pub(crate) fn entry(self) -> &'a [Token] {
         entry_at(self.book.words, self.before)
     }
 
@@ -73,7 +77,7 @@ impl<'a> Bearer<'a> {
             let Some(holder) = holder_at(words, at) else {
                 break;
             };
-            if has_name(words, holder, group) {
+            if has_name(entry_at(words, holder), group) {
                 return true;
             }
             at = holder;
@@ -135,7 +139,10 @@ impl<'a> BothWords<'a> {
 
 /// The first qualifier in front, if there is one.
 fn qualifier_in_front(words: &[Token]) -> Option<&Token> {
-    behind(words, WordClass::Of)?.first()
+    match behind(words, WordClass::Of) {
+        Some(group) => group.first(),
+        None => None,
+    }
 }
 
 /// The entry that the name in front means with its first qualifier, where one alone has both.
@@ -160,6 +167,14 @@ pub(crate) fn meant<'a>(both: BothWords<'a>, words: &[Token]) -> Option<Bearer<'
     found
 }
 
+/// Writes the name of an entry with a name.
+fn write_name<W: fmt::Write>(f: &mut fmt::Formatter<W>, entry: &[Token]) -> fmt::Result {
+    match name_word(entry) {
+        Some(word) => write_word(f, word),
+        None => f.write_str("FILLER"),
+    }
+}
+
 /// Writes the name of a record.
 fn write_record<W: fmt::Write>(f: &mut fmt::Formatter<W>, book: BookWords<'_>) -> fmt::Result {
     match book.record_word() {
@@ -168,89 +183,38 @@ fn write_record<W: fmt::Write>(f: &mut fmt::Formatter<W>, book: BookWords<'_>) -
     }
 }
 
-/// Writes an entry with its record.
-pub(crate) fn write_qualified<W: fmt::Write>(
+/// Writes an entry with a name by that name, with its record, and in brackets where it stands.
+pub(crate) fn write_bearer<W: fmt::Write>(
     f: &mut fmt::Formatter<W>,
     bearer: Bearer<'_>,
 ) -> fmt::Result {
-    let Some(word) = name_word(bearer.entry()) else {
-        return f.write_str("FILLER");
-    };
-    write_word(f, word)?;
+    let entry = bearer.entry();
+    write_name(f, entry)?;
     f.write_str(" OF ")?;
-    write_record(f, bearer.book)
+    write_record(f, bearer.book)?;
+    write!(f, " ({} line {})", bearer.book.option(), line_of(entry))
 }
 
-/// Writes where an entry stands.
-pub(crate) fn write_place<W: fmt::Write>(
-    f: &mut fmt::Formatter<W>,
-    bearer: Bearer<'_>,
-) -> fmt::Result {
-    let option = if bearer.book.is_input {
-        "in-book"
-    } else {
-        "out-book"
-    };
-    write!(f, "{option} line {}", line_of(bearer.entry()))
-}
-
-/// Writes an entry with its record, and in brackets where it stands.
-fn write_bearer<W: fmt::Write>(f: &mut fmt::Formatter<W>, bearer: Bearer<'_>) -> fmt::Result {
-    write_qualified(f, bearer)?;
-    f.write_str(" (")?;
-    write_place(f, bearer)?;
-    f.write_char(')')
-}
-
-/// The entries of both records with a name.
-#[derive(Clone, Copy)]
-pub(crate) struct NamedBearers<'a> {
-    pub(crate) both: BothWords<'a>,
-    pub(crate) name: &'a [u8],
-}
-
-/// Writes the entries with a name, with their places, three at most.
-pub(crate) fn write_bearers<W: fmt::Write>(
-    f: &mut fmt::Formatter<W>,
-    named: NamedBearers<'_>,
-) -> fmt::Result {
-    let looked = Looked::Named(named.name);
-    let mut next = named.both.first(looked);
-    for at in 0..3 {
-        let Some(bearer) = next else {
-            return Ok(());
-        };
-        if at > 0 {
-            f.write_str(", ")?;
-        }
-        write_bearer(f, bearer)?;
-        next = named.both.next(bearer, looked);
+/// An operand of a statement: its first word.
+pub(crate) fn operand_part(words: &[Token]) -> Part<'_> {
+    match words.first() {
+        Some(word) => Part::Word(word),
+        None => Part::Text("nothing"),
     }
-    Ok(())
 }
 
-/// An operand of a statement.
-#[derive(Clone, Copy)]
-pub(crate) struct Operand<'a> {
-    pub(crate) both: BothWords<'a>,
-    pub(crate) words: &'a [Token],
-}
-
-/// Writes an operand with what it is, where one entry is meant.
-pub(crate) fn write_operand<W: fmt::Write>(
-    f: &mut fmt::Formatter<W>,
-    operand: Operand<'_>,
-) -> fmt::Result {
-    let Some(word) = operand.words.first() else {
-        return f.write_str("nothing");
-    };
-    write_word(f, word)?;
-    if word.kind == TokenKind::Literal {
-        return Ok(());
+/// An entry, as what it is, if it is meant.
+fn meant_part(bearer: Option<Bearer<'_>>) -> Part<'_> {
+    match bearer {
+        Some(bearer) => Part::Described(bearer.entry()),
+        None => Part::Nothing,
     }
-    let Some(bearer) = meant(operand.both, operand.words) else {
-        return Ok(());
-    };
-    f.write_str(", ")?;
-    write_picture(f, bearer.entry())
+}
+
+/// What an operand of a statement is, where it is no literal and one entry is meant.
+pub(crate) fn described_part<'a>(both: BothWords<'a>, words: &[Token]) -> Part<'a> {
+    match words.first() {
+        Some(word) if word.kind != TokenKind::Literal => meant_part(meant(both, words)),
+        _ => Part::Nothing,
+    }
 }

@@ -3,8 +3,9 @@
 use crate::source::line_in;
 use crate::told::{Caret, Told};
 use crate::words::BytesText;
-use std::alloc::{AllocError, Global};
+use std::alloc::AllocError;
 use std::fmt;
+use std::fmt::Write;
 
 /// The last column of a line that is shown.
 const LAST_SHOWN: usize = 80;
@@ -28,7 +29,7 @@ struct Repeated {
 impl fmt::Display for Repeated {
     fn fmt<W: fmt::Write>(&self, f: &mut fmt::Formatter<W>) -> fmt::Result {
         for _ in 0..self.count.min(MOST_COLUMNS) {
-            write!(f, "{}", self.character)?;
+            f.write_char(self.character)?;
         }
         Ok(())
     }
@@ -45,12 +46,7 @@ fn number_width(line: u32) -> u32 {
 }
 
 /// Adds the line of a text and what points at a part of it.
-fn push_source(
-    alloc: Global,
-    out: &mut String,
-    text: &[u8],
-    caret: Caret,
-) -> Result<(), AllocError> {
+fn push_source(out: &mut String, text: &[u8], caret: Caret) -> Result<(), AllocError> {
     let Caret {
         line,
         column,
@@ -71,33 +67,31 @@ fn push_source(
         character: '^',
         count: width,
     };
-    let lines = format!(in alloc; "{line:>4} | {bytes}\n{margin} | {before}{marks}\n")?;
-    out.push_str(&lines)
+    write!(out, "{line:>4} | {bytes}\n{margin} | {before}{marks}\n")?;
+    Ok(())
 }
 
 /// Adds the rule, what is wrong and what to do.
 pub(crate) fn push_words<D: fmt::Display>(
-    alloc: Global,
     out: &mut String,
     rule: &D,
     told: &Told<'_>,
 ) -> Result<(), AllocError> {
     let what = told.what;
-    out.push_str(&format!(in alloc; "{rule}: {what}\n")?)?;
-    push_hint(alloc, out, told)
+    write!(out, "{rule}: {what}\n")?;
+    push_hint(out, told)
 }
 
 /// Adds what to do.
-fn push_hint(alloc: Global, out: &mut String, told: &Told<'_>) -> Result<(), AllocError> {
-    match told.hint {
-        Some(hint) => out.push_str(&format!(in alloc; "     = {hint}\n")?),
-        None => Ok(()),
+fn push_hint(out: &mut String, told: &Told<'_>) -> Result<(), AllocError> {
+    if let Some(hint) = told.hint {
+        write!(out, "     = {hint}\n")?;
     }
+    Ok(())
 }
 
 /// Adds what is told of a refusal, with the line of its text.
 pub(crate) fn push_block<D: fmt::Display>(
-    alloc: Global,
     out: &mut String,
     file: &str,
     text: &[u8],
@@ -105,12 +99,12 @@ pub(crate) fn push_block<D: fmt::Display>(
     told: &Told<'_>,
 ) -> Result<(), AllocError> {
     let Some(caret) = told.at else {
-        out.push_str(&format!(in alloc; "{file}: ")?)?;
-        return push_words(alloc, out, rule, told);
+        write!(out, "{file}: ")?;
+        return push_words(out, rule, told);
     };
     let Caret { line, column, .. } = caret;
     let what = told.what;
-    out.push_str(&format!(in alloc; "{file}:{line}:{column}: {rule}: {what}\n")?)?;
-    push_source(alloc, out, text, caret)?;
-    push_hint(alloc, out, told)
+    write!(out, "{file}:{line}:{column}: {rule}: {what}\n")?;
+    push_source(out, text, caret)?;
+    push_hint(out, told)
 }

@@ -8,8 +8,8 @@ ghost use Rattle.cob_report_refusal_words.specs.Pointing.{IsUnderEntry, IsUnderO
 use crate::blocks::{push_block, push_words};
 use crate::clashes::{told_placement, told_sign, told_usage};
 use crate::columns::with_columns;
-use crate::entry::{WrittenEntry, entry_at};
-use crate::grammar::told_grammar;
+use crate::entry::entry_at;
+use crate::grammar::{told_grammar, written_entry};
 use crate::left_out::told_left_out;
 use crate::levels::told_level_rule;
 use crate::names::told_name;
@@ -18,7 +18,7 @@ use crate::pictures::told_picture;
 use crate::references::{told_count, told_redefinition};
 use crate::source::{SourceText, told_source};
 use crate::tables::told_table;
-use crate::told::{Caret, Told, advised};
+use crate::told::{Told, advised_plainly};
 use crate::values::told_value;
 use cob_copybook::{BookRule, Role};
 use cob_report_refusals::{Refusal, book_refusals, entry_behind, entry_told};
@@ -71,7 +71,7 @@ fn told_entry<'a>(
 ) -> Told<'a> {
     let entry = entry_at(words, before);
     match rule {
-        BookRule::Grammar => told_grammar(entry),
+        BookRule::Grammar => told_grammar(written_entry(words, before)),
         BookRule::Level => told_level_rule(words, before, entry, book.record_option),
         BookRule::Picture(fault) => told_picture(entry, *fault),
         BookRule::Usage => told_usage(words, before, entry),
@@ -90,20 +90,20 @@ fn told_entry<'a>(
 }
 
 /// What is told of a record that is too long.
-fn told_too_long(entry: WrittenEntry<'_>) -> Told<'_> {
-    advised(
-        Caret::under_first(entry.words),
-        Phrase::plain("the record is longer than 32,752 bytes, which are the most"),
-        Phrase::plain("split the record, or make its longest table shorter"),
+fn told_too_long(entry: &[Token]) -> Told<'_> {
+    advised_plainly(
+        entry,
+        "the record is longer than 32,752 bytes, which are the most",
+        "split the record, or make its longest table shorter",
     )
 }
 
 /// What is told of the first entry that is one too many.
-fn told_too_many(entry: WrittenEntry<'_>) -> Told<'_> {
-    advised(
-        Caret::under_first(entry.words),
-        Phrase::plain("this is entry 2,001, and 2,000 are the most"),
-        Phrase::plain("split the copybook"),
+fn told_too_many(entry: &[Token]) -> Told<'_> {
+    advised_plainly(
+        entry,
+        "this is entry 2,001, and 2,000 are the most",
+        "split the copybook",
     )
 }
 
@@ -189,8 +189,34 @@ fn made_refusal(
         None => refusal.fault.line,
     };
     let mut text = String::new(alloc);
-    push_words(alloc, &mut text, &refusal.fault.rule, &told)?;
+    push_words(&mut text, &refusal.fault.rule, &told)?;
     Ok(MadeRefusal { line, words: text })
+}
+
+/// The first of these refusals of a copybook with these words, at most so many.
+fn made_among(
+    alloc: Global,
+    book: RefusedBook<'_>,
+    words: &[Token],
+    refusals: &[Refusal],
+    most: usize,
+) -> Result<Vec<MadeRefusal>, AllocError> {
+    let mut made: Vec<MadeRefusal> = Vec::new(alloc);
+    for refusal in refusals.iter().take(most) {
+        made.push(made_refusal(alloc, book, words, refusal)?)?;
+    }
+    Ok(made)
+}
+
+/// The first of these refusals of a copybook, at most so many.
+fn made_of(
+    alloc: Global,
+    book: RefusedBook<'_>,
+    refusals: &[Refusal],
+    most: usize,
+) -> Result<Vec<MadeRefusal>, AllocError> {
+    let words = words_of(alloc, book.text)?;
+    made_among(alloc, book, words.as_slice(), refusals, most)
 }
 
 /// The refusals of a copybook whose text was made of others, at most so many, in words without their lines.
@@ -204,12 +230,35 @@ pub fn made_refusals(
     most: usize,
 ) -> Result<Vec<MadeRefusal>, AllocError> {
     let refusals = book_refusals(alloc, book.role, book.text)?;
-    let words = words_of(alloc, book.text)?;
-    let mut made: Vec<MadeRefusal> = Vec::new(alloc);
-    for refusal in refusals.iter().take(most) {
-        made.push(made_refusal(alloc, book, words.as_slice(), refusal)?)?;
+    made_of(alloc, book, &refusals, most)
+}
+
+/// Adds the blocks of the first of these refusals of a copybook with these words, at most so many.
+fn push_blocks(
+    out: &mut String,
+    book: RefusedBook<'_>,
+    words: &[Token],
+    refusals: &[Refusal],
+    most: u32,
+) -> Result<(), AllocError> {
+    for refusal in refusals.iter().take(most as usize) {
+        let told = told_of(book, words, refusal);
+        push_block(out, book.file, book.text, &refusal.fault.rule, &told)?;
     }
-    Ok(made)
+    Ok(())
+}
+
+/// The blocks of the first of these refusals of a copybook, at most so many.
+fn text_of(
+    alloc: Global,
+    book: RefusedBook<'_>,
+    refusals: &[Refusal],
+    most: u32,
+) -> Result<String, AllocError> {
+    let words = words_of(alloc, book.text)?;
+    let mut text = String::new(alloc);
+    push_blocks(&mut text, book, words.as_slice(), refusals, most)?;
+    Ok(text)
 }
 
 /// The blocks of a copybook that is refused, at most so many, each with its line of the text; none of one that is not.
@@ -219,16 +268,9 @@ pub fn made_refusals(
 /// Where no memory is left.
 pub fn book_blocks(alloc: Global, book: RefusedBook<'_>, most: u32) -> Result<Blocks, AllocError> {
     let refusals = book_refusals(alloc, book.role, book.text)?;
-    let words = words_of(alloc, book.text)?;
-    let mut text = String::new(alloc);
-    let mut count: u32 = 0;
-    for refusal in &refusals {
-        if count < most {
-            let told = told_of(book, words.as_slice(), refusal);
-            let rule = &refusal.fault.rule;
-            push_block(alloc, &mut text, book.file, book.text, rule, &told)?;
-        }
-        count = count.saturating_add(1);
-    }
-    Ok(Blocks { text, count })
+    let text = text_of(alloc, book, &refusals, most)?;
+    Ok(Blocks {
+        text,
+        count: refusals.len().min(1_000_000) as u32,
+    })
 }

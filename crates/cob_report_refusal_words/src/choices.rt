@@ -3,7 +3,7 @@
 use crate::entry::{behind_many, front_of};
 use crate::phrases::{Part, Phrase};
 use crate::terms::is_term;
-use crate::told::{Caret, Told, advised, said};
+use crate::told::{Told, advised_at, advised_first, said_at};
 use cob_copybook_clauses::WordClass;
 use cob_move_loops::{PassageWord, passage_word};
 use cob_source::{Token, TokenKind};
@@ -99,9 +99,19 @@ pub(crate) fn is_word(word: &Token, text: &str) -> bool {
     word.kind == TokenKind::Word && word.text.as_slice() == text.as_bytes()
 }
 
+/// Whether a word is one of these.
+pub(crate) fn is_one_of(word: &Token, texts: &[&str]) -> bool {
+    for text in texts {
+        if is_word(word, text) {
+            return true;
+        }
+    }
+    false
+}
+
 /// Whether a word parts the branches of a choice, or ends it.
 pub(crate) fn is_branch_word(word: &Token) -> bool {
-    BRANCH_WORDS.iter().any(|text| is_word(word, text))
+    is_one_of(word, &BRANCH_WORDS)
 }
 
 /// Whether the words of a test end before a word: it begins a statement, parts or ends a choice, or is a period.
@@ -142,26 +152,30 @@ fn behind_then(words: &[Token]) -> &[Token] {
     }
 }
 
+/// How many such statements are open behind a word, when so many are before it.
+fn open_behind(block: Block, open: usize, word: &Token) -> usize {
+    if is_word(word, first_word(block)) {
+        return open.saturating_add(1);
+    }
+    if is_word(word, end_word(block)) {
+        return open.saturating_sub(1);
+    }
+    open
+}
+
 /// How it is told that such a statement lacks its end, where it does: a period stands before it, or it is not there.
 fn lack_of_end(block: Block, words: &[Token]) -> Option<&'static str> {
-    let (begins, ends) = (first_word(block), end_word(block));
     let mut open: usize = 0;
     let mut is_stopped = false;
     for word in words {
-        if word.kind == TokenKind::Stop {
-            is_stopped = true;
-        }
-        if is_word(word, begins) {
-            open = open.saturating_add(1);
-        }
-        if is_word(word, ends) {
-            open = open.saturating_sub(1);
-        }
-        if open == 0 && is_stopped {
-            return Some(stopped_form(block));
-        }
+        is_stopped = is_stopped || word.kind == TokenKind::Stop;
+        open = open_behind(block, open, word);
         if open == 0 {
-            return None;
+            return if is_stopped {
+                Some(stopped_form(block))
+            } else {
+                None
+            };
         }
     }
     Some(missing_form(block))
@@ -169,20 +183,12 @@ fn lack_of_end(block: Block, words: &[Token]) -> Option<&'static str> {
 
 /// What is told of a word, by a form with a place for it, and what to do.
 fn told_at<'a>(word: &'a Token, form: &'static str, hint: &'static str) -> Told<'a> {
-    advised(
-        Some(Caret::under(word)),
-        Phrase::of(form, Part::Word(word)),
-        Phrase::plain(hint),
-    )
+    advised_at(word, Phrase::of(form, Part::Word(word)), hint)
 }
 
 /// What is told of words of a test that are none.
 fn told_test<'a>(test: &'a [Token], form: &'static str, hint: &'static str) -> Told<'a> {
-    advised(
-        Caret::under_first(test),
-        Phrase::of(form, Part::Words(test)),
-        Phrase::plain(hint),
-    )
+    advised_first(test, Phrase::of(form, Part::Words(test)), hint)
 }
 
 /// What is told of an IF that has its END-IF.
@@ -274,8 +280,8 @@ fn told_branch<'a>(first: &'a Token, more: &'a [Token]) -> Told<'a> {
     if is_word(first, "ELSE") {
         return told_else(first, more);
     }
-    said(
-        Some(Caret::under(first)),
+    said_at(
+        first,
         Phrase::of("{} ends nothing that is open there", Part::Word(first)),
     )
 }

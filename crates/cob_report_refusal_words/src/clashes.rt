@@ -1,9 +1,9 @@
 //! Clauses that do not go with each other, or with those of a group.
 
-use crate::entry::{WrittenEntry, entry_at, picture_word, word_of, words_from};
+use crate::entry::{entry_at, line_of, picture_word, word_of, words_from};
 use crate::phrases::{Part, Phrase};
 use crate::search::{MOST_LEVELS, holder_at};
-use crate::told::{Caret, Told, advised, said};
+use crate::told::{Caret, Told, advised, advised_at, advised_first, said};
 use cob_copybook_clauses::WordClass;
 use cob_copybook_entry::{Usage, UsageWord, usage_word};
 use cob_picture::{Category, Picture};
@@ -13,8 +13,8 @@ use cob_source::Token;
 const USAGE_HINT: &str = "leave the usage out, or change the picture";
 
 /// The word that names the usage of an entry, if there is one.
-fn usage_in(entry: WrittenEntry<'_>) -> Option<&Token> {
-    word_of(entry.words, WordClass::UsageName)
+fn usage_in(entry: &[Token]) -> Option<&Token> {
+    word_of(entry, WordClass::UsageName)
 }
 
 /// The usage that a word names.
@@ -25,22 +25,21 @@ fn usage_of(word: &Token) -> Option<Usage> {
     }
 }
 
-/// The word of a group's usage that is another than this.
-fn other_usage<'a>(group: WrittenEntry<'a>, own: &Token) -> Option<&'a Token> {
-    let above = usage_in(group)?;
-    if usage_of(above) == usage_of(own) {
-        return None;
+/// Whether a group has another usage than this.
+fn has_other_usage(group: &[Token], own: &Token) -> bool {
+    match usage_in(group) {
+        Some(above) => usage_of(above) != usage_of(own),
+        None => false,
     }
-    Some(above)
 }
 
 /// The innermost group with another usage than an entry in it, before which so many words stand, if there is one.
-fn clash_above<'a>(words: &'a [Token], before: usize, own: &Token) -> Option<WrittenEntry<'a>> {
+fn clash_above<'a>(words: &'a [Token], before: usize, own: &Token) -> Option<&'a [Token]> {
     let mut at = before;
     for _ in 0..MOST_LEVELS {
         at = holder_at(words, at)?;
         let group = entry_at(words, at);
-        if other_usage(group, own).is_some() {
+        if has_other_usage(group, own) {
             return Some(group);
         }
     }
@@ -48,23 +47,24 @@ fn clash_above<'a>(words: &'a [Token], before: usize, own: &Token) -> Option<Wri
 }
 
 /// What is told of a usage that is another than that of a group.
-fn told_clash<'a>(entry: WrittenEntry<'a>, own: &'a Token, group: WrittenEntry<'a>) -> Told<'a> {
+fn told_clash<'a>(entry: &'a [Token], own: &'a Token, group: &'a [Token]) -> Told<'a> {
     let above = usage_in(group).unwrap_or(own);
-    advised(
-        Some(Caret::under(own)),
-        Phrase::of_four(
-            "{} is {}, and the group {} is {}",
+    advised_at(
+        own,
+        Phrase::of_five(
+            "{} is {}, and the group {} (line {}) is {}",
             Part::Entry(entry),
             Part::Word(own),
-            Part::EntryWithLine(group),
+            Part::Entry(group),
+            Part::Number(line_of(group) as usize),
             Part::Word(above),
         ),
-        Phrase::plain(USAGE_HINT),
+        USAGE_HINT,
     )
 }
 
 /// A usage, as its word or as that of a group.
-fn usage_part(entry: WrittenEntry<'_>) -> Part<'_> {
+fn usage_part(entry: &[Token]) -> Part<'_> {
     match usage_in(entry) {
         Some(word) => Part::Word(word),
         None => Part::Text("the usage of its group"),
@@ -72,7 +72,7 @@ fn usage_part(entry: WrittenEntry<'_>) -> Part<'_> {
 }
 
 /// What is wrong with the usage of an entry with a picture.
-fn suit_words<'a>(entry: WrittenEntry<'a>, word: &'a Token) -> Phrase<'a> {
+fn suit_words<'a>(entry: &'a [Token], word: &'a Token) -> Phrase<'a> {
     let usage = usage_part(entry);
     let text = word.text.as_slice();
     match Picture::read(text) {
@@ -91,24 +91,20 @@ fn suit_words<'a>(entry: WrittenEntry<'a>, word: &'a Token) -> Phrase<'a> {
 }
 
 /// What is told of a usage that does not fit the picture of its entry.
-fn told_unsuited(entry: WrittenEntry<'_>) -> Told<'_> {
+fn told_unsuited(entry: &[Token]) -> Told<'_> {
     let what = match picture_word(entry) {
         Some(picture) => suit_words(entry, picture),
         None => Phrase::of("{} does not fit the entry", usage_part(entry)),
     };
     advised(
-        Caret::under_word(usage_in(entry), entry.words),
+        Caret::under_word(usage_in(entry), entry),
         what,
         Phrase::plain(USAGE_HINT),
     )
 }
 
 /// What is told of an entry whose usage does not fit, before which so many words stand.
-pub(crate) fn told_usage<'a>(
-    words: &'a [Token],
-    before: usize,
-    entry: WrittenEntry<'a>,
-) -> Told<'a> {
+pub(crate) fn told_usage<'a>(words: &'a [Token], before: usize, entry: &'a [Token]) -> Told<'a> {
     let Some(own) = usage_in(entry) else {
         return told_unsuited(entry);
     };
@@ -119,9 +115,9 @@ pub(crate) fn told_usage<'a>(
 }
 
 /// The first word of a SIGN clause.
-fn sign_word(entry: WrittenEntry<'_>) -> Option<&Token> {
+fn sign_word(entry: &[Token]) -> Option<&Token> {
     for term in &[WordClass::Sign, WordClass::Leading, WordClass::Trailing] {
-        if let Some(word) = word_of(entry.words, *term) {
+        if let Some(word) = word_of(entry, *term) {
             return Some(word);
         }
     }
@@ -133,15 +129,8 @@ fn has_sign(picture: &Token) -> bool {
     picture.text.first().copied().unwrap_or(b'9') == b'S'
 }
 
-/// What is told of an entry whose SIGN does not fit.
-pub(crate) fn told_sign(entry: WrittenEntry<'_>) -> Told<'_> {
-    let at = Caret::under_word(sign_word(entry), entry.words);
-    let Some(picture) = picture_word(entry) else {
-        return said(
-            at,
-            Phrase::of("{} has a SIGN that it can't have", Part::Entry(entry)),
-        );
-    };
+/// What is told of an entry with this picture whose SIGN does not fit.
+fn told_pictured<'a>(at: Option<Caret>, entry: &'a [Token], picture: &'a Token) -> Told<'a> {
     if has_sign(picture) {
         return advised(
             at,
@@ -166,8 +155,20 @@ pub(crate) fn told_sign(entry: WrittenEntry<'_>) -> Told<'_> {
     )
 }
 
+/// What is told of an entry whose SIGN does not fit.
+pub(crate) fn told_sign(entry: &[Token]) -> Told<'_> {
+    let at = Caret::under_word(sign_word(entry), entry);
+    match picture_word(entry) {
+        Some(picture) => told_pictured(at, entry, picture),
+        None => said(
+            at,
+            Phrase::of("{} has a SIGN that it can't have", Part::Entry(entry)),
+        ),
+    }
+}
+
 /// Whether an entry has a picture of characters that are not edited.
-fn takes_characters(entry: WrittenEntry<'_>) -> bool {
+fn takes_characters(entry: &[Token]) -> bool {
     match picture_word(entry) {
         Some(word) => match Picture::read(word.text.as_slice()) {
             Ok(picture) => matches!(
@@ -181,18 +182,18 @@ fn takes_characters(entry: WrittenEntry<'_>) -> bool {
 }
 
 /// What is told of a clause that can't be where it stands.
-fn told_misplaced<'a>(entry: WrittenEntry<'a>, clause: &[Token], form: &'static str) -> Told<'a> {
-    advised(
-        Caret::under_first(clause),
+fn told_misplaced<'a>(entry: &'a [Token], clause: &[Token], form: &'static str) -> Told<'a> {
+    advised_first(
+        clause,
         Phrase::of_two(form, Part::Entry(entry), Part::Picture(entry)),
-        Phrase::plain("leave the clause out"),
+        "leave the clause out",
     )
 }
 
 /// What is told of JUSTIFIED or BLANK WHEN ZERO where it can't be.
-pub(crate) fn told_placement(entry: WrittenEntry<'_>) -> Told<'_> {
-    let blank = words_from(entry.words, WordClass::Blank);
-    if let Some(justified) = words_from(entry.words, WordClass::Justified) {
+pub(crate) fn told_placement(entry: &[Token]) -> Told<'_> {
+    let blank = words_from(entry, WordClass::Blank);
+    if let Some(justified) = words_from(entry, WordClass::Justified) {
         if blank.is_none() || !takes_characters(entry) {
             return told_misplaced(
                 entry,
@@ -203,7 +204,7 @@ pub(crate) fn told_placement(entry: WrittenEntry<'_>) -> Told<'_> {
     }
     told_misplaced(
         entry,
-        blank.unwrap_or(entry.words),
+        blank.unwrap_or(entry),
         "BLANK WHEN ZERO is for an edited number without *, or a DISPLAY number without S and P, and {} is {}",
     )
 }

@@ -39,8 +39,8 @@ pub(crate) fn behind_term<'a>(
 
 /// The words behind one word of any kind.
 pub(crate) fn behind_word<'a>(words: &'a [Token], expected: &'static str) -> Read<'a> {
-    match words.split_first() {
-        Some((first, more)) if first.kind == TokenKind::Word => Ok(more),
+    match words.first() {
+        Some(first) if first.kind == TokenKind::Word => Ok(behind_many(words, 1)),
         _ => lacks(words, expected),
     }
 }
@@ -63,18 +63,9 @@ fn behind_names(words: &[Token]) -> Read<'_> {
     }
 }
 
-fn behind_redefines(words: &[Token]) -> Read<'_> {
-    behind_word(
-        behind_term(words, WordClass::Redefines, "REDEFINES")?,
-        "a name",
-    )
-}
-
+/// The words behind those that follow PICTURE.
 fn behind_picture(words: &[Token]) -> Read<'_> {
-    let more = skip(
-        behind_term(words, WordClass::Picture, "PIC")?,
-        WordClass::Is,
-    );
+    let more = skip(words, WordClass::Is);
     if behind(more, WordClass::Is).is_some() {
         return lacks(more, "a picture");
     }
@@ -111,12 +102,17 @@ fn behind_sign(words: &[Token]) -> Read<'_> {
 
 /// The words behind DEPENDING ON and a name.
 fn behind_depending(words: &[Token]) -> Read<'_> {
-    let on = skip(
-        behind_term(words, WordClass::Depending, "DEPENDING ON")?,
-        WordClass::On,
-    );
-    let (_, rest) = qualifiers_at(behind_word(on, "a name")?);
-    Ok(rest)
+    let depending = behind_term(words, WordClass::Depending, "DEPENDING ON")?;
+    match behind_word(skip(depending, WordClass::On), "a name") {
+        Ok(more) => Ok(behind_qualifiers(more)),
+        lack => lack,
+    }
+}
+
+/// The words behind the qualifiers in front.
+fn behind_qualifiers(words: &[Token]) -> &[Token] {
+    let (_, rest) = qualifiers_at(words);
+    rest
 }
 
 /// The words behind the keys and indexes of a table.
@@ -139,18 +135,26 @@ fn behind_number(words: &[Token]) -> Read<'_> {
     behind_term(words, WordClass::Plain, "a number")
 }
 
+/// The words behind those that follow OCCURS.
 fn behind_occurs(words: &[Token]) -> Read<'_> {
-    let first = behind_number(behind_term(words, WordClass::Occurs, "OCCURS")?)?;
-    let varies = behind(first, WordClass::To);
-    let most = match varies {
-        Some(more) => behind_number(more)?,
-        None => first,
-    };
-    let times = skip(most, WordClass::Times);
-    if varies.is_some() || behind(times, WordClass::Depending).is_some() {
-        return behind_keys(behind_depending(times)?);
+    let first = behind_number(words)?;
+    match behind(first, WordClass::To) {
+        Some(more) => behind_count(skip(behind_number(more)?, WordClass::Times)),
+        None => behind_times(skip(first, WordClass::Times)),
     }
-    behind_keys(times)
+}
+
+/// The words behind the count of a table, and its keys and indexes.
+fn behind_count(words: &[Token]) -> Read<'_> {
+    behind_keys(behind_depending(words)?)
+}
+
+/// The words behind the count of a table, if one is named, and its keys and indexes.
+fn behind_times(words: &[Token]) -> Read<'_> {
+    if behind(words, WordClass::Depending).is_some() {
+        return behind_count(words);
+    }
+    behind_keys(words)
 }
 
 /// The words of characters: a literal in quotes, and the figurative constants.
@@ -173,31 +177,42 @@ pub(crate) fn is_characters(word: &Token) -> bool {
     false
 }
 
-fn behind_value(words: &[Token]) -> Read<'_> {
-    let value = behind_term(words, WordClass::Value, "VALUE")?;
-    let more = match behind(value, WordClass::Is) {
+/// The words behind IS or ARE, where it stands in front.
+fn behind_verb(words: &[Token]) -> &[Token] {
+    match behind(words, WordClass::Is) {
         Some(more) => more,
-        None => skip(value, WordClass::Are),
-    };
-    let repeated = behind(more, WordClass::All);
-    let rest = repeated.unwrap_or(more);
-    match rest.split_first() {
-        Some((first, others)) if is_characters(first) => Ok(others),
-        Some((first, others)) if repeated.is_none() && is_term(first, WordClass::Plain) => {
-            Ok(others)
-        }
-        _ => lacks(rest, "a literal"),
+        None => skip(words, WordClass::Are),
     }
 }
 
-fn behind_justified(words: &[Token]) -> Read<'_> {
-    let more = behind_term(words, WordClass::Justified, "JUSTIFIED")?;
-    Ok(skip(more, WordClass::Right))
+/// Whether a word is a literal or a figurative constant.
+fn may_be_value(word: &Token) -> bool {
+    is_characters(word) || is_term(word, WordClass::Plain)
 }
 
-fn behind_blank(words: &[Token]) -> Read<'_> {
-    let more = behind_term(words, WordClass::Blank, "BLANK")?;
-    behind_term(skip(more, WordClass::When), WordClass::Zero, "ZERO")
+/// The words behind characters in front, or what lacks there.
+pub(crate) fn behind_characters(words: &[Token]) -> Read<'_> {
+    match words.first() {
+        Some(first) if is_characters(first) => Ok(behind_many(words, 1)),
+        _ => lacks(words, "a literal"),
+    }
+}
+
+/// The words behind a literal or a figurative constant in front, or what lacks there.
+fn behind_constant(words: &[Token]) -> Read<'_> {
+    match words.first() {
+        Some(first) if may_be_value(first) => Ok(behind_many(words, 1)),
+        _ => lacks(words, "a literal"),
+    }
+}
+
+/// The words behind those that follow VALUE.
+fn behind_value(words: &[Token]) -> Read<'_> {
+    let more = behind_verb(words);
+    match behind(more, WordClass::All) {
+        Some(repeated) => behind_characters(repeated),
+        None => behind_constant(more),
+    }
 }
 
 /// A clause of an entry.
@@ -238,17 +253,18 @@ fn begun_clause(word: &Token) -> Option<(Clause, &'static str)> {
     None
 }
 
-/// The words behind a clause in front, or what lacks in it.
+/// The words behind a clause in front that begins so, or what lacks in it.
 fn behind_begun(words: &[Token], clause: Clause) -> Read<'_> {
+    let more = behind_many(words, 1);
     match clause {
-        Clause::Redefines => behind_redefines(words),
-        Clause::Picture => behind_picture(words),
+        Clause::Redefines => behind_word(more, "a name"),
+        Clause::Picture => behind_picture(more),
         Clause::Usage => behind_usage(words),
         Clause::Sign => behind_sign(words),
-        Clause::Occurs => behind_occurs(words),
-        Clause::Value => behind_value(words),
-        Clause::Justified => behind_justified(words),
-        Clause::Blank => behind_blank(words),
+        Clause::Occurs => behind_occurs(more),
+        Clause::Value => behind_value(more),
+        Clause::Justified => Ok(skip(more, WordClass::Right)),
+        Clause::Blank => behind_term(skip(more, WordClass::When), WordClass::Zero, "ZERO"),
     }
 }
 

@@ -1,12 +1,14 @@
 //! Operands that can't be compared or tested.
 
-use crate::bearers::{Bearer, BothWords, Operand, meant};
-use crate::choices::{is_word, test_len};
+use crate::bearers::{Bearer, BothWords, described_part, meant, operand_part};
+use crate::choices::{is_one_of, is_word, test_len};
+use crate::clauses::is_characters;
 use crate::entry::{behind_many, front_of, picture_word, word_of};
 use crate::phrases::{Part, Phrase};
 use crate::statements::is_constant;
 use crate::terms::{is_name_word, is_term};
-use crate::told::{Caret, Told, advised};
+use crate::told::{Told, advised_at, advised_first};
+use crate::words::has_digits_alone;
 use cob_copybook_clauses::WordClass;
 use cob_picture::{Category, Picture};
 use cob_source::{Token, TokenKind};
@@ -46,11 +48,6 @@ const CLASS: &str =
 
 /// What to do with a condition that is a name alone.
 const ALONE: &str = "compare it with something, or test it for a class or a sign";
-
-/// Whether a word is one of these.
-fn is_one_of(word: &Token, texts: &[&str]) -> bool {
-    texts.iter().any(|text| is_word(word, text))
-}
 
 /// Whether a statement is a test of a choice.
 pub(crate) fn is_test(statement: &[Token]) -> bool {
@@ -153,15 +150,13 @@ fn simple_at(words: &[Token]) -> (Simple<'_>, &[Token]) {
 /// What an operand is beside another one, as far as its own words say.
 #[derive(Clone, Copy, PartialEq, Eq)]
 enum Form {
-    /// A literal or a figurative constant.
-    Constant,
-    /// A number that may stand beside characters.
+    /// A number that may stand beside characters: DISPLAY and whole, or written without a sign and a point.
     Whole,
     /// A number that may not.
     Number,
     /// Characters.
     Characters,
-    /// A group, or what is not known.
+    /// A group, ZERO, or what is not known.
     Any,
 }
 
@@ -179,9 +174,32 @@ fn form_of_picture(word: &Token, is_display: bool) -> Form {
 
 /// Whether an entry is written as DISPLAY, or without a usage.
 fn is_display(bearer: Bearer<'_>) -> bool {
-    match word_of(bearer.entry().words, WordClass::UsageName) {
+    match word_of(bearer.entry(), WordClass::UsageName) {
         Some(usage) => is_word(usage, "DISPLAY"),
         None => true,
+    }
+}
+
+/// Whether a constant is in front: a literal, a figurative constant, or ALL.
+fn has_constant(words: &[Token]) -> bool {
+    match words.first() {
+        Some(first) => is_constant(first) || is_term(first, WordClass::All),
+        None => false,
+    }
+}
+
+/// What a constant is.
+fn form_of_constant(word: &Token) -> Form {
+    if is_term(word, WordClass::Zero) {
+        return Form::Any;
+    }
+    if is_characters(word) || is_term(word, WordClass::All) {
+        return Form::Characters;
+    }
+    if has_digits_alone(word.text.as_slice()) {
+        Form::Whole
+    } else {
+        Form::Number
     }
 }
 
@@ -190,8 +208,8 @@ fn form_of(both: BothWords<'_>, words: &[Token]) -> Form {
     let Some(first) = words.first() else {
         return Form::Any;
     };
-    if is_constant(first) || is_term(first, WordClass::All) {
-        return Form::Constant;
+    if has_constant(words) {
+        return form_of_constant(first);
     }
     let Some(bearer) = meant(both, words) else {
         return Form::Any;
@@ -202,10 +220,9 @@ fn form_of(both: BothWords<'_>, words: &[Token]) -> Form {
     }
 }
 
-/// Whether two operands can't be compared, as far as their own words say.
+/// Whether a number that may not stand beside characters stands beside some.
 fn are_apart(first: Form, second: Form) -> bool {
-    (first == Form::Constant && second == Form::Constant)
-        || (first == Form::Number && second == Form::Characters)
+    (first == Form::Number && second == Form::Characters)
         || (first == Form::Characters && second == Form::Number)
 }
 
@@ -219,10 +236,9 @@ fn is_apart(both: BothWords<'_>, simple: Simple<'_>) -> bool {
     if simple.rest.is_empty() {
         return true;
     }
-    are_apart(
-        form_of(both, simple.first),
-        form_of(both, second_of(simple)),
-    )
+    let second = second_of(simple);
+    (has_constant(simple.first) && has_constant(second))
+        || are_apart(form_of(both, simple.first), form_of(both, second))
 }
 
 /// The class or the sign that a simple condition tests, if it tests one.
@@ -237,55 +253,46 @@ fn quality_of(simple: Simple<'_>) -> Option<&Token> {
 
 /// What is told of the class or the sign that an operand is tested for.
 fn told_quality<'a>(both: BothWords<'a>, simple: Simple<'a>, quality: &'a Token) -> Told<'a> {
-    let operand = Operand {
-        both,
-        words: simple.first,
-    };
-    let is_class = is_one_of(quality, &CLASSES);
-    let hint = if is_class {
+    let hint = if is_one_of(quality, &CLASSES) {
         CLASS
     } else {
         "a sign is for numbers alone"
     };
-    advised(
-        Some(Caret::under(quality)),
-        Phrase::of_two(
-            "{}: it can't be tested for {}",
-            Part::Operand(operand),
+    advised_at(
+        quality,
+        Phrase::of_three(
+            "{}{}: it can't be tested for {}",
+            operand_part(simple.first),
+            described_part(both, simple.first),
             Part::Word(quality),
         ),
-        Phrase::plain(hint),
+        hint,
     )
 }
 
 /// What is told of a comparison.
 fn told_relation<'a>(both: BothWords<'a>, simple: Simple<'a>) -> Told<'a> {
-    let first = Operand {
-        both,
-        words: simple.first,
-    };
-    let second = Operand {
-        both,
-        words: second_of(simple),
-    };
-    advised(
-        Caret::under_first(simple.rest),
-        Phrase::of_two(
-            "{}, beside {}: they can't be compared",
-            Part::Operand(first),
-            Part::Operand(second),
+    let second = second_of(simple);
+    advised_first(
+        simple.rest,
+        Phrase::of_four(
+            "{}{}, beside {}{}: they can't be compared",
+            operand_part(simple.first),
+            described_part(both, simple.first),
+            operand_part(second),
+            described_part(both, second),
         ),
-        Phrase::plain(COMPARED),
+        COMPARED,
     )
 }
 
 /// What is told of a simple condition that can't be tested.
 fn told_simple<'a>(both: BothWords<'a>, simple: Simple<'a>) -> Told<'a> {
     if simple.rest.is_empty() {
-        return advised(
-            Caret::under_first(simple.first),
+        return advised_first(
+            simple.first,
             Phrase::of("{} alone is no condition", Part::Words(simple.first)),
-            Phrase::plain(ALONE),
+            ALONE,
         );
     }
     match quality_of(simple) {
@@ -342,14 +349,14 @@ fn told_of<'a>(both: BothWords<'_>, words: &'a [Token]) -> Simple<'a> {
 
 /// What is told of the values of a WHEN, which can't be compared with what its EVALUATE tests.
 fn told_values<'a>(first: &'a Token, values: &'a [Token]) -> Told<'a> {
-    advised(
-        Caret::under_first(values),
+    advised_first(
+        values,
         Phrase::of_two(
             "{} {} can't be compared with what EVALUATE tests",
             Part::Word(first),
             Part::Words(values),
         ),
-        Phrase::plain(COMPARED),
+        COMPARED,
     )
 }
 

@@ -1,4 +1,4 @@
-//! The words of an entry.
+//! The words of an entry: those up to its period.
 
 use crate::clauses::clause_name;
 use crate::terms::{is_term, whole};
@@ -6,13 +6,6 @@ use crate::words::write_word;
 use cob_copybook_clauses::WordClass;
 use cob_source::{Token, TokenKind};
 use std::fmt;
-
-/// An entry as it stands in a text: its words up to the period, and those from the period on.
-#[derive(Clone, Copy)]
-pub(crate) struct WrittenEntry<'a> {
-    pub(crate) words: &'a [Token],
-    pub(crate) behind: &'a [Token],
-}
 
 /// The words behind so many of them.
 pub(crate) fn behind_many(words: &[Token], count: usize) -> &[Token] {
@@ -36,41 +29,29 @@ fn sentence_len(words: &[Token]) -> usize {
     words.len()
 }
 
-/// The entry that begins with the first of these words.
-pub(crate) fn entry_in_front(words: &[Token]) -> WrittenEntry<'_> {
-    let count = sentence_len(words);
-    WrittenEntry {
-        words: front_of(words, count),
-        behind: behind_many(words, count),
-    }
+/// The words of the entry that begins with the first of these, up to its period.
+pub(crate) fn entry_in_front(words: &[Token]) -> &[Token] {
+    front_of(words, sentence_len(words))
 }
 
-/// The entry with so many words before it.
-pub(crate) fn entry_at(words: &[Token], before: usize) -> WrittenEntry<'_> {
+/// The words of the entry with so many words before it.
+pub(crate) fn entry_at(words: &[Token], before: usize) -> &[Token] {
     entry_in_front(behind_many(words, before))
 }
 
 /// The line of an entry's first word.
-pub(crate) fn line_of(entry: WrittenEntry<'_>) -> u32 {
-    match entry.words.first() {
+pub(crate) fn line_of(entry: &[Token]) -> u32 {
+    match entry.first() {
         Some(first) => first.line,
         None => 0,
     }
 }
 
 /// The level of an entry, 0 where none is written.
-pub(crate) fn level_of(entry: WrittenEntry<'_>) -> u32 {
-    match entry.words.first() {
+pub(crate) fn level_of(entry: &[Token]) -> u32 {
+    match entry.first() {
         Some(level) => whole(level.text.as_slice(), 2).unwrap_or(0),
         None => 0,
-    }
-}
-
-/// The first of these words, or the period behind them.
-pub(crate) fn word_or_stop<'a>(entry: WrittenEntry<'a>, rest: &'a [Token]) -> Option<&'a Token> {
-    match rest.first() {
-        Some(word) => Some(word),
-        None => entry.behind.first(),
     }
 }
 
@@ -84,20 +65,23 @@ pub(crate) fn last_words(words: &[Token], most: usize) -> &[Token] {
     behind_many(words, words.len().saturating_sub(most))
 }
 
+/// Whether the word behind a level names the entry.
+fn names_entry(word: &Token) -> bool {
+    word.kind == TokenKind::Word && !is_term(word, WordClass::Filler) && clause_name(word).is_none()
+}
+
 /// The word that names an entry, if it has a name.
-pub(crate) fn name_word(entry: WrittenEntry<'_>) -> Option<&Token> {
-    let (_, more) = entry.words.split_first()?;
-    let named = more.first()?;
-    let names = named.kind == TokenKind::Word
-        && !is_term(named, WordClass::Filler)
-        && clause_name(named).is_none();
-    if names { Some(named) } else { None }
+pub(crate) fn name_word(entry: &[Token]) -> Option<&Token> {
+    match entry.get(1) {
+        Some(word) if names_entry(word) => Some(word),
+        _ => None,
+    }
 }
 
 /// Writes an entry as it is told: by its name, or by its line.
 pub(crate) fn write_entry<W: fmt::Write>(
     f: &mut fmt::Formatter<W>,
-    entry: WrittenEntry<'_>,
+    entry: &[Token],
 ) -> fmt::Result {
     match name_word(entry) {
         Some(word) => write_word(f, word),
@@ -105,25 +89,27 @@ pub(crate) fn write_entry<W: fmt::Write>(
     }
 }
 
-/// Writes an entry so, and its line behind it in brackets.
-pub(crate) fn write_entry_with_line<W: fmt::Write>(
-    f: &mut fmt::Formatter<W>,
-    entry: WrittenEntry<'_>,
-) -> fmt::Result {
-    write_entry(f, entry)?;
-    write!(f, " (line {})", line_of(entry))
-}
-
 /// Writes what an entry is: its picture, or that it is a group.
 pub(crate) fn write_picture<W: fmt::Write>(
     f: &mut fmt::Formatter<W>,
-    entry: WrittenEntry<'_>,
+    entry: &[Token],
 ) -> fmt::Result {
-    let Some(word) = picture_word(entry) else {
-        return f.write_str("a group");
-    };
-    f.write_str("PIC ")?;
-    write_word(f, word)
+    match picture_word(entry) {
+        Some(word) => {
+            f.write_str("PIC ")?;
+            write_word(f, word)
+        }
+        None => f.write_str("a group"),
+    }
+}
+
+/// Writes what an entry is behind its name and a comma.
+pub(crate) fn write_described<W: fmt::Write>(
+    f: &mut fmt::Formatter<W>,
+    entry: &[Token],
+) -> fmt::Result {
+    f.write_str(", ")?;
+    write_picture(f, entry)
 }
 
 /// The words from the first of this kind on, if there is one.
@@ -138,25 +124,36 @@ pub(crate) fn words_from(words: &[Token], term: WordClass) -> Option<&[Token]> {
 
 /// The first word of this kind, if there is one.
 pub(crate) fn word_of(words: &[Token], term: WordClass) -> Option<&Token> {
-    words_from(words, term)?.first()
+    for word in words {
+        if is_term(word, term) {
+            return Some(word);
+        }
+    }
+    None
+}
+
+/// The second of these words, or the third where the second is one that may be left out.
+fn second_word(words: &[Token], between: WordClass) -> Option<&Token> {
+    match words.get(1) {
+        Some(word) if is_term(word, between) => words.get(2),
+        word => word,
+    }
 }
 
 /// The first word behind this one, one that may be left out passed over.
 pub(crate) fn word_behind(words: &[Token], term: WordClass, between: WordClass) -> Option<&Token> {
-    let rest = behind_many(words_from(words, term)?, 1);
-    let first = rest.first()?;
-    if is_term(first, between) {
-        return behind_many(rest, 1).first();
+    match words_from(words, term) {
+        Some(own) => second_word(own, between),
+        None => None,
     }
-    Some(first)
 }
 
 /// The picture of an entry, if it has one.
-pub(crate) fn picture_word(entry: WrittenEntry<'_>) -> Option<&Token> {
-    word_behind(entry.words, WordClass::Picture, WordClass::Is)
+pub(crate) fn picture_word(entry: &[Token]) -> Option<&Token> {
+    word_behind(entry, WordClass::Picture, WordClass::Is)
 }
 
 /// The word that names the count of a table, if one does.
-pub(crate) fn count_word(entry: WrittenEntry<'_>) -> Option<&Token> {
-    word_behind(entry.words, WordClass::Depending, WordClass::On)
+pub(crate) fn count_word(entry: &[Token]) -> Option<&Token> {
+    word_behind(entry, WordClass::Depending, WordClass::On)
 }

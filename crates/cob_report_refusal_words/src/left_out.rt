@@ -1,14 +1,14 @@
 //! Words and levels that are left out by name.
 
-use crate::entry::{WrittenEntry, picture_word};
+use crate::entry::picture_word;
 use crate::phrases::{Part, Phrase};
 use crate::told::{Caret, Told, advised};
 use cob_picture::Picture;
 use cob_source::Token;
 
 /// The word of an entry with this text.
-fn word_of<'a>(entry: WrittenEntry<'a>, text: &[u8]) -> Option<&'a Token> {
-    for word in entry.words {
+fn word_of<'a>(entry: &'a [Token], text: &[u8]) -> Option<&'a Token> {
+    for word in entry {
         if word.text.as_slice() == text {
             return Some(word);
         }
@@ -16,20 +16,25 @@ fn word_of<'a>(entry: WrittenEntry<'a>, text: &[u8]) -> Option<&'a Token> {
     None
 }
 
+/// How many bytes a binary item with so many digits takes.
+fn size_of(digits: u8) -> usize {
+    match digits {
+        0..=4 => 2,
+        5..=9 => 4,
+        _ => 8,
+    }
+}
+
 /// How many bytes a binary item with this picture takes.
 fn binary_size(word: &Token) -> usize {
     match Picture::read(word.text.as_slice()) {
-        Ok(picture) => match picture.digits() {
-            0..=4 => 2,
-            5..=9 => 4,
-            _ => 8,
-        },
+        Ok(picture) => size_of(picture.digits()),
         Err(_) => 4,
     }
 }
 
 /// What to do with an item that is COMP-5.
-fn native_hint(entry: WrittenEntry<'_>) -> Phrase<'_> {
+fn native_hint(entry: &[Token]) -> Phrase<'_> {
     match picture_word(entry) {
         Some(word) => Phrase::of_three(
             "write COMP where each value keeps to the digits of PIC {}, or where {} is only sent and convert has --binary whole; else PIC X({})",
@@ -144,15 +149,15 @@ fn has_binary(words: &[Token]) -> bool {
 }
 
 /// Which number divides the offset of an item that is aligned, where it is binary by a word of its own.
-fn boundary_of(entry: WrittenEntry<'_>) -> Option<usize> {
-    if !has_binary(entry.words) {
-        return None;
+fn boundary_of(entry: &[Token]) -> Option<usize> {
+    match picture_word(entry) {
+        Some(word) if has_binary(entry) => Some(binary_size(word).min(4)),
+        _ => None,
     }
-    Some(binary_size(picture_word(entry)?).min(4))
 }
 
 /// What to do with an item that is aligned.
-fn slack_hint(entry: WrittenEntry<'_>) -> Phrase<'_> {
+fn slack_hint(entry: &[Token]) -> Phrase<'_> {
     match boundary_of(entry) {
         Some(boundary) => Phrase::of_two(
             "SYNC wants an offset that {} divides: write {} without it, and where layout tells another offset, FILLER PIC X(n) before it with the bytes that lack",
@@ -180,7 +185,7 @@ fn form_of(text: &[u8]) -> &'static str {
 }
 
 /// What to do with a word of an entry that is left out.
-fn hint_of<'a>(entry: WrittenEntry<'a>, text: &[u8]) -> Phrase<'a> {
+fn hint_of<'a>(entry: &'a [Token], text: &[u8]) -> Phrase<'a> {
     if is_native(text) {
         return native_hint(entry);
     }
@@ -190,14 +195,18 @@ fn hint_of<'a>(entry: WrittenEntry<'a>, text: &[u8]) -> Phrase<'a> {
     Phrase::plain(way_round(text))
 }
 
-/// What is told of a word or a level that is left out by name.
-pub(crate) fn told_left_out<'a>(entry: WrittenEntry<'a>, text: &'a [u8]) -> Told<'a> {
-    let at = match word_of(entry, text) {
+/// Under a word, if it is there.
+fn caret_under(word: Option<&Token>) -> Option<Caret> {
+    match word {
         Some(word) => Some(Caret::under(word)),
         None => None,
-    };
+    }
+}
+
+/// What is told of a word or a level that is left out by name.
+pub(crate) fn told_left_out<'a>(entry: &'a [Token], text: &'a [u8]) -> Told<'a> {
     advised(
-        at,
+        caret_under(word_of(entry, text)),
         Phrase::of(form_of(text), Part::Bytes(text)),
         hint_of(entry, text),
     )

@@ -19,7 +19,7 @@ use crate::statements::{
     broken_on, is_constant, statement_in_front, tested_on, with_head, words_at,
 };
 use crate::subscripts::told_subscripts;
-use crate::told::{Caret, Told, advised, said};
+use crate::told::{Told, advised_at, advised_plainly, said_plainly};
 use crate::verbs::told_statement_words;
 use cob_move_statements::MoveRule;
 use cob_report_refusals::{MoveRefusal, Spot};
@@ -72,59 +72,39 @@ fn literal_compared(statement: &[Token]) -> Option<&Token> {
 /// What is told of a literal of a test.
 fn told_compared(statement: &[Token]) -> Told<'_> {
     match literal_compared(statement) {
-        Some(word) => advised(
-            Some(Caret::under(word)),
+        Some(word) => advised_at(
+            word,
             Phrase::of("{} may not be compared", Part::Word(word)),
-            Phrase::plain("a literal has 1 to 160 characters, and a number at most 31 digits"),
+            "a literal has 1 to 160 characters, and a number at most 31 digits",
         ),
-        None => said(
-            Caret::under_first(statement),
-            Phrase::plain("a literal may not be compared"),
-        ),
+        None => said_plainly(statement, "a literal may not be compared"),
     }
 }
 
 /// What is told of a literal that its receiver can't take.
 fn told_literal(statement: &[Token]) -> Told<'_> {
     match literal_of(statement) {
-        Some(word) => advised(
-            Some(Caret::under(word)),
+        Some(word) => advised_at(
+            word,
             Phrase::of("{} does not fit what receives it", Part::Word(word)),
-            Phrase::plain(
-                "a number takes digits, a group characters or a whole number without a sign; 160 characters or 31 digits are the most",
-            ),
+            "a number takes digits, a group characters or a whole number without a sign; 160 characters or 31 digits are the most",
         ),
-        None => said(
-            Caret::under_first(statement),
-            Phrase::plain("the literal does not fit what receives it"),
-        ),
+        None => said_plainly(statement, "the literal does not fit what receives it"),
     }
 }
 
-/// What is told of a statement that breaks a rule as a whole.
-fn told_whole<'a>(statement: &'a [Token], words: &'static str, hint: &'static str) -> Told<'a> {
-    advised(
-        Caret::under_first(statement),
-        Phrase::plain(words),
-        Phrase::plain(hint),
-    )
-}
-
-/// What is told of a statement that breaks a rule that no one word of it breaks.
-fn told_other(statement: &[Token], rule: MoveRule) -> Told<'_> {
+/// What is wrong with a statement that breaks a rule that no one word of it breaks, and what to do.
+fn other_words(rule: MoveRule) -> (&'static str, &'static str) {
     match rule {
-        MoveRule::Twice => told_whole(
-            statement,
+        MoveRule::Twice => (
             "an item of one of the groups is in two pairs",
             "give one of the items another name, or the FILLER group a name",
         ),
-        MoveRule::Counter => told_whole(
-            statement,
+        MoveRule::Counter => (
             "the loop tests another name than its counter's, or its counter has the name of an entry or of a counter round it, or nothing bounds it",
             "give the counter a name of its own, and end the loop by a number or a whole item",
         ),
-        MoveRule::TooMany => told_whole(
-            statement,
+        MoveRule::TooMany => (
             "the paragraph comes to more than 100,000 statements, or more than 16 loops and choices hold one another",
             "move groups, or cut the paragraph in two conversions",
         ),
@@ -139,12 +119,14 @@ fn told_other(statement: &[Token], rule: MoveRule) -> Told<'_> {
         | MoveRule::Groups
         | MoveRule::TooLong
         | MoveRule::NotComparable
-        | MoveRule::Memory => told_whole(
-            statement,
-            "the statement breaks this rule",
-            "FAULTS.md, A paragraph",
-        ),
+        | MoveRule::Memory => ("the statement breaks this rule", "FAULTS.md, A paragraph"),
     }
+}
+
+/// What is told of a statement that breaks a rule that no one word of it breaks.
+fn told_other(statement: &[Token], rule: MoveRule) -> Told<'_> {
+    let (what, hint) = other_words(rule);
+    advised_plainly(statement, what, hint)
 }
 
 /// The words from the statement on that a refusal is told of.
@@ -172,7 +154,7 @@ fn told_statement<'a>(both: BothWords<'a>, words: &'a [Token], rule: MoveRule) -
         MoveRule::TooLong => told_pair(
             both,
             statement,
-            "{}, to {}: to a number 31 characters are the most",
+            "{}{}, to {}{}: to a number 31 characters are the most",
             Phrase::plain("move a part of it, by a group with smaller items"),
         ),
         MoveRule::Literal if is_test(statement) => told_compared(statement),
@@ -247,7 +229,6 @@ fn next_behind(others: &[MoveRefusal], last: Option<Spot>) -> Option<&MoveRefusa
 
 /// Adds the block of a refusal.
 fn push_refusal(
-    alloc: Global,
     out: &mut String,
     moves: RefusedMoves<'_>,
     both: BothWords<'_>,
@@ -263,15 +244,14 @@ fn push_refusal(
             broken,
             refusal.fault.line,
         );
-        return push_block(alloc, out, moves.file, moves.text, &rule, &told);
+        return push_block(out, moves.file, moves.text, &rule, &told);
     }
     let told = told_of_statement(both, words, refusal);
-    push_block(alloc, out, moves.file, moves.text, &rule, &told)
+    push_block(out, moves.file, moves.text, &rule, &told)
 }
 
 /// Adds the blocks of refusals, at most so many: that of the first, and behind it those of the others in the order of the text.
 fn push_refusals(
-    alloc: Global,
     out: &mut String,
     moves: RefusedMoves<'_>,
     both: BothWords<'_>,
@@ -282,16 +262,39 @@ fn push_refusals(
     let Some((first, others)) = refusals.split_first() else {
         return Ok(());
     };
-    push_refusal(alloc, out, moves, both, words, first)?;
+    push_refusal(out, moves, both, words, first)?;
     let mut last: Option<Spot> = None;
     for _ in 1..most {
         let Some(refusal) = next_behind(others, last) else {
             return Ok(());
         };
-        push_refusal(alloc, out, moves, both, words, refusal)?;
+        push_refusal(out, moves, both, words, refusal)?;
         last = refusal.at;
     }
     Ok(())
+}
+
+/// The words of the copybook of a record.
+fn book_words(words: &[Token], is_input: bool) -> BookWords<'_> {
+    BookWords { words, is_input }
+}
+
+/// Adds the blocks of refusals of a paragraph with these words, between an input record whose copybook has those words and the output record.
+fn push_behind(
+    alloc: Global,
+    out: &mut String,
+    moves: RefusedMoves<'_>,
+    input: &[Token],
+    words: &[Token],
+    refusals: &[MoveRefusal],
+    most: u32,
+) -> Result<(), AllocError> {
+    let output = words_of(alloc, moves.out_book)?;
+    let both = BothWords {
+        input: book_words(input, true),
+        output: book_words(output.as_slice(), false),
+    };
+    push_refusals(out, moves, both, words, refusals, most)
 }
 
 /// Adds the blocks of refusals of a paragraph with these words.
@@ -304,18 +307,20 @@ fn push_between(
     most: u32,
 ) -> Result<(), AllocError> {
     let input = words_of(alloc, moves.in_book)?;
-    let output = words_of(alloc, moves.out_book)?;
-    let both = BothWords {
-        input: BookWords {
-            words: input.as_slice(),
-            is_input: true,
-        },
-        output: BookWords {
-            words: output.as_slice(),
-            is_input: false,
-        },
-    };
-    push_refusals(alloc, out, moves, both, words, refusals, most)
+    push_behind(alloc, out, moves, input.as_slice(), words, refusals, most)
+}
+
+/// The blocks of these refusals of a paragraph with these words.
+fn text_of(
+    alloc: Global,
+    moves: RefusedMoves<'_>,
+    words: &[Token],
+    refusals: &[MoveRefusal],
+    most: u32,
+) -> Result<String, AllocError> {
+    let mut text = String::new(alloc);
+    push_between(alloc, &mut text, moves, words, refusals, most)?;
+    Ok(text)
 }
 
 /// The blocks of these refusals.
@@ -326,9 +331,7 @@ fn blocks_of(
     most: u32,
 ) -> Result<String, AllocError> {
     let words = paragraph_words(alloc, moves.text)?;
-    let mut text = String::new(alloc);
-    push_between(alloc, &mut text, moves, words.as_slice(), refusals, most)?;
-    Ok(text)
+    text_of(alloc, moves, words.as_slice(), refusals, most)
 }
 
 /// The blocks of a paragraph of which this is refused, at most so many, each with its line of the text. The first stays the first; the others are told in the

@@ -1,31 +1,25 @@
 //! Names that are none.
 
-use crate::entry::{WrittenEntry, count_word, name_word, word_behind};
+use crate::entry::{count_word, name_word, word_behind};
 use crate::phrases::{Part, Phrase};
-use crate::told::{Caret, Told, advised, said};
+use crate::told::{Told, advised_at, said_plainly};
 use cob_copybook_clauses::{WordClass, is_name};
 use cob_source::Token;
 use std::slice;
 
 /// The word, if it is there and is no name.
 fn if_none(word: Option<&Token>) -> Option<&Token> {
-    let word = word?;
-    if is_name(word.text.as_slice()) {
-        return None;
+    match word {
+        Some(word) if !is_name(word.text.as_slice()) => Some(word),
+        _ => None,
     }
-    Some(word)
 }
 
 /// The first text of an entry that stands in a name's place and is none.
-fn no_name(entry: WrittenEntry<'_>) -> Option<&Token> {
-    if let Some(word) = if_none(name_word(entry)) {
-        return Some(word);
-    }
-    let redefined = word_behind(entry.words, WordClass::Redefines, WordClass::Stop);
-    if let Some(word) = if_none(redefined) {
-        return Some(word);
-    }
-    if_none(count_word(entry))
+fn no_name(entry: &[Token]) -> Option<&Token> {
+    let redefined = word_behind(entry, WordClass::Redefines, WordClass::Stop);
+    let others = if_none(redefined).or(if_none(count_word(entry)));
+    if_none(name_word(entry)).or(others)
 }
 
 /// Whether a character may stand in a name.
@@ -43,17 +37,36 @@ fn foreign_character(text: &[u8]) -> Option<&u8> {
     None
 }
 
+/// Whether a text has a letter.
+fn has_letter(text: &[u8]) -> bool {
+    for character in text {
+        if character.is_ascii_uppercase() {
+            return true;
+        }
+    }
+    false
+}
+
+/// How it is told why a text is no name whose first character may be that of one.
+fn later_form(text: &[u8]) -> &'static str {
+    if matches!(text.last(), Some(b'-')) {
+        "{} is no name: it ends in a hyphen"
+    } else if has_letter(text) {
+        "{} is no name: it is a reserved word"
+    } else {
+        "{} is no name: it has no letter"
+    }
+}
+
 /// How it is told why a text is no name that has its characters.
 fn form_of(text: &[u8]) -> &'static str {
-    match (text.first(), text.last()) {
-        _ if text.len() > 30 => "{} is no name: it has {} characters, and 30 are the most",
-        (Some(b'-'), _) => "{} is no name: it begins with a hyphen",
-        (Some(b'_'), _) => "{} is no name: it begins with an underscore",
-        (_, Some(b'-')) => "{} is no name: it ends in a hyphen",
-        _ if !text.iter().any(|character| character.is_ascii_uppercase()) => {
-            "{} is no name: it has no letter"
-        }
-        _ => "{} is no name: it is a reserved word",
+    if text.len() > 30 {
+        return "{} is no name: it has {} characters, and 30 are the most";
+    }
+    match text.first() {
+        Some(b'-') => "{} is no name: it begins with a hyphen",
+        Some(b'_') => "{} is no name: it begins with an underscore",
+        _ => later_form(text),
     }
 }
 
@@ -80,16 +93,9 @@ fn hint_of(text: &[u8]) -> &'static str {
 }
 
 /// What is told of an entry with a name that is none.
-pub(crate) fn told_name(entry: WrittenEntry<'_>) -> Told<'_> {
+pub(crate) fn told_name(entry: &[Token]) -> Told<'_> {
     match no_name(entry) {
-        Some(word) => advised(
-            Some(Caret::under(word)),
-            what_of(word),
-            Phrase::plain(hint_of(word.text.as_slice())),
-        ),
-        None => said(
-            Caret::under_first(entry.words),
-            Phrase::plain("a name in it is none"),
-        ),
+        Some(word) => advised_at(word, what_of(word), hint_of(word.text.as_slice())),
+        None => said_plainly(entry, "a name in it is none"),
     }
 }

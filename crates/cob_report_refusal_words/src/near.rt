@@ -3,9 +3,7 @@
 /// Whether two texts are one but for one character: one that is another, one more, or one less; or for two neighbours that changed places.
 fn differ_in_one(a: &[u8], b: &[u8]) -> bool {
     let same = same_front(a, b);
-    let (_, left) = a.split_at(same.min(a.len()));
-    let (_, right) = b.split_at(same.min(b.len()));
-    behind_one(left, right)
+    behind_one(behind_many(a, same), behind_many(b, same))
 }
 
 /// How many characters both begin with.
@@ -19,26 +17,27 @@ fn same_front(a: &[u8], b: &[u8]) -> usize {
     a.len()
 }
 
-/// Whether what is left behind a first difference is the same but for it.
-fn behind_one(left: &[u8], right: &[u8]) -> bool {
-    match (left.split_first(), right.split_first()) {
-        (Some((x, xs)), Some((y, ys))) => {
-            xs == ys || left == ys || xs == right || are_swapped(*x, xs, *y, ys)
-        }
-        (Some((_, xs)), None) => xs.is_empty(),
-        (None, Some((_, ys))) => ys.is_empty(),
-        (None, None) => false,
-    }
+/// A text behind so many characters.
+fn behind_many(text: &[u8], count: usize) -> &[u8] {
+    let (_, rest) = text.split_at(count.min(text.len()));
+    rest
 }
 
-/// Whether two characters changed places, and the rest is the same.
-fn are_swapped(x: u8, xs: &[u8], y: u8, ys: &[u8]) -> bool {
-    match (xs.split_first(), ys.split_first()) {
-        (Some((x_next, x_rest)), Some((y_next, y_rest))) => {
-            x == *y_next && y == *x_next && x_rest == y_rest
-        }
-        _ => false,
+/// Whether what is left behind a first difference is the same but for it: one character that is another, one more, or one less; or two that changed places.
+fn behind_one(left: &[u8], right: &[u8]) -> bool {
+    let xs = behind_many(left, 1);
+    let ys = behind_many(right, 1);
+    if left.len() == right.len() {
+        return !left.is_empty() && (xs == ys || are_swapped(left, right));
     }
+    left == ys || xs == right
+}
+
+/// Whether the first two characters changed places, and the rest is the same.
+fn are_swapped(left: &[u8], right: &[u8]) -> bool {
+    left.first() == right.get(1)
+        && left.get(1) == right.first()
+        && behind_many(left, 2) == behind_many(right, 2)
 }
 
 /// Whether one text is near to the other: they differ in one character, or in a hyphen or two.
@@ -58,8 +57,7 @@ fn behind_hyphens(text: &[u8]) -> &[u8] {
         }
         count = count.saturating_add(1);
     }
-    let (_, rest) = text.split_at(count.min(text.len()));
-    rest
+    behind_many(text, count)
 }
 
 /// Whether two texts have the same characters, hyphens and underscores left out.

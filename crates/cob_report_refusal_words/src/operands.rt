@@ -1,14 +1,14 @@
 //! Names of a statement, and what they mean.
 
-use crate::bearers::{Bearer, BothWords, MOST_BEARERS, NamedBearers, Operand, meant};
+use crate::bearers::{Bearer, BothWords, MOST_BEARERS, described_part, meant, operand_part};
 use crate::choices::is_branch_word;
 use crate::comparisons::{is_test, is_test_word};
-use crate::entry::{WrittenEntry, behind_many, front_of, picture_word};
+use crate::entry::{behind_many, front_of, line_of, picture_word};
 use crate::phrases::{Part, Phrase};
 use crate::search::Looked;
 use crate::statements::receivers_of;
 use crate::terms::{behind, is_name_word, is_term};
-use crate::told::{Caret, Told, advised, said};
+use crate::told::{Caret, Told, advised, advised_at, said_plainly};
 use cob_copybook_clauses::WordClass;
 use cob_picture::{Category, Picture};
 use cob_source::Token;
@@ -48,10 +48,12 @@ fn unknown_name<'a>(both: BothWords<'_>, statement: &'a [Token]) -> Option<&'a T
 /// An entry whose name is near to a word, if there is one.
 fn near_hint<'a>(both: BothWords<'a>, word: &Token) -> Option<Phrase<'a>> {
     let near = both.first(Looked::Near(word.text.as_slice()))?;
-    Some(Phrase::of_two(
-        "{} ({}) is near to it",
-        Part::Entry(near.entry()),
-        Part::Place(near),
+    let entry = near.entry();
+    Some(Phrase::of_three(
+        "{} ({} line {}) is near to it",
+        Part::Entry(entry),
+        Part::Text(near.book.option()),
+        Part::Number(line_of(entry) as usize),
     ))
 }
 
@@ -59,14 +61,14 @@ fn near_hint<'a>(both: BothWords<'a>, word: &Token) -> Option<Phrase<'a>> {
 /// else of the qualifiers.
 fn told_not_found<'a>(statement: &'a [Token], behind: &'a [Token]) -> Told<'a> {
     match behind.first() {
-        Some(word) if is_branch_word(word) => advised(
-            Some(Caret::under(word)),
+        Some(word) if is_branch_word(word) => advised_at(
+            word,
             Phrase::of("{} stands in no IF and in no EVALUATE", Part::Word(word)),
-            Phrase::plain("an IF ends with END-IF, an EVALUATE with END-EVALUATE"),
+            "an IF ends with END-IF, an EVALUATE with END-EVALUATE",
         ),
-        _ => said(
-            Caret::under_first(statement),
-            Phrase::plain("no entry of the two records has a name of it with these qualifiers"),
+        _ => said_plainly(
+            statement,
+            "no entry of the two records has a name of it with these qualifiers",
         ),
     }
 }
@@ -87,43 +89,79 @@ pub(crate) fn told_unknown<'a>(
     }
 }
 
-/// The first name of a statement without qualifiers that several entries have.
-fn ambiguous_name<'a>(both: BothWords<'_>, statement: &'a [Token]) -> Option<&'a Token> {
+/// Whether a word of a statement, which so many stand before, names an entry of its own without qualifiers.
+fn is_free(statement: &[Token], at: usize, word: &Token) -> bool {
+    let more = behind_many(statement, at.saturating_add(1));
+    is_reference(statement, at, word) && behind(more, WordClass::Of).is_none()
+}
+
+/// The first of the entries with a name, where there are several.
+fn first_of_several<'a>(both: BothWords<'a>, name: &[u8]) -> Option<Bearer<'a>> {
+    let looked = Looked::Named(name);
+    if both.count(looked) > 1 {
+        return both.first(looked);
+    }
+    None
+}
+
+/// The first name of a statement without qualifiers that several entries have, and the first of these.
+fn ambiguous_name<'a>(
+    both: BothWords<'a>,
+    statement: &'a [Token],
+) -> Option<(&'a Token, Bearer<'a>)> {
     for (at, word) in statement.iter().enumerate() {
-        let more = behind_many(statement, at.saturating_add(1));
-        let is_free = behind(more, WordClass::Of).is_none();
-        let looked = Looked::Named(word.text.as_slice());
-        if is_free && is_reference(statement, at, word) && both.count(looked) > 1 {
-            return Some(word);
+        if is_free(statement, at, word) {
+            if let Some(first) = first_of_several(both, word.text.as_slice()) {
+                return Some((word, first));
+            }
         }
     }
     None
 }
 
-/// How the first of several entries with a name is meant.
-fn first_hint<'a>(both: BothWords<'a>, name: &[u8]) -> Option<Phrase<'a>> {
-    let first = both.first(Looked::Named(name))?;
-    Some(Phrase::of("write {}", Part::Qualified(first)))
+/// An entry, if there is one.
+fn bearer_part(bearer: Option<Bearer<'_>>) -> Part<'_> {
+    match bearer {
+        Some(bearer) => Part::Bearer(bearer),
+        None => Part::Nothing,
+    }
+}
+
+/// What is told of a name that several entries have, of which this is the first: three of them at most.
+fn several_words<'a>(both: BothWords<'a>, word: &'a Token, first: Bearer<'a>) -> Phrase<'a> {
+    let looked = Looked::Named(word.text.as_slice());
+    let second = both.next(first, looked);
+    let third = match second {
+        Some(second) => both.next(second, looked),
+        None => None,
+    };
+    let form = if third.is_some() {
+        "{} is {} entries: {}, {}, {}"
+    } else {
+        "{} is {} entries: {}, {}"
+    };
+    Phrase::of_five(
+        form,
+        Part::Word(word),
+        Part::Number(both.count(looked)),
+        Part::Bearer(first),
+        bearer_part(second),
+        bearer_part(third),
+    )
 }
 
 /// What is told of a name that several entries have.
 pub(crate) fn told_ambiguous<'a>(both: BothWords<'a>, statement: &'a [Token]) -> Told<'a> {
-    let Some(word) = ambiguous_name(both, statement) else {
-        return said(
-            Caret::under_first(statement),
-            Phrase::plain("several entries have a name of it with these qualifiers"),
-        );
-    };
-    let name = word.text.as_slice();
-    Told {
-        at: Some(Caret::under(word)),
-        what: Phrase::of_three(
-            "{} is {} entries: {}",
-            Part::Word(word),
-            Part::Number(both.count(Looked::Named(name))),
-            Part::Bearers(NamedBearers { both, name }),
+    match ambiguous_name(both, statement) {
+        Some((word, first)) => advised(
+            Some(Caret::under(word)),
+            several_words(both, word, first),
+            Phrase::of_two("write {} OF {}", Part::Word(word), first.book.record_part()),
         ),
-        hint: first_hint(both, name),
+        None => said_plainly(
+            statement,
+            "several entries have a name of it with these qualifiers",
+        ),
     }
 }
 
@@ -153,10 +191,7 @@ pub(crate) fn told_receiver<'a>(both: BothWords<'a>, statement: &'a [Token]) -> 
             return told_input(both, word, bearer);
         }
     }
-    said(
-        Caret::under_first(receivers),
-        Phrase::plain("what receives is of the output record"),
-    )
+    said_plainly(receivers, "what receives is of the output record")
 }
 
 /// What is told of a receiver that is of the input record.
@@ -168,17 +203,18 @@ fn told_input<'a>(both: BothWords<'a>, word: &'a Token, bearer: Bearer<'a>) -> T
     };
     advised(
         Some(Caret::under(word)),
-        Phrase::of_two(
-            "{} is an entry of the input record ({}), and what receives is of the output record",
+        Phrase::of_three(
+            "{} is an entry of the input record ({} line {}), and what receives is of the output record",
             Part::Word(word),
-            Part::Place(bearer),
+            Part::Text(bearer.book.option()),
+            Part::Number(line_of(bearer.entry()) as usize),
         ),
         Phrase::of(hint, Part::Word(word)),
     )
 }
 
 /// Whether an entry is a number with digits behind the point.
-fn has_fraction(entry: WrittenEntry<'_>) -> bool {
+fn has_fraction(entry: &[Token]) -> bool {
     let Some(word) = picture_word(entry) else {
         return false;
     };
@@ -209,7 +245,7 @@ pub(crate) fn told_category<'a>(both: BothWords<'a>, statement: &'a [Token]) -> 
     told_pair(
         both,
         statement,
-        "{}, to {}: the table of categories has no such move",
+        "{}{}, to {}{}: the table of categories has no such move",
         category_hint(both, statement),
     )
 }
@@ -221,18 +257,17 @@ pub(crate) fn told_pair<'a>(
     form: &'static str,
     hint: Phrase<'a>,
 ) -> Told<'a> {
-    let receivers = receivers_of(statement);
-    let from = Operand {
-        both,
-        words: behind_many(statement, 1),
-    };
-    let to = Operand {
-        both,
-        words: receivers,
-    };
+    let from = behind_many(statement, 1);
+    let to = receivers_of(statement);
     advised(
-        Caret::under_first(receivers),
-        Phrase::of_two(form, Part::Operand(from), Part::Operand(to)),
+        Caret::under_first(to),
+        Phrase::of_four(
+            form,
+            operand_part(from),
+            described_part(both, from),
+            operand_part(to),
+            described_part(both, to),
+        ),
         hint,
     )
 }
@@ -253,14 +288,14 @@ fn first_item<'a>(both: BothWords<'a>, name: &[u8]) -> Option<Bearer<'a>> {
 
 /// What is told of an item beside CORRESPONDING.
 fn told_item<'a>(word: &'a Token, bearer: Bearer<'a>) -> Told<'a> {
-    advised(
-        Some(Caret::under(word)),
+    advised_at(
+        word,
         Phrase::of_two(
-            "{}, {}, is an item, and CORRESPONDING is between two groups",
+            "{}{}, is an item, and CORRESPONDING is between two groups",
             Part::Word(word),
-            Part::Picture(bearer.entry()),
+            Part::Described(bearer.entry()),
         ),
-        Phrase::plain("leave CORRESPONDING out, or name a group"),
+        "leave CORRESPONDING out, or name a group",
     )
 }
 
@@ -273,8 +308,5 @@ pub(crate) fn told_groups<'a>(both: BothWords<'a>, statement: &'a [Token]) -> To
             }
         }
     }
-    said(
-        Caret::under_first(statement),
-        Phrase::plain("CORRESPONDING is between two groups"),
-    )
+    said_plainly(statement, "CORRESPONDING is between two groups")
 }

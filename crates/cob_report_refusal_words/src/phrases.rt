@@ -1,9 +1,7 @@
 //! Phrases: a form with places in it, and what stands there.
 
-use crate::bearers::{
-    Bearer, NamedBearers, Operand, write_bearers, write_operand, write_place, write_qualified,
-};
-use crate::entry::{WrittenEntry, write_entry, write_entry_with_line, write_picture};
+use crate::bearers::{Bearer, write_bearer};
+use crate::entry::{write_described, write_entry, write_picture};
 use crate::words::{write_bytes, write_word, write_words};
 use cob_source::Token;
 use std::fmt;
@@ -27,20 +25,14 @@ pub(crate) enum Part<'a> {
     Word(&'a Token),
     /// Words, with spaces between them.
     Words(&'a [Token]),
-    /// An entry by its name or its line.
-    Entry(WrittenEntry<'a>),
-    /// An entry so, and its line behind it in brackets.
-    EntryWithLine(WrittenEntry<'a>),
-    /// An entry by its picture, or as a group.
-    Picture(WrittenEntry<'a>),
-    /// An entry of one of two records by its name, and its record.
-    Qualified(Bearer<'a>),
-    /// Where such an entry stands.
-    Place(Bearer<'a>),
-    /// Entries with one name, with their places.
-    Bearers(NamedBearers<'a>),
-    /// An operand of a statement, with what it is.
-    Operand(Operand<'a>),
+    /// An entry, by its name or its line.
+    Entry(&'a [Token]),
+    /// An entry, by its picture or as a group.
+    Picture(&'a [Token]),
+    /// An entry so, behind its name and a comma.
+    Described(&'a [Token]),
+    /// An entry of one of two records by its name, with its record, and where it stands.
+    Bearer(Bearer<'a>),
 }
 
 impl Part<'_> {
@@ -56,12 +48,9 @@ impl Part<'_> {
             Part::Word(word) => write_word(f, word),
             Part::Words(words) => write_words(f, words),
             Part::Entry(entry) => write_entry(f, entry),
-            Part::EntryWithLine(entry) => write_entry_with_line(f, entry),
             Part::Picture(entry) => write_picture(f, entry),
-            Part::Qualified(bearer) => write_qualified(f, bearer),
-            Part::Place(bearer) => write_place(f, bearer),
-            Part::Bearers(bearers) => write_bearers(f, bearers),
-            Part::Operand(operand) => write_operand(f, operand),
+            Part::Described(entry) => write_described(f, entry),
+            Part::Bearer(bearer) => write_bearer(f, bearer),
         }
     }
 }
@@ -70,29 +59,26 @@ impl Part<'_> {
 #[derive(Clone, Copy)]
 pub(crate) struct Phrase<'a> {
     form: &'static str,
-    parts: [Part<'a>; 4],
+    parts: [Part<'a>; 5],
 }
 
 impl<'a> Phrase<'a> {
     /// A form without places.
     pub(crate) fn plain(form: &'static str) -> Phrase<'a> {
-        Phrase::of_four(
+        Phrase {
             form,
-            Part::Nothing,
-            Part::Nothing,
-            Part::Nothing,
-            Part::Nothing,
-        )
+            parts: [Part::Nothing; 5],
+        }
     }
 
     /// A form with one place.
     pub(crate) fn of(form: &'static str, part: Part<'a>) -> Phrase<'a> {
-        Phrase::of_four(form, part, Part::Nothing, Part::Nothing, Part::Nothing)
+        Phrase::of_two(form, part, Part::Nothing)
     }
 
     /// A form with two places.
     pub(crate) fn of_two(form: &'static str, first: Part<'a>, second: Part<'a>) -> Phrase<'a> {
-        Phrase::of_four(form, first, second, Part::Nothing, Part::Nothing)
+        Phrase::of_three(form, first, second, Part::Nothing)
     }
 
     /// A form with three places.
@@ -102,7 +88,7 @@ impl<'a> Phrase<'a> {
         second: Part<'a>,
         third: Part<'a>,
     ) -> Phrase<'a> {
-        Phrase::of_four(form, first, second, third, Part::Nothing)
+        Phrase::of_five(form, first, second, third, Part::Nothing, Part::Nothing)
     }
 
     /// A form with four places.
@@ -113,24 +99,36 @@ impl<'a> Phrase<'a> {
         third: Part<'a>,
         fourth: Part<'a>,
     ) -> Phrase<'a> {
+        Phrase::of_five(form, first, second, third, fourth, Part::Nothing)
+    }
+
+    /// A form with five places.
+    pub(crate) fn of_five(
+        form: &'static str,
+        first: Part<'a>,
+        second: Part<'a>,
+        third: Part<'a>,
+        fourth: Part<'a>,
+        fifth: Part<'a>,
+    ) -> Phrase<'a> {
         Phrase {
             form,
-            parts: [first, second, third, fourth],
+            parts: [first, second, third, fourth, fifth],
         }
     }
 }
 
 impl fmt::Display for Phrase<'_> {
     fn fmt<W: fmt::Write>(&self, f: &mut fmt::Formatter<W>) -> fmt::Result {
-        let mut parts = self.parts.iter();
-        for (at, piece) in self.form.split("{}").enumerate() {
-            if at > 0 {
-                if let Some(part) = parts.next() {
-                    (*part).write(f)?;
-                }
-            }
-            f.write_str(piece)?;
+        let mut rest = self.form;
+        for part in &self.parts {
+            let Some((front, behind)) = rest.split_once("{}") else {
+                break;
+            };
+            f.write_str(front)?;
+            (*part).write(f)?;
+            rest = behind;
         }
-        Ok(())
+        f.write_str(rest)
     }
 }

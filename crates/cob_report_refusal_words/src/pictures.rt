@@ -1,10 +1,11 @@
 //! Pictures that are refused.
 
-use crate::entry::{WrittenEntry, picture_word, words_from};
+use crate::entry::{picture_word, word_of};
 use crate::phrases::{Part, Phrase};
-use crate::told::{Caret, Told, said};
+use crate::told::{Caret, Told, said_plainly};
 use cob_copybook_clauses::WordClass;
 use cob_picture::{Picture, PictureFault};
+use cob_source::Token;
 
 /// A symbol of a picture with its repeat.
 #[derive(Clone, Copy)]
@@ -17,14 +18,15 @@ struct Piece {
     length: usize,
 }
 
-/// The number in a bracket in front, and how many characters it takes with both brackets; nothing where none stands there.
-fn repeat_in_front(text: &[u8]) -> (u32, usize) {
-    let Some((open, inside)) = text.split_first() else {
-        return (1, 0);
-    };
-    if *open != b'(' {
-        return (1, 0);
-    }
+/// The number that a digit is the last of, behind these others.
+fn with_digit(number: u32, digit: u8) -> u32 {
+    number
+        .saturating_mul(10)
+        .saturating_add(u32::from(digit.saturating_sub(b'0')))
+}
+
+/// The number behind a bracket that opens, and how many characters it takes with both brackets.
+fn number_in_bracket(inside: &[u8]) -> (u32, usize) {
     let mut number: u32 = 0;
     let mut length: usize = 1;
     for character in inside {
@@ -32,26 +34,57 @@ fn repeat_in_front(text: &[u8]) -> (u32, usize) {
         if *character == b')' {
             return (number, length);
         }
-        number = number
-            .saturating_mul(10)
-            .saturating_add(u32::from(character.saturating_sub(b'0')));
+        number = with_digit(number, *character);
     }
     (number, length)
 }
 
-/// The first symbol of a picture with its repeat.
-fn piece_in_front(text: &[u8]) -> Option<Piece> {
-    let (symbol, more) = text.split_first()?;
-    let next = more.first().copied().unwrap_or(b' ');
-    let is_mark = (*symbol == b'C' && next == b'R') || (*symbol == b'D' && next == b'B');
-    let own: usize = if is_mark { 2 } else { 1 };
-    let (_, behind) = text.split_at(own.min(text.len()));
-    let (count, repeat) = repeat_in_front(behind);
-    Some(Piece {
-        symbol: *symbol,
+/// The number in a bracket in front, and how many characters it takes with both brackets; nothing where none stands there.
+fn repeat_in_front(text: &[u8]) -> (u32, usize) {
+    match text.first() {
+        Some(b'(') => number_in_bracket(behind_many(text, 1)),
+        _ => (1, 0),
+    }
+}
+
+/// How many characters the symbol in front has.
+fn symbol_len(text: &[u8]) -> usize {
+    if text.starts_with(b"CR".as_slice()) || text.starts_with(b"DB".as_slice()) {
+        2
+    } else {
+        1
+    }
+}
+
+/// The symbol of a picture in front, of which this is the first character, with its repeat.
+fn piece_of(symbol: u8, text: &[u8]) -> Piece {
+    let own = symbol_len(text);
+    let (count, repeat) = repeat_in_front(behind_many(text, own));
+    Piece {
+        symbol,
         count,
         length: own.saturating_add(repeat),
-    })
+    }
+}
+
+/// The first symbol of a picture with its repeat.
+fn piece_in_front(text: &[u8]) -> Option<Piece> {
+    match text.first() {
+        Some(symbol) => Some(piece_of(*symbol, text)),
+        None => None,
+    }
+}
+
+/// A text behind so many characters.
+fn behind_many(text: &[u8], count: usize) -> &[u8] {
+    let (_, rest) = text.split_at(count.min(text.len()));
+    rest
+}
+
+/// So many characters of a text.
+fn front_of(text: &[u8], count: usize) -> &[u8] {
+    let (front, _) = text.split_at(count.min(text.len()));
+    front
 }
 
 /// Whether no picture has these symbols in this order.
@@ -64,13 +97,11 @@ fn good_front(text: &[u8]) -> usize {
     let mut end: usize = 0;
     let mut good: usize = 0;
     for _ in 0..text.len() {
-        let (_, rest) = text.split_at(end.min(text.len()));
-        let Some(piece) = piece_in_front(rest) else {
+        let Some(piece) = piece_in_front(behind_many(text, end)) else {
             return good;
         };
         end = end.saturating_add(piece.length).min(text.len());
-        let (front, _) = text.split_at(end);
-        if !is_out_of_order(front) {
+        if !is_out_of_order(front_of(text, end)) {
             good = end;
         }
     }
@@ -98,6 +129,14 @@ fn order_form(before: u32) -> &'static str {
     }
 }
 
+/// How many digits a symbol with its repeat has.
+fn digits_of(piece: Piece) -> u32 {
+    match piece.symbol {
+        b'9' | b'Z' | b'*' | b'P' => piece.count,
+        _ => 0,
+    }
+}
+
 /// How many digits the symbols of a picture have.
 fn digits_in(text: &[u8]) -> u32 {
     let mut digits: u32 = 0;
@@ -106,29 +145,21 @@ fn digits_in(text: &[u8]) -> u32 {
         let Some(piece) = piece_in_front(rest) else {
             return digits;
         };
-        if matches!(piece.symbol, b'9' | b'Z' | b'*' | b'P') {
-            digits = digits.saturating_add(piece.count);
-        }
-        let (_, behind) = rest.split_at(piece.length.min(rest.len()));
-        rest = behind;
+        digits = digits.saturating_add(digits_of(piece));
+        rest = behind_many(rest, piece.length);
     }
     digits
 }
 
-/// The first character of these that are left of a text, if there is one.
-fn first_of(rest: &[u8]) -> &[u8] {
-    let (first, _) = rest.split_at(rest.len().min(1));
-    first
-}
-
 /// What is wrong with the order of symbols.
 fn order_words(text: &[u8]) -> Phrase<'_> {
-    let (front, rest) = text.split_at(good_front(text).min(text.len()));
+    let good = good_front(text);
+    let rest = behind_many(text, good);
     match rest.first() {
         Some(symbol) => Phrase::of_two(
-            order_form(count_of(front, *symbol)),
+            order_form(count_of(front_of(text, good), *symbol)),
             Part::Bytes(text),
-            Part::Bytes(first_of(rest)),
+            Part::Bytes(front_of(rest, 1)),
         ),
         None => Phrase::of(
             "the symbols of PIC {} stand in an order that no picture has",
@@ -164,8 +195,7 @@ fn from_unknown(text: &[u8]) -> &[u8] {
         if !is_symbol(piece.symbol) {
             return rest;
         }
-        let (_, behind) = rest.split_at(piece.length.min(rest.len()));
-        rest = behind;
+        rest = behind_many(rest, piece.length);
     }
     rest
 }
@@ -179,7 +209,7 @@ fn symbol_words(text: &[u8]) -> Phrase<'_> {
     Phrase::of_two(
         "in PIC {} {} is no symbol",
         Part::Bytes(text),
-        Part::Bytes(first_of(rest)),
+        Part::Bytes(front_of(rest, 1)),
     )
 }
 
@@ -227,8 +257,8 @@ fn what_of(text: &[u8], fault: PictureFault) -> Phrase<'_> {
 }
 
 /// Whether an entry is a packed number.
-fn is_packed(entry: WrittenEntry<'_>) -> bool {
-    for word in entry.words {
+fn is_packed(entry: &[Token]) -> bool {
+    for word in entry {
         if word.text.as_slice() == b"COMP-3".as_slice() {
             return true;
         }
@@ -236,20 +266,25 @@ fn is_packed(entry: WrittenEntry<'_>) -> bool {
     false
 }
 
+/// Which characters have the bytes of a packed item with so many digits.
+fn packed_words(digits: usize) -> Phrase<'static> {
+    Phrase::of_two(
+        "PIC X({}) has the bytes of a packed item of {} digits",
+        Part::Number((digits / 2).saturating_add(1)),
+        Part::Number(digits),
+    )
+}
+
 /// What to do where a number has too many digits.
-fn digits_hint(entry: WrittenEntry<'_>, text: &[u8]) -> Option<Phrase<'static>> {
+fn digits_hint(entry: &[Token], text: &[u8]) -> Option<Phrase<'static>> {
     let digits = digits_in(text) as usize;
     if digits == 0 {
         return None;
     }
     if is_packed(entry) {
-        return Some(Phrase::of_two(
-            "PIC X({}) has the bytes of a packed item of {} digits",
-            Part::Number((digits / 2).saturating_add(1)),
-            Part::Number(digits),
-        ));
+        return Some(packed_words(digits));
     }
-    if words_from(entry.words, WordClass::UsageName).is_some() {
+    if word_of(entry, WordClass::UsageName).is_some() {
         return None;
     }
     Some(Phrase::of("PIC X({}) has its bytes", Part::Number(digits)))
@@ -258,15 +293,22 @@ fn digits_hint(entry: WrittenEntry<'_>, text: &[u8]) -> Option<Phrase<'static>> 
 /// Where the rules of pictures stand.
 const PICTURES: &str = "PROFILE.md, Pictures";
 
+/// Whether symbols are those of a number that is stored.
+fn is_stored(symbols: &[u8]) -> bool {
+    symbols.contains(&b'S') || symbols.contains(&b'V')
+}
+
 /// What to do with symbols that are out of order: a point or a comma that is printed stands in no picture with S or V.
 fn order_hint(text: &[u8]) -> &'static str {
-    let (front, rest) = text.split_at(good_front(text).min(text.len()));
-    let is_stored = front.contains(&b'S') || front.contains(&b'V');
-    match rest.first() {
-        Some(b'.') if is_stored => {
+    let good = good_front(text);
+    if !is_stored(front_of(text, good)) {
+        return PICTURES;
+    }
+    match text.get(good) {
+        Some(b'.') => {
             "S and V stand in numbers that are stored, and the point in printed ones: write V for the point, or - for S"
         }
-        Some(b',') if is_stored => {
+        Some(b',') => {
             "S and V stand in numbers that are stored, and the comma in printed ones: leave the comma out, or write - for S and . for V"
         }
         _ => PICTURES,
@@ -274,7 +316,7 @@ fn order_hint(text: &[u8]) -> &'static str {
 }
 
 /// What to do with a picture that is none, if that is known.
-fn hint_of(entry: WrittenEntry<'_>, text: &[u8], fault: PictureFault) -> Option<Phrase<'static>> {
+fn hint_of(entry: &[Token], text: &[u8], fault: PictureFault) -> Option<Phrase<'static>> {
     match fault {
         PictureFault::Digits => digits_hint(entry, text),
         PictureFault::LeftOut => Some(Phrase::plain("PIC X with as many bytes has its storage")),
@@ -284,12 +326,9 @@ fn hint_of(entry: WrittenEntry<'_>, text: &[u8], fault: PictureFault) -> Option<
 }
 
 /// What is told of an entry whose picture is none.
-pub(crate) fn told_picture(entry: WrittenEntry<'_>, fault: PictureFault) -> Told<'_> {
+pub(crate) fn told_picture(entry: &[Token], fault: PictureFault) -> Told<'_> {
     let Some(word) = picture_word(entry) else {
-        return said(
-            Caret::under_first(entry.words),
-            Phrase::plain("the picture is none"),
-        );
+        return said_plainly(entry, "the picture is none");
     };
     let text = word.text.as_slice();
     Told {

@@ -1,6 +1,6 @@
 //! Entries of a text that are looked for.
 
-use crate::entry::{WrittenEntry, behind_many, entry_at, level_of, name_word, words_from};
+use crate::entry::{behind_many, entry_at, level_of, name_word, words_from};
 use crate::near::is_near;
 use cob_copybook_clauses::{WordClass, is_condition, sentence_at};
 use cob_source::Token;
@@ -21,21 +21,34 @@ pub(crate) enum Looked<'a> {
     Area(u32),
 }
 
+/// Whether an entry has this name.
+pub(crate) fn has_name(entry: &[Token], name: &[u8]) -> bool {
+    match name_word(entry) {
+        Some(word) => word.text.as_slice() == name,
+        None => false,
+    }
+}
+
+/// Whether the name of an entry is near to this one.
+fn has_near_name(entry: &[Token], name: &[u8]) -> bool {
+    match name_word(entry) {
+        Some(word) => is_near(word.text.as_slice(), name),
+        None => false,
+    }
+}
+
+/// Whether an entry of this level begins an area.
+fn begins_area(entry: &[Token], level: u32) -> bool {
+    level_of(entry) == level && words_from(entry, WordClass::Redefines).is_none()
+}
+
 /// Whether an entry is one that is looked for.
-fn is_looked(entry: WrittenEntry<'_>, looked: Looked<'_>) -> bool {
+fn is_looked(entry: &[Token], looked: Looked<'_>) -> bool {
     match looked {
-        Looked::Named(name) => match name_word(entry) {
-            Some(word) => word.text.as_slice() == name,
-            None => false,
-        },
-        Looked::Near(name) => match name_word(entry) {
-            Some(word) => is_near(word.text.as_slice(), name),
-            None => false,
-        },
+        Looked::Named(name) => has_name(entry, name),
+        Looked::Near(name) => has_near_name(entry, name),
         Looked::Below(level) => level_of(entry) < level,
-        Looked::Area(level) => {
-            level_of(entry) == level && words_from(entry.words, WordClass::Redefines).is_none()
-        }
+        Looked::Area(level) => begins_area(entry, level),
     }
 }
 

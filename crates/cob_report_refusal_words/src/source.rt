@@ -25,7 +25,7 @@ struct BadLine<'a> {
     bytes: &'a [u8],
 }
 
-impl BadLine<'_> {
+impl<'a> BadLine<'a> {
     /// One column of the line.
     fn at(self, column: u32) -> Option<Caret> {
         Some(Caret {
@@ -33,6 +33,13 @@ impl BadLine<'_> {
             column,
             width: 1,
         })
+    }
+
+    /// The byte in column 7, if the line has one.
+    fn indicator(self) -> &'a [u8] {
+        let (_, rest) = self.bytes.split_at(self.bytes.len().min(6));
+        let (indicator, _) = rest.split_at(rest.len().min(1));
+        indicator
     }
 
     /// The byte in a column, a space where the line is shorter.
@@ -93,19 +100,13 @@ fn foreign_hint(byte: u8) -> &'static str {
     }
 }
 
-/// What is told of a byte that does not print.
-fn told_foreign(line: BadLine<'_>) -> Told<'_> {
-    let (column, _) = columns_of(line.bytes, ByteKind::Foreign);
-    if column == 0 {
-        return said(
-            None,
-            Phrase::of(
-                "a byte stands in line {} that no text has",
-                Part::Number(line.number as usize),
-            ),
-        );
-    }
-    let byte = line.byte(column as usize);
+/// What is told of a line in which a byte stands that no text has, and is not found.
+fn told_line(form: &'static str, line: BadLine<'_>) -> Told<'static> {
+    said(None, Phrase::of(form, Part::Number(line.number as usize)))
+}
+
+/// What is told of a byte that does not print, in this column.
+fn told_byte(line: BadLine<'_>, column: u32, byte: u8) -> Told<'static> {
     advised(
         line.at(column),
         Phrase::of_two(
@@ -115,6 +116,15 @@ fn told_foreign(line: BadLine<'_>) -> Told<'_> {
         ),
         Phrase::plain(foreign_hint(byte)),
     )
+}
+
+/// What is told of a byte that does not print.
+fn told_foreign(line: BadLine<'_>) -> Told<'static> {
+    let (column, _) = columns_of(line.bytes, ByteKind::Foreign);
+    if column == 0 {
+        return told_line("a byte stands in line {} that no text has", line);
+    }
+    told_byte(line, column, line.byte(column as usize))
 }
 
 /// What a text is, by which options for it differ.
@@ -156,13 +166,7 @@ impl SourceText {
 fn told_tab<'a>(kind: SourceText, file: &'a str, line: BadLine<'a>) -> Told<'a> {
     let (column, _) = columns_of(line.bytes, ByteKind::Tab);
     if column == 0 {
-        return said(
-            None,
-            Phrase::of(
-                "a tab stands in line {}",
-                Part::Number(line.number as usize),
-            ),
-        );
+        return told_line("a tab stands in line {}", line);
     }
     advised(
         line.at(column),
@@ -176,13 +180,11 @@ fn told_tab<'a>(kind: SourceText, file: &'a str, line: BadLine<'a>) -> Told<'a> 
 
 /// What is told of a character in column 7 that is none of its own.
 fn told_indicator(kind: SourceText, line: BadLine<'_>) -> Told<'_> {
-    let (_, rest) = line.bytes.split_at(line.bytes.len().min(6));
-    let (shown, _) = rest.split_at(rest.len().min(1));
     advised(
         line.at(7),
         Phrase::of(
             "{} stands in column 7, where a space, *, /, -, D or d stands",
-            Part::Bytes(shown),
+            Part::Bytes(line.indicator()),
         ),
         Phrase::plain(kind.indicator_hint()),
     )
@@ -197,18 +199,29 @@ fn open_hint(line: BadLine<'_>) -> &'static str {
     }
 }
 
+/// What is told of a column of a line, in forms without places.
+fn told_column(
+    line: BadLine<'_>,
+    column: u32,
+    what: &'static str,
+    hint: &'static str,
+) -> Told<'static> {
+    advised(line.at(column), Phrase::plain(what), Phrase::plain(hint))
+}
+
 /// What is told of a literal that is left open: its quote is the last of the line.
-fn told_open(line: BadLine<'_>) -> Told<'_> {
+fn told_open(line: BadLine<'_>) -> Told<'static> {
     let (_, quote) = columns_of(line.bytes, ByteKind::Quote);
-    advised(
-        line.at(quote.max(8)),
-        Phrase::plain("this literal is not closed on its line, and no continuation follows"),
-        Phrase::plain(open_hint(line)),
+    told_column(
+        line,
+        quote.max(8),
+        "this literal is not closed on its line, and no continuation follows",
+        open_hint(line),
     )
 }
 
 /// What is told of a continuation that does not fit.
-fn told_continuation(line: BadLine<'_>) -> Told<'_> {
+fn told_continuation(line: BadLine<'_>) -> Told<'static> {
     let (written, _) = columns_of(line.bytes, ByteKind::Written);
     let column = written.max(8);
     let what = if column < 12 {
@@ -216,12 +229,11 @@ fn told_continuation(line: BadLine<'_>) -> Told<'_> {
     } else {
         "this continuation does not fit the line before it"
     };
-    advised(
-        line.at(column),
-        Phrase::plain(what),
-        Phrase::plain(
-            "one of a literal begins with its quote, one of a word or behind a closed literal without, and a line stands before it",
-        ),
+    told_column(
+        line,
+        column,
+        what,
+        "one of a literal begins with its quote, one of a word or behind a closed literal without, and a line stands before it",
     )
 }
 

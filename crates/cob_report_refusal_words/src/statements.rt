@@ -1,14 +1,23 @@
 //! The words of a statement, as far as they go on.
 
 use crate::choices::{is_branch_word, is_word};
-use crate::clauses::{Read, behind_term, is_characters, lacks};
+use crate::clauses::{Read, behind_characters, behind_term, is_characters, lacks};
 use crate::comparisons::is_test;
 use crate::entry::{behind_many, front_of, last_words, words_before};
 use crate::terms::{behind, is_name_word, is_term};
+use crate::words::has_digits_alone;
 use cob_copybook_clauses::WordClass;
 use cob_move_loops::passage_word;
 use cob_report_refusals::Spot;
 use cob_source::{Token, TokenKind};
+
+/// The words behind a name in front, if one stands there.
+fn behind_name(words: &[Token]) -> Option<&[Token]> {
+    match words.first() {
+        Some(word) if is_name_word(word) => Some(behind_many(words, 1)),
+        _ => None,
+    }
+}
 
 /// The words behind the qualifiers of a name, or what lacks in them.
 fn behind_qualifiers(words: &[Token]) -> Read<'_> {
@@ -17,20 +26,23 @@ fn behind_qualifiers(words: &[Token]) -> Read<'_> {
         let Some(more) = behind(rest, WordClass::Of) else {
             return Ok(rest);
         };
-        match more.split_first() {
-            Some((named, others)) if is_name_word(named) => rest = others,
-            _ => return lacks(more, "a name"),
+        match behind_name(more) {
+            Some(others) => rest = others,
+            None => return lacks(more, "a name"),
         }
     }
     Ok(rest)
 }
 
+/// Whether a text is a sign.
+fn is_sign(text: &[u8]) -> bool {
+    text == b"+".as_slice() || text == b"-".as_slice()
+}
+
 /// Whether a word may stand among subscripts: a whole number, the name of a counter, a sign before a number.
 fn is_subscript(word: &Token) -> bool {
     let text = word.text.as_slice();
-    let is_sign = text == b"+".as_slice() || text == b"-".as_slice();
-    let is_number = text.iter().all(|character| character.is_ascii_digit());
-    word.kind == TokenKind::Word && (is_sign || is_number || is_name_word(word))
+    word.kind == TokenKind::Word && (is_sign(text) || has_digits_alone(text) || is_name_word(word))
 }
 
 /// How many words may stand among subscripts.
@@ -58,9 +70,12 @@ fn behind_subscripts(words: &[Token]) -> Read<'_> {
 
 /// The words behind a name with its qualifiers and subscripts, or what lacks in it.
 fn behind_reference<'a>(words: &'a [Token], expected: &'static str) -> Read<'a> {
-    match words.split_first() {
-        Some((first, more)) if is_name_word(first) => behind_subscripts(behind_qualifiers(more)?),
-        _ => lacks(words, expected),
+    let Some(more) = behind_name(words) else {
+        return lacks(words, expected);
+    };
+    match behind_qualifiers(more) {
+        Ok(rest) => behind_subscripts(rest),
+        lack => lack,
     }
 }
 
@@ -69,21 +84,13 @@ pub(crate) fn is_constant(word: &Token) -> bool {
     is_characters(word) || (is_term(word, WordClass::Plain) && !is_name_word(word))
 }
 
-/// The words behind a literal in quotes or a figurative constant, or what lacks there.
-fn behind_characters(words: &[Token]) -> Read<'_> {
-    match words.split_first() {
-        Some((first, more)) if is_characters(first) => Ok(more),
-        _ => lacks(words, "a literal"),
-    }
-}
-
 /// The words behind what is sent, or what lacks in it.
 fn behind_sender(words: &[Token]) -> Read<'_> {
     if let Some(repeated) = behind(words, WordClass::All) {
         return behind_characters(repeated);
     }
-    match words.split_first() {
-        Some((first, more)) if is_constant(first) => Ok(more),
+    match words.first() {
+        Some(first) if is_constant(first) => Ok(behind_many(words, 1)),
         _ => behind_reference(words, "a name, a literal or CORRESPONDING"),
     }
 }
@@ -113,13 +120,18 @@ fn behind_receivers(words: &[Token]) -> Read<'_> {
     Ok(rest)
 }
 
+/// The words behind what is sent, or behind the group behind CORRESPONDING, or what lacks in it.
+fn behind_sent(words: &[Token]) -> Read<'_> {
+    match behind(words, WordClass::Corresponding) {
+        Some(named) => behind_reference(named, "a group"),
+        None => behind_sender(words),
+    }
+}
+
 /// The words behind the statement in front, or what lacks in it.
 pub(crate) fn behind_statement(words: &[Token]) -> Read<'_> {
     let moved = behind_term(words, WordClass::Move, "MOVE")?;
-    let sent = match behind(moved, WordClass::Corresponding) {
-        Some(named) => behind_reference(named, "a group")?,
-        None => behind_sender(moved)?,
-    };
+    let sent = behind_sent(moved)?;
     behind_receivers(behind_term(sent, WordClass::To, "TO")?)
 }
 

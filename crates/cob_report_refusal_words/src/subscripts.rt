@@ -6,17 +6,19 @@ use crate::phrases::{Part, Phrase};
 use crate::search::{MOST_LEVELS, holder_at};
 use crate::tables::greatest_number;
 use crate::terms::{behind, is_name_word, is_term, whole};
-use crate::told::{Caret, Told, advised};
+use crate::told::{Caret, Told, advised, advised_at, advised_plainly};
 use cob_copybook_clauses::{WordClass, qualifiers_at};
 use cob_source::Token;
 
 /// What holds an entry, if something does.
 fn holder<'a>(bearer: Bearer<'a>) -> Option<Bearer<'a>> {
-    let before = holder_at(bearer.book.words, bearer.before)?;
-    Some(Bearer {
-        book: bearer.book,
-        before,
-    })
+    match holder_at(bearer.book.words, bearer.before) {
+        Some(before) => Some(Bearer {
+            book: bearer.book,
+            before,
+        }),
+        None => None,
+    }
 }
 
 /// How many elements the table has that holds so many tables round an entry, or that the entry is itself; nothing where there are no more.
@@ -66,13 +68,13 @@ fn subscripts_of(words: &[Token]) -> &[Token] {
 
 /// What is told of a subscript behind the name of an entry in no table.
 fn told_needless(name: &Token) -> Told<'_> {
-    advised(
-        Some(Caret::under(name)),
+    advised_at(
+        name,
         Phrase::of(
             "{} stands in no table, and a subscript is written",
             Part::Word(name),
         ),
-        Phrase::plain("leave the subscript out"),
+        "leave the subscript out",
     )
 }
 
@@ -81,25 +83,21 @@ fn told_number(name: &Token, tables: usize, written: usize) -> Told<'_> {
     if tables == 0 {
         return told_needless(name);
     }
-    advised(
-        Some(Caret::under(name)),
+    advised_at(
+        name,
         Phrase::of_three(
             "{} has {} OCCURS at it or above, and {} subscripts are written",
             Part::Word(name),
             Part::Number(tables),
             Part::Number(written),
         ),
-        Phrase::plain("write a subscript for each OCCURS, the outermost first"),
+        "write a subscript for each OCCURS, the outermost first",
     )
 }
 
-/// What is told of a subscript of a table with so many elements, if it is out of bounds.
-fn told_bounds<'a>(name: &'a Token, word: &'a Token, most: u32) -> Option<Told<'a>> {
-    let number = whole(word.text.as_slice(), 9)?;
-    if number > 0 && number <= most {
-        return None;
-    }
-    Some(advised(
+/// What is told of a subscript, which is this number, of a table with fewer elements.
+fn told_bounds<'a>(name: &'a Token, word: &Token, number: u32, most: u32) -> Told<'a> {
+    advised(
         Some(Caret::under(word)),
         Phrase::of_three(
             "{} occurs {} times, and the element {} is asked for",
@@ -108,18 +106,23 @@ fn told_bounds<'a>(name: &'a Token, word: &'a Token, most: u32) -> Option<Told<'
             Part::Number(number as usize),
         ),
         Phrase::of("1 to {}", Part::Number(most as usize)),
-    ))
+    )
+}
+
+/// The number that a subscript is, and how many elements its table has, where so many tables stand round the entry inside it, if it is out of bounds.
+fn out_of_bounds(bearer: Bearer<'_>, word: &Token, place: usize) -> Option<(u32, u32)> {
+    match (whole(word.text.as_slice(), 9), table_round(bearer, place)) {
+        (Some(number), Some(most)) if number == 0 || number > most => Some((number, most)),
+        _ => None,
+    }
 }
 
 /// What is told of the first subscript that is out of bounds, the outermost first, as many of which are written as there are tables.
 fn told_first<'a>(bearer: Bearer<'_>, name: &'a Token, written: &'a [Token]) -> Option<Told<'a>> {
     for (at, word) in written.iter().enumerate() {
         let place = written.len().saturating_sub(at).saturating_sub(1);
-        if let Some(most) = table_round(bearer, place) {
-            let told = told_bounds(name, word, most);
-            if told.is_some() {
-                return told;
-            }
+        if let Some((number, most)) = out_of_bounds(bearer, word, place) {
+            return Some(told_bounds(name, word, number, most));
         }
     }
     None
@@ -135,11 +138,8 @@ fn are_numbers(words: &[Token]) -> bool {
     true
 }
 
-/// What is told of the subscripts of the name in front, if they do not fit.
-fn told_name<'a>(both: BothWords<'_>, words: &'a [Token]) -> Option<Told<'a>> {
-    let name = words.first()?;
-    let bearer = meant(both, words)?;
-    let written = subscripts_of(words);
+/// What is told of the subscripts of an entry's name, if they are numbers and do not fit.
+fn told_written<'a>(bearer: Bearer<'_>, name: &'a Token, written: &'a [Token]) -> Option<Told<'a>> {
     if !are_numbers(written) {
         return None;
     }
@@ -150,24 +150,28 @@ fn told_name<'a>(both: BothWords<'_>, words: &'a [Token]) -> Option<Told<'a>> {
     told_first(bearer, name, written)
 }
 
+/// What is told of the subscripts of the name in front, which is this word, if they do not fit.
+fn told_name<'a>(both: BothWords<'_>, name: &'a Token, words: &'a [Token]) -> Option<Told<'a>> {
+    match meant(both, words) {
+        Some(bearer) => told_written(bearer, name, subscripts_of(words)),
+        None => None,
+    }
+}
+
 /// What is told of a statement with subscripts that do not fit.
 pub(crate) fn told_subscripts<'a>(both: BothWords<'_>, statement: &'a [Token]) -> Told<'a> {
     let mut qualifies = false;
     for (at, word) in statement.iter().enumerate() {
         if is_name_word(word) && !qualifies {
-            if let Some(told) = told_name(both, behind_many(statement, at)) {
+            if let Some(told) = told_name(both, word, behind_many(statement, at)) {
                 return told;
             }
         }
         qualifies = is_term(word, WordClass::Of);
     }
-    advised(
-        Caret::under_first(statement),
-        Phrase::plain(
-            "the subscripts of a name are not one for each OCCURS round it, each from 1 to its greatest number",
-        ),
-        Phrase::plain(
-            "write the subscripts of all tables, the outermost first; end a loop before the table's end",
-        ),
+    advised_plainly(
+        statement,
+        "the subscripts of a name are not one for each OCCURS round it, each from 1 to its greatest number",
+        "write the subscripts of all tables, the outermost first; end a loop before the table's end",
     )
 }

@@ -1,9 +1,9 @@
 //! Tables that can't be.
 
-use crate::entry::{WrittenEntry, level_of, word_behind, words_from};
+use crate::entry::{behind_many, level_of, word_behind, words_from};
 use crate::phrases::{Part, Phrase};
 use crate::terms::{behind, whole};
-use crate::told::{Caret, Told, advised, said};
+use crate::told::{Caret, Told, advised_at, said, said_at};
 use cob_copybook_clauses::WordClass;
 use cob_source::Token;
 
@@ -11,15 +11,24 @@ use cob_source::Token;
 const MOST_DIGITS: usize = 9;
 
 /// The first number of an OCCURS clause, if an entry is a table.
-fn first_number(entry: WrittenEntry<'_>) -> Option<&Token> {
-    word_behind(entry.words, WordClass::Occurs, WordClass::Stop)
+fn first_number(entry: &[Token]) -> Option<&Token> {
+    word_behind(entry, WordClass::Occurs, WordClass::Stop)
+}
+
+/// The word behind TO, if TO stands in front.
+fn word_behind_to(words: &[Token]) -> Option<&Token> {
+    match behind(words, WordClass::To) {
+        Some(more) => more.first(),
+        None => None,
+    }
 }
 
 /// The number behind TO, of a table that varies.
-fn number_behind_to(entry: WrittenEntry<'_>) -> Option<&Token> {
-    let (_, more) = words_from(entry.words, WordClass::Occurs)?.split_first()?;
-    let (_, others) = more.split_first()?;
-    behind(others, WordClass::To)?.first()
+fn number_behind_to(entry: &[Token]) -> Option<&Token> {
+    match words_from(entry, WordClass::Occurs) {
+        Some(occurs) => word_behind_to(behind_many(occurs, 2)),
+        None => None,
+    }
 }
 
 /// The number that a word is, if it has up to nine digits.
@@ -28,15 +37,16 @@ fn number_of(word: &Token) -> Option<u32> {
 }
 
 /// How many elements a table has at most, where an entry is one.
-pub(crate) fn greatest_number(entry: WrittenEntry<'_>) -> Option<u32> {
-    match number_behind_to(entry) {
-        Some(most) => number_of(most),
-        None => number_of(first_number(entry)?),
+pub(crate) fn greatest_number(entry: &[Token]) -> Option<u32> {
+    let least = first_number(entry);
+    match number_behind_to(entry).or(least) {
+        Some(number) => number_of(number),
+        None => None,
     }
 }
 
 /// What is wrong with the numbers of a table, of which this is the first, if something is.
-fn number_words<'a>(entry: WrittenEntry<'a>, word: &'a Token) -> Option<Phrase<'a>> {
+fn number_words<'a>(entry: &'a [Token], word: &'a Token) -> Option<Phrase<'a>> {
     let count = word.text.len();
     if count > MOST_DIGITS {
         return Some(Phrase::of_two(
@@ -45,23 +55,32 @@ fn number_words<'a>(entry: WrittenEntry<'a>, word: &'a Token) -> Option<Phrase<'
             Part::Number(count),
         ));
     }
-    let least = number_of(word).unwrap_or(0);
-    let Some(most) = number_behind_to(entry) else {
-        return if_empty(word, least);
-    };
-    if least < number_of(most).unwrap_or(0) {
+    match number_behind_to(entry) {
+        Some(most) => if_no_more(word, most),
+        None => if_empty(word),
+    }
+}
+
+/// The number that a word is, 0 where it is none.
+fn number_or_zero(word: &Token) -> u32 {
+    number_of(word).unwrap_or(0)
+}
+
+/// What is wrong with the numbers of a table that varies, if the second is no greater.
+fn if_no_more<'a>(least: &'a Token, most: &'a Token) -> Option<Phrase<'a>> {
+    if number_or_zero(least) < number_or_zero(most) {
         return None;
     }
     Some(Phrase::of_two(
         "{} TO {}: the least number is below the greatest",
-        Part::Word(word),
+        Part::Word(least),
         Part::Word(most),
     ))
 }
 
 /// What is wrong with a table of so many elements, if it has none.
-fn if_empty(word: &Token, number: u32) -> Option<Phrase<'_>> {
-    if number > 0 {
+fn if_empty(word: &Token) -> Option<Phrase<'_>> {
+    if number_or_zero(word) > 0 {
         return None;
     }
     Some(Phrase::of(
@@ -70,21 +89,17 @@ fn if_empty(word: &Token, number: u32) -> Option<Phrase<'_>> {
     ))
 }
 
-/// What is told of an entry whose table can't be, of which this is the first number.
-fn told_numbers<'a>(entry: WrittenEntry<'a>, word: &'a Token) -> Told<'a> {
-    let at = Some(Caret::under(word));
-    if let Some(words) = number_words(entry, word) {
-        return said(at, words);
-    }
+/// What is told of a table that can't be where it stands, at its first number.
+fn told_placed<'a>(entry: &'a [Token], word: &'a Token) -> Told<'a> {
     if level_of(entry) == 1 {
-        return advised(
-            at,
+        return advised_at(
+            word,
             Phrase::plain("OCCURS stands at level 01"),
-            Phrase::plain("put the table into a group beneath it"),
+            "put the table into a group beneath it",
         );
     }
-    said(
-        at,
+    said_at(
+        word,
         Phrase::of(
             "{} is an eighth table in one another, and seven are the most",
             Part::Entry(entry),
@@ -92,12 +107,20 @@ fn told_numbers<'a>(entry: WrittenEntry<'a>, word: &'a Token) -> Told<'a> {
     )
 }
 
+/// What is told of an entry whose table can't be, of which this is the first number.
+fn told_numbers<'a>(entry: &'a [Token], word: &'a Token) -> Told<'a> {
+    match number_words(entry, word) {
+        Some(words) => said_at(word, words),
+        None => told_placed(entry, word),
+    }
+}
+
 /// What is told of an entry whose table can't be.
-pub(crate) fn told_table(entry: WrittenEntry<'_>) -> Told<'_> {
+pub(crate) fn told_table(entry: &[Token]) -> Told<'_> {
     match first_number(entry) {
         Some(word) => told_numbers(entry, word),
         None => said(
-            Caret::under_first(entry.words),
+            Caret::under_first(entry),
             Phrase::of("{} can't be a table", Part::Entry(entry)),
         ),
     }

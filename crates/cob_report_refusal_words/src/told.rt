@@ -130,6 +130,16 @@ pub(crate) fn said<'a>(at: Option<Caret>, what: Phrase<'a>) -> Told<'a> {
     }
 }
 
+/// What is wrong with a word.
+pub(crate) fn said_at<'a>(word: &Token, what: Phrase<'a>) -> Told<'a> {
+    said(Some(Caret::under(word)), what)
+}
+
+/// What is wrong with the first of these words, in a form without places.
+pub(crate) fn said_plainly<'a>(words: &[Token], what: &'static str) -> Told<'a> {
+    said(Caret::under_first(words), Phrase::plain(what))
+}
+
 /// What is wrong there, and what to do.
 pub(crate) fn advised<'a>(at: Option<Caret>, what: Phrase<'a>, hint: Phrase<'a>) -> Told<'a> {
     Told {
@@ -137,4 +147,23 @@ pub(crate) fn advised<'a>(at: Option<Caret>, what: Phrase<'a>, hint: Phrase<'a>)
         what,
         hint: Some(hint),
     }
+}
+
+/// What is wrong with a word, and what to do, in a form without places.
+pub(crate) fn advised_at<'a>(word: &Token, what: Phrase<'a>, hint: &'static str) -> Told<'a> {
+    advised(Some(Caret::under(word)), what, Phrase::plain(hint))
+}
+
+/// What is wrong with the first of these words, and what to do, in a form without places.
+pub(crate) fn advised_first<'a>(words: &[Token], what: Phrase<'a>, hint: &'static str) -> Told<'a> {
+    advised(Caret::under_first(words), what, Phrase::plain(hint))
+}
+
+/// What is wrong with the first of these words, and what to do, both in forms without places.
+pub(crate) fn advised_plainly<'a>(
+    words: &[Token],
+    what: &'static str,
+    hint: &'static str,
+) -> Told<'a> {
+    advised_first(words, Phrase::plain(what), hint)
 }

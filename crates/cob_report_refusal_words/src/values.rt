@@ -1,19 +1,20 @@
 //! Values that an entry can't have.
 
-use crate::entry::{WrittenEntry, picture_word, word_behind};
+use crate::entry::{picture_word, word_behind};
 use crate::phrases::{Part, Phrase};
-use crate::told::{Caret, Told, advised, said};
+use crate::told::{Told, advised_at, said_plainly};
 use cob_copybook_clauses::WordClass;
 use cob_copybook_entries::is_numeric_literal;
 use cob_picture::{Category, Picture};
 use cob_source::{Token, TokenKind};
 
 /// The constant of a VALUE clause: its literal, or the word.
-fn constant_word(entry: WrittenEntry<'_>) -> Option<&Token> {
-    let first = word_behind(entry.words, WordClass::Value, WordClass::Is)?;
-    match word_behind(entry.words, WordClass::Value, WordClass::All) {
-        Some(repeated) if first.text.as_slice() == b"ALL".as_slice() => Some(repeated),
-        _ => Some(first),
+fn constant_word(entry: &[Token]) -> Option<&Token> {
+    match word_behind(entry, WordClass::Value, WordClass::Is) {
+        Some(first) if first.text.as_slice() == b"ALL".as_slice() => {
+            word_behind(entry, WordClass::Value, WordClass::All).or(Some(first))
+        }
+        first => first,
     }
 }
 
@@ -90,21 +91,19 @@ fn beyond<'a>(
     None
 }
 
-/// Why a number is none that an item with this picture can hold.
-fn number_words<'a>(word: &'a Token, shown: Part<'a>, picture: &Picture) -> Option<Phrase<'a>> {
-    let (before, after) = digits_of(word.text.as_slice());
-    let behind = beyond(
-        "{} has {} digits behind the point, and PIC {} has {}",
-        word,
-        shown,
-        after,
-        i16::from(picture.scale()),
-    );
-    if behind.is_some() {
-        return behind;
-    }
-    let is_signed = matches!(word.text.first(), Some(b'+') | Some(b'-'));
-    if is_signed && !picture.signed() {
+/// Whether a number begins with a sign.
+fn is_signed(word: &Token) -> bool {
+    matches!(word.text.first(), Some(b'+') | Some(b'-'))
+}
+
+/// Why a number is none that an item with this picture can hold, where its digits behind the point fit.
+fn sign_words<'a>(
+    word: &'a Token,
+    shown: Part<'a>,
+    picture: &Picture,
+    before: usize,
+) -> Option<Phrase<'a>> {
+    if is_signed(word) && !picture.signed() {
         return Some(Phrase::of_two(
             "{} has a sign, and PIC {} has none",
             Part::Word(word),
@@ -118,6 +117,22 @@ fn number_words<'a>(word: &'a Token, shown: Part<'a>, picture: &Picture) -> Opti
         before,
         picture.digits_before(),
     )
+}
+
+/// Why a number is none that an item with this picture can hold.
+fn number_words<'a>(word: &'a Token, shown: Part<'a>, picture: &Picture) -> Option<Phrase<'a>> {
+    let (before, after) = digits_of(word.text.as_slice());
+    let behind = beyond(
+        "{} has {} digits behind the point, and PIC {} has {}",
+        word,
+        shown,
+        after,
+        i16::from(picture.scale()),
+    );
+    if behind.is_some() {
+        return behind;
+    }
+    sign_words(word, shown, picture, before)
 }
 
 /// Why an item with this picture can't have this constant, if the picture shows it.
@@ -149,9 +164,8 @@ fn length_words<'a>(word: &'a Token, shown: Part<'a>, picture: &Picture) -> Opti
     None
 }
 
-/// Why an entry can't have this constant, if its picture shows it.
-fn picture_words<'a>(entry: WrittenEntry<'a>, word: &'a Token) -> Option<Phrase<'a>> {
-    let picture = picture_word(entry)?;
+/// Why an item can't have this constant, if its picture, which is this word, shows it.
+fn read_words<'a>(word: &'a Token, picture: &'a Token) -> Option<Phrase<'a>> {
     let text = picture.text.as_slice();
     match Picture::read(text) {
         Ok(read) => item_words(word, Part::Bytes(text), &read),
@@ -159,8 +173,16 @@ fn picture_words<'a>(entry: WrittenEntry<'a>, word: &'a Token) -> Option<Phrase<
     }
 }
 
+/// Why an entry can't have this constant, if its picture shows it.
+fn picture_words<'a>(entry: &'a [Token], word: &'a Token) -> Option<Phrase<'a>> {
+    match picture_word(entry) {
+        Some(picture) => read_words(word, picture),
+        None => None,
+    }
+}
+
 /// What is wrong with the constant of an entry.
-fn what_of<'a>(entry: WrittenEntry<'a>, word: &'a Token) -> Phrase<'a> {
+fn what_of<'a>(entry: &'a [Token], word: &'a Token) -> Phrase<'a> {
     if let Some(words) = own_words(word) {
         return words;
     }
@@ -174,16 +196,13 @@ fn what_of<'a>(entry: WrittenEntry<'a>, word: &'a Token) -> Phrase<'a> {
 }
 
 /// What is told of an entry whose VALUE is none that it can have.
-pub(crate) fn told_value(entry: WrittenEntry<'_>) -> Told<'_> {
+pub(crate) fn told_value(entry: &[Token]) -> Told<'_> {
     match constant_word(entry) {
-        Some(word) => advised(
-            Some(Caret::under(word)),
+        Some(word) => advised_at(
+            word,
             what_of(entry, word),
-            Phrase::plain("write a value that fits, or leave the clause out"),
+            "write a value that fits, or leave the clause out",
         ),
-        None => said(
-            Caret::under_first(entry.words),
-            Phrase::plain("the VALUE is none that it can have"),
-        ),
+        None => said_plainly(entry, "the VALUE is none that it can have"),
     }
 }

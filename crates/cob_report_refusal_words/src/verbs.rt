@@ -7,7 +7,7 @@ use crate::phrases::{Part, Phrase};
 use crate::pointing::goes_on;
 use crate::statements::behind_statement;
 use crate::terms::{is_name_word, is_term};
-use crate::told::{Caret, Told, advised, said};
+use crate::told::{Caret, Told, advised_at, said, said_at};
 use cob_copybook_clauses::WordClass;
 use cob_source::Token;
 
@@ -32,34 +32,39 @@ fn told_verb<'a>(word: &'a Token, words: &'a [Token]) -> Told<'a> {
     if let Some(told) = told_block(words) {
         return told;
     }
-    advised(
-        Some(Caret::under(word)),
+    advised_at(
+        word,
         Phrase::of(OTHER_VERB, Part::Word(word)),
-        Phrase::plain(verb_hint(word)),
+        verb_hint(word),
     )
 }
 
-/// What is expected where a word can't go on, behind those before it.
-fn lack_words<'a>(before: &'a [Token], expected: &'static str, word: &'a Token) -> Phrase<'a> {
-    let behind = Part::Words(last_words(before, 1));
-    let found = Part::Word(word);
-    match expected {
-        "a subscript" => Phrase::of(
-            "a subscript is a whole number without a sign, or a counter, and {} stands there",
-            found,
-        ),
-        "TO" => Phrase::of_two(
+/// What is expected where a word can't go on, behind the last of those before it.
+fn expected_words<'a>(last: &'a [Token], expected: &'static str, word: &'a Token) -> Phrase<'a> {
+    if expected == "TO" {
+        return Phrase::of_two(
             "TO is expected behind the sender {}, and {} stands there",
-            behind,
-            found,
-        ),
-        _ => Phrase::of_three(
-            "{} is expected behind {}, and {} stands there",
-            Part::Text(expected),
-            behind,
-            found,
-        ),
+            Part::Words(last),
+            Part::Word(word),
+        );
     }
+    Phrase::of_three(
+        "{} is expected behind {}, and {} stands there",
+        Part::Text(expected),
+        Part::Words(last),
+        Part::Word(word),
+    )
+}
+
+/// What is wrong with a word that can't go on behind those before it.
+fn lack_words<'a>(before: &'a [Token], expected: &'static str, word: &'a Token) -> Phrase<'a> {
+    if expected == "a subscript" {
+        return Phrase::of(
+            "a subscript is a whole number without a sign, or a counter, and {} stands there",
+            Part::Word(word),
+        );
+    }
+    expected_words(last_words(before, 1), expected, word)
 }
 
 /// What is told of a statement whose words can't go on.
@@ -87,6 +92,14 @@ fn told_end<'a>(last: &'a [Token], expected: &'static str) -> Told<'a> {
     )
 }
 
+/// What to do where a word stands in the place of TO, if it may be a name behind it.
+fn name_hint<'a>(before: &'a [Token], word: &'a Token) -> Option<Phrase<'a>> {
+    if !is_name_word(word) || !goes_on(word) {
+        return None;
+    }
+    Some(Phrase::of_two("{} TO {}.", Part::Words(before), Part::Word(word)))
+}
+
 /// What to do where a word can't go on, if that is known.
 fn lack_hint<'a>(before: &'a [Token], expected: &str, word: &'a Token) -> Option<Phrase<'a>> {
     if word.text.contains(&b':') {
@@ -94,8 +107,8 @@ fn lack_hint<'a>(before: &'a [Token], expected: &str, word: &'a Token) -> Option
             "parts of an item are left out: redefine the item in the copybook by smaller ones",
         ));
     }
-    if expected == "TO" && is_name_word(word) && goes_on(word) {
-        return Some(Phrase::of_two("{} TO {}.", Part::Words(before), Part::Word(word)));
+    if expected == "TO" {
+        return name_hint(before, word);
     }
     None
 }
@@ -110,9 +123,6 @@ pub(crate) fn told_statement_words(rest: &[Token]) -> Told<'_> {
     }
     match behind_statement(rest) {
         Err(lack) => told_lack(rest, lack),
-        Ok(_) => said(
-            Some(Caret::under(first)),
-            Phrase::plain("no statement stands there"),
-        ),
+        Ok(_) => said_at(first, Phrase::plain("no statement stands there")),
     }
 }

@@ -32,6 +32,16 @@ pub(crate) fn write_bytes<W: fmt::Write>(f: &mut fmt::Formatter<W>, bytes: &[u8]
     Ok(())
 }
 
+/// Whether a text has digits alone.
+pub(crate) fn has_digits_alone(text: &[u8]) -> bool {
+    for character in text {
+        if !character.is_ascii_digit() {
+            return false;
+        }
+    }
+    true
+}
+
 /// Writes a literal with its quotes.
 fn write_literal<W: fmt::Write>(f: &mut fmt::Formatter<W>, text: &[u8]) -> fmt::Result {
     f.write_char('"')?;
@@ -48,6 +58,12 @@ pub(crate) fn write_word<W: fmt::Write>(f: &mut fmt::Formatter<W>, word: &Token)
     }
 }
 
+/// Writes a word behind a space.
+fn write_next<W: fmt::Write>(f: &mut fmt::Formatter<W>, word: &Token) -> fmt::Result {
+    f.write_char(' ')?;
+    write_word(f, word)
+}
+
 /// Writes words with spaces between them.
 pub(crate) fn write_words<W: fmt::Write>(
     f: &mut fmt::Formatter<W>,
@@ -58,8 +74,7 @@ pub(crate) fn write_words<W: fmt::Write>(
     };
     write_word(f, first)?;
     for word in others {
-        f.write_char(' ')?;
-        write_word(f, word)?;
+        write_next(f, word)?;
     }
     Ok(())
 }

@@ -10,45 +10,42 @@ use Rattle.std.proofs.lemmas.List.Concat.{flat_map-append}
 use Rattle.cob_copybook_tree.specs.declared.node.Node.{Node}
 use Rattle.cob_copybook_tree.specs.Forests.{Forest, NoEntries, AnEntry, Tree, entries_in, flat}
 use Rattle.cob_copybook_tree.specs.Nodes.{Resolved, forest, node, tree_of}
-use Rattle.cob_copybook_entry.specs.Described.{PlainEntry}
-use Rattle.cob_copybook.specs.declared.role.Role.{Role}
-use Rattle.cob_copybook.specs.Books.{IsRecordDescription, implied, with_record}
-use Rattle.cob_layout.proofs.copybook_lemmas.Books.{few_entries}
-use Rattle.cob_layout.proofs.Numbers.{same_entries}
 use Rattle.cob_layout_places.specs.Cover.{AreNumbered}
 use Rattle.cob_copybook_tree.specs.declared.node.Node.TheViews.{out-Node}
 use Rattle.cob_layout_places.proofs.ForestLemmas.{below, below_is, left, left_is, node_out}
 use Rattle.cob_records.specs.declared.records.RecordFault.{RecordFault}
 use Rattle.cob_records.specs.Device.{Took}
 use Rattle.cob_records.specs.Frame.{taken_of}
-use Rattle.cob_report_show.specs.Entries.{ListsEntries, entry_line, found_name, lines_among, longest_line, name_by_number}
+use Rattle.cob_copybook_conditions.specs.Names.{PlainConditionName}
+use Rattle.cob_report_show.specs.Entries.{ListsEntries, found_name, lines_among, lines_of, name_by_number}
 use Rattle.cob_report_show.specs.Sent.{IsBeginning, SendsText}
 
 -- ---- lines of entries, one behind another
 
-lines_of_entry : (tree : Forest Resolved) (e : Resolved) (children more : Forest Resolved)
-    → lines_among tree (AnEntry e children more) ≡ entry_line tree e ++ (lines_among tree children ++ lines_among tree more)
-lines_of_entry tree e children more = ap (λ (xs : List ℕ). entry_line tree e ++ xs) (flat_map-append (entry_line tree) (flat children) (flat more))
+lines_of_entry : (tree : Forest Resolved) (names : List PlainConditionName) (e : Resolved) (children more : Forest Resolved)
+    → lines_among tree names (AnEntry e children more) ≡ lines_of tree names e ++ (lines_among tree names children ++ lines_among tree names more)
+lines_of_entry tree names e children more = ap (λ (xs : List ℕ). lines_of tree names e ++ xs) (flat_map-append (lines_of tree names) (flat children) (flat more))
 
--- the line of an entry, and those beneath it
-pub lines_beneath : (tree : Forest Resolved) (n : Node) → lines_among tree (tree_of n) ≡ entry_line tree (node n).top ++ lines_among tree (below n)
-lines_beneath tree n =
-    lines_of_entry tree (node n).top (node n).beneath NoEntries
-    ∙ ap (λ (xs : List ℕ). entry_line tree (node n).top ++ xs) (append-nil (lines_among tree (node n).beneath))
-    ∙ ap (λ (f : Forest Resolved). entry_line tree (node n).top ++ lines_among tree f) (below_is n)
+-- the lines of an entry, and those beneath it
+pub lines_beneath : (tree : Forest Resolved) (names : List PlainConditionName) (n : Node)
+    → lines_among tree names (tree_of n) ≡ lines_of tree names (node n).top ++ lines_among tree names (below n)
+lines_beneath tree names n =
+    lines_of_entry tree names (node n).top (node n).beneath NoEntries
+    ∙ ap (λ (xs : List ℕ). lines_of tree names (node n).top ++ xs) (append-nil (lines_among tree names (node n).beneath))
+    ∙ ap (λ (f : Forest Resolved). lines_of tree names (node n).top ++ lines_among tree names f) (below_is n)
 
 -- the lines of the next entry with those beneath it, and those of the entries behind it
-pub lines_left : (tree : Forest Resolved) (children : List Node) (k : ℕ) (n : Node) → k < length children → n ≡ get_or children k n
-    → lines_among tree (left children k) ≡ lines_among tree (tree_of n) ++ lines_among tree (left children (k + 1))
-lines_left tree children k n low is =
-    let line = entry_line tree (node n).top in
-    let inner = lines_among tree (node n).beneath in
-    let rest = lines_among tree (left children (k + 1)) in
-    ap (lines_among tree) (left_is children k n low is)
-    ∙ lines_of_entry tree (node n).top (node n).beneath (left children (k + 1))
+pub lines_left : (tree : Forest Resolved) (names : List PlainConditionName) (children : List Node) (k : ℕ) (n : Node) → k < length children → n ≡ get_or children k n
+    → lines_among tree names (left children k) ≡ lines_among tree names (tree_of n) ++ lines_among tree names (left children (k + 1))
+lines_left tree names children k n low is =
+    let line = lines_of tree names (node n).top in
+    let inner = lines_among tree names (node n).beneath in
+    let rest = lines_among tree names (left children (k + 1)) in
+    ap (lines_among tree names) (left_is children k n low is)
+    ∙ lines_of_entry tree names (node n).top (node n).beneath (left children (k + 1))
     ∙ sym (append_assoc line inner rest)
     ∙ ap (λ (xs : List ℕ). (line ++ xs) ++ rest) (sym (append-nil inner))
-    ∙ ap (λ (xs : List ℕ). xs ++ rest) (sym (lines_of_entry tree (node n).top (node n).beneath NoEntries))
+    ∙ ap (λ (xs : List ℕ). xs ++ rest) (sym (lines_of_entry tree names (node n).top (node n).beneath NoEntries))
 
 -- ---- the entry with a number
 
@@ -228,40 +225,10 @@ fewer_beneath n child d k low is =
     subst (λ (f : Forest Resolved). entries_in (node child).beneath < entries_in f) (sym (below_is n))
     (subst (λ (m : Node). entries_in (node m).beneath < entries_in (below n)) (sym is) (entries_fewer (out-Node n).children.items k d low))
 
--- ---- how long the lines are
+-- ---- where the lines could not all be written
 
--- a record has few entries
-few_behind : (role : Role) (ds : List PlainEntry) → length ds ≤ 2000 → length (with_record role ds) ≤ 2001
-few_behind role [] few = omega arith
-few_behind role (d ∷ ds) few = by_level (d.level == 1)
-  where
-    by_level : (b : Bool) → length (if b then d ∷ ds else implied role ∷ d ∷ ds) ≤ 2001
-    by_level true = omega (arith, few)
-    by_level false = omega (arith, few)
-
-pub record_few : (tree : Forest Resolved) → IsRecordDescription tree → entries_in tree ≤ 65535
-record_few tree (role, text, book) =
-    let few = few_behind role book.has.entries book.has.are_entries.few in
-    let written = few_entries book.entries book.is.written book.is.stands (omega (arith, few, ap (λ (ds : List PlainEntry). length ds) book.has.with)) in
-    let same = same_entries book.is.stored.counts 0 None None book.is.written in
-    omega (arith, written, same, ap (λ (f : Forest Resolved). entries_in f) book.is.stored.tree)
-
--- of the entries side by side that are left, the next one with those beneath it, and those behind it
-pub entries_left : (children : List Node) (k : ℕ) (n : Node) → k < length children → n ≡ get_or children k n
-    → entries_in (left children k) ≡ entries_in (tree_of n) + entries_in (left children (k + 1))
-entries_left children k n low is =
-    let cut = ap (λ (f : Forest Resolved). entries_in f) (left_is children k n low is) in omega (arith, cut)
-
--- an entry, and those beneath it
-pub entries_beneath : (n : Node) → entries_in (tree_of n) ≡ 1 + entries_in (below n)
-entries_beneath n = let inner = ap (λ (f : Forest Resolved). entries_in f) (below_is n) in omega (arith, inner)
-
--- where the lines could not all be written, the bytes that went out were counted
-pub lists_part : (tree root : Forest Resolved) (fault told : RecordFault) (sent : ℕ) (w0 w1 : Option (List ℕ)) → root ≡ tree
-    → Took w0 w1 (SendsText (lines_among tree root) 0 sent (Err fault)) → sent ≤ 0 + longest_line * entries_in root → IsRecordDescription tree
-    → taken_of told ≡ sent → Took w0 w1 (ListsEntries tree (Err told))
-lists_part tree root fault told sent w0 w1 same (p, (begun, sum), took) few described counts =
-    let entries = record_few tree described in
-    let all = ap (λ (f : Forest Resolved). entries_in f) same in
-    let counted = sum (omega arith) in
-    (p, (subst (λ (f : Forest Resolved). IsBeginning p (lines_among tree f)) same begun, omega (arith, few, entries, all, counted, counts)), took)
+-- the bytes that went out were counted
+pub lists_part : (tree root : Forest Resolved) (names : List PlainConditionName) (fault told : RecordFault) (sent : ℕ) (w0 w1 : Option (List ℕ)) → root ≡ tree
+    → Took w0 w1 (SendsText (lines_among tree names root) 0 sent (Err fault)) → taken_of told ≡ sent → Took w0 w1 (ListsEntries tree names (Err told))
+lists_part tree root names fault told sent w0 w1 same (p, (begun, sum), took) counts =
+    (p, (subst (λ (f : Forest Resolved). IsBeginning p (lines_among tree names f)) same begun, counts ∙ sum (omega arith)), took)

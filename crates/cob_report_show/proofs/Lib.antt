@@ -6,4 +6,5 @@ pub mod TurnLemmas
 pub mod ItemLemmas
 pub mod RunLemmas
 pub mod TextLemmas
+pub mod ConditionLemmas
 pub mod EntryLemmas

@@ -19,7 +19,9 @@ use Rattle.cob_layout_places.specs.Lengths.{times}
 use Rattle.cob_layout_places.specs.Spots.{spots_of}
 use Rattle.cob_layout.specs.Counting.{greatest_counts}
 use Rattle.cob_layout.specs.Ways.{spot_at}
-use Rattle.cob_report_show.specs.Sent.{IsBeginning}
+use Rattle.cob_copybook_conditions.specs.Names.{PlainConditionName}
+use Rattle.cob_report_show.specs.Conditions.{name_lines}
+use Rattle.cob_report_show.specs.Sent.{IsBeginning, sent_after}
 
 -- a level in two digits: one of a single digit has a zero in front
 abbrev pub level_text : ℕ → List ℕ
@@ -87,16 +89,20 @@ entry_line tree e =
 abbrev pub longest_line : ℕ
 longest_line = 200
 
--- the lines of some entries of a record, one for each in their order
-abbrev pub lines_among : Forest Resolved → Forest Resolved → List ℕ
-lines_among tree entries = flat_map (entry_line tree) (flat entries)
+-- the lines of an entry: its own, and behind it those of its condition-names
+abbrev pub lines_of : Forest Resolved → List PlainConditionName → Resolved → List ℕ
+lines_of tree names e = entry_line tree e ++ name_lines names e.number
+
+-- the lines of some entries of a record, in their order
+abbrev pub lines_among : Forest Resolved → List PlainConditionName → Forest Resolved → List ℕ
+lines_among tree names entries = flat_map (lines_of tree names) (flat entries)
 
 -- the lines of all entries of a record
-abbrev pub entry_lines : Forest Resolved → List ℕ
-entry_lines tree = lines_among tree tree
+abbrev pub entry_lines : Forest Resolved → List PlainConditionName → List ℕ
+entry_lines tree names = lines_among tree names tree
 
 -- What a call that lists the entries says of the part that the sink took: it is just their lines; or where the sink failed a beginning of them, and
--- the fault says how many bytes that has.
-abbrev pub ListsEntries : Forest Resolved → Result (Unit {0}) RecordFault → List ℕ → Type 0
-ListsEntries tree (Ok done) part = part ≡ entry_lines tree
-ListsEntries tree (Err fault) part = IsBeginning part (entry_lines tree) × (taken_of fault ≡ length part)
+-- the fault says how many bytes that has, up to the greatest count.
+abbrev pub ListsEntries : Forest Resolved → List PlainConditionName → Result (Unit {0}) RecordFault → List ℕ → Type 0
+ListsEntries tree names (Ok done) part = part ≡ entry_lines tree names
+ListsEntries tree names (Err fault) part = IsBeginning part (entry_lines tree names) × (taken_of fault ≡ sent_after 0 part)

@@ -4,4 +4,6 @@ pub mod Elements
 pub mod Sent
 pub mod Lines
 pub mod Runs
+pub mod Constants
+pub mod Conditions
 pub mod Entries

@@ -1,18 +1,20 @@
 //! The entries of a record.
 
 ghost use Rattle.std.specs.Prelude.{◌≡◌, ◌<◌, ◌≤◌, ◌+◌, ◌-◌, ◌*◌, ◌++◌, ◌∷◌, ℕ, length, nat_le, slice_index_or, decimal, IfErr, is_err, true, Err};
-ghost use Rattle.cob_copybook_tree.specs.Forests.{entries_in};
+ghost use Rattle.cob_copybook_conditions.specs.Names.{plain_condition_names};
 ghost use Rattle.cob_copybook_tree.specs.Nodes.{forest, node, tree_of};
 ghost use Rattle.cob_layout.specs.Ways.{spot_at};
 ghost use Rattle.cob_layout_places.specs.Cover.{AreNumbered};
 ghost use Rattle.cob_limits.specs.Limits.{longest_name};
 ghost use Rattle.cob_records.specs.Device.{counted, Took};
 ghost use Rattle.cob_records.specs.Frame.{is_write_error, is_write_fault, taken_of};
-ghost use Rattle.cob_report_show.specs.Entries.{ListsEntries, entry_line, greatest_spot, item_word, kind_word, level_text, lines_among, longest_line, name_by_number, name_or_filler, occurs_text, redefines_text, spot_text};
+ghost use Rattle.cob_report_show.specs.Entries.{ListsEntries, entry_line, greatest_spot, item_word, kind_word, level_text, lines_among, lines_of, longest_line, name_by_number, name_or_filler, occurs_text, redefines_text, spot_text};
 ghost use Rattle.cob_report_show.specs.Sent.{SendsText};
 
+use crate::conditions::put_names;
 use crate::text::{ListingLine, push_number, push_text, put};
 use arrayvec::ArrayVec;
+use cob_copybook_conditions::ConditionName;
 use cob_layout::{Item, Kind, Layout, Name, Node, ResolvedOccurs, Spot, records_are_sound};
 use cob_picture::Category;
 use cob_records::{RecordFault, Sink};
@@ -194,23 +196,41 @@ fn line_of(layout: &Layout, entry: &Node) -> ListingLine
     line
 }
 
-/// Writes the lines of an entry and of those beneath it.
-fn put_entries<W: Sink>(
+/// Writes the lines of an entry: its own, and behind it those of its condition-names.
+fn put_entry<W: Sink>(
     sink: &mut W,
     sent: &mut u64,
     layout: &Layout,
+    names: &[ConditionName],
     entry: &Node,
 ) -> Result<(), RecordFault>
     ensures lines { Took (W.taken sink.old) (W.taken sink.new)
-        (SendsText (lines_among layout.now (tree_of entry.now)) sent.old sent.new result) }
-    ensures few { sent.new ≤ sent.old + longest_line * entries_in (tree_of entry.now) }
+        (SendsText (lines_of layout.now (plain_condition_names names.now) (node entry.now).top) sent.old sent.new result) }
     ensures kind { IfErr result (λ fault. is_write_fault fault ≡ true) }
     ensures cause { W.failures sink.new ≡ counted (is_err result) (W.failures sink.old) }
     ensures errors { W.errors sink.new ≡ counted (is_write_error result) (W.errors sink.old) }
 {
     put(sink, sent, line_of(layout, entry).as_slice())?;
+    put_names(sink, sent, names, entry.number)
+}
+
+/// Writes the lines of an entry and of those beneath it.
+fn put_entries<W: Sink>(
+    sink: &mut W,
+    sent: &mut u64,
+    layout: &Layout,
+    names: &[ConditionName],
+    entry: &Node,
+) -> Result<(), RecordFault>
+    ensures lines { Took (W.taken sink.old) (W.taken sink.new)
+        (SendsText (lines_among layout.now (plain_condition_names names.now) (tree_of entry.now)) sent.old sent.new result) }
+    ensures kind { IfErr result (λ fault. is_write_fault fault ≡ true) }
+    ensures cause { W.failures sink.new ≡ counted (is_err result) (W.failures sink.old) }
+    ensures errors { W.errors sink.new ≡ counted (is_write_error result) (W.errors sink.old) }
+{
+    put_entry(sink, sent, layout, names, entry)?;
     for child in entry.children.iter() {
-        put_entries(sink, sent, layout, child)?;
+        put_entries(sink, sent, layout, names, child)?;
     }
     Ok(())
 }
@@ -235,20 +255,26 @@ fn fault_after(fault: RecordFault, sent: u64) -> RecordFault
 
 /// Writes a line for each entry of a record, in their order: its level in two digits, its name or FILLER, the offset and the length
 /// of its first element where each table has its greatest number of elements, what it is, what it redefines, and how often it
-/// occurs. What was written may wait in the sink: the caller flushes it.
+/// occurs. Behind it stands a line for each of its condition-names, of those that are told: `88`, its name, and its values. What was written may wait in the
+/// sink: the caller flushes it.
 ///
 /// # Errors
 ///
 /// The fault of the sink, with the number of bytes that it took in this call.
-pub fn layout_text<W: Sink>(layout: &Layout, sink: &mut W) -> Result<(), RecordFault>
-    // The sink took just the lines of the entries, or where it failed a beginning of them, of which the fault has the length.
-    ensures lists { Took (W.taken sink.old) (W.taken sink.new) (ListsEntries layout.now result) }
+pub fn layout_text<W: Sink>(
+    layout: &Layout,
+    names: &[ConditionName],
+    sink: &mut W,
+) -> Result<(), RecordFault>
+    // The sink took just the lines of the entries and of their condition-names, or where it failed a beginning of them, of which the fault has the length.
+    ensures lists { Took (W.taken sink.old) (W.taken sink.new)
+        (ListsEntries layout.now (plain_condition_names names.now) result) }
     ensures kind { IfErr result (λ fault. is_write_fault fault ≡ true) }
     ensures cause { W.failures sink.new ≡ counted (is_err result) (W.failures sink.old) }
     ensures errors { W.errors sink.new ≡ counted (is_write_error result) (W.errors sink.old) }
 {
     let mut sent = 0;
-    match put_entries(sink, &mut sent, layout, layout.root()) {
+    match put_entries(sink, &mut sent, layout, names, layout.root()) {
         Ok(()) => Ok(()),
         Err(fault) => Err(fault_after(fault, sent)),
     }

@@ -2,8 +2,8 @@
 //! before and after records are converted.
 //!
 //! - [`layout_text`] writes a line for each entry of a copybook: its level, name, offset and length, what it is, what it redefines
-//!   and how often it occurs. It asks for no memory, and finds the name behind a table that varies in few steps, however many
-//!   entries there are.
+//!   and how often it occurs; and behind it one for each of its condition-names. It asks for no memory, and finds the name behind a
+//!   table that varies in few steps, however many entries there are. For each entry it looks at each condition-name once.
 //! - [`show`] reads records and writes for each named elementary item, and for each of its occurrences, a line with its name,
 //!   offset and value. It asks for memory before the first record alone; that it asks for none later is shown by tests.
 //!
@@ -25,14 +25,17 @@
 //!
 //! What is promised of [`layout_text`]:
 //!
-//! - the sink took just the lines of the entries, one for each in their order, a parent before those beneath it; where it failed, a
-//!   beginning of these lines, and the fault has the number of bytes of it (`lists`, by `ListsEntries` of specs/Entries.antt);
+//! - the sink took just the lines of the entries, in their order, a parent before those beneath it, and behind each line those of the
+//!   condition-names that have the entry's number; where it failed, a beginning of these lines, and the fault has the number of bytes
+//!   of it, up to the greatest count (`lists`, by `ListsEntries` of specs/Entries.antt);
 //! - the line of an entry is its level in two digits; its name, or FILLER; the offset and the length of its first element where each
 //!   table has its greatest number of elements (`spots_of` of cob_layout_places says where that stands); a word for what it is; behind
 //!   `redefines` the name of the entry that it redefines; and behind `occurs` how often it occurs, a table that varies from its least to
 //!   its greatest number `on` the name of the item that counts it (`entry_line`). The word is `group`; of a number its kind of storage,
 //!   `zoned`, `separate`, `packed` or `binary`; of another item its category, which BLANK WHEN ZERO makes `numeric-edited`
 //!   (`kind_word`);
+//! - the line of a condition-name is `88` behind two spaces, its name, and behind another two its values: constants as a source text
+//!   writes them, or two of them with THRU between (`name_line` of specs/Conditions.antt, `constant_text` of specs/Constants.antt);
 //! - a fault is one of writing (`kind`), exactly where a call of the sink failed (`cause`, `errors`).
 //!
 //! # Where it is proved
@@ -40,6 +43,8 @@
 //! The clause `shows` of `show`, with `fault`, `memory`, `reads`, `writes`, `errors`; the clause `lists` of `layout_text`, with those on its end.
 #![tactic(auto)]
 
+mod conditions;
+mod constants;
 mod elements;
 mod entries;
 mod named;

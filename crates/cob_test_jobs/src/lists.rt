@@ -3,7 +3,7 @@
 //! The first field of a row is the question, and the second one the record: the entries of its copybook, parted by bars, one a line. In an
 //! answer each bar is the end of a printed line.
 //!
-//! - `layout`, record: a line for each entry.
+//! - `layout`, record: a line for each entry, and for each condition-name behind its own.
 //! - `part`, record, number of bytes: the same, where the output takes no more than so many, and then the fault with how many it took.
 //! - `show`, record, form `f`, `v` or `b`, bytes in hexadecimal digits: the lines of the records that the bytes hold, and then `done` and how many
 //!   there were, or the fault of the one that stopped.
@@ -12,6 +12,7 @@
 ghost use Rattle.std.specs.Prelude.{IfOk};
 ghost use Rattle.cob_records.specs.Forms.{HasBlockSize};
 
+use cob_copybook_conditions::{ConditionName, condition_names};
 use cob_limits::MAX_BLOCK;
 use cob_records::{Form, MemSink, MemSource, RecordFault};
 use cob_report_show::{Book, BookRule, Layout, Role, ShowFault, layout_text, show};
@@ -63,22 +64,32 @@ fn push_lines(out: &mut String, text: &[u8]) -> Result<(), AllocError> {
     Ok(())
 }
 
-/// Lists the entries of a book.
+/// The condition-names of a text.
+fn names_of(alloc: Global, text: &[u8]) -> Result<Vec<ConditionName>, RowFault> {
+    match condition_names(alloc, text) {
+        Ok(names) => Ok(names),
+        Err(fault) => Err(row_fault(fault.rule)),
+    }
+}
+
+/// Lists the entries of a text with their condition-names.
 fn list_entries(
     alloc: Global,
-    book: &Book,
+    text: &[u8],
     sink: &mut MemSink<'_>,
-) -> Result<Result<(), RecordFault>, AllocError> {
-    let layout = Layout::of(alloc, book)?;
-    Ok(layout_text(&layout, sink))
+) -> Result<Result<(), RecordFault>, RowFault> {
+    let book = read(alloc, text)?;
+    let layout = Layout::of(alloc, &book)?;
+    let names = names_of(alloc, text)?;
+    Ok(layout_text(&layout, &names, sink))
 }
 
 /// The lines of a record's entries, of which the output takes so many bytes.
 fn layout(alloc: Global, row: &Row, room: usize, out: &mut String) -> Result<(), RowFault> {
-    let book = book_of(alloc, row)?;
+    let text = row.lines(alloc, 1)?;
     let mut room = vec![in alloc; 0u8; room]?;
     let mut sink = MemSink::new(&mut room);
-    let answer = list_entries(alloc, &book, &mut sink)?;
+    let answer = list_entries(alloc, text.as_slice(), &mut sink)?;
     push_lines(out, sink.taken())?;
     match answer {
         Ok(()) => Ok(()),

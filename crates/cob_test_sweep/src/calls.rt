@@ -98,7 +98,7 @@ fn makes_scratch(alloc: Global, input: &Layout, output: &Layout) -> bool {
 /// Whether the entries of a copybook are listed.
 fn lists_entries(layout: &Layout, room: &mut [u8], figures: &mut Figures) -> bool {
     let mut sink = MemSink::new(room);
-    let listed = layout_text(layout, &mut sink).is_ok();
+    let listed = layout_text(layout, &[], &mut sink).is_ok();
     figures.add(sink.taken());
     listed
 }
