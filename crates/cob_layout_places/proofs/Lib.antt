@@ -10,3 +10,4 @@ pub mod AgreeLaw
 pub mod PlaceLaw
 pub mod SpotLemmas
 pub mod PartLaw
+pub mod MeasuredLemmas

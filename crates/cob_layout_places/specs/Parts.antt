@@ -6,10 +6,11 @@ use Rattle.cob_copybook_tree.specs.declared.node.Kind.{Kind}
 use Rattle.cob_copybook_tree.specs.declared.node.Kind.TheVariants.{Group, Item as ItemKind}
 use Rattle.cob_copybook_tree.specs.Forests.{Forest, NoEntries, AnEntry}
 use Rattle.cob_copybook_tree.specs.Nodes.{Resolved, is_varying}
-use Rattle.cob_copybook_tree.specs.Lengths.{greatest_number, item_size, sum_of}
+use Rattle.cob_copybook_tree.specs.Lengths.{greatest_number, item_size, sum_of, whole_length}
 use Rattle.cob_layout_places.specs.declared.places.Found.{Found}
 use Rattle.cob_layout_places.specs.declared.reference.ItemPart.{ItemPart}
-use Rattle.cob_layout_places.specs.Lengths.{times}
+use Rattle.cob_limits.specs.Limits.{longest_record}
+use Rattle.cob_layout_places.specs.Lengths.{FitsInRecord, times}
 use Rattle.cob_layout_places.specs.Places.{place_of, or_else, choose}
 
 -- a table that varies is among entries, or beneath one of them
@@ -50,3 +51,16 @@ IsPartIn characters (Some p) = (n : ℕ) × (characters ≡ Some n) × IsPartOf 
 abbrev pub CharactersAreBytes : Type 0
 CharactersAreBytes = (counts : List ℕ) (number : ℕ) (tree : Forest Resolved) (subscripts : List ℕ) (found : Found) (n : ℕ)
     → place_of (times counts) number tree 0 0 subscripts ≡ Some found → characters_in number tree ≡ Some n → 0 < n → found.length ≡ n
+
+-- each entry, with all its elements, is no longer than the longest record
+abbrev pub AreMeasured : Forest Resolved → Type 0
+AreMeasured NoEntries = Unit {0}
+AreMeasured (AnEntry e children more) = (whole_length greatest_number e children ≤ longest_record) × AreMeasured children × AreMeasured more
+
+-- Law: so it is of the entries of a record, redefinitions too.
+abbrev pub EntriesAreMeasured : Type 0
+EntriesAreMeasured = (tree : Forest Resolved) → FitsInRecord 0 tree → AreMeasured tree
+
+-- Law: no element has more characters than the longest record.
+abbrev pub CharactersAreFew : Type 0
+CharactersAreFew = (tree : Forest Resolved) (number n : ℕ) → FitsInRecord 0 tree → characters_in number tree ≡ Some n → n ≤ longest_record

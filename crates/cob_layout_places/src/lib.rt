@@ -48,8 +48,8 @@ pub use cob_copybook_tree::{Kind, Name, Node, is_number_item, read_number};
 pub use counts::{CountFault, count_at, count_of, count_there};
 pub use item_parts::characters_of;
 pub use laws::{
-    characters_are_bytes, covering, needs_are_read, one_outcome, one_place, places_end_in_record,
-    same_counts,
+    characters_are_bytes, characters_are_few, covering, entries_are_measured, needs_are_read,
+    one_outcome, one_place, places_end_in_record, same_counts,
 };
 pub use lengths::{element_of, times_of};
 pub use needs::{is_needed, is_table, take_needed};

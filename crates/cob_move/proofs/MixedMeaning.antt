@@ -161,8 +161,8 @@ mixed_groups all input output r s t u v w m n froms tos first second =
     let to = mixed_named all u v w Out Out first.groups.to h.to tos first.named.receiving second.named.receiving in
     let g : TwoGroups = record { side = h.side; from = from.operand; to = to.operand } in
     let same : pairs_of input output g ≡ pairs_of input output h =
-    ap (λ (x : ℕ). pairs_of input output (record { side = h.side; from = record { entry = record { node = x; subscripts = from.operand.entry.subscripts }; kind = from.operand.kind }; to = to.operand })) from.node
-    ∙ ap (λ (x : ℕ). pairs_of input output (record { side = h.side; from = h.from; to = record { entry = record { node = x; subscripts = to.operand.entry.subscripts }; kind = to.operand.kind } })) to.node in (
+    ap (λ (x : ℕ). pairs_of input output (record { side = h.side; from = record { entry = record { node = x; subscripts = from.operand.entry.subscripts; part = from.operand.entry.part }; kind = from.operand.kind }; to = to.operand })) from.node
+    ∙ ap (λ (x : ℕ). pairs_of input output (record { side = h.side; from = h.from; to = record { entry = record { node = x; subscripts = to.operand.entry.subscripts; part = to.operand.entry.part }; kind = to.operand.kind } })) to.node in (
       map (pair_move g) (pairs_of input output g),
       record {
         groups = g;

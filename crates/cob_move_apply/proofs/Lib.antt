@@ -1,3 +1,4 @@
+pub mod ItemPartLemmas
 pub mod PlaceLemmas
 pub mod ListLemmas
 pub mod BasisLemmas

@@ -1,5 +1,5 @@
 -- Where an operand stands in a storage, or why it doesn't.
-use Rattle.std.specs.Prelude.{◌≡◌, ◌⊎◌, ℕ, ◌+◌, ◌-◌, Bool, List, Option, Some, None, Ok, Err, Result, option_map}
+use Rattle.std.specs.Prelude.{◌≡◌, ◌⊎◌, ℕ, ◌+◌, ◌-◌, ◌<◌, ◌≤◌, Bool, IfSome, List, Option, Some, None, Ok, Err, Result, option_map}
 use Rattle.cob_copybook_tree.specs.Forests.{Forest}
 use Rattle.cob_copybook_tree.specs.Nodes.{Resolved}
 use Rattle.cob_layout.specs.declared.fields.Place.{Place}
@@ -35,9 +35,18 @@ abbrev pub part_placed : Option ItemPart → Result Place PlaceFault → Result 
 part_placed part (Ok whole) = Ok (part_place part whole)
 part_placed part (Err f) = Err f
 
+-- the answer where an operand stands under these counts: where its element does, or the part of it
+abbrev pub operand_under : List ℕ → Forest Resolved → Operand → Option (Result Place PlaceFault)
+operand_under counts tree o = option_map (part_placed o.entry.part) (placed_under counts tree o.entry)
+
 -- under these counts the operand stands there, or would begin there where its element is past its table's count
 abbrev pub StandsUnder : Forest Resolved → Operand → List ℕ → Result Place PlaceFault → Type 0
-StandsUnder tree o counts there = option_map (part_placed o.entry.part) (placed_under counts tree o.entry) ≡ Some there
+StandsUnder tree o counts there = operand_under counts tree o ≡ Some there
+
+-- the element of an operand stands there under these counts, and has the part that is meant
+pub record StandsCut (tree : Forest Resolved) (o : Operand) (counts : List ℕ) (whole : Place) : Type 0 where
+  pub stands : placed_under counts tree o.entry ≡ Some (Ok whole)
+  pub has : IfSome o.entry.part (λ p. (0 < p.start) × (p.start + p.length ≤ whole.length + 1))
 
 -- An operand's place in a storage, sending or receiving: where it stands under the counts that it needs there. The first of these counts that
 -- isn't valid stops at the count's item; and then a subscript past its table's count stops at the place where the element would begin.

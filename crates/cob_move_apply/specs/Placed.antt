@@ -38,6 +38,7 @@ pub record IsElementNoted (tree : Forest Resolved) (receiving : Bool) (o : Opera
   pub least : n.least ≡ element.least
   pub stands : IsElementPlace tree o.entry receiving element
   pub place : n.place ≡ part_place o.entry.part element.place
+  pub within : n.place.offset + n.place.length ≤ greatest_length tree
 
 -- This is the operand's place, sending or receiving: in every storage, or wherever one count says that the element is there.
 abbrev pub IsNoted : Forest Resolved → Bool → Operand → NotedPlace → Type 0

@@ -57,6 +57,7 @@ mod basis;
 mod between;
 mod constant;
 mod cutting;
+mod item_parts;
 mod laws;
 mod layouts;
 mod located;

@@ -61,6 +61,11 @@ abbrev pub kind_of_part : Option ItemPart → Kind → Kind
 kind_of_part None kind = kind
 kind_of_part (Some p) kind = ItemKind (item_of_characters p.length)
 
+-- this kind, or the other where there is none
+abbrev pub kind_or : Option Kind → Kind → Kind
+kind_or None other = other
+kind_or (Some kind) other = kind
+
 -- the operand that a reference names in a record: of the entry's kind there, or that of the part that is meant
 abbrev pub operand_in : Forest Resolved → Ref → Operand
 operand_in tree r = record { entry = r; kind = kind_of_part r.part (or_group (kind_in r.node tree)) }

@@ -6,7 +6,7 @@
 //! two records (`moves`), and says when these are moves there: each operand refers to an entry of its record, and is of the kind that the record says
 //! (`IsMove`).
 //!
-//! A part of an element is an operand, too: an elementary item of its characters, whatever the entry describes ([`kind_of_part`]).
+//! A part of an element is an operand, too: an elementary item of its characters, whatever the entry describes ([`kind_of_part`], [`OperandKind`]).
 //!
 //! Who asks for single moves need not know in which form a statement keeps its moves:
 //!
@@ -19,7 +19,7 @@
 //!
 //! # Where it is proved
 //!
-//! Which moves its data means (`moves_by`); the clause of `kind_of_part`; what the iterators `Singles` and `Senders` give, and the clause of `single_at`; the laws `singles_of_moves`,
+//! Which moves its data means (`moves_by`); the clauses of `kind_of_part` and `OperandKind`; what the iterators `Singles` and `Senders` give, and the clause of `single_at`; the laws `singles_of_moves`,
 //! `senders_of_moves`.
 #![tactic(auto)]
 
@@ -30,7 +30,7 @@ mod senders;
 mod single;
 mod singles;
 
-pub use kinds::kind_of_part;
+pub use kinds::{OperandKind, kind_of_part, part_kind};
 pub use laws::{senders_of_moves, singles_of_moves};
 pub use operands::{Move, NumberedPair, Operand, PairMoves, Sender, Side, StatementMoves};
 pub use senders::Senders;

@@ -1,5 +1,4 @@
 pub mod ReferenceLemmas
-pub mod MeasuredLemmas
 pub mod SubscriptLemmas
 pub mod OnceLemmas
 pub mod SubordinateLemmas

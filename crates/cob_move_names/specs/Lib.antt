@@ -1,6 +1,5 @@
 pub mod Candidates
 pub mod Listed
-pub mod Measured
 pub mod References
 pub mod Directory
 pub mod Laws

@@ -8,10 +8,10 @@ ghost use Rattle.cob_copybook_names.specs.Listed.{texts};
 ghost use Rattle.cob_layout.specs.Sound.{AreNested, own_dimension};
 ghost use Rattle.cob_layout_places.specs.Places.{is_table};
 ghost use Rattle.cob_layout_places.specs.Lengths.{MayOccur};
+ghost use Rattle.cob_layout_places.specs.Parts.{AreMeasured};
 ghost use Rattle.cob_limits.specs.Limits.{longest_record, most_dimensions};
 ghost use Rattle.cob_move_names.specs.Candidates.{candidate, candidates, with_table};
 ghost use Rattle.cob_move_names.specs.Listed.{ListsMore};
-ghost use Rattle.cob_move_names.specs.Measured.{AreMeasured, SoundAreMeasured};
 
 use arrayvec::ArrayVec;
 use cob_copybook_names::{Bearer, name_of, names_beneath};
@@ -52,11 +52,6 @@ fn tables_of(entry: &Node, holding: &[u32]) -> CandidateTables
     }
     tables
 }
-
-/// A law: the entries of a sound record fit the longest record, redefinitions too.
-pub(crate) fn sound_are_measured()
-    ensures { SoundAreMeasured }
-{}
 
 /// Puts an entry behind those that are listed.
 fn list_entry<'a>(

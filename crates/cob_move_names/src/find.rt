@@ -12,13 +12,13 @@ ghost use Rattle.cob_move_names.specs.Directory.{FindsOnly, entries_named};
 ghost use Rattle.cob_move_names.specs.Listed.{candidate_of};
 ghost use Rattle.cob_move_names.specs.References.{AreSubscriptsOf, BreaksReceiver, BreaksReference, HasPart, IsLengthOf, NamesOperand, length_meant, operand, part_meant, subscript_numbers};
 
-use crate::candidate::{RecordEntry, list_tree, sound_are_measured};
+use crate::candidate::{RecordEntry, list_tree};
 use crate::directory::Names;
 use crate::subscripts::{read_subscripts, subscript_of};
 use arrayvec::ArrayVec;
 use cob_copybook_names::Bearer;
 use cob_layout::{Layout, Ref, records_are_sound};
-use cob_layout_places::{ItemPart, characters_of};
+use cob_layout_places::{ItemPart, characters_of, entries_are_measured};
 use cob_limits::MAX_SUBSCRIPTS;
 use cob_move_data::{Operand, Side, kind_of_part};
 use cob_move_statements::{MoveRule, Reference, ReferencePart};
@@ -134,7 +134,7 @@ impl<'a> Names<'a> {
     {
         // For what `list_tree` asks: a record description is sound.
         records_are_sound();
-        sound_are_measured();
+        entries_are_measured();
         let mut entries = Vec::new(alloc);
         list_tree(alloc, Side::In, &[], &[], input.root(), &mut entries)?;
         list_tree(alloc, Side::Out, &[], &[], output.root(), &mut entries)?;

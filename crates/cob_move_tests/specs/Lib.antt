@@ -6,3 +6,4 @@ pub mod Asked
 pub mod Compared
 pub mod Counters
 pub mod Laws
+pub mod Known

@@ -4,7 +4,7 @@ use Rattle.cob_copybook_names.specs.Listed.{texts}
 use Rattle.cob_layout_places.proofs.ForestLemmas.{left}
 use Rattle.cob_layout.specs.Sound.{AreNested}
 use Rattle.cob_layout_places.specs.Lengths.{MayOccur}
-use Rattle.cob_move_names.specs.Measured.{AreMeasured}
+use Rattle.cob_layout_places.specs.Parts.{AreMeasured}
 use Rattle.cob_move_names.specs.Candidates.{candidates}
 use Rattle.cob_move_names.specs.Listed.{candidate_of}
 use Rattle.cob_move_names.proofs.candidate.+list_tree.Given as goal
