@@ -122,3 +122,7 @@ same_picture runs n e = ap seen (one_run runs n e)
 
 pub kept_of : (runs : List Run) (n : ℕ) → runs ≡ record { symbol = X; count = n } ∷ [] → 0 < n → n ≤ longest_record → IsKept Alphanumeric (written_out runs) n 0 (pos 0) false
 kept_of runs n e some few = subst (λ (ss : List Symbol). IsKept Alphanumeric ss n 0 (pos 0) false) (sym (one_run runs n e)) (is_kept n some few)
+
+-- it has a byte for each character
+pub characters_size : (n : ℕ) → size (picture_of_characters n).positions ≡ n
+characters_size n = ap size (are_places n) ∙ places_size n
