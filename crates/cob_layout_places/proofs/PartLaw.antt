@@ -1,5 +1,5 @@
 -- An element that has characters has a byte for each.
-use Rattle.std.proofs.Common.{◌≡◌, ℕ, ◌+◌, ◌*◌, ◌<◌, ◌≤◌, ◌==◌, ◌||◌, Bool, true, false, List, refl, sym, ap, subst, ◌∙◌, arith, Option, Some, None}
+use Rattle.std.proofs.Common.{◌≡◌, ℕ, ◌+◌, ◌*◌, ◌<◌, ◌≤◌, ◌==◌, ◌||◌, Bool, true, false, List, [], refl, sym, ap, subst, ◌∙◌, arith, Option, Some, None}
 use Rattle.std.specs.Prelude.{if◌then◌else◌}
 use Rattle.cob_copybook_entry.specs.declared.kinds.Usage.{Usage}
 use Rattle.cob_copybook_entry.specs.declared.kinds.Usage.TheVariants as usage
@@ -7,9 +7,12 @@ use Rattle.cob_copybook_tree.specs.declared.node.Kind.{Kind}
 use Rattle.cob_copybook_tree.specs.declared.node.Kind.TheVariants.{Group, Item as ItemKind}
 use Rattle.cob_copybook_tree.specs.declared.node.ResolvedOccurs.{ResolvedOccurs}
 use Rattle.cob_copybook_tree.specs.declared.node.ResolvedOccurs.TheVariants.{Once, Fixed, Varying}
-use Rattle.cob_copybook_tree.specs.Forests.{Forest, NoEntries, AnEntry}
-use Rattle.cob_copybook_tree.specs.Nodes.{Resolved, is_varying}
-use Rattle.cob_copybook_tree.specs.Lengths.{greatest_number, greatest_number_by, item_size, length_by_kind, own_length, sum_of}
+use Rattle.cob_copybook_tree.specs.declared.node.Node.{Node}
+use Rattle.cob_copybook_tree.specs.declared.node.Node.TheViews.{out-Node}
+use Rattle.cob_copybook_tree.specs.Forests.{Forest, NoEntries, AnEntry, Tree}
+use Rattle.cob_copybook_tree.specs.Nodes.{Resolved, is_varying, node}
+use Rattle.cob_copybook_tree.specs.Lengths.{element_length, greatest_number, greatest_number_by, item_size, length_by_kind, own_length, sum_of}
+use Rattle.cob_layout_places.proofs.ForestLemmas.{node_out}
 use Rattle.cob_layout_places.specs.declared.places.Found.{Found}
 use Rattle.cob_layout_places.specs.Lengths.{times, times_by}
 use Rattle.cob_layout_places.specs.Places.{also, choose, or_else, place_of}
@@ -95,3 +98,27 @@ both_there k p n f h e g some =
 pub characters_are_bytes : CharactersAreBytes
 characters_are_bytes counts number tree subscripts found n p e some =
     both_there (characters_in number tree) (place_of (times counts) number tree 0 0 subscripts) n found (pairs_in counts number tree 0 0 subscripts) e p some
+
+-- ---- of a node
+
+kind_of : (n : Node) → (node n).top.kind ≡ (out-Node n).kind
+kind_of n = ap (λ (t : Tree Resolved). t.top.kind) (node_out n)
+
+if_false : (b : Bool) (n : ℕ) → b ≡ false → n ≡ (if b then 0 else n)
+if_false true n e = absurd cc
+if_false false n e = refl
+
+by_kind : (k : Kind) (f : Forest Resolved) (c : List ℕ) → k ≡ Group → varies f ≡ false → length_by_kind k (sum_of (times c) f) ≡ characters_of k f
+by_kind Group f c is none = steady_sum c f none ∙ if_false (varies f) (sum_of greatest_number f) none
+by_kind (ItemKind i) f c is none = absurd cc
+
+-- a group in which nothing varies has as many characters as its element has bytes under any counts
+pub group_characters : (n : Node) → (out-Node n).kind ≡ Group → varies (node n).beneath ≡ false → element_length (times []) (node n).top (node n).beneath ≡ characters_of (node n).top.kind (node n).beneath
+group_characters n is none = by_kind (node n).top.kind (node n).beneath [] (kind_of n ∙ is) none
+
+-- which are those of its greatest length
+greatest_by_kind : (k : Kind) (f : Forest Resolved) (c : List ℕ) → varies f ≡ false → length_by_kind k (sum_of (times c) f) ≡ length_by_kind k (sum_of greatest_number f)
+greatest_by_kind k f c none = ap (length_by_kind k) (steady_sum c f none)
+
+pub group_greatest : (n : Node) → varies (node n).beneath ≡ false → element_length (times []) (node n).top (node n).beneath ≡ element_length greatest_number (node n).top (node n).beneath
+group_greatest n none = greatest_by_kind (node n).top.kind (node n).beneath [] none

@@ -32,3 +32,4 @@ pub mod WithinLemmas
 pub use Rattle.cob_layout.proofs.EntryNoRule
 pub use Rattle.cob_layout.proofs.EntryOneList
 pub mod SpareLemmas
+pub mod WholeLemmas

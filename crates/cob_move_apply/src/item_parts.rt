@@ -1,6 +1,6 @@
 //! Where parts of elements stand.
 
-ghost use Rattle.std.specs.Prelude.{◌≡◌, ◌<◌, ◌+◌, ◌≤◌, IfNone, IfSome, Ok, Some};
+ghost use Rattle.std.specs.Prelude.{◌≡◌, ◌<◌, ◌+◌, ◌≤◌, IfNone, IfSome, IsTrue, Ok, Some};
 ghost use Rattle.cob_limits.specs.Limits.{longest_record};
 ghost use Rattle.cob_layout.specs.Counting.{ReadsNone, greatest_counts};
 ghost use Rattle.cob_layout.specs.Storage.{greatest_length};
@@ -24,6 +24,20 @@ pub(crate) fn part_place(part: Option<ItemPart>, whole: Place) -> Place
             offset: whole.offset + (part.start - 1),
             length: part.length,
         },
+    }
+}
+
+/// Whether an element of this length has the part that is meant.
+pub(crate) fn has_part(part: Option<ItemPart>, length: u32) -> bool
+    ensures { IsTrue result
+        → IfSome part (λ p. (0 < p.start) × (p.start + p.length ≤ length + 1)) }
+{
+    match part {
+        None => true,
+        Some(part) => {
+            let end = u64::from(part.start) + u64::from(part.length);
+            part.start > 0 && end <= u64::from(length) + 1
+        }
     }
 }
 

@@ -15,9 +15,8 @@ ghost use Rattle.cob_move_data.specs.Moves.{
 ghost use Rattle.cob_move_apply.specs.Placed.{AddsMove, AddsReceivers, IsBasis, IsPlacedSender};
 
 use crate::basis::{Basis, NotedPlace};
-use crate::item_parts::{fixed_operand, part_place};
-use cob_layout::{ElementPlace, Layout, Ref};
-use cob_layout_places::characters_are_bytes;
+use crate::item_parts::{fixed_operand, has_part, part_place};
+use cob_layout::{ElementPlace, Layout, Ref, records_are_sound};
 use cob_move_data::{Sender, Side};
 use std::alloc::AllocError;
 
@@ -32,8 +31,11 @@ fn element_basis(
     requires element { IsElementPlace layout.now entry.now receiving element }
     ensures { IfSome result (IsBasis layout.now receiving (operand_in layout.now entry.now)) }
 {
-    // For what a part asks: its element has a byte for each character.
-    characters_are_bytes();
+    records_are_sound();
+    let _ = layout.greatest();
+    if !has_part(entry.part, element.place.length) {
+        return None;
+    }
     match u16::try_from(element.least) {
         Ok(least) if least > 0 => Some(Basis::Noted(NotedPlace {
             place: part_place(entry.part, element.place),

@@ -19,7 +19,7 @@
 //!
 //! # Where it is proved
 //!
-//! Which moves its data means (`moves_by`); the clauses of `kind_of_part` and `OperandKind`; what the iterators `Singles` and `Senders` give, and the clause of `single_at`; the laws `singles_of_moves`,
+//! Which moves its data means (`moves_by`); the clauses of `kind_of_part` and `OperandKind`; what the iterators `Singles` and `Senders` give, and the clause of `single_at`; the laws `whole_operands`, `singles_of_moves`,
 //! `senders_of_moves`.
 #![tactic(auto)]
 
@@ -31,7 +31,7 @@ mod single;
 mod singles;
 
 pub use kinds::{OperandKind, kind_of_part, part_kind};
-pub use laws::{senders_of_moves, singles_of_moves};
+pub use laws::{senders_of_moves, singles_of_moves, whole_operands};
 pub use operands::{Move, NumberedPair, Operand, PairMoves, Sender, Side, StatementMoves};
 pub use senders::Senders;
 pub use single::{Element, Sent, SingleMove, single_at};

@@ -21,7 +21,7 @@ fn is_colon_text(text: &[u8]) -> bool
 }
 
 /// Whether a word is a colon.
-fn is_colon(token: &Token) -> bool
+pub fn is_colon(token: &Token) -> bool
     ensures { IsTrue result ↔ IsColon (lexeme token.now) }
 {
     is_term(token, WordClass::Plain) && is_colon_text(token.text.as_slice())

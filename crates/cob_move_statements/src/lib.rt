@@ -17,7 +17,7 @@
 //!
 //! # Where it is proved
 //!
-//! The clauses `found`, `only`, `fault`, `line` of `statements`; the law `one_list_of_statements`.
+//! The clauses `found`, `only`, `fault`, `line` of `statements`; the laws `one_list_of_statements` and `whole_references` (without a part a reference is what it was before there were parts).
 #![tactic(auto)]
 
 mod actions;
@@ -31,7 +31,8 @@ mod senders;
 mod subscripts;
 
 pub use fault::{MoveFault, MoveRule};
-pub use laws::{one_list_of_ended, one_list_of_statements, one_reference};
+pub use item_parts::is_colon;
+pub use laws::{one_list_of_ended, one_list_of_statements, one_reference, whole_references};
 pub use paragraph::{behind_heading, ended_statements, statements};
 pub use parts::{Action, Reference, ReferencePart, Statement, StatementSender};
 pub use references::{reference_at, whole_reference};
