@@ -20,7 +20,7 @@ use Rattle.cob_picture.specs.Measures.{IsKept}
 
 none_of : (s : Symbol) (n : ℕ) → is s X ≡ false → symbol_count s (replicate n X) ≡ 0
 none_of s zero e = refl
-none_of s (suc n) e = rw e (none_of s n e)
+none_of s (suc n) e = rw e (omega (arith, none_of s n e))
 
 all_of : (n : ℕ) → symbol_count X (replicate n X) ≡ n
 all_of zero = refl
@@ -50,7 +50,7 @@ are_places n = ap (λ (q : Option Symbol). positions_from Alphanumeric q false (
 
 places_size : (n : ℕ) → size (replicate n place) ≡ n
 places_size zero = refl
-places_size (suc n) = omega (arith, places_size n)
+places_size (suc n) = let step : size (replicate (suc n) place) ≡ 1 + size (replicate n place) = refl in omega (arith, step, places_size n)
 
 no_digits : (n : ℕ) → digits (replicate n place) ≡ 0
 no_digits zero = refl
