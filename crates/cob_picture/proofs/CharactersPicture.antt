@@ -2,6 +2,7 @@
 use Rattle.std.proofs.Common.{◌≡◌, ℕ, zero, suc, ◌+◌, ◌<◌, ◌≤◌, Bool, true, false, List, [], ◌∷◌, ◌++◌, length, refl, sym, ap, subst, ◌∙◌, arith, Option, Some, None, pos, append-nil}
 use Rattle.std.specs.Prelude.{replicate, count_by}
 use Rattle.std.proofs.lemmas.List.{length-replicate}
+use Rattle.std.proofs.lemmas.List.Sums.{sum_by-cons}
 use Rattle.cob_limits.specs.Limits.{longest_record}
 use Rattle.cob_picture.specs.declared.symbol.Symbol.{Symbol}
 use Rattle.cob_picture.specs.declared.symbol.Symbol.TheVariants.{A, X, Nine, Dollar, Plus, Minus}
@@ -10,7 +11,7 @@ use Rattle.cob_picture.specs.declared.position.Position.{Position}
 use Rattle.cob_picture.specs.declared.position.PositionRole.TheVariants.{Character}
 use Rattle.cob_picture.specs.declared.category.Category.TheVariants.{Alphanumeric}
 use Rattle.cob_picture.specs.Positions.{PlainPicture, floating, is, positions, positions_from, symbol_count, written_out}
-use Rattle.cob_picture.specs.Counts.{after_point, before_point, decimal_places, digits, is_scaling, left_of_point, point_leads, right_of_point, scale, signed, size}
+use Rattle.cob_picture.specs.Counts.{after_point, before_point, decimal_places, digits, is_scaling, left_of_point, point_leads, right_of_point, scale, signed, size, width}
 use Rattle.cob_picture.specs.Categories.{IsAlphanumeric}
 use Rattle.cob_picture.specs.Characters.{picture_of_characters}
 use Rattle.cob_picture.specs.Pictures.{IsPicture, IsWithinLimits}
@@ -50,7 +51,7 @@ are_places n = ap (λ (q : Option Symbol). positions_from Alphanumeric q false (
 
 places_size : (n : ℕ) → size (replicate n place) ≡ n
 places_size zero = refl
-places_size (suc n) = let step : size (replicate (suc n) place) ≡ 1 + size (replicate n place) = refl in omega (arith, step, places_size n)
+places_size (suc n) = let step : size (replicate (suc n) place) ≡ 1 + size (replicate n place) = sum_by-cons (λ (p : Position). width p.symbol) place (replicate n place) in omega (arith, step, places_size n)
 
 no_digits : (n : ℕ) → digits (replicate n place) ≡ 0
 no_digits zero = refl
