@@ -56,7 +56,7 @@ pub struct OperandKind<'a> {
     entry: &'a Kind,
 }
 
-impl Model for OperandKind<'_> {
+impl<'a> Model for OperandKind<'a> {
     ghost Value = { SeenKind };
 
     ghost view = { λ k. kind_or k.part k.entry.now };
